@@ -1,0 +1,13 @@
+-- Lists of bytes, and their parts.
+use Rattle.std.proofs.Common.{ℕ, zero, suc, ◌+◌, ◌<◌, List, [], ◌∷◌, take, drop, get_or, arith}
+use Rattle.std.proofs.lemmas.List.{get_or-drop}
+use Rattle.dfu_suffix.specs.Laws.{AreBytes}
+
+pub AreBytes-drop : (xs : List ℕ) (n : ℕ) → AreBytes xs → AreBytes (drop n xs)
+AreBytes-drop xs n f k = omega (arith, f (n + k), get_or-drop n xs k 0)
+
+pub AreBytes-take : (n : ℕ) (xs : List ℕ) → AreBytes xs → AreBytes (take n xs)
+AreBytes-take zero xs f k = omega arith
+AreBytes-take (suc n) [] f k = f k
+AreBytes-take (suc n) (x ∷ xs) f zero = f zero
+AreBytes-take (suc n) (x ∷ xs) f (suc k) = AreBytes-take n xs (λ i. f (suc i)) k

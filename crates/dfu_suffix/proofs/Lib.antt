@@ -1,0 +1,6 @@
+pub mod Bytes
+pub mod Shifts
+pub mod Tables
+pub mod FileLaws
+pub mod GatherLaws
+pub mod LawProofs

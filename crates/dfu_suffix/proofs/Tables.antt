@@ -1,0 +1,171 @@
+-- What stands in the table, and what a byte does.
+use Rattle.std.proofs.Common.{inl, inr, append-nil, subst, fold, ◌≡◌, ℕ, zero, suc, ◌+◌, ◌/◌, ◌%◌, ◌^◌, ◌<◌, ◌≤◌, Bool, true, false, cond, eqb, List, [], ◌∷◌, ◌++◌, length, take, get_or, bit_and, bit_xor, ◌⊎◌, refl, sym, ap, ◌∙◌, arith}
+use Rattle.std.proofs.lemmas.Bool.{eqb-true}
+use Rattle.std.proofs.lemmas.Nat.{and_mask}
+use Rattle.std.proofs.Math.Nat.{eq-or-lt_of_le}
+use Rattle.std.specs.List.{flat_map}
+use Rattle.std.proofs.lemmas.List.{take_more, take_all}
+use Rattle.std.proofs.lemmas.List.Sums.{fold-append}
+use Rattle.std.proofs.lemmas.List.Concat.{flat_map-append}
+use Rattle.dfu_suffix.proofs.Shifts.{bits_little, byte_step, eight_step, shifts_add, shifts_of_xor}
+use Rattle.dfu_suffix.specs.Laws.{AreBytes}
+use Rattle.byteorder.specs.Endian.{little_number}
+use Rattle.dfu_suffix.specs.Register.{after_bit, after_bits, low_bits, bits_of, register, shifts}
+use Rattle.dfu_suffix.specs.declared.table.bits_8.TheConstants.{AFTER_8}
+use Rattle.dfu_suffix.specs.declared.table.bits_16.TheConstants.{AFTER_16}
+use Rattle.dfu_suffix.specs.declared.table.bits_24.TheConstants.{AFTER_24}
+use Rattle.dfu_suffix.specs.declared.table.bits_32.TheConstants.{AFTER_32}
+use Rattle.dfu_suffix.specs.declared.table.bits_40.TheConstants.{AFTER_40}
+use Rattle.dfu_suffix.specs.declared.table.bits_48.TheConstants.{AFTER_48}
+use Rattle.dfu_suffix.specs.declared.table.bits_56.TheConstants.{AFTER_56}
+use Rattle.dfu_suffix.specs.declared.table.bits_64.TheConstants.{AFTER_64}
+use Rattle.dfu_suffix.specs.declared.table.bits_72.TheConstants.{AFTER_72}
+use Rattle.dfu_suffix.specs.declared.table.bits_80.TheConstants.{AFTER_80}
+use Rattle.dfu_suffix.specs.declared.table.bits_88.TheConstants.{AFTER_88}
+use Rattle.dfu_suffix.specs.declared.table.bits_96.TheConstants.{AFTER_96}
+use Rattle.dfu_suffix.specs.declared.table.bits_104.TheConstants.{AFTER_104}
+use Rattle.dfu_suffix.specs.declared.table.bits_112.TheConstants.{AFTER_112}
+use Rattle.dfu_suffix.specs.declared.table.bits_120.TheConstants.{AFTER_120}
+use Rattle.dfu_suffix.specs.declared.table.bits_128.TheConstants.{AFTER_128}
+
+-- whether n numbers of a list, from place i on, are those of another after 8 bits 0
+abbrev right_from : (ℕ → ℕ) → List ℕ → ℕ → ℕ → Bool
+right_from earlier xs i zero = true
+right_from earlier xs i (suc n) = cond (eqb (get_or xs i 0) (shifts 8 (earlier i))) (right_from earlier xs (suc i) n) false
+
+both : (a b : Bool) → cond a b false ≡ true → (a ≡ true) × (b ≡ true)
+both true b h = (refl, h)
+both false b h = (h, cc)
+
+right_at : (earlier : ℕ → ℕ) (xs : List ℕ) (i n j : ℕ) → right_from earlier xs i n ≡ true → i ≤ j → j < i + n → get_or xs j 0 ≡ shifts 8 (earlier j)
+right_at earlier xs i zero j h p q = absurd (omega arith)
+right_at earlier xs i (suc n) j h p q =
+    let here = both (eqb (get_or xs i 0) (shifts 8 (earlier i))) (right_from earlier xs (suc i) n) h in
+    elim (eq-or-lt_of_le p) [
+      | inl e ↦ subst (λ (m : ℕ). get_or xs m 0 ≡ shifts 8 (earlier m)) e (eqb-true (get_or xs i 0) (shifts 8 (earlier i)) here.0)
+      | inr l ↦ right_at earlier xs (suc i) n j here.1 l (omega arith)
+    ]
+
+-- the table has what k bits 0 make of each number below 256
+abbrev pub Holds : ℕ → List ℕ → Type 0
+Holds k xs = (j : ℕ) → j < 256 → get_or xs j 0 ≡ shifts k j
+
+holds_8 : (xs : List ℕ) → right_from (λ j. j) xs 0 256 ≡ true → Holds 8 xs
+holds_8 xs h j l = right_at (λ j. j) xs 0 256 j h (omega arith) (omega arith)
+
+-- a table from the one for 8 bits fewer
+holds_more : (k : ℕ) (ys xs : List ℕ) → Holds k ys → right_from (λ j. get_or ys j 0) xs 0 256 ≡ true → Holds (k + 8) xs
+holds_more k ys xs earlier h j l =
+    right_at (λ j. get_or ys j 0) xs 0 256 j h (omega arith) (omega arith)
+    ∙ (ap (shifts 8) (earlier j l) ∙ sym (shifts_add k 8 j))
+
+-- the entry for the low byte of a number
+pub entry_at : (k : ℕ) (xs : List ℕ) (x : ℕ) → Holds k xs → get_or xs (bit_and x 255) 0 ≡ shifts k (x % 256)
+entry_at k xs x h = ap (λ (i : ℕ). get_or xs i 0) (and_mask x 8) ∙ h (x % 256) (omega arith)
+
+pub right_8 : Holds 8 AFTER_8
+unfolding shifts
+right_8 = holds_8 AFTER_8 refl
+
+pub right_16 : Holds 16 AFTER_16
+unfolding shifts
+right_16 = holds_more 8 AFTER_8 AFTER_16 right_8 refl
+
+pub right_24 : Holds 24 AFTER_24
+unfolding shifts
+right_24 = holds_more 16 AFTER_16 AFTER_24 right_16 refl
+
+pub right_32 : Holds 32 AFTER_32
+unfolding shifts
+right_32 = holds_more 24 AFTER_24 AFTER_32 right_24 refl
+
+pub right_40 : Holds 40 AFTER_40
+unfolding shifts
+right_40 = holds_more 32 AFTER_32 AFTER_40 right_32 refl
+
+pub right_48 : Holds 48 AFTER_48
+unfolding shifts
+right_48 = holds_more 40 AFTER_40 AFTER_48 right_40 refl
+
+pub right_56 : Holds 56 AFTER_56
+unfolding shifts
+right_56 = holds_more 48 AFTER_48 AFTER_56 right_48 refl
+
+pub right_64 : Holds 64 AFTER_64
+unfolding shifts
+right_64 = holds_more 56 AFTER_56 AFTER_64 right_56 refl
+
+pub right_72 : Holds 72 AFTER_72
+unfolding shifts
+right_72 = holds_more 64 AFTER_64 AFTER_72 right_64 refl
+
+pub right_80 : Holds 80 AFTER_80
+unfolding shifts
+right_80 = holds_more 72 AFTER_72 AFTER_80 right_72 refl
+
+pub right_88 : Holds 88 AFTER_88
+unfolding shifts
+right_88 = holds_more 80 AFTER_80 AFTER_88 right_80 refl
+
+pub right_96 : Holds 96 AFTER_96
+unfolding shifts
+right_96 = holds_more 88 AFTER_88 AFTER_96 right_88 refl
+
+pub right_104 : Holds 104 AFTER_104
+unfolding shifts
+right_104 = holds_more 96 AFTER_96 AFTER_104 right_96 refl
+
+pub right_112 : Holds 112 AFTER_112
+unfolding shifts
+right_112 = holds_more 104 AFTER_104 AFTER_112 right_104 refl
+
+pub right_120 : Holds 120 AFTER_120
+unfolding shifts
+right_120 = holds_more 112 AFTER_112 AFTER_120 right_112 refl
+
+pub right_128 : Holds 128 AFTER_128
+unfolding shifts
+right_128 = holds_more 120 AFTER_120 AFTER_128 right_120 refl
+
+-- what a byte does, by the table
+pub table_step : (r b : ℕ) → b < 256 → after_bits r (low_bits 8 b) ≡ bit_xor (r / 2 ^ 8) (get_or AFTER_8 (bit_and (bit_xor r b) 255) 0)
+table_step r b h = byte_step r b h ∙ ap (bit_xor (r / 256)) (sym (entry_at 8 AFTER_8 (bit_xor r b) right_8))
+
+-- bytes in two parts
+pub after-append : (r : ℕ) (xs ys : List ℕ) → after_bits r (bits_of (xs ++ ys)) ≡ after_bits (after_bits r (bits_of xs)) (bits_of ys)
+unfolding after_bits bits_of
+after-append r xs ys = ap (fold after_bit r) (flat_map-append (low_bits 8) xs ys) ∙ fold-append after_bit r (flat_map (low_bits 8) xs) (flat_map (low_bits 8) ys)
+
+after_one : (r b : ℕ) → after_bits r (bits_of (b ∷ [])) ≡ after_bits r (low_bits 8 b)
+unfolding bits_of
+after_one r b = ap (after_bits r) (append-nil (low_bits 8 b))
+
+-- one byte more
+pub after_more : (r : ℕ) (bytes : List ℕ) (i : ℕ) → i < length bytes → after_bits r (bits_of (take (i + 1) bytes)) ≡ after_bits (after_bits r (bits_of (take i bytes))) (low_bits 8 (get_or bytes i 0))
+after_more r bytes i h =
+    ap (λ (xs : List ℕ). after_bits r (bits_of xs)) (take_more bytes i 0 h)
+    ∙ (after-append r (take i bytes) (get_or bytes i 0 ∷ []) ∙ after_one (after_bits r (bits_of (take i bytes))) (get_or bytes i 0))
+
+pub register-append : (xs ys : List ℕ) → register (xs ++ ys) ≡ after_bits (register xs) (bits_of ys)
+unfolding register
+register-append xs ys = after-append 0xFFFF_FFFF xs ys
+
+-- ---- sixteen bytes at once
+
+eight_bits : (xs : List ℕ) (x : ℕ) → length xs ≡ 8 → AreBytes xs → x ≡ little_number 8 xs → low_bits 64 x ≡ bits_of xs
+eight_bits xs x h f e =
+    let all : take 8 xs ≡ xs = take_all 8 xs (omega arith) in
+    ap (low_bits 64) e ∙ (bits_little 8 0 xs (omega arith) f ∙ ap bits_of all)
+
+-- sixteen bytes more, as two numbers
+pub sixteen_step : (r lo hi : ℕ) (xs ys : List ℕ) → length xs ≡ 8 → length ys ≡ 8 → AreBytes xs → AreBytes ys → lo ≡ little_number 8 xs → hi ≡ little_number 8 ys → lo < 2 ^ 64 → hi < 2 ^ 64 →
+    bit_xor (shifts 128 (bit_xor r lo)) (shifts 64 hi) ≡ after_bits r (bits_of (xs ++ ys))
+sixteen_step r lo hi xs ys n m f g d e p q =
+    let t = after_bits r (low_bits 64 lo) in
+    let first : t ≡ shifts 64 (bit_xor r lo) = eight_step r lo p in
+    let second : after_bits t (low_bits 64 hi) ≡ shifts 64 (bit_xor t hi) = eight_step t hi q in
+    let parted : shifts 64 (bit_xor t hi) ≡ bit_xor (shifts 64 t) (shifts 64 hi) = shifts_of_xor 64 t hi in
+    let twice : shifts 128 (bit_xor r lo) ≡ shifts 64 t = shifts_add 64 64 (bit_xor r lo) ∙ ap (shifts 64) (sym first) in
+    let whole : after_bits r (bits_of (xs ++ ys)) ≡ after_bits t (low_bits 64 hi) =
+    after-append r xs ys ∙ (ap (λ (bs : List ℕ). after_bits (after_bits r bs) (bits_of ys)) (sym (eight_bits xs lo n f d)) ∙ ap (after_bits t) (sym (eight_bits ys hi m g e))) in
+    ap (λ (z : ℕ). bit_xor z (shifts 64 hi)) twice ∙ sym (whole ∙ (second ∙ parted))

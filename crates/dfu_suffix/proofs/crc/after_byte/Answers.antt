@@ -1,0 +1,10 @@
+use Rattle.std.proofs.Common.{◌≡◌, ℕ, ap, ◌∙◌, sym, bit_xor, bit_and, get_or, ◌/◌, arith}
+use Rattle.dfu_suffix.specs.declared.table.bits_8.TheConstants.{AFTER_8}
+use Rattle.dfu_suffix.proofs.Tables.{table_step}
+use Rattle.dfu_suffix.proofs.crc.after_byte.Goals as goal
+
+pub returns : goal.returns
+returns c =
+    let step = table_step c.args.register c.args.byte (omega arith) in
+    let entry : c.entry.result ≡ get_or AFTER_8 (bit_and (bit_xor c.args.register c.args.byte) 255) 0 = cc in
+    ap (bit_xor (c.args.register / 256)) entry ∙ sym step

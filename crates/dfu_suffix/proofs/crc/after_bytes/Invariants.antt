@@ -1,0 +1,13 @@
+use Rattle.std.proofs.Common.{◌≡◌, length, take}
+use Rattle.dfu_suffix.specs.Register.{after_bits, bits_of}
+use Rattle.dfu_suffix.proofs.crc.after_bytes.Given as goal
+
+-- the rest from here gives what all of it gives from the start
+abbrev pub invariant-loop-sixteen : goal.invariant-loop-sixteen
+invariant-loop-sixteen l = after_bits l.register (bits_of l.rest) ≡ after_bits l.start (bits_of l.bytes)
+
+abbrev pub decreases-loop-sixteen : goal.decreases-loop-sixteen
+decreases-loop-sixteen l = length l.rest
+
+abbrev pub invariant-loop-byte : goal.invariant-loop-byte
+invariant-loop-byte l = l.register ≡ after_bits l.initial.register (bits_of (take l.byte-index l.byte-items))

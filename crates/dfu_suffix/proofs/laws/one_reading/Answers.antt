@@ -1,0 +1,5 @@
+use Rattle.dfu_suffix.proofs.LawProofs.{one_reading}
+use Rattle.dfu_suffix.proofs.laws.one_reading.Goals as goal
+
+pub returns : goal.returns
+returns c = one_reading

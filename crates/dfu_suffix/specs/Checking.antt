@@ -1,0 +1,33 @@
+-- What checking a file answers.
+use Rattle.std.specs.Prelude.{◌≡◌, ◌↔◌, ℕ, ◌+◌, ◌<◌, ◌≤◌, List, length, IfOk, Result, Ok, Err, ⊤, Vec}
+use Rattle.std.specs.declared.alloc.Global.{Global}
+use Rattle.dfu_suffix.specs.Register.{register}
+use Rattle.dfu_suffix.specs.Grammar.{IsFile, First, before_crc}
+use Rattle.dfu_suffix.specs.declared.summary.Summary.{Summary}
+use Rattle.dfu_suffix.specs.declared.ids.Ids.{Ids}
+use Rattle.dfu_suffix.specs.declared.fault.SuffixFault.{SuffixFault}
+use Rattle.dfu_suffix.specs.declared.fault.SuffixFault.TheVariants.{TooLarge, NoMemory, Read}
+
+-- the summary of the file with this payload, these fields and these extra bytes
+abbrev pub summary_of : List ℕ → Ids → ℕ → List ℕ → Summary
+summary_of payload ids dfu extra = record { payload = length payload; suffix = 16 + length extra; ids = ids; dfu = dfu; crc = register (before_crc payload ids dfu extra) }
+
+-- what is accepted is a file of the grammar, with its summary; each file of the grammar is accepted; all else has a first fault, which is the answer
+pub record Checks (bytes : List ℕ) (answer : Result Summary SuffixFault) : Type 0 where
+  pub found : IfOk answer (λ s. (payload : List ℕ) × (extra : List ℕ) × IsFile payload s.ids s.dfu extra bytes × (s ≡ summary_of payload s.ids s.dfu extra))
+  pub only : (payload : List ℕ) (ids : Ids) (dfu : ℕ) (extra : List ℕ) → IsFile payload ids dfu extra bytes → answer ≡ Ok (summary_of payload ids dfu extra)
+  pub fault : (fault : SuffixFault) → (answer ≡ Err fault) ↔ First fault bytes
+
+-- the fact holds, unless the reader failed or an allocation was refused
+abbrev pub UnlessCut : {T : Type 0} → Result T SuffixFault → Type 0 → Type 0
+UnlessCut (Err Read) P = ⊤
+UnlessCut (Err NoMemory) P = ⊤
+UnlessCut r P = P
+
+-- all that the reader gives was gathered, or it is over the limit of a file
+abbrev pub Gathers : List ℕ → Result (Vec ℕ Global) SuffixFault → Type 0
+Gathers all (Ok v) = (v.items ≡ all) × (length all ≤ 16777216)
+Gathers all (Err TooLarge) = 16777216 < length all
+Gathers all (Err Read) = ⊤
+Gathers all (Err NoMemory) = ⊤
+Gathers all (Err f) = ⊥

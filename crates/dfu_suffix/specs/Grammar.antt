@@ -1,0 +1,61 @@
+-- The grammar of a DFU file (USB DFU 1.1, appendix B), built from the front.
+use Rattle.std.specs.Prelude.{◌≡◌, ◌≢◌, ℕ, ◌+◌, ◌-◌, ◌<◌, ◌≤◌, ◌^◌, ◌==◌, ◌&&◌, ◌||◌, Bool, false, not, nat_lt, List, [], ◌∷◌, ◌++◌, length, take, drop, slice_index, find}
+use Rattle.std.specs.Prelude.{Option, Some}
+use Rattle.std.specs.Int.{w16, w32, to_le_bytes}
+use Rattle.byteorder.specs.Endian.{little_number}
+use Rattle.dfu_suffix.specs.Register.{register}
+use Rattle.dfu_suffix.specs.declared.ids.Ids.{Ids}
+use Rattle.dfu_suffix.specs.declared.fault.SuffixFault.{SuffixFault}
+use Rattle.dfu_suffix.specs.declared.fault.SuffixFault.TheVariants.{TooShort, NoSignature, BadLength, DfuSe, BadCrc, AlreadySuffixed, TooLarge, NoMemory, Read, Write}
+
+-- what a file says: its payload, its identifiers, bcdDFU and bLength
+pub record Content : Type 0 where
+  pub payload : List ℕ
+  pub ids : Ids
+  pub dfu : ℕ
+  pub suffix : ℕ
+
+-- a file up to its CRC: payload, extra bytes, bcdDevice, idProduct, idVendor, bcdDFU, the letters UFD and bLength
+abbrev pub before_crc : List ℕ → Ids → ℕ → List ℕ → List ℕ
+before_crc payload ids dfu extra =
+    payload ++ (extra ++ (to_le_bytes w16 ids.device ++ (to_le_bytes w16 ids.product ++ (to_le_bytes w16 ids.vendor ++ (to_le_bytes w16 dfu ++ (0x55 ∷ 0x46 ∷ 0x44 ∷ (16 + length extra) ∷ []))))))
+
+-- the bytes are a file with this payload, these fields and these extra bytes, and then the register over all of that
+pub record IsFile (payload : List ℕ) (ids : Ids) (dfu : ℕ) (extra : List ℕ) (bytes : List ℕ) : Type 0 where
+  pub spelled : bytes ≡ before_crc payload ids dfu extra ++ to_le_bytes w32 (register (before_crc payload ids dfu extra))
+  pub extra_fits : length extra ≤ 239
+  pub device_fits : ids.device < 2 ^ 16
+  pub product_fits : ids.product < 2 ^ 16
+  pub vendor_fits : ids.vendor < 2 ^ 16
+  pub dfu_fits : dfu < 2 ^ 16
+  pub not_dfuse : dfu ≢ 0x011A
+  pub small : length bytes ≤ 16777216
+
+-- the last 16 bytes
+abbrev pub tail_of : List ℕ → List ℕ
+tail_of bytes = drop (length bytes - 16) bytes
+
+-- whether the 16 bytes have the letters UFD in their place
+abbrev pub is_signed : List ℕ → Bool
+is_signed tail = (slice_index tail 8 == 0x55) && ((slice_index tail 9 == 0x46) && (slice_index tail 10 == 0x44))
+
+-- the condition of each fault of a file
+abbrev pub has_fault : List ℕ → SuffixFault → Bool
+has_fault bytes TooLarge = nat_lt 16777216 (length bytes)
+has_fault bytes TooShort = nat_lt (length bytes) 16
+has_fault bytes NoSignature = not (is_signed (tail_of bytes))
+has_fault bytes BadLength = nat_lt (slice_index (tail_of bytes) 11) 16 || nat_lt (length bytes) (slice_index (tail_of bytes) 11)
+has_fault bytes DfuSe = little_number 2 (drop 6 (tail_of bytes)) == 0x011A
+has_fault bytes BadCrc = not (little_number 4 (drop 12 (tail_of bytes)) == register (take (length bytes - 4) bytes))
+has_fault bytes AlreadySuffixed = false
+has_fault bytes NoMemory = false
+has_fault bytes Read = false
+has_fault bytes Write = false
+
+-- the order in which the faults are looked for
+abbrev pub fault_order : List SuffixFault
+fault_order = TooLarge ∷ TooShort ∷ NoSignature ∷ BadLength ∷ DfuSe ∷ BadCrc ∷ []
+
+-- this is the first fault of the bytes
+abbrev pub First : SuffixFault → List ℕ → Type 0
+First fault bytes = find (has_fault bytes) fault_order ≡ Some fault

@@ -1,0 +1,5 @@
+pub mod Register
+pub mod Grammar
+pub mod Reading
+pub mod Checking
+pub mod Laws

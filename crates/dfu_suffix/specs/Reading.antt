@@ -1,0 +1,23 @@
+-- What reading from the end finds. Only this crate's own functions cite it: the grammar says what it is worth.
+use Rattle.std.specs.Prelude.{ℕ, ◌-◌, List, length, take, drop, slice_index, find, Option, Some, None, Result, Ok, Err}
+use Rattle.byteorder.specs.Endian.{little_number}
+use Rattle.dfu_suffix.specs.Grammar.{Content, tail_of, has_fault, fault_order}
+use Rattle.dfu_suffix.specs.declared.fault.SuffixFault.{SuffixFault}
+
+-- what the last 16 bytes say of bytes that have no fault
+abbrev pub content_of : List ℕ → Content
+content_of bytes = record {
+  payload = take (length bytes - slice_index (tail_of bytes) 11) bytes;
+  ids = record { device = little_number 2 (drop 0 (tail_of bytes)); product = little_number 2 (drop 2 (tail_of bytes)); vendor = little_number 2 (drop 4 (tail_of bytes)) };
+  dfu = little_number 2 (drop 6 (tail_of bytes));
+  suffix = slice_index (tail_of bytes) 11;
+}
+
+-- the fault, where there is one, and else the content
+abbrev pub content_or : Option SuffixFault → Content → Result Content SuffixFault
+content_or (Some fault) content = Err fault
+content_or None content = Ok content
+
+-- the first fault of the bytes, or what they say
+unfoldable pub reading : List ℕ → Result Content SuffixFault
+reading bytes = content_or (find (has_fault bytes) fault_order) (content_of bytes)

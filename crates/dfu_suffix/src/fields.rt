@@ -1,0 +1,63 @@
+// The fields of a suffix, read from the end of the bytes (USB DFU 1.1, appendix B).
+
+ghost use Rattle.std.specs.Prelude.{◌≡◌, ◌+◌, ◌-◌, ◌≤◌, length, take, drop};
+ghost use Rattle.byteorder.specs.Endian.{little_number};
+ghost use Rattle.dfu_suffix.specs.Grammar.{tail_of, is_signed};
+ghost use Rattle.dfu_suffix.specs.Register.{register};
+
+use crate::crc::Crc;
+use byteorder::{ByteOrder, LittleEndian};
+
+// The last 16 bytes.
+pub(crate) fn tail(bytes: &[u8]) -> &[u8]
+    requires { 16 ≤ length bytes.now }
+    ensures value { result.now ≡ tail_of bytes.now }
+    ensures len { length result.now ≡ 16 }
+{
+    let (_, tail) = bytes.split_at(bytes.len() - 16);
+    tail
+}
+
+// Whether the last 16 bytes have the signature.
+pub(crate) fn is_signed(tail: &[u8]) -> bool
+    requires { length tail.now ≡ 16 }
+    ensures { result ≡ is_signed tail.now }
+{
+    tail[8] == b'U' && tail[9] == b'F' && tail[10] == b'D'
+}
+
+pub(crate) fn u16_at(tail: &[u8], at: usize) -> u16
+    requires { at + 2 ≤ length tail.now }
+    ensures { result ≡ little_number 2 (drop at tail.now) }
+{
+    let (_, field) = tail.split_at(at);
+    LittleEndian::read_u16(field)
+}
+
+pub(crate) fn u32_at(tail: &[u8], at: usize) -> u32
+    requires { at + 4 ≤ length tail.now }
+    ensures { result ≡ little_number 4 (drop at tail.now) }
+{
+    let (_, field) = tail.split_at(at);
+    LittleEndian::read_u32(field)
+}
+
+// The dwCRC that the file is to have: the register over all but its last four bytes.
+pub(crate) fn crc_due(bytes: &[u8]) -> u32
+    requires { 4 ≤ length bytes.now }
+    ensures { result ≡ register (take (length bytes.now - 4) bytes.now) }
+{
+    let (front, _) = bytes.split_at(bytes.len() - 4);
+    let mut crc = Crc::new();
+    crc.update(front);
+    crc.value()
+}
+
+// The bytes before the suffix.
+pub(crate) fn payload_of(bytes: &[u8], suffix: usize) -> &[u8]
+    requires { suffix ≤ length bytes.now }
+    ensures { result.now ≡ take (length bytes.now - suffix) bytes.now }
+{
+    let (payload, _) = bytes.split_at(bytes.len() - suffix);
+    payload
+}

@@ -1,0 +1,54 @@
+// A file that was read.
+
+ghost use Rattle.std.specs.Prelude.{◌≡◌};
+
+use crate::ids::Ids;
+use std::marker::Model;
+
+/// A file of the grammar: its payload, as a slice of the bytes that were read, and the fields of
+/// its suffix. Only `read` makes one.
+#[derive(Drop)]
+pub struct File<'f> {
+    pub(crate) payload: &'f [u8],
+    pub(crate) ids: Ids,
+    pub(crate) dfu: u16,
+    pub(crate) suffix: u8,
+}
+
+impl<'f> Model for File<'f> {
+    ghost use Rattle.dfu_suffix.specs.Grammar.{Content};
+
+    ghost Value = { Content };
+
+    ghost view = { λ f. record { payload = f.payload.now; ids = f.ids; dfu = f.dfu; suffix = f.suffix } };
+}
+
+impl<'f> File<'f> {
+    /// The bytes before the suffix, which are what a device gets.
+    pub fn payload(&self) -> &'f [u8]
+        ensures { result.now ≡ self.now.payload }
+    {
+        self.payload
+    }
+
+    /// The device that the file is for.
+    pub fn ids(&self) -> Ids
+        ensures { result ≡ self.now.ids }
+    {
+        self.ids
+    }
+
+    /// bcdDFU, the version of the format. It isn't 011Ah.
+    pub fn dfu(&self) -> u16
+        ensures { result ≡ self.now.dfu }
+    {
+        self.dfu
+    }
+
+    /// bLength: how many bytes the suffix has, from 16 to 255.
+    pub fn suffix(&self) -> u8
+        ensures { result ≡ self.now.suffix }
+    {
+        self.suffix
+    }
+}

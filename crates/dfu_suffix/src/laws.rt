@@ -1,0 +1,19 @@
+// Laws of the file format, each the contract of a function that does nothing.
+
+ghost use Rattle.dfu_suffix.specs.Laws.{EachFileOrFault, OneReading, LastFour};
+
+/// Bytes have a reading or a first fault, and never both.
+pub fn file_or_fault()
+    ensures { EachFileOrFault }
+{}
+
+/// No bytes have two readings.
+pub fn one_reading()
+    ensures { OneReading }
+{}
+
+/// The register over four bytes or more is 0 exactly where the last four are the register over
+/// those before.
+pub fn last_four()
+    ensures { LastFour }
+{}

@@ -1,0 +1,204 @@
+mod files;
+mod readers;
+
+use crate::{Crc, Ids, SuffixFault, Summary, check, read};
+use files::{DFUSE, DIGITS, EMPTY, FOUR_ONES, LONG_SUFFIX, NO_IDS};
+use readers::{OneByOne, Zeros};
+use std::test::Fail;
+
+fn register(bytes: &[u8]) -> u32 {
+    let mut crc = Crc::new();
+    crc.update(bytes);
+    crc.value()
+}
+
+// The register bit by bit, as appendix B has it.
+fn register_by_bits(bytes: &[u8]) -> u32 {
+    let mut register: u32 = 0xffff_ffff;
+    for byte in bytes {
+        for place in 0..8u32 {
+            let bit = u32::from(*byte >> place) & 1;
+            let differs = (register & 1) != bit;
+            register >>= 1;
+            if differs {
+                register ^= 0xedb8_8320;
+            }
+        }
+    }
+    register
+}
+
+// What `read` answers, as the summary that `check` gives.
+fn summary_by_read(bytes: &[u8]) -> Result<Summary, SuffixFault> {
+    let file = read(bytes)?;
+    let crc = register_by_bits(&bytes[..bytes.len().saturating_sub(4)]);
+    Ok(Summary {
+        payload: file.payload().len() as u32,
+        suffix: file.suffix(),
+        ids: file.ids(),
+        dfu: file.dfu(),
+        crc,
+    })
+}
+
+#[test]
+fn registers_of_known_bytes(rt: HostRuntime) {
+    let known: [(&[u8], u32); 11] = [
+        (b"", 0xffff_ffff),
+        (&[0xff], 0x00ff_ffff),
+        (&[0xff; 4], 0x0000_0000),
+        (b"123456789", 0x340b_c6d9),
+        (&FOUR_ONES[..16], 0x0c51_c871),
+        (&NO_IDS[..16], 0x3c06_bd37),
+        (&EMPTY[..12], 0x887b_f1e1),
+        (&LONG_SUFFIX[..16], 0x7b56_f8e7),
+        (&DFUSE[..16], 0xae1c_e98c),
+        (&DIGITS[..21], 0xfe70_1c62),
+        (&FOUR_ONES, 0x0000_0000),
+    ];
+    for (bytes, value) in known {
+        assert_eq!(rt; register(bytes), value, "over {bytes:?}");
+        assert_eq!(rt; register_by_bits(bytes), value, "bit by bit over {bytes:?}");
+    }
+}
+
+// The fast body and the plain one agree at each length around a step of sixteen bytes, and
+// however the bytes are cut.
+#[test]
+fn register_in_pieces(rt: HostRuntime) {
+    let mut bytes = [0u8; 67];
+    let mut next: u8 = 1;
+    for place in bytes.iter_mut() {
+        *place = next;
+        next = next.wrapping_mul(29).wrapping_add(7);
+    }
+    for end in 0..=67usize {
+        let whole = &bytes[..end];
+        assert_eq!(rt; register(whole), register_by_bits(whole), "over {end} bytes");
+        let (front, back) = whole.split_at(end / 3);
+        let mut crc = Crc::new();
+        crc.update(front);
+        crc.update(back);
+        assert_eq!(rt; crc.value(), register(whole), "in two pieces of {end} bytes");
+    }
+}
+
+#[test]
+fn fields_of_known_files(rt: HostRuntime) -> Result<(), Fail> {
+    let unset = Ids {
+        device: 0xffff,
+        product: 0xffff,
+        vendor: 0xffff,
+    };
+    let file = read(&FOUR_ONES)?;
+    assert_eq!(rt; file.payload(), &[0xff; 4][..]);
+    assert_eq!(rt; (file.ids(), file.dfu(), file.suffix()), (unset, 0x0100, 16));
+    let file = read(&LONG_SUFFIX)?;
+    assert_eq!(rt; file.payload(), &[0xff; 3][..]);
+    assert_eq!(rt; (file.ids(), file.dfu(), file.suffix()), (unset, 0x0100, 17));
+    let file = read(&EMPTY)?;
+    assert_eq!(rt; file.payload().len(), 0);
+    let file = read(&DIGITS)?;
+    assert_eq!(rt; file.payload(), &b"123456789"[..]);
+    let ids = Ids {
+        device: 0x0100,
+        product: 0x0001,
+        vendor: 0x1209,
+    };
+    assert_eq!(rt; (file.ids(), file.dfu(), file.suffix()), (ids, 0x0100, 16));
+    Ok(())
+}
+
+#[test]
+fn summaries_of_known_files(rt: HostRuntime) {
+    let known: [(&[u8], u32, u8, u32); 4] = [
+        (&FOUR_ONES, 4, 16, 0x0c51_c871),
+        (&EMPTY, 0, 16, 0x887b_f1e1),
+        (&LONG_SUFFIX, 3, 17, 0x7b56_f8e7),
+        (&DIGITS, 9, 16, 0xfe70_1c62),
+    ];
+    for (bytes, payload, suffix, crc) in known {
+        let Ok(summary) = check(rt.alloc(), bytes) else {
+            assert!(rt; false, "refused {bytes:?}");
+            return;
+        };
+        assert_eq!(rt; (summary.payload, summary.suffix, summary.crc), (payload, suffix, crc), "of {bytes:?}");
+    }
+}
+
+// `file` with its byte at `at` replaced.
+fn with_byte(file: &[u8; 20], at: usize, byte: u8) -> [u8; 20] {
+    let mut changed = *file;
+    if at < 20 {
+        changed[at] = byte;
+    }
+    changed
+}
+
+#[test]
+fn first_faults_of_known_bytes(rt: HostRuntime) {
+    let complement = [
+        0xff, 0xff, 0xff, 0xff, 0xff, 0xff, 0xff, 0xff, 0xff, 0xff, 0x00, 0x01, 0x55, 0x46, 0x44,
+        0x10, 0x8e, 0x37, 0xae, 0xf3,
+    ];
+    let known: [(&[u8], SuffixFault); 7] = [
+        (&complement, SuffixFault::BadCrc),
+        (&EMPTY[..15], SuffixFault::TooShort),
+        (&[], SuffixFault::TooShort),
+        (&with_byte(&FOUR_ONES, 15, 0x0f), SuffixFault::BadLength),
+        (&with_byte(&FOUR_ONES, 12, 0x00), SuffixFault::NoSignature),
+        (&DFUSE, SuffixFault::DfuSe),
+        (&with_byte(&DFUSE, 19, 0x00), SuffixFault::DfuSe),
+    ];
+    for (bytes, fault) in known {
+        assert_eq!(rt; read(bytes).err(), Some(fault), "reading {bytes:?}");
+        assert_eq!(rt; check(rt.alloc(), bytes), Err(fault), "checking {bytes:?}");
+    }
+}
+
+#[test]
+fn one_byte_at_each_read(rt: HostRuntime) {
+    let files: [&[u8]; 7] = [
+        &FOUR_ONES,
+        &NO_IDS,
+        &EMPTY,
+        &LONG_SUFFIX,
+        &DFUSE,
+        &DIGITS,
+        &EMPTY[..15],
+    ];
+    for bytes in files {
+        assert_eq!(rt; check(rt.alloc(), OneByOne(bytes)), summary_by_read(bytes), "of {bytes:?}");
+    }
+}
+
+// Where memory is ample the answer is the summary; where an allocation is refused, it is NoMemory.
+#[test]
+fn refused_allocation(rt: HostRuntime) {
+    match check(rt.alloc(), &FOUR_ONES[..]) {
+        Ok(summary) => assert_eq!(rt; summary.payload, 4),
+        Err(fault) => assert_eq!(rt; fault, SuffixFault::NoMemory),
+    }
+}
+
+#[test]
+fn reader_that_fails(rt: HostRuntime) {
+    for left in [0usize, 1, 4096, 5000] {
+        let mut zeros = Zeros {
+            left,
+            calls_after: 0,
+        };
+        assert_eq!(rt; check(rt.alloc(), &mut zeros), Err(SuffixFault::Read), "after {left} bytes");
+        assert_eq!(rt; zeros.calls_after, 1, "tries after {left} bytes");
+    }
+}
+
+#[test]
+fn reader_past_the_limit(rt: HostRuntime) {
+    let mut zeros = Zeros {
+        left: 16_777_217,
+        calls_after: 0,
+    };
+    assert_eq!(rt; check(rt.alloc(), &mut zeros), Err(SuffixFault::TooLarge));
+    assert_eq!(rt; zeros.calls_after, 0);
+}
