@@ -1,0 +1,40 @@
+-- The bytes of a functional descriptor (USB DFU 1.1, section 4.1.3).
+use Rattle.std.specs.Prelude.{◌≡◌, ◌≢◌, ◌⊎◌, ◌↔◌, ℕ, ◌+◌, ◌*◌, ◌<◌, List, length, slice_index, IsTrue, IsBitSet}
+use Rattle.dfu_wire.specs.declared.functionals.Functional.{Functional}
+use Rattle.dfu_wire.specs.declared.fault.WireFault.{WireFault}
+use Rattle.dfu_wire.specs.declared.fault.WireFault.TheVariants as fault
+
+-- these nine bytes are this descriptor: numbers of two bytes have their low byte first, and bits 4 to 7 of the attributes may be anything
+pub record IsFunctional (f : Functional) (b : List ℕ) : Type 0 where
+  pub length : length b ≡ 9
+  pub own_length : slice_index b 0 ≡ 9
+  pub type_byte : slice_index b 1 ≡ 0x21
+  pub download : IsTrue f.can_download ↔ IsBitSet (slice_index b 2) 0
+  pub upload : IsTrue f.can_upload ↔ IsBitSet (slice_index b 2) 1
+  pub tolerant : IsTrue f.tolerant ↔ IsBitSet (slice_index b 2) 2
+  pub will_detach : IsTrue f.will_detach ↔ IsBitSet (slice_index b 2) 3
+  pub detach : f.detach_ms ≡ slice_index b 3 + 256 * slice_index b 4
+  pub transfer : f.transfer ≡ slice_index b 5 + 256 * slice_index b 6
+  pub version : f.version ≡ slice_index b 7 + 256 * slice_index b 8
+
+-- the first fault of bytes that are no functional descriptor: none at all, another length in the first byte, too few, too many, another type
+abbrev pub FirstFunctionalFault : WireFault → List ℕ → Type 0
+FirstFunctionalFault fault.WrongLength b = (0 < length b) × (slice_index b 0 ≢ 9)
+FirstFunctionalFault fault.Short b = (length b ≡ 0) ⊎ ((slice_index b 0 ≡ 9) × (length b < 9))
+FirstFunctionalFault fault.Long b = (slice_index b 0 ≡ 9) × (9 < length b)
+FirstFunctionalFault fault.WrongType b = (slice_index b 0 ≡ 9) × (length b ≡ 9) × (slice_index b 1 ≢ 0x21)
+FirstFunctionalFault fault.UnknownState b = ⊥
+FirstFunctionalFault fault.UnknownCode b = ⊥
+FirstFunctionalFault fault.PollTooLong b = ⊥
+
+-- no bytes are two descriptors
+abbrev pub OneFunctional : Type 0
+OneFunctional = (f g : Functional) (b : List ℕ) → IsFunctional f b → IsFunctional g b → f ≡ g
+
+-- no bytes are a descriptor and have a fault
+abbrev pub NoFunctionalFault : Type 0
+NoFunctionalFault = (f : Functional) (e : WireFault) (b : List ℕ) → IsFunctional f b → FirstFunctionalFault e b → ⊥
+
+-- no bytes have two first faults as a descriptor
+abbrev pub OneFunctionalFault : Type 0
+OneFunctionalFault = (d e : WireFault) (b : List ℕ) → FirstFunctionalFault d b → FirstFunctionalFault e b → d ≡ e

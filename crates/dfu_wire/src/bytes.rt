@@ -1,0 +1,23 @@
+//! Bits and bytes of the fields.
+
+ghost use Rattle.std.specs.Prelude.{◌≡◌, ◌<◌, ◌+◌, ◌*◌, length, slice_index, IsTrue, IsBitSet, ◌↔◌};
+
+use byteorder::{ByteOrder, LittleEndian};
+
+/// The two bytes of a number, the low byte first.
+pub(crate) fn two_bytes(number: u16) -> [u8; 2]
+    ensures length { length result ≡ 2 }
+    ensures value { number ≡ slice_index result 0 + 256 * slice_index result 1 }
+{
+    let mut bytes = [0; 2];
+    LittleEndian::write_u16(&mut bytes, number);
+    bytes
+}
+
+/// Whether this bit is 1, bit 0 being the lowest.
+pub(crate) fn is_set(byte: u8, bit: u8) -> bool
+    requires { bit < 8 }
+    ensures { IsTrue result ↔ IsBitSet byte bit }
+{
+    byte & (1 << bit) != 0
+}

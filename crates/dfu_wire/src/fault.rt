@@ -1,0 +1,31 @@
+//! Why bytes or numbers are no value of the wire.
+
+use thiserror::Error;
+
+/// Why bytes or numbers are no value of the wire. Each reader says in which order it looks.
+#[derive(Clone, Copy, Debug, PartialEq, Eq, Error)]
+pub enum WireFault {
+    /// There are fewer bytes than the value has: under 9 of a functional descriptor (where there
+    /// is no first byte, or it is 9), under 6 of a status.
+    #[error("too few bytes")]
+    Short,
+    /// There are more bytes than the value has: over 9 of a functional descriptor, over 6 of a
+    /// status.
+    #[error("too many bytes")]
+    Long,
+    /// The first byte of a functional descriptor, bLength, is not 9.
+    #[error("the length byte is wrong")]
+    WrongLength,
+    /// The second byte of a functional descriptor, bDescriptorType, is not 21h.
+    #[error("the type byte is wrong")]
+    WrongType,
+    /// A byte is over 10, so no state has it as its number.
+    #[error("no such state")]
+    UnknownState,
+    /// A byte is over 15, so no status code has it as its number.
+    #[error("no such status code")]
+    UnknownCode,
+    /// A poll time is over 16,777,215 milliseconds, so three bytes do not hold it.
+    #[error("the poll time does not fit 24 bits")]
+    PollTooLong,
+}

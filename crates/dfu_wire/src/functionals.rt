@@ -1,0 +1,132 @@
+//! The functional descriptor (USB DFU 1.1, section 4.1.3).
+
+ghost use Rattle.std.specs.Prelude.{◌≡◌, ◌<◌, ◌≤◌, ◌^◌, ◌+◌, ◌*◌, IfOk, IfErr, Ok, length, slice_index, IsTrue, IsBitSet, ◌↔◌};
+
+use crate::bytes::{is_set, two_bytes};
+use crate::WireFault;
+use byteorder::{ByteOrder, LittleEndian};
+
+/// bLength of every descriptor.
+const LENGTH: u8 = 9;
+
+/// bDescriptorType of every descriptor.
+const TYPE: u8 = 0x21;
+
+/// What a device says of its upgrades: 9 bytes on the wire.
+///
+/// | Bytes | Field of the standard | Field here |
+/// |---|---|---|
+/// | 0 | bLength, always 9 | |
+/// | 1 | bDescriptorType, always 21h | |
+/// | 2 | bmAttributes: bits 0 to 3 | the four flags, in their order here |
+/// | 3, 4 | wDetachTimeOut, milliseconds | `detach_ms` |
+/// | 5, 6 | wTransferSize, bytes | `transfer` |
+/// | 7, 8 | bcdDFUVersion, as 0110h | `version` |
+///
+/// Bits 4 to 7 of bmAttributes are reserved: ignored on reading, and written as 0.
+#[derive(Clone, Copy, Debug, PartialEq, Eq)]
+pub struct Functional {
+    /// bitCanDnload: a host may send an image.
+    pub can_download: bool,
+    /// bitCanUpload: a host may read the image.
+    pub can_upload: bool,
+    /// bitManifestationTolerant: the device still answers after it took a new image.
+    pub tolerant: bool,
+    /// bitWillDetach: the device detaches by itself after DETACH.
+    pub will_detach: bool,
+    /// wDetachTimeOut: how long the device waits for a reset after DETACH, in milliseconds.
+    pub detach_ms: u16,
+    /// wTransferSize: the most bytes of one block.
+    pub transfer: u16,
+    /// bcdDFUVersion: the version of the standard, as binary-coded decimal.
+    pub version: u16,
+}
+
+impl Functional {
+    ghost use Rattle.dfu_wire.specs.Functional.{IsFunctional, FirstFunctionalFault};
+    ghost use Rattle.dfu_wire.specs.declared.functionals.Functional.{Functional};
+
+    /// Reads a descriptor. The faults, in the order in which they are looked for:
+    ///
+    /// 1. `Short`: there are no bytes.
+    /// 2. `WrongLength`: the first byte is not 9.
+    /// 3. `Short`: there are fewer than 9 bytes.
+    /// 4. `Long`: there are more than 9 bytes.
+    /// 5. `WrongType`: the second byte is not 21h.
+    pub fn decode(bytes: &[u8]) -> Result<Functional, WireFault>
+        ensures ok { IfOk result (λ f. IsFunctional f bytes.now) }
+        ensures only { (f : Functional) → IsFunctional f bytes.now → result ≡ Ok f }
+        ensures err { IfErr result (λ e. FirstFunctionalFault e bytes.now) }
+    {
+        if bytes.is_empty() {
+            return Err(WireFault::Short);
+        }
+        if bytes[0] != LENGTH {
+            return Err(WireFault::WrongLength);
+        }
+        if bytes.len() < 9 {
+            return Err(WireFault::Short);
+        }
+        if bytes.len() > 9 {
+            return Err(WireFault::Long);
+        }
+        if bytes[1] != TYPE {
+            return Err(WireFault::WrongType);
+        }
+        let attributes = bytes[2];
+        Ok(Functional {
+            can_download: is_set(attributes, 0),
+            can_upload: is_set(attributes, 1),
+            tolerant: is_set(attributes, 2),
+            will_detach: is_set(attributes, 3),
+            detach_ms: LittleEndian::read_u16(&bytes[3..]),
+            transfer: LittleEndian::read_u16(&bytes[5..]),
+            version: LittleEndian::read_u16(&bytes[7..]),
+        })
+    }
+
+    /// Writes the descriptor, with the reserved bits 0.
+    pub fn encode(&self) -> [u8; 9]
+        ensures fields { IsFunctional self.now result }
+        ensures reserved { slice_index result 2 < 16 }
+    {
+        let Functional {
+            can_download,
+            can_upload,
+            tolerant,
+            will_detach,
+            detach_ms,
+            transfer,
+            version,
+        } = *self;
+        let attributes = attributes_of(can_download, can_upload, tolerant, will_detach);
+        let [detach_low, detach_high] = two_bytes(detach_ms);
+        let [transfer_low, transfer_high] = two_bytes(transfer);
+        let [version_low, version_high] = two_bytes(version);
+        [
+            LENGTH,
+            TYPE,
+            attributes,
+            detach_low,
+            detach_high,
+            transfer_low,
+            transfer_high,
+            version_low,
+            version_high,
+        ]
+    }
+}
+
+/// bmAttributes of these flags, with the reserved bits 0.
+fn attributes_of(can_download: bool, can_upload: bool, tolerant: bool, will_detach: bool) -> u8
+    ensures download { IsTrue can_download ↔ IsBitSet result 0 }
+    ensures upload { IsTrue can_upload ↔ IsBitSet result 1 }
+    ensures tolerant { IsTrue tolerant ↔ IsBitSet result 2 }
+    ensures will_detach { IsTrue will_detach ↔ IsBitSet result 3 }
+    ensures reserved { result < 16 }
+{
+    u8::from(can_download)
+        | u8::from(can_upload) << 1
+        | u8::from(tolerant) << 2
+        | u8::from(will_detach) << 3
+}

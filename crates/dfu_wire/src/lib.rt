@@ -1,0 +1,24 @@
+//! The wire formats of USB device firmware upgrade (USB DFU 1.1): the functional descriptor, the
+//! setups of the seven requests, the answer to GETSTATUS, the states and the status codes.
+//!
+//! No call takes memory, and none but the readers and `Status::new` can refuse.
+#![tactic(auto)]
+
+mod bytes;
+mod codes;
+mod fault;
+mod functionals;
+mod laws;
+mod requests;
+mod setups;
+mod states;
+mod statuses;
+
+pub use codes::Code;
+pub use fault::WireFault;
+pub use functionals::Functional;
+pub use laws::{one_functional, one_request, one_setup, one_status};
+pub use requests::Request;
+pub use setups::Setup;
+pub use states::State;
+pub use statuses::Status;
