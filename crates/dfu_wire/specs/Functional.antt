@@ -26,15 +26,3 @@ FirstFunctionalFault fault.WrongType b = (slice_index b 0 ≡ 9) × (length b �
 FirstFunctionalFault fault.UnknownState b = ⊥
 FirstFunctionalFault fault.UnknownCode b = ⊥
 FirstFunctionalFault fault.PollTooLong b = ⊥
-
--- no bytes are two descriptors
-abbrev pub OneFunctional : Type 0
-OneFunctional = (f g : Functional) (b : List ℕ) → IsFunctional f b → IsFunctional g b → f ≡ g
-
--- no bytes are a descriptor and have a fault
-abbrev pub NoFunctionalFault : Type 0
-NoFunctionalFault = (f : Functional) (e : WireFault) (b : List ℕ) → IsFunctional f b → FirstFunctionalFault e b → ⊥
-
--- no bytes have two first faults as a descriptor
-abbrev pub OneFunctionalFault : Type 0
-OneFunctionalFault = (d e : WireFault) (b : List ℕ) → FirstFunctionalFault d b → FirstFunctionalFault e b → d ≡ e

@@ -1,6 +1,9 @@
 pub mod Code
 pub mod Functional
+pub mod OneFunctional
 pub mod OneRequest
+pub mod OneSetup
+pub mod OneStatus
 pub mod Request
 pub mod Setup
 pub mod State

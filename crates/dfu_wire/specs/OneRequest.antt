@@ -1,4 +1,4 @@
--- A setup asks for one thing.
+-- No setup asks for two things.
 use Rattle.std.specs.Prelude.{◌≡◌, refl}
 use Rattle.std.proofs.Common.{arith, inl, inr}
 use Rattle.dfu_wire.specs.declared.setups.Setup.{Setup}
@@ -6,6 +6,7 @@ use Rattle.dfu_wire.specs.declared.requests.Request.{Request}
 use Rattle.dfu_wire.specs.declared.requests.Request.TheVariants as request
 use Rattle.dfu_wire.specs.Request.{IsNamed, IsForUs, Asks}
 
+-- no setup is two of the seven requests
 one_named : (s : Setup) (q r : Request) → IsNamed q s → IsNamed r s → q ≡ r
 one_named s request.OtherClass r a b = absurd a
 one_named s request.NotDfu r a b = absurd a
@@ -20,6 +21,7 @@ one_named s (request.GetState l) (request.GetState k) a b = cc
 one_named s request.Abort request.Abort a b = refl
 one_named s q r a b = absurd (omega arith)
 
+-- a setup that is one of the seven requests is of the class, and for interface 0
 named_for_us : (s : Setup) (q : Request) → IsNamed q s → IsForUs s
 named_for_us s (request.Detach t) a = (inl a.0.kind, a.0.index)
 named_for_us s (request.Dnload n l) a = (inl a.0.kind, a.0.index)
@@ -31,7 +33,11 @@ named_for_us s request.Abort a = (inl a.0.kind, a.0.index)
 named_for_us s request.OtherClass a = absurd a
 named_for_us s request.NotDfu a = absurd a
 
-pub Asks-one : (s : Setup) (q r : Request) → Asks s q → Asks s r → q ≡ r
+-- two answers to what the same setup asks for are the same answer
+abbrev pub OneRequest : Type 0
+OneRequest = (s : Setup) (q r : Request) → Asks s q → Asks s r → q ≡ r
+
+pub Asks-one : OneRequest
 Asks-one s request.OtherClass request.OtherClass a b = refl
 Asks-one s request.NotDfu request.NotDfu a b = refl
 Asks-one s request.OtherClass request.NotDfu a b = absurd (b a.0)

@@ -39,7 +39,3 @@ IsPlain request.ClrStatus s = s.value ≡ 0
 IsPlain (request.GetState len) s = s.value ≡ 0
 IsPlain request.Abort s = s.value ≡ 0
 IsPlain r s = Unit {0}
-
--- no setup asks for two things
-abbrev pub OneRequest : Type 0
-OneRequest = (s : Setup) (q r : Request) → Asks s q → Asks s r → q ≡ r

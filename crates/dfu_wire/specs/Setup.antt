@@ -10,7 +10,3 @@ pub record IsSetup (s : Setup) (b : List ℕ) : Type 0 where
   pub value : s.value ≡ slice_index b 2 + 256 * slice_index b 3
   pub index : s.index ≡ slice_index b 4 + 256 * slice_index b 5
   pub size : s.length ≡ slice_index b 6 + 256 * slice_index b 7
-
--- no bytes are two setups
-abbrev pub OneSetup : Type 0
-OneSetup = (s t : Setup) (b : List ℕ) → IsSetup s b → IsSetup t b → s ≡ t

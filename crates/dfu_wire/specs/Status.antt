@@ -29,15 +29,3 @@ FirstStatusFault fault.UnknownState b = (length b ≡ 6) × (slice_index b 0 < 1
 FirstStatusFault fault.WrongLength b = ⊥
 FirstStatusFault fault.WrongType b = ⊥
 FirstStatusFault fault.PollTooLong b = ⊥
-
--- no bytes are two statuses
-abbrev pub OneStatus : Type 0
-OneStatus = (s t : StatusFields) (b : List ℕ) → IsStatus s b → IsStatus t b → s ≡ t
-
--- no bytes are a status and have a fault
-abbrev pub NoStatusFault : Type 0
-NoStatusFault = (s : StatusFields) (e : WireFault) (b : List ℕ) → IsStatus s b → FirstStatusFault e b → ⊥
-
--- no bytes have two first faults as a status
-abbrev pub OneStatusFault : Type 0
-OneStatusFault = (d e : WireFault) (b : List ℕ) → FirstStatusFault d b → FirstStatusFault e b → d ≡ e

@@ -2,8 +2,8 @@
 
 ghost use Rattle.std.specs.Prelude.{◌≡◌, ◌<◌, ◌≤◌, ◌^◌, ◌+◌, ◌*◌, IfOk, IfErr, Ok, length, slice_index, IsTrue, IsBitSet, ◌↔◌};
 
-use crate::bytes::{is_set, two_bytes};
 use crate::WireFault;
+use crate::bytes::{is_set, two_bytes};
 use byteorder::{ByteOrder, LittleEndian};
 
 /// bLength of every descriptor.
@@ -85,7 +85,8 @@ impl Functional {
         })
     }
 
-    /// Writes the descriptor, with the reserved bits 0.
+    /// Writes the descriptor, with the reserved bits 0. `decode` of the result is the descriptor
+    /// again.
     pub fn encode(&self) -> [u8; 9]
         ensures fields { IsFunctional self.now result }
         ensures reserved { slice_index result 2 < 16 }

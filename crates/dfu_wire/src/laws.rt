@@ -1,9 +1,9 @@
 //! Laws of the formats: each function has an empty body, and its contract is the law.
 
-ghost use Rattle.dfu_wire.specs.Functional.{OneFunctional, NoFunctionalFault, OneFunctionalFault};
-ghost use Rattle.dfu_wire.specs.Request.{OneRequest};
-ghost use Rattle.dfu_wire.specs.Setup.{OneSetup};
-ghost use Rattle.dfu_wire.specs.Status.{OneStatus, NoStatusFault, OneStatusFault};
+ghost use Rattle.dfu_wire.specs.OneFunctional.{OneFunctional, NoFunctionalFault, OneFunctionalFault};
+ghost use Rattle.dfu_wire.specs.OneRequest.{OneRequest};
+ghost use Rattle.dfu_wire.specs.OneSetup.{OneSetup};
+ghost use Rattle.dfu_wire.specs.OneStatus.{OneStatus, NoStatusFault, OneStatusFault};
 
 /// No bytes are two functional descriptors, none are a descriptor and have a fault, and none have
 /// two first faults.
@@ -11,25 +11,21 @@ pub fn one_functional()
     ensures one { OneFunctional }
     ensures no_fault { NoFunctionalFault }
     ensures one_fault { OneFunctionalFault }
-{
-}
+{}
 
 /// No bytes are two setups.
 pub fn one_setup()
     ensures { OneSetup }
-{
-}
+{}
 
 /// No setup asks for two things.
 pub fn one_request()
     ensures { OneRequest }
-{
-}
+{}
 
 /// No bytes are two statuses, none are a status and have a fault, and none have two first faults.
 pub fn one_status()
     ensures one { OneStatus }
     ensures no_fault { NoStatusFault }
     ensures one_fault { OneStatusFault }
-{
-}
+{}

@@ -1,41 +1,64 @@
-//! What a setup asks for.
+//! What a setup asks for (USB DFU 1.1, section 3).
 
-ghost use Rattle.std.specs.Prelude.{◌≡◌, IfSome, IfNone};
-ghost use Rattle.std.specs.Prelude.{OnOk, OnSome, IsNone, ◌↔◌, ◌⊎◌};
+ghost use Rattle.std.specs.Prelude.{◌≡◌, ◌↔◌, ◌⊎◌, IfSome, IsNone, Some};
 ghost use Rattle.dfu_wire.specs.Request.{Asks, IsNamed, IsPlain};
 ghost use Rattle.dfu_wire.specs.declared.setups.Setup.{Setup};
-ghost use Rattle.dfu_wire.specs.declared.requests.Request.{Request};
 
 use crate::Setup;
+use crate::setups::{IN, OUT};
 
-/// What a setup asks for.
+/// What a setup asks for: one of the seven requests, or none of them.
+///
+/// | Request | Kind | Number | Value | Length |
+/// |---|---|---|---|---|
+/// | DETACH | 21h | 0 | timeout in milliseconds | 0 |
+/// | DNLOAD | 21h | 1 | block | bytes that are sent |
+/// | UPLOAD | A1h | 2 | block | most bytes of the answer |
+/// | GETSTATUS | A1h | 3 | none | most bytes of the answer |
+/// | CLRSTATUS | 21h | 4 | none | 0 |
+/// | GETSTATE | A1h | 5 | none | most bytes of the answer |
+/// | ABORT | 21h | 6 | none | 0 |
 #[derive(Clone, Copy, Debug, PartialEq, Eq)]
 pub enum Request {
+    /// Leave the application for upgrade mode at a reset within `timeout` milliseconds.
     Detach { timeout: u16 },
+    /// Take block `block` of an image, `length` bytes; no bytes end the image.
     Dnload { block: u16, length: u16 },
+    /// Send block `block` of the image, at most `length` bytes.
     Upload { block: u16, length: u16 },
+    /// Tell the status in 6 bytes, of which at most `length` are sent.
     GetStatus { length: u16 },
+    /// Leave the state dfuERROR.
     ClrStatus,
+    /// Tell the state in 1 byte, of which at most `length` are sent.
     GetState { length: u16 },
+    /// Give up what is under way, and be ready again.
     Abort,
+    /// A request of the class, for interface 0, that is not in the table.
     OtherClass,
+    /// No request of the class, or one for another interface.
     NotDfu,
 }
 
 impl Request {
-    /// The setup that asks for this, with 0 where its value has no meaning.
+    ghost use Rattle.dfu_wire.specs.declared.requests.Request.{Request};
+
+    /// The setup that asks for this, with index 0, and value 0 where the table has none. It is
+    /// `None` for `OtherClass` and `NotDfu` alone. `Setup::request` of the result is the request
+    /// again.
     pub fn setup(&self) -> Option<Setup>
         ensures some { IfSome result (λ s. Asks s self.now × IsPlain self.now s) }
+        ensures only { (s : Setup) → IsNamed self.now s → IsPlain self.now s → result ≡ Some s }
         ensures none { IsNone result ↔ ((self.now ≡ Request.OtherClass) ⊎ (self.now ≡ Request.NotDfu)) }
     {
         let (kind, request, value, length) = match *self {
-            Request::Detach { timeout } => (0x21, 0, timeout, 0),
-            Request::Dnload { block, length } => (0x21, 1, block, length),
-            Request::Upload { block, length } => (0xa1, 2, block, length),
-            Request::GetStatus { length } => (0xa1, 3, 0, length),
-            Request::ClrStatus => (0x21, 4, 0, 0),
-            Request::GetState { length } => (0xa1, 5, 0, length),
-            Request::Abort => (0x21, 6, 0, 0),
+            Request::Detach { timeout } => (OUT, 0, timeout, 0),
+            Request::Dnload { block, length } => (OUT, 1, block, length),
+            Request::Upload { block, length } => (IN, 2, block, length),
+            Request::GetStatus { length } => (IN, 3, 0, length),
+            Request::ClrStatus => (OUT, 4, 0, 0),
+            Request::GetState { length } => (IN, 5, 0, length),
+            Request::Abort => (OUT, 6, 0, 0),
             Request::OtherClass | Request::NotDfu => return None,
         };
         Some(Setup {

@@ -1,27 +1,43 @@
-//! The setup of a request.
+//! The eight bytes that begin a request (USB DFU 1.1, section 3).
 
-ghost use Rattle.std.specs.Prelude.{◌≡◌, ◌≢◌, ◌<◌, ◌≤◌, ◌^◌, ◌+◌, ◌*◌, length, slice_index};
+ghost use Rattle.std.specs.Prelude.{◌≡◌, ◌≢◌};
 ghost use Rattle.dfu_wire.specs.Setup.{IsSetup};
 ghost use Rattle.dfu_wire.specs.Request.{Asks, IsForUs};
 
-use crate::bytes::two_bytes;
 use crate::Request;
+use crate::bytes::two_bytes;
 use byteorder::{ByteOrder, LittleEndian};
 
-/// The eight bytes that begin a request.
+/// bmRequestType of a request of the class that sends to the device.
+pub(crate) const OUT: u8 = 0x21;
+
+/// bmRequestType of a request of the class that reads from the device.
+pub(crate) const IN: u8 = 0xa1;
+
+/// The eight bytes that begin a request. Any eight bytes are a setup; numbers of two bytes have
+/// their low byte first.
 #[derive(Clone, Copy, Debug, PartialEq, Eq)]
 pub struct Setup {
+    /// bmRequestType, byte 0: 21h sends to the device, A1h reads from it, others are not DFU.
     pub kind: u8,
+    /// bRequest, byte 1: the number of the request.
     pub request: u8,
+    /// wValue, bytes 2 and 3: a timeout or a block's number.
     pub value: u16,
+    /// wIndex, bytes 4 and 5: the interface, here 0.
     pub index: u16,
+    /// wLength, bytes 6 and 7: how many bytes follow, or may be answered.
     pub length: u16,
 }
 
 impl Setup {
-    /// Reads a setup.
+    ghost use Rattle.dfu_wire.specs.declared.setups.Setup.{Setup};
+    ghost use Rattle.dfu_wire.specs.declared.requests.Request.{Request};
+
+    /// Reads a setup. It never fails: any eight bytes are one.
     pub fn decode(bytes: &[u8; 8]) -> Setup
-        ensures { IsSetup result bytes.now }
+        ensures fields { IsSetup result bytes.now }
+        ensures only { (s : Setup) → IsSetup s bytes.now → result ≡ s }
     {
         Setup {
             kind: bytes[0],
@@ -32,7 +48,7 @@ impl Setup {
         }
     }
 
-    /// Writes the setup.
+    /// Writes the setup. `decode` of the result is the setup again.
     pub fn encode(&self) -> [u8; 8]
         ensures { IsSetup self.now result }
     {
@@ -58,43 +74,37 @@ impl Setup {
         ]
     }
 
-    /// What the setup asks for.
+    /// What the setup asks for:
+    ///
+    /// - `NotDfu` where the kind is neither 21h nor A1h, or the index is not 0;
+    /// - else `OtherClass` where the kind and the number of the request are no pair of the table at
+    ///   [`Request`], or the length of a DETACH, CLRSTATUS or ABORT is not 0;
+    /// - else the request of the table. The value of a GETSTATUS, CLRSTATUS, GETSTATE or ABORT is
+    ///   ignored.
     pub fn request(&self) -> Request
         ensures asks { Asks self.now result }
+        ensures only { (q : Request) → Asks self.now q → result ≡ q }
         ensures class { result ≢ Request.NotDfu → IsForUs self.now }
     {
-        let out = self.kind == 0x21;
-        let inward = self.kind == 0xa1;
-        if !out && !inward || self.index != 0 {
+        if self.kind != OUT && self.kind != IN || self.index != 0 {
             return Request::NotDfu;
         }
-        if out {
-            match self.request {
-                0 if self.length == 0 => Request::Detach {
-                    timeout: self.value,
-                },
-                1 => Request::Dnload {
-                    block: self.value,
-                    length: self.length,
-                },
-                4 if self.length == 0 => Request::ClrStatus,
-                6 if self.length == 0 => Request::Abort,
-                _ => Request::OtherClass,
-            }
-        } else {
-            match self.request {
-                2 => Request::Upload {
-                    block: self.value,
-                    length: self.length,
-                },
-                3 => Request::GetStatus {
-                    length: self.length,
-                },
-                5 => Request::GetState {
-                    length: self.length,
-                },
-                _ => Request::OtherClass,
-            }
+        let Setup { value, length, .. } = *self;
+        match (self.kind, self.request) {
+            (OUT, 0) if length == 0 => Request::Detach { timeout: value },
+            (OUT, 1) => Request::Dnload {
+                block: value,
+                length,
+            },
+            (IN, 2) => Request::Upload {
+                block: value,
+                length,
+            },
+            (IN, 3) => Request::GetStatus { length },
+            (OUT, 4) if length == 0 => Request::ClrStatus,
+            (IN, 5) => Request::GetState { length },
+            (OUT, 6) if length == 0 => Request::Abort,
+            _ => Request::OtherClass,
         }
     }
 }

@@ -1,22 +1,33 @@
-//! The answer to GETSTATUS.
+//! The answer to GETSTATUS (USB DFU 1.1, section 6.1.2).
 
-ghost use Rattle.std.specs.Prelude.{◌≡◌, ◌<◌, ◌≤◌, ◌^◌, IfOk, IfErr, slice_index, length};
-ghost use Rattle.std.specs.Prelude.{ℕ, List, Ok, Err, Result};
+ghost use Rattle.std.specs.Prelude.{◌≡◌, ◌<◌, ◌≤◌, ◌^◌, IfOk, IfErr, Ok, slice_index};
 ghost use Rattle.dfu_wire.specs.Status.{StatusFields, IsStatus, FirstStatusFault};
-ghost use Rattle.dfu_wire.specs.declared.fault.WireFault.{WireFault};
 
 use crate::{Code, State, WireFault};
 use byteorder::{ByteOrder, LittleEndian};
 use std::marker::Model;
 
-/// The answer to GETSTATUS: a code, a poll time that fits 24 bits, and a state.
-#[derive(Clone, Copy, Debug)]
+/// The most milliseconds that the three bytes of bwPollTimeout hold: 16,777,215.
+const LONGEST_POLL: u32 = 0xff_ffff;
+
+/// The answer to GETSTATUS: 6 bytes on the wire.
+///
+/// | Bytes | Field of the standard | Call |
+/// |---|---|---|
+/// | 0 | bStatus | `code` |
+/// | 1 to 3, low byte first | bwPollTimeout, milliseconds | `poll_ms` |
+/// | 4 | bState: the state that the device enters right after this answer | `state` |
+/// | 5 | iString: ignored on reading, and written as 0 | |
+///
+/// Its poll time is always at most 16,777,215.
+#[derive(Clone, Copy, Debug, PartialEq, Eq)]
 pub struct Status {
     code: Code,
     poll: u32,
     state: State,
 }
 
+// a clause sees a status as its three fields
 impl Model for Status {
     ghost use Rattle.std.specs.Prelude.{◌<◌, ◌^◌};
     ghost use Rattle.dfu_wire.specs.Status.{StatusFields};
@@ -31,12 +42,13 @@ impl Model for Status {
 }
 
 impl Status {
-    /// A status, unless the poll time is too long.
+    /// A status of these fields; `PollTooLong` where the poll time is over 16,777,215.
     pub fn new(code: Code, poll_ms: u32, state: State) -> Result<Status, WireFault>
-        ensures ok { IfOk result (λ s. (s ≡ record { code = code; poll_ms = poll_ms; state = state }) × (poll_ms < 2 ^ 24)) }
+        ensures ok { IfOk result (λ s. s ≡ record { code = code; poll_ms = poll_ms; state = state }) }
+        ensures fits { IfOk result (λ s. poll_ms < 2 ^ 24) }
         ensures err { IfErr result (λ e. (e ≡ WireFault.PollTooLong) × (2 ^ 24 ≤ poll_ms)) }
     {
-        if poll_ms > 0xff_ffff {
+        if poll_ms > LONGEST_POLL {
             return Err(WireFault::PollTooLong);
         }
         Ok(Status {
@@ -46,14 +58,14 @@ impl Status {
         })
     }
 
-    /// The code.
+    /// The status code.
     pub fn code(&self) -> Code
         ensures { result ≡ self.now.code }
     {
         self.code
     }
 
-    /// The poll time in milliseconds.
+    /// How long the host is to wait before it asks again: 0 to 16,777,215 milliseconds.
     pub fn poll_ms(&self) -> u32
         ensures value { result ≡ self.now.poll_ms }
         ensures fits { result < 2 ^ 24 }
@@ -61,14 +73,19 @@ impl Status {
         self.poll
     }
 
-    /// The state.
+    /// The state that the device enters right after this answer.
     pub fn state(&self) -> State
         ensures { result ≡ self.now.state }
     {
         self.state
     }
 
-    /// Reads a status.
+    /// Reads a status. The faults, in the order in which they are looked for:
+    ///
+    /// 1. `Short`: there are fewer than 6 bytes.
+    /// 2. `Long`: there are more than 6 bytes.
+    /// 3. `UnknownCode`: byte 0 is over 15.
+    /// 4. `UnknownState`: byte 4 is over 10.
     pub fn decode(bytes: &[u8]) -> Result<Status, WireFault>
         ensures ok { IfOk result (λ s. IsStatus s bytes.now) }
         ensures only { (s : StatusFields) → IsStatus s bytes.now → result ≡ Ok s }
@@ -86,15 +103,15 @@ impl Status {
         Ok(Status { code, poll, state })
     }
 
-    /// Writes the status, with 0 as the index of its string.
+    /// Writes the status, with 0 for iString. `decode` of the result is the status again.
     pub fn encode(&self) -> [u8; 6]
         ensures fields { IsStatus self.now result }
         ensures string { slice_index result 5 ≡ 0 }
     {
-        let mut out = [0u8; 6];
-        out[0] = self.code.byte();
-        LittleEndian::write_u24(&mut out[1..], self.poll);
-        out[4] = self.state.byte();
-        out
+        let mut bytes = [0; 6];
+        bytes[0] = self.code.byte();
+        LittleEndian::write_u24(&mut bytes[1..], self.poll);
+        bytes[4] = self.state.byte();
+        bytes
     }
 }
