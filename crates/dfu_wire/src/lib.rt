@@ -14,6 +14,8 @@ mod round_trips;
 mod setups;
 mod states;
 mod statuses;
+#[cfg(test)]
+mod tests;
 
 pub use codes::Code;
 pub use fault::WireFault;
