@@ -4,7 +4,8 @@ use Rattle.dfu_wire.specs.declared.functionals.Functional.{Functional}
 use Rattle.dfu_wire.specs.declared.fault.WireFault.{WireFault}
 use Rattle.dfu_wire.specs.declared.fault.WireFault.TheVariants as fault
 
--- these nine bytes are this descriptor: numbers of two bytes have their low byte first, and bits 4 to 7 of the attributes may be anything
+-- these nine bytes are this descriptor: numbers of two bytes have their low byte first, and bits 4
+-- to 7 of the attributes may be anything
 pub record IsFunctional (f : Functional) (b : List ℕ) : Type 0 where
   pub length : length b ≡ 9
   pub own_length : slice_index b 0 ≡ 9
@@ -17,12 +18,14 @@ pub record IsFunctional (f : Functional) (b : List ℕ) : Type 0 where
   pub transfer : f.transfer ≡ slice_index b 5 + 256 * slice_index b 6
   pub version : f.version ≡ slice_index b 7 + 256 * slice_index b 8
 
--- the first fault of bytes that are no functional descriptor: none at all, another length in the first byte, too few, too many, another type
+-- the first fault of bytes that are no descriptor: none at all, then a first byte that is not 9,
+-- then too few, too many, and another type
 abbrev pub FirstFunctionalFault : WireFault → List ℕ → Type 0
-FirstFunctionalFault fault.WrongLength b = (0 < length b) × (slice_index b 0 ≢ 9)
 FirstFunctionalFault fault.Short b = (length b ≡ 0) ⊎ ((slice_index b 0 ≡ 9) × (length b < 9))
+FirstFunctionalFault fault.WrongLength b = (0 < length b) × (slice_index b 0 ≢ 9)
 FirstFunctionalFault fault.Long b = (slice_index b 0 ≡ 9) × (9 < length b)
-FirstFunctionalFault fault.WrongType b = (slice_index b 0 ≡ 9) × (length b ≡ 9) × (slice_index b 1 ≢ 0x21)
+FirstFunctionalFault fault.WrongType b =
+    (slice_index b 0 ≡ 9) × (length b ≡ 9) × (slice_index b 1 ≢ 0x21)
 FirstFunctionalFault fault.UnknownState b = ⊥
 FirstFunctionalFault fault.UnknownCode b = ⊥
 FirstFunctionalFault fault.PollTooLong b = ⊥

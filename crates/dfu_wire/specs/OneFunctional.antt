@@ -14,14 +14,16 @@ IsFunctional-one f g b x y = grind arith
 
 -- bytes that are a descriptor have no fault
 abbrev pub NoFunctionalFault : Type 0
-NoFunctionalFault = (f : Functional) (e : WireFault) (b : List ℕ) → IsFunctional f b → FirstFunctionalFault e b → ⊥
+NoFunctionalFault =
+    (f : Functional) (e : WireFault) (b : List ℕ) → IsFunctional f b → FirstFunctionalFault e b → ⊥
 
 pub IsFunctional-no_fault : NoFunctionalFault
 IsFunctional-no_fault f e b x y = grind arith
 
 -- two first faults of the same bytes are the same fault
 abbrev pub OneFunctionalFault : Type 0
-OneFunctionalFault = (d e : WireFault) (b : List ℕ) → FirstFunctionalFault d b → FirstFunctionalFault e b → d ≡ e
+OneFunctionalFault =
+    (d e : WireFault) (b : List ℕ) → FirstFunctionalFault d b → FirstFunctionalFault e b → d ≡ e
 
 pub FirstFunctionalFault-one : OneFunctionalFault
 FirstFunctionalFault-one d e b x y = grind arith

@@ -7,7 +7,7 @@ use Rattle.dfu_wire.specs.declared.requests.Request.TheVariants as request
 use Rattle.dfu_wire.specs.Request.{IsNamed, IsForUs, Asks}
 
 -- no setup is two of the seven requests
-one_named : (s : Setup) (q r : Request) → IsNamed q s → IsNamed r s → q ≡ r
+one_named : (s : Setup) (q r : Request) → IsNamed s q → IsNamed s r → q ≡ r
 one_named s request.OtherClass r a b = absurd a
 one_named s request.NotDfu r a b = absurd a
 one_named s q request.OtherClass a b = absurd b
@@ -22,7 +22,7 @@ one_named s request.Abort request.Abort a b = refl
 one_named s q r a b = absurd (omega arith)
 
 -- a setup that is one of the seven requests is of the class, and for interface 0
-named_for_us : (s : Setup) (q : Request) → IsNamed q s → IsForUs s
+named_for_us : (s : Setup) (q : Request) → IsNamed s q → IsForUs s
 named_for_us s (request.Detach t) a = (inl a.0.kind, a.0.index)
 named_for_us s (request.Dnload n l) a = (inl a.0.kind, a.0.index)
 named_for_us s (request.Upload n l) a = (inr a.0.kind, a.0.index)

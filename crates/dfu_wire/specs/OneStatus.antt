@@ -13,14 +13,16 @@ IsStatus-one s t b x y = grind arith
 
 -- bytes that are a status have no fault
 abbrev pub NoStatusFault : Type 0
-NoStatusFault = (s : StatusFields) (e : WireFault) (b : List ℕ) → IsStatus s b → FirstStatusFault e b → ⊥
+NoStatusFault =
+    (s : StatusFields) (e : WireFault) (b : List ℕ) → IsStatus s b → FirstStatusFault e b → ⊥
 
 pub IsStatus-no_fault : NoStatusFault
 IsStatus-no_fault s e b x y = grind arith
 
 -- two first faults of the same bytes are the same fault
 abbrev pub OneStatusFault : Type 0
-OneStatusFault = (d e : WireFault) (b : List ℕ) → FirstStatusFault d b → FirstStatusFault e b → d ≡ e
+OneStatusFault =
+    (d e : WireFault) (b : List ℕ) → FirstStatusFault d b → FirstStatusFault e b → d ≡ e
 
 pub FirstStatusFault-one : OneStatusFault
 FirstStatusFault-one d e b x y = grind arith

@@ -7,25 +7,29 @@ use Rattle.dfu_wire.specs.declared.fault.WireFault.TheVariants as fault
 use Rattle.dfu_wire.specs.State.{state_byte}
 use Rattle.dfu_wire.specs.Code.{code_byte}
 
--- what a status tells: a code, a poll time in milliseconds, and the state that the device enters after this answer
+-- what a status tells: a code, a poll time in milliseconds, and the state that the device enters
+-- after this answer
 pub record StatusFields : Type 0 where
   pub code : Code
   pub poll_ms : ℕ
   pub state : State
 
--- these six bytes are this status: the poll time has its low byte first, and the sixth byte, the index of a string, may be anything
+-- these six bytes are this status: the poll time has its low byte first, and the sixth byte, the
+-- index of a string, may be anything
 pub record IsStatus (s : StatusFields) (b : List ℕ) : Type 0 where
   pub length : length b ≡ 6
   pub code : slice_index b 0 ≡ code_byte s.code
   pub poll : s.poll_ms ≡ slice_index b 1 + 256 * slice_index b 2 + 65536 * slice_index b 3
   pub state : slice_index b 4 ≡ state_byte s.state
 
--- the first fault of bytes that are no status: too few, too many, no such code, no such state
+-- the first fault of bytes that are no status: too few, then too many, then no such code, and no
+-- such state
 abbrev pub FirstStatusFault : WireFault → List ℕ → Type 0
 FirstStatusFault fault.Short b = length b < 6
 FirstStatusFault fault.Long b = 6 < length b
 FirstStatusFault fault.UnknownCode b = (length b ≡ 6) × (16 ≤ slice_index b 0)
-FirstStatusFault fault.UnknownState b = (length b ≡ 6) × (slice_index b 0 < 16) × (11 ≤ slice_index b 4)
+FirstStatusFault fault.UnknownState b =
+    (length b ≡ 6) × (slice_index b 0 < 16) × (11 ≤ slice_index b 4)
 FirstStatusFault fault.WrongLength b = ⊥
 FirstStatusFault fault.WrongType b = ⊥
 FirstStatusFault fault.PollTooLong b = ⊥

@@ -1,7 +1,7 @@
 //! What a setup asks for (USB DFU 1.1, section 3).
 
 ghost use Rattle.std.specs.Prelude.{◌≡◌, ◌↔◌, ◌⊎◌, IfSome, IsNone, Some};
-ghost use Rattle.dfu_wire.specs.Request.{Asks, IsNamed, IsPlain};
+ghost use Rattle.dfu_wire.specs.Request.{Asks, IsNamed, IsPlain, IsUnnamed};
 ghost use Rattle.dfu_wire.specs.declared.setups.Setup.{Setup};
 
 use crate::Setup;
@@ -47,9 +47,9 @@ impl Request {
     /// `None` for `OtherClass` and `NotDfu` alone. `Setup::request` of the result is the request
     /// again.
     pub fn setup(&self) -> Option<Setup>
-        ensures some { IfSome result (λ s. Asks s self.now × IsPlain self.now s) }
-        ensures only { (s : Setup) → IsNamed self.now s → IsPlain self.now s → result ≡ Some s }
-        ensures none { IsNone result ↔ ((self.now ≡ Request.OtherClass) ⊎ (self.now ≡ Request.NotDfu)) }
+        ensures some { IfSome result (λ s. Asks s self.now × IsPlain s self.now) }
+        ensures only { (s : Setup) → IsNamed s self.now → IsPlain s self.now → result ≡ Some s }
+        ensures none { IsNone result ↔ IsUnnamed self.now }
     {
         let (kind, request, value, length) = match *self {
             Request::Detach { timeout } => (OUT, 0, timeout, 0),

@@ -1,6 +1,7 @@
 //! What was written is read back: each function writes its argument and reads the bytes again.
 
 ghost use Rattle.std.specs.Prelude.{◌≡◌, ◌↔◌, ◌⊎◌, Ok, IfSome, IsNone};
+ghost use Rattle.dfu_wire.specs.Request.{IsUnnamed};
 
 use crate::{Functional, Request, Setup, Status, WireFault};
 
@@ -28,7 +29,7 @@ pub fn reread_status(status: &Status) -> Result<Status, WireFault>
 /// `Setup::request` of what `Request::setup` gives is the request again.
 pub fn asked_again(request: &Request) -> Option<Request>
     ensures again { IfSome result (λ again. again ≡ request.now) }
-    ensures none { IsNone result ↔ ((request.now ≡ Request.OtherClass) ⊎ (request.now ≡ Request.NotDfu)) }
+    ensures none { IsNone result ↔ IsUnnamed request.now }
 {
     match request.setup() {
         Some(setup) => Some(setup.request()),

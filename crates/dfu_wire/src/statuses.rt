@@ -1,6 +1,6 @@
 //! The answer to GETSTATUS (USB DFU 1.1, section 6.1.2).
 
-ghost use Rattle.std.specs.Prelude.{◌≡◌, ◌<◌, ◌≤◌, ◌^◌, IfOk, IfErr, Ok, slice_index};
+ghost use Rattle.std.specs.Prelude.{◌≡◌, ◌<◌, ◌≤◌, ◌^◌, IfOk, IfErr, OnOk, Ok, slice_index};
 ghost use Rattle.dfu_wire.specs.Status.{StatusFields, IsStatus, FirstStatusFault};
 
 use crate::{Code, State, WireFault};
@@ -44,8 +44,9 @@ impl Model for Status {
 impl Status {
     /// A status of these fields; `PollTooLong` where the poll time is over 16,777,215.
     pub fn new(code: Code, poll_ms: u32, state: State) -> Result<Status, WireFault>
-        ensures ok { IfOk result (λ s. s ≡ record { code = code; poll_ms = poll_ms; state = state }) }
-        ensures fits { IfOk result (λ s. poll_ms < 2 ^ 24) }
+        ensures ok { IfOk result (λ s.
+            s ≡ record { code = code; poll_ms = poll_ms; state = state }) }
+        ensures fits { OnOk result (poll_ms < 2 ^ 24) }
         ensures err { IfErr result (λ e. (e ≡ WireFault.PollTooLong) × (2 ^ 24 ≤ poll_ms)) }
     {
         if poll_ms > LONGEST_POLL {

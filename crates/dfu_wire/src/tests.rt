@@ -1,8 +1,8 @@
 //! Bytes and values that were worked out by hand from the standard's tables.
 
 use crate::{
-    asked_again, one_functional, one_request, one_setup, one_status, reread_functional,
-    reread_setup, reread_status, Code, Functional, Request, Setup, State, Status, WireFault,
+    Code, Functional, Request, Setup, State, Status, WireFault, asked_again, one_functional,
+    one_request, one_setup, one_status, reread_functional, reread_setup, reread_status,
 };
 use std::test::Fail;
 
@@ -64,8 +64,14 @@ fn descriptor_faults_come_in_their_order(rt: HostRuntime) {
     let rows: [(&[u8], WireFault); 8] = [
         (&[], WireFault::Short),
         (&[0x07], WireFault::WrongLength),
-        (&[0x07, 0x21, 0x0d, 0xff, 0x00, 0x08, 0x00], WireFault::WrongLength),
-        (&[0x0a, 0x22, 0, 0, 0, 0, 0, 0, 0, 0], WireFault::WrongLength),
+        (
+            &[0x07, 0x21, 0x0d, 0xff, 0x00, 0x08, 0x00],
+            WireFault::WrongLength,
+        ),
+        (
+            &[0x0a, 0x22, 0, 0, 0, 0, 0, 0, 0, 0],
+            WireFault::WrongLength,
+        ),
         (&[0x09], WireFault::Short),
         (&[0x09, 0x22, 0, 0, 0, 0, 0, 0], WireFault::Short),
         (&[0x09, 0x22, 0, 0, 0, 0, 0, 0, 0, 0], WireFault::Long),
@@ -85,7 +91,10 @@ fn status_is_read_and_written_with_no_string(rt: HostRuntime) -> Result<(), Fail
     assert_eq!(rt; status.state(), State::DownloadBusy);
     assert_eq!(rt; status.encode(), bytes);
     assert_eq!(rt; Status::new(Code::Ok, 5, State::DownloadBusy), Ok(status));
-    assert_eq!(rt; Status::decode(&[0x00, 0x05, 0x00, 0x00, 0x04, 0x77]), Ok(status));
+    assert_eq!(rt;
+        Status::decode(&[0x00, 0x05, 0x00, 0x00, 0x04, 0x77]),
+        Ok(status)
+    );
     assert_eq!(rt; reread_status(&status), Ok(status));
     Ok(())
 }
@@ -96,8 +105,14 @@ fn status_faults_come_in_their_order(rt: HostRuntime) {
         (&[], WireFault::Short),
         (&[0x10, 0x00, 0x00, 0x00, 0x0b], WireFault::Short),
         (&[0x10, 0x00, 0x00, 0x00, 0x0b, 0x00, 0x00], WireFault::Long),
-        (&[0x10, 0x00, 0x00, 0x00, 0x0b, 0x00], WireFault::UnknownCode),
-        (&[0x00, 0x00, 0x00, 0x00, 0x0b, 0x00], WireFault::UnknownState),
+        (
+            &[0x10, 0x00, 0x00, 0x00, 0x0b, 0x00],
+            WireFault::UnknownCode,
+        ),
+        (
+            &[0x00, 0x00, 0x00, 0x00, 0x0b, 0x00],
+            WireFault::UnknownState,
+        ),
     ];
     for (bytes, fault) in rows {
         assert_eq!(rt; Status::decode(bytes), Err(fault), "at {bytes:?}");
@@ -118,13 +133,40 @@ fn poll_time_fits_three_bytes(rt: HostRuntime) -> Result<(), Fail> {
 #[test]
 fn setups_are_read_and_written(rt: HostRuntime) {
     let rows = [
-        ([0x21, 0x01, 0x00, 0x00, 0x00, 0x00, 0x04, 0x00], Request::Dnload { block: 0, length: 4 }),
-        ([0xa1, 0x03, 0x00, 0x00, 0x00, 0x00, 0x06, 0x00], Request::GetStatus { length: 6 }),
-        ([0x21, 0x00, 0xff, 0x00, 0x00, 0x00, 0x00, 0x00], Request::Detach { timeout: 255 }),
-        ([0xa1, 0x02, 0xfe, 0xff, 0x00, 0x00, 0x08, 0x00], Request::Upload { block: 65_534, length: 8 }),
-        ([0x21, 0x04, 0x00, 0x00, 0x00, 0x00, 0x00, 0x00], Request::ClrStatus),
-        ([0xa1, 0x05, 0x00, 0x00, 0x00, 0x00, 0x01, 0x00], Request::GetState { length: 1 }),
-        ([0x21, 0x06, 0x00, 0x00, 0x00, 0x00, 0x00, 0x00], Request::Abort),
+        (
+            [0x21, 0x01, 0x00, 0x00, 0x00, 0x00, 0x04, 0x00],
+            Request::Dnload {
+                block: 0,
+                length: 4,
+            },
+        ),
+        (
+            [0xa1, 0x03, 0x00, 0x00, 0x00, 0x00, 0x06, 0x00],
+            Request::GetStatus { length: 6 },
+        ),
+        (
+            [0x21, 0x00, 0xff, 0x00, 0x00, 0x00, 0x00, 0x00],
+            Request::Detach { timeout: 255 },
+        ),
+        (
+            [0xa1, 0x02, 0xfe, 0xff, 0x00, 0x00, 0x08, 0x00],
+            Request::Upload {
+                block: 65_534,
+                length: 8,
+            },
+        ),
+        (
+            [0x21, 0x04, 0x00, 0x00, 0x00, 0x00, 0x00, 0x00],
+            Request::ClrStatus,
+        ),
+        (
+            [0xa1, 0x05, 0x00, 0x00, 0x00, 0x00, 0x01, 0x00],
+            Request::GetState { length: 1 },
+        ),
+        (
+            [0x21, 0x06, 0x00, 0x00, 0x00, 0x00, 0x00, 0x00],
+            Request::Abort,
+        ),
     ];
     for (bytes, request) in rows {
         let setup = Setup::decode(&bytes);
@@ -149,7 +191,10 @@ fn setups_outside_the_table_ask_for_nothing_named(rt: HostRuntime) {
         ([0x21, 0x04, 0, 0, 0, 0, 0, 1], Request::OtherClass),
         ([0x21, 0x06, 0, 0, 0, 0, 1, 0], Request::OtherClass),
         // a value that has no meaning is ignored
-        ([0xa1, 0x03, 9, 9, 0, 0, 6, 0], Request::GetStatus { length: 6 }),
+        (
+            [0xa1, 0x03, 9, 9, 0, 0, 6, 0],
+            Request::GetStatus { length: 6 },
+        ),
         ([0x21, 0x06, 9, 9, 0, 0, 0, 0], Request::Abort),
     ];
     for (bytes, request) in rows {
