@@ -26,7 +26,7 @@ pub enum Code {
     Verify,
     /// 08h: a block lies past the room for an image.
     Address,
-    /// 09h: the last block came too early.
+    /// 09h: the end of the image came before the device had all of it.
     NotDone,
     /// 0Ah: the application is broken, so that the device stays in upgrade mode.
     Firmware,
