@@ -1,0 +1,11 @@
+-- The exit status.
+use Rattle.std.specs.Prelude.{ℕ}
+use Rattle.dfu_cmd.specs.declared.exit.Exit.{Exit}
+use Rattle.dfu_cmd.specs.declared.exit.Exit.TheVariants.{Done, Refused, BadWords, Fault}
+
+-- the exit status of each end of a command
+abbrev pub status_of : Exit → ℕ
+status_of Done = 0
+status_of Refused = 1
+status_of BadWords = 2
+status_of Fault = 3

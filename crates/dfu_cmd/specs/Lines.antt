@@ -1,0 +1,54 @@
+-- The lines that the program writes, each ended by 0Ah.
+use Rattle.std.specs.Prelude.{ℕ, ◌-◌, ◌^◌, false, List, [], ◌∷◌, ◌++◌, Result, Ok, Err, codes}
+use Rattle.std.specs.Fmt.{decimal, digits, padded_integral, format_spec}
+use Rattle.dfu_suffix.specs.declared.summary.Summary.{Summary}
+use Rattle.dfu_suffix.specs.declared.fault.SuffixFault.{SuffixFault}
+use Rattle.dfu_suffix.specs.declared.fault.SuffixFault.TheVariants.{TooShort, NoSignature, BadLength, DfuSe, BadCrc, AlreadySuffixed, TooLarge, NoMemory, Read, Write}
+use Rattle.dfu_cmd.specs.declared.exit.Exit.{Exit}
+use Rattle.dfu_cmd.specs.declared.exit.Exit.TheVariants.{Done, Refused, Fault}
+
+-- lower-case hexadecimal, filled up with zeros to a width
+abbrev pub hex : ℕ → ℕ → List ℕ
+hex width n = padded_integral (format_spec 32 0 4 width (2 ^ 64 - 1)) false [] (digits 16 false n)
+
+-- the line for a file: ok payload P suffix S device DDDD product PPPP vendor VVVV dfu BBBB crc CCCCCCCC
+unfoldable pub ok_line : Summary → List ℕ
+ok_line s =
+    codes "ok" ++ (codes " payload " ++ decimal s.payload) ++ (codes " suffix " ++ decimal s.suffix)
+    ++ (codes " device " ++ hex 4 s.ids.device) ++ (codes " product " ++ hex 4 s.ids.product) ++ (codes " vendor " ++ hex 4 s.ids.vendor)
+    ++ (codes " dfu " ++ hex 4 s.dfu) ++ (codes " crc " ++ hex 8 s.crc) ++ 10 ∷ []
+
+-- the name of a fault
+abbrev pub name_of : SuffixFault → List ℕ
+name_of TooShort = codes "TooShort"
+name_of NoSignature = codes "NoSignature"
+name_of BadLength = codes "BadLength"
+name_of DfuSe = codes "DfuSe"
+name_of BadCrc = codes "BadCrc"
+name_of AlreadySuffixed = codes "AlreadySuffixed"
+name_of TooLarge = codes "TooLarge"
+name_of NoMemory = codes "NoMemory"
+name_of Read = codes "Read"
+name_of Write = codes "Write"
+
+-- the line for a fault: fault NAME where a stream failed, and else refused NAME
+unfoldable pub fault_line : SuffixFault → List ℕ
+fault_line Read = codes "fault Read" ++ 10 ∷ []
+fault_line Write = codes "fault Write" ++ 10 ∷ []
+fault_line f = codes "refused " ++ name_of f ++ 10 ∷ []
+
+-- how a command ends at a fault
+abbrev pub fault_exit : SuffixFault → Exit
+fault_exit Read = Fault
+fault_exit Write = Fault
+fault_exit f = Refused
+
+-- the line for what checking a file answered
+abbrev pub line_of : Result Summary SuffixFault → List ℕ
+line_of (Ok s) = ok_line s
+line_of (Err f) = fault_line f
+
+-- how the command ends for what checking a file answered
+abbrev pub exit_of : Result Summary SuffixFault → Exit
+exit_of (Ok s) = Done
+exit_of (Err f) = fault_exit f

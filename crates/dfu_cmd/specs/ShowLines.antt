@@ -1,0 +1,50 @@
+-- The lines of `dfu show`, each ended by 0Ah.
+use Rattle.std.specs.Prelude.{ℕ, Bool, true, false, List, [], ◌∷◌, ◌++◌, codes}
+use Rattle.std.specs.Fmt.{decimal}
+use Rattle.hex.specs.declared.error.FromHexError.{FromHexError}
+use Rattle.hex.specs.declared.error.FromHexError.TheVariants as hex_error
+use Rattle.dfu_wire.specs.Code.{code_name}
+use Rattle.dfu_wire.specs.State.{state_name}
+use Rattle.dfu_wire.specs.Status.{StatusFields}
+use Rattle.dfu_wire.specs.declared.functionals.Functional.{Functional}
+use Rattle.dfu_wire.specs.declared.fault.WireFault.{WireFault}
+use Rattle.dfu_wire.specs.declared.fault.WireFault.TheVariants as fault
+use Rattle.dfu_suffix.specs.declared.fault.SuffixFault.TheVariants.{NoMemory}
+use Rattle.dfu_cmd.specs.Lines.{fault_line, hex}
+
+-- a flag in words
+abbrev pub yes_no : Bool → List ℕ
+yes_no true = codes "yes"
+yes_no false = codes "no"
+
+-- functional download Y upload Y tolerant Y will-detach Y detach N transfer N version HHHH
+unfoldable pub functional_line : Functional → List ℕ
+functional_line f =
+    codes "functional" ++ (codes " download " ++ yes_no f.can_download) ++ (codes " upload " ++ yes_no f.can_upload)
+    ++ (codes " tolerant " ++ yes_no f.tolerant) ++ (codes " will-detach " ++ yes_no f.will_detach)
+    ++ (codes " detach " ++ decimal f.detach_ms) ++ (codes " transfer " ++ decimal f.transfer) ++ (codes " version " ++ hex 4 f.version) ++ 10 ∷ []
+
+-- status CODE poll N state STATE string N
+unfoldable pub status_line : StatusFields → ℕ → List ℕ
+status_line s string =
+    codes "status" ++ (codes " " ++ code_name s.code) ++ (codes " poll " ++ decimal s.poll_ms) ++ (codes " state " ++ state_name s.state)
+    ++ (codes " string " ++ decimal string) ++ 10 ∷ []
+
+-- the name of a fault of wire bytes
+abbrev pub wire_name : WireFault → List ℕ
+wire_name fault.Short = codes "Short"
+wire_name fault.Long = codes "Long"
+wire_name fault.WrongLength = codes "WrongLength"
+wire_name fault.WrongType = codes "WrongType"
+wire_name fault.UnknownState = codes "UnknownState"
+wire_name fault.UnknownCode = codes "UnknownCode"
+wire_name fault.PollTooLong = codes "PollTooLong"
+
+-- refused NAME
+unfoldable pub wire_line : WireFault → List ℕ
+wire_line f = codes "refused " ++ wire_name f ++ 10 ∷ []
+
+-- the line for a text that isn't hexadecimal, or where memory ran out
+abbrev pub bad_hex_line : FromHexError → List ℕ
+bad_hex_line hex_error.OutOfMemory = fault_line NoMemory
+bad_hex_line e = codes "refused BadHex" ++ 10 ∷ []

@@ -1,0 +1,58 @@
+// `dfu check`: the line for a file.
+
+ghost use Rattle.std.specs.Prelude.{◌≡◌, IfOk};
+ghost use Rattle.std.specs.String.{string_bytes};
+ghost use Rattle.dfu_cmd.specs.Lines.{ok_line};
+ghost use Rattle.dfu_cmd.specs.Checking.{WritesCheck};
+
+use crate::exit::Exit;
+use crate::faults::{fault_exit, fault_line};
+use crate::numbers::{field, hex4, hex8};
+use crate::output::write_out;
+use dfu_suffix::{SuffixFault, Summary, check};
+use std::alloc::{AllocError, Global};
+use std::io::{Read, Write};
+
+#[tactic(auto, unfolding(crate::specs::Lines::ok_line))]
+fn ok_line(alloc: Global, summary: &Summary) -> Result<String, AllocError>
+    ensures { IfOk result (λ t. string_bytes t ≡ ok_line summary.now) }
+{
+    let mut line = String::from_str(alloc, "ok")?;
+    let payload = summary.payload.to_string(alloc)?;
+    let suffix = summary.suffix.to_string(alloc)?;
+    let device = hex4(alloc, summary.ids.device)?;
+    let product = hex4(alloc, summary.ids.product)?;
+    let vendor = hex4(alloc, summary.ids.vendor)?;
+    let dfu = hex4(alloc, summary.dfu)?;
+    let crc = hex8(alloc, summary.crc)?;
+    field(&mut line, " payload ", &payload)?;
+    field(&mut line, " suffix ", &suffix)?;
+    field(&mut line, " device ", &device)?;
+    field(&mut line, " product ", &product)?;
+    field(&mut line, " vendor ", &vendor)?;
+    field(&mut line, " dfu ", &dfu)?;
+    field(&mut line, " crc ", &crc)?;
+    line.push_str("\n")?;
+    Ok(line)
+}
+
+/// Checks what the reader gives, and writes one line: `ok payload P suffix S device DDDD product
+/// PPPP vendor VVVV dfu BBBB crc CCCCCCCC` with Done, `refused NAME` with Refused, or
+/// `fault Read` with Fault. Where an allocation is refused the line is `refused NoMemory`.
+///
+/// Where the writer fails it answers Fault; a prefix of the line is out, and nothing more is
+/// written.
+pub fn check_text<R: Read + Drop, W: Write>(alloc: Global, reader: R, writer: &mut W) -> Exit
+    ensures { WritesCheck (R.remaining reader) (W.contents writer.old) (W.contents writer.new) result }
+{
+    match check(alloc, reader) {
+        Ok(summary) => match ok_line(alloc, &summary) {
+            Ok(line) => write_out(writer, line.as_bytes(), Exit::Done),
+            Err(_) => {
+                let line = fault_line(SuffixFault::NoMemory);
+                write_out(writer, line.as_bytes(), Exit::Refused)
+            }
+        },
+        Err(fault) => write_out(writer, fault_line(fault).as_bytes(), fault_exit(fault)),
+    }
+}

@@ -1,0 +1,47 @@
+// The texts of `--help`.
+
+pub(crate) const DFU: &str = "dfu 0.1.0: firmware files and upgrades over USB (DFU 1.1)";
+
+pub(crate) const DFU_EXAMPLE: &str = "\
+Example:
+  dfu check firmware.dfu
+
+Exit status:
+  0  done
+  1  refused, with the reason's name: refused NAME
+  2  the words aren't understood
+  3  a file or a stream failed: fault Read or fault Write";
+
+pub(crate) const CHECK: &str = "Check a DFU file and print what its suffix says";
+
+pub(crate) const CHECK_FILE: &str = "The file, or - for standard input";
+
+pub(crate) const CHECK_EXAMPLE: &str = "\
+Example:
+  dfu check firmware.dfu";
+
+pub(crate) const ADD: &str = "Write a raw image and a suffix for it to a new file";
+
+pub(crate) const ADD_FILE: &str = "The raw image";
+
+pub(crate) const ADD_OUT: &str = "The file to make; it may be FILE";
+
+pub(crate) const ADD_VID: &str = "Vendor: four hexadecimal digits, as 1209; default ffff, any";
+
+pub(crate) const ADD_PID: &str = "Product: four hexadecimal digits, as 0001; default ffff, any";
+
+pub(crate) const ADD_DID: &str = "Device release: four hexadecimal digits, as 0100; default ffff";
+
+pub(crate) const ADD_EXAMPLE: &str = "\
+Example:
+  dfu add firmware.bin firmware.dfu --vid 1209 --pid 0001 --did 0100";
+
+pub(crate) const SHOW: &str = "Print the fields of bytes that go over the wire";
+
+pub(crate) const SHOW_KIND: &str = "What the bytes are: functional, a descriptor, or status";
+
+pub(crate) const SHOW_HEX: &str = "The bytes, two hexadecimal digits each";
+
+pub(crate) const SHOW_EXAMPLE: &str = "\
+Example:
+  dfu show status 000500000400";

@@ -1,0 +1,40 @@
+// What the words of a command line ask for.
+
+/// What is to be done, with the texts of the words or their defaults.
+#[derive(Debug, Drop)]
+pub enum Job {
+    /// Check a file, or standard input where `file` is `-`.
+    Check {
+        /// FILE.
+        file: String,
+    },
+    /// Write a file and a suffix for it.
+    Add {
+        /// FILE.
+        file: String,
+        /// OUT.
+        to: String,
+        /// idVendor, four hexadecimal digits.
+        vid: String,
+        /// idProduct, four hexadecimal digits.
+        pid: String,
+        /// bcdDevice, four hexadecimal digits.
+        did: String,
+    },
+    /// Show the fields of bytes.
+    Show {
+        /// KIND: `functional` or `status`.
+        kind: String,
+        /// HEX: the bytes, two hexadecimal digits each.
+        hex: String,
+    },
+}
+
+/// Why the words are no job.
+#[derive(Debug, Drop)]
+pub enum JobFault {
+    /// The parser refused the words, or they ask for help: its text and its exit status.
+    Words(clap::Error),
+    /// An allocation was refused.
+    NoMemory,
+}
