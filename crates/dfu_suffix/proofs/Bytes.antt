@@ -1,5 +1,5 @@
 -- Lists of bytes, and their parts.
-use Rattle.std.proofs.Common.{ℕ, zero, suc, ◌+◌, ◌<◌, List, [], ◌∷◌, take, drop, get_or, arith}
+use Rattle.std.proofs.Common.{ℕ, zero, suc, ◌+◌, List, [], ◌∷◌, take, drop, arith}
 use Rattle.std.proofs.lemmas.List.{get_or-drop}
 use Rattle.dfu_suffix.specs.Laws.{AreBytes}
 

@@ -4,9 +4,9 @@ use Rattle.std.proofs.lemmas.List.{append_assoc, append-nil}
 use Rattle.std.specs.Io.KnownBytes.{Consumes, IsAtEnd}
 
 -- the reader gave these bytes, a byte at least at each turn
-pub record Gathered (old new : Option (List ℕ)) (turn : ℕ) (bytes : List ℕ) : Type 0 where
+pub record Gathered (limit : ℕ) (old new : Option (List ℕ)) (turn : ℕ) (bytes : List ℕ) : Type 0 where
   pub given : Consumes old new bytes
-  pub small : length bytes ≤ 16777216
+  pub small : length bytes ≤ limit
   pub turns : turn ≤ length bytes
 
 pub consumes_none : (old : Option (List ℕ)) → Consumes old old []
@@ -48,19 +48,19 @@ consumed_length (Some a) (Some b) bytes all h o =
     omega (arith, ap length h, ap length same, length-append bytes b)
 
 -- at the end, all is gathered
-pub gathered_all : (old new : Option (List ℕ)) (turn : ℕ) (bytes : List ℕ) → Gathered old new turn bytes → IsAtEnd new → IfSome old (λ all. (bytes ≡ all) × (length all ≤ 16777216))
-gathered_all old new turn bytes k e =
-    if_some old (λ all. (bytes ≡ all) × (length all ≤ 16777216)) (λ all o. let same = consumed_all old new bytes all k.given e o in (same, subst (λ (xs : List ℕ). length xs ≤ 16777216) same k.small))
+pub gathered_all : (limit : ℕ) (old new : Option (List ℕ)) (turn : ℕ) (bytes : List ℕ) → Gathered limit old new turn bytes → IsAtEnd new → IfSome old (λ all. (bytes ≡ all) × (length all ≤ limit))
+gathered_all limit old new turn bytes k e =
+    if_some old (λ all. (bytes ≡ all) × (length all ≤ limit)) (λ all o. let same = consumed_all old new bytes all k.given e o in (same, subst (λ (xs : List ℕ). length xs ≤ limit) same k.small))
 
 -- a piece more
-pub gathered_more : (old mid new : Option (List ℕ)) (turn : ℕ) (bytes more : List ℕ) → Gathered old mid turn bytes → Consumes mid new more → 0 < length more → length bytes + length more ≤ 16777216 → Gathered old new (turn + 1) (bytes ++ more)
-gathered_more old mid new turn bytes more k given some small = record {
+pub gathered_more : (limit : ℕ) (old mid new : Option (List ℕ)) (turn : ℕ) (bytes more : List ℕ) → Gathered limit old mid turn bytes → Consumes mid new more → 0 < length more → length bytes + length more ≤ limit → Gathered limit old new (turn + 1) (bytes ++ more)
+gathered_more limit old mid new turn bytes more k given some small = record {
   given = consumes_more old mid new bytes more k.given given;
   small = omega (arith, length-append bytes more);
   turns = omega (arith, length-append bytes more, k.turns);
 }
 
 -- a piece too many
-pub gathered_over : (old mid new : Option (List ℕ)) (turn : ℕ) (bytes more : List ℕ) → Gathered old mid turn bytes → Consumes mid new more → 16777216 < length bytes + length more → IfSome old (λ all. 16777216 < length all)
-gathered_over old mid new turn bytes more k given over =
-    if_some old (λ all. 16777216 < length all) (λ all o. omega (arith, length-append bytes more, consumed_length old new (bytes ++ more) all (consumes_more old mid new bytes more k.given given) o))
+pub gathered_over : (limit : ℕ) (old mid new : Option (List ℕ)) (turn : ℕ) (bytes more : List ℕ) → Gathered limit old mid turn bytes → Consumes mid new more → limit < length bytes + length more → IfSome old (λ all. limit < length all)
+gathered_over limit old mid new turn bytes more k given over =
+    if_some old (λ all. limit < length all) (λ all o. omega (arith, length-append bytes more, consumed_length old new (bytes ++ more) all (consumes_more old mid new bytes more k.given given) o))

@@ -1,8 +1,9 @@
 -- The laws of the file format.
-use Rattle.std.proofs.Common.{◌≡◌, ◌↔◌, ◌⊎◌, ℕ, ◌+◌, ◌-◌, ◌^◌, ◌<◌, ◌≤◌, Bool, true, cond, ltb, List, [], ◌∷◌, length, take, drop, Option, Some, None, IfSome, Result, Ok, Err, inl, inr, refl, sym, ap, ◌∙◌, subst, arith, length-drop}
+use Rattle.std.proofs.Common.{◌≡◌, ◌⊎◌, ℕ, ◌+◌, ◌-◌, ◌^◌, ◌<◌, ◌≤◌, Bool, true, cond, ltb, List, [], ◌∷◌, length, take, drop, Option, Some, None, IfSome, Result, Ok, Err, inl, inr, refl, sym, ap, ◌∙◌, subst, arith, length-drop}
 use Rattle.std.specs.Prelude.{find}
 use Rattle.std.proofs.lemmas.Bool.Decides.{nat_tests}
-use Rattle.dfu_suffix.specs.Checking.{Checks, Gathers, UnlessCut, summary_of}
+use Rattle.dfu_suffix.specs.Gathering.{Gathers}
+use Rattle.dfu_suffix.specs.Checking.{Checks, UnlessCut, summary_of}
 use Rattle.dfu_suffix.specs.declared.summary.Summary.{Summary}
 use Rattle.dfu_suffix.specs.declared.fault.SuffixFault.TheVariants.{TooShort, NoSignature, BadLength, DfuSe, BadCrc, AlreadySuffixed, TooLarge, NoMemory, Read, Write}
 use Rattle.std.proofs.lemmas.List.{take-append-drop, take_all}
@@ -115,7 +116,7 @@ check_all None bytes r h k = tt
 check_all (Some all) bytes r h k = unless_cut r (Checks all r) (subst (λ (xs : List ℕ). Checks xs r) h.0 k)
 
 -- gathering stopped
-pub check_stopped : (given : Option (List ℕ)) (f : SuffixFault) → IfSome given (λ all. Gathers all (Err f)) → IfSome given (λ all. UnlessCut {T = Summary} (Err f) (Checks all (Err f)))
+pub check_stopped : (given : Option (List ℕ)) (f : SuffixFault) → IfSome given (λ all. Gathers 16777216 all (Err f)) → IfSome given (λ all. UnlessCut {T = Summary} (Err f) (Checks all (Err f)))
 check_stopped None f h = tt
 check_stopped (Some all) TooLarge h = checks_large all h
 check_stopped (Some all) Read h = tt

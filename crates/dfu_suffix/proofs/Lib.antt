@@ -4,3 +4,5 @@ pub mod Tables
 pub mod FileLaws
 pub mod GatherLaws
 pub mod LawProofs
+pub mod WriteLaws
+pub mod AddLaws

@@ -8,7 +8,7 @@ use Rattle.std.proofs.Math.Seq.{drop-cons}
 use Rattle.std.proofs.Common.{length, get_or, take, drop, ◌≡◌, ℕ, zero, suc, ◌+◌, ◌*◌, ◌/◌, ◌%◌, ◌^◌, ◌<◌, ◌≤◌, cond, eqb, List, [], ◌∷◌, ◌++◌, refl, sym, ap, ◌∙◌, arith}
 use Rattle.std.specs.Int.Bits.{bit_xor, xor_assoc, xor_self, xor_zero_l, xor_zero_r}
 use Rattle.std.proofs.lemmas.Nat.{xor_comm, xor_shr, xor_mod, xor_block, shr-shr, shr_split}
-use Rattle.std.proofs.Math.Nat.{mod-lt, pow-suc, mul_assoc, zero-mul, zero-add, add-zero}
+use Rattle.std.proofs.Math.Nat.{pow-suc, mul_assoc, zero-add}
 use Rattle.std.proofs.lemmas.Nat.{pow_pos, mod_below}
 use Rattle.dfu_suffix.specs.Register.{after_bit, after_bits, low_bits, bits_of, register, shift, shifts}
 

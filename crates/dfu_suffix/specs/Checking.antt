@@ -1,12 +1,11 @@
 -- What checking a file answers.
-use Rattle.std.specs.Prelude.{◌≡◌, ◌↔◌, ℕ, ◌+◌, ◌<◌, ◌≤◌, List, length, IfOk, Result, Ok, Err, ⊤, Vec}
-use Rattle.std.specs.declared.alloc.Global.{Global}
+use Rattle.std.specs.Prelude.{◌≡◌, ◌↔◌, ℕ, ◌+◌, List, length, IfOk, Result, Ok, Err, ⊤}
 use Rattle.dfu_suffix.specs.Register.{register}
 use Rattle.dfu_suffix.specs.Grammar.{IsFile, First, before_crc}
 use Rattle.dfu_suffix.specs.declared.summary.Summary.{Summary}
 use Rattle.dfu_suffix.specs.declared.ids.Ids.{Ids}
 use Rattle.dfu_suffix.specs.declared.fault.SuffixFault.{SuffixFault}
-use Rattle.dfu_suffix.specs.declared.fault.SuffixFault.TheVariants.{TooLarge, NoMemory, Read}
+use Rattle.dfu_suffix.specs.declared.fault.SuffixFault.TheVariants.{NoMemory, Read}
 
 -- the summary of the file with this payload, these fields and these extra bytes
 abbrev pub summary_of : List ℕ → Ids → ℕ → List ℕ → Summary
@@ -23,11 +22,3 @@ abbrev pub UnlessCut : {T : Type 0} → Result T SuffixFault → Type 0 → Type
 UnlessCut (Err Read) P = ⊤
 UnlessCut (Err NoMemory) P = ⊤
 UnlessCut r P = P
-
--- all that the reader gives was gathered, or it is over the limit of a file
-abbrev pub Gathers : List ℕ → Result (Vec ℕ Global) SuffixFault → Type 0
-Gathers all (Ok v) = (v.items ≡ all) × (length all ≤ 16777216)
-Gathers all (Err TooLarge) = 16777216 < length all
-Gathers all (Err Read) = ⊤
-Gathers all (Err NoMemory) = ⊤
-Gathers all (Err f) = ⊥

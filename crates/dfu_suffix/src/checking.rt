@@ -6,7 +6,7 @@ ghost use Rattle.dfu_suffix.specs.Checking.{Checks, UnlessCut};
 use crate::fault::SuffixFault;
 use crate::fields::u32_at;
 use crate::gather::gather;
-use crate::parse::read;
+use crate::parse::{MAX_FILE, read};
 use crate::summary::Summary;
 use std::alloc::Global;
 use std::io::Read;
@@ -37,6 +37,6 @@ pub fn check<R: Read + Drop>(alloc: Global, reader: R) -> Result<Summary, Suffix
     // fault of the bytes, however the reader cuts them.
     ensures { IfSome (R.remaining reader) (λ all. UnlessCut result (Checks all result)) }
 {
-    let bytes = gather(alloc, reader)?;
+    let bytes = gather(alloc, reader, MAX_FILE)?;
     summarize(&bytes)
 }

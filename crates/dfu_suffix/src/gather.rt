@@ -1,7 +1,7 @@
-// All that a reader gives, up to the limit of a file.
+// All that a reader gives, up to a limit.
 
-ghost use Rattle.std.specs.Prelude.{IfSome};
-ghost use Rattle.dfu_suffix.specs.Checking.{Gathers};
+ghost use Rattle.std.specs.Prelude.{◌≤◌, length, IfOk, IfSome};
+ghost use Rattle.dfu_suffix.specs.Gathering.{Gathers};
 
 use crate::fault::SuffixFault;
 use crate::parse::MAX_FILE;
@@ -11,8 +11,15 @@ use std::io::Read;
 // Each turn but the last takes a byte.
 const MAX_TURNS: usize = MAX_FILE + 2;
 
-pub(crate) fn gather<R: Read + Drop>(alloc: Global, mut reader: R) -> Result<Vec<u8>, SuffixFault>
-    ensures { IfSome (R.remaining reader) (λ all. Gathers all result) }
+// No read is made after the byte past `limit` was read.
+pub(crate) fn gather<R: Read + Drop>(
+    alloc: Global,
+    mut reader: R,
+    limit: usize,
+) -> Result<Vec<u8>, SuffixFault>
+    requires { limit ≤ 16777216 }
+    ensures all { IfSome (R.remaining reader) (λ all. Gathers limit all result) }
+    ensures len { IfOk result (λ v. length v.items ≤ limit) }
 {
     let mut bytes = Vec::new(alloc);
     let mut buffer = [0u8; 4096];
@@ -20,7 +27,7 @@ pub(crate) fn gather<R: Read + Drop>(alloc: Global, mut reader: R) -> Result<Vec
         match reader.read(&mut buffer) {
             Ok(0) => return Ok(bytes),
             Ok(taken) => {
-                if taken > MAX_FILE - bytes.len() {
+                if taken > limit - bytes.len() {
                     return Err(SuffixFault::TooLarge);
                 }
                 let Ok(()) = bytes.extend_from_slice(&buffer[..taken]) else {

@@ -1,9 +1,11 @@
 //! The DFU file: a payload and its suffix (USB DFU 1.1, appendix B).
 //!
-//! `read` takes a whole file apart, `check` does it for all that a reader gives, and `Crc` is
-//! the register behind the suffix's dwCRC. The crate opens no file and prints nothing.
+//! `read` takes a whole file apart, `check` does it for all that a reader gives, `add` writes a
+//! file of a payload, and `Crc` is the register behind the suffix's dwCRC. The crate opens no file
+//! and prints nothing.
 #![tactic(auto)]
 
+mod adding;
 mod checking;
 mod crc;
 mod fault;
@@ -12,10 +14,13 @@ mod file;
 mod gather;
 mod ids;
 mod laws;
+mod making;
+mod output;
 mod parse;
 mod summary;
 mod table;
 
+pub use adding::add;
 pub use checking::check;
 pub use crc::Crc;
 pub use fault::SuffixFault;

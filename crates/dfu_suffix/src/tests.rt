@@ -1,5 +1,7 @@
+mod added;
 mod files;
 mod readers;
+mod writers;
 
 use crate::{Crc, Ids, SuffixFault, Summary, check, read};
 use files::{DFUSE, DIGITS, EMPTY, FOUR_ONES, LONG_SUFFIX, NO_IDS};
@@ -74,12 +76,20 @@ fn register_in_pieces(rt: HostRuntime) {
     }
     for end in 0..=67usize {
         let whole = &bytes[..end];
-        assert_eq!(rt; register(whole), register_by_bits(whole), "over {end} bytes");
+        assert_eq!(rt;
+            register(whole),
+            register_by_bits(whole),
+            "over {end} bytes"
+        );
         let (front, back) = whole.split_at(end / 3);
         let mut crc = Crc::new();
         crc.update(front);
         crc.update(back);
-        assert_eq!(rt; crc.value(), register(whole), "in two pieces of {end} bytes");
+        assert_eq!(rt;
+            crc.value(),
+            register(whole),
+            "in two pieces of {end} bytes"
+        );
     }
 }
 
@@ -92,10 +102,16 @@ fn fields_of_known_files(rt: HostRuntime) -> Result<(), Fail> {
     };
     let file = read(&FOUR_ONES)?;
     assert_eq!(rt; file.payload(), &[0xff; 4][..]);
-    assert_eq!(rt; (file.ids(), file.dfu(), file.suffix()), (unset, 0x0100, 16));
+    assert_eq!(rt;
+        (file.ids(), file.dfu(), file.suffix()),
+        (unset, 0x0100, 16)
+    );
     let file = read(&LONG_SUFFIX)?;
     assert_eq!(rt; file.payload(), &[0xff; 3][..]);
-    assert_eq!(rt; (file.ids(), file.dfu(), file.suffix()), (unset, 0x0100, 17));
+    assert_eq!(rt;
+        (file.ids(), file.dfu(), file.suffix()),
+        (unset, 0x0100, 17)
+    );
     let file = read(&EMPTY)?;
     assert_eq!(rt; file.payload().len(), 0);
     let file = read(&DIGITS)?;
@@ -122,7 +138,11 @@ fn summaries_of_known_files(rt: HostRuntime) {
             assert!(rt; false, "refused {bytes:?}");
             return;
         };
-        assert_eq!(rt; (summary.payload, summary.suffix, summary.crc), (payload, suffix, crc), "of {bytes:?}");
+        assert_eq!(rt;
+            (summary.payload, summary.suffix, summary.crc),
+            (payload, suffix, crc),
+            "of {bytes:?}"
+        );
     }
 }
 
@@ -168,7 +188,11 @@ fn one_byte_at_each_read(rt: HostRuntime) {
         &EMPTY[..15],
     ];
     for bytes in files {
-        assert_eq!(rt; check(rt.alloc(), OneByOne(bytes)), summary_by_read(bytes), "of {bytes:?}");
+        assert_eq!(rt;
+            check(rt.alloc(), OneByOne(bytes)),
+            summary_by_read(bytes),
+            "of {bytes:?}"
+        );
     }
 }
 
@@ -188,7 +212,11 @@ fn reader_that_fails(rt: HostRuntime) {
             left,
             calls_after: 0,
         };
-        assert_eq!(rt; check(rt.alloc(), &mut zeros), Err(SuffixFault::Read), "after {left} bytes");
+        assert_eq!(rt;
+            check(rt.alloc(), &mut zeros),
+            Err(SuffixFault::Read),
+            "after {left} bytes"
+        );
         assert_eq!(rt; zeros.calls_after, 1, "tries after {left} bytes");
     }
 }

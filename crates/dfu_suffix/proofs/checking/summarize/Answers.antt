@@ -1,4 +1,4 @@
-use Rattle.std.proofs.Common.{◌∙◌, refl, ap, sym, length}
+use Rattle.std.proofs.Common.{◌∙◌, refl, ap, length}
 use Rattle.std.proofs.lemmas.Result.{err_from_is_err_and}
 use Rattle.dfu_suffix.proofs.LawProofs.{checks_fault, checks_parts}
 use Rattle.dfu_suffix.proofs.checking.summarize.Goals as goal

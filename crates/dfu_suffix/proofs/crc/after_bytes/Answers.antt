@@ -1,4 +1,4 @@
-use Rattle.std.proofs.Common.{◌≡◌, ℕ, List, ◌++◌, refl, ap, ◌∙◌, sym, get_or, take, drop}
+use Rattle.std.proofs.Common.{◌≡◌, ℕ, List, ◌++◌, refl, ap, ◌∙◌, sym, get_or, take}
 use Rattle.std.proofs.lemmas.List.{take-append-drop}
 use Rattle.dfu_suffix.specs.Register.{after_bits, bits_of, low_bits}
 use Rattle.dfu_suffix.proofs.Tables.{after_more, after-append}

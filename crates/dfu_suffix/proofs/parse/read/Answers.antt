@@ -1,6 +1,4 @@
-use Rattle.std.proofs.Common.{◌≡◌, ℕ, arith, ◌∙◌, sym}
-use Rattle.dfu_suffix.specs.Grammar.{IsFile, First}
-use Rattle.dfu_suffix.specs.Reading.{reading}
+use Rattle.std.proofs.Common.{arith, ◌∙◌, sym}
 use Rattle.dfu_suffix.proofs.FileLaws.{if_ok, reading_found, reading_fault, reading_only}
 use Rattle.dfu_suffix.proofs.parse.read.Goals as goal
 

@@ -1,5 +1,5 @@
-use Rattle.std.proofs.Common.{◌≡◌, ℕ, List, ap, ◌∙◌, sym}
-use Rattle.dfu_suffix.specs.Register.{after_bits, bits_of, register}
+use Rattle.std.proofs.Common.{ℕ, ap, ◌∙◌, sym}
+use Rattle.dfu_suffix.specs.Register.{after_bits, bits_of}
 use Rattle.dfu_suffix.proofs.Tables.{register-append}
 use Rattle.dfu_suffix.proofs.crc.Crc.update.Goals as goal
 

@@ -1,0 +1,59 @@
+// Files made of what a reader gives.
+
+ghost use Rattle.std.specs.Prelude.{◌≤◌, length, IfOk, IfSome};
+ghost use Rattle.dfu_suffix.specs.Adding.{Adds, KeepsAtFault, Makes};
+
+use crate::fault::SuffixFault;
+use crate::gather::gather;
+use crate::ids::Ids;
+use crate::making::{append_suffix, has_suffix};
+use crate::output::put_out;
+use std::alloc::Global;
+use std::io::{Read, Write};
+
+// The most bytes of a payload: with a suffix of 16 they are the most bytes of a file.
+const MAX_PAYLOAD: usize = 16_777_200;
+
+// The whole file, in memory.
+fn file_of<R: Read + Drop>(alloc: Global, reader: R, ids: Ids) -> Result<Vec<u8>, SuffixFault>
+    ensures all { IfSome (R.remaining reader) (λ all. Makes all ids result) }
+    ensures len { IfOk result (λ v. length v.items ≤ 16777216) }
+{
+    let mut text = gather(alloc, reader, MAX_PAYLOAD)?;
+    if has_suffix(&text) {
+        return Err(SuffixFault::AlreadySuffixed);
+    }
+    match append_suffix(&mut text, ids) {
+        Ok(()) => Ok(text),
+        Err(_) => Err(SuffixFault::NoMemory),
+    }
+}
+
+/// Writes all that a reader gives and then a suffix of 16 bytes, with these identifiers and
+/// bcdDFU 0100h (USB DFU 1.1, appendix B). It answers the number of bytes written, at most
+/// 16,777,216. It gathers the whole file in memory before it writes the first byte, and it doesn't
+/// flush: the writer stays the caller's, who can go on with it.
+///
+/// # Errors
+///
+/// TooLarge once byte 16,777,201 was read, and no read is made after that; NoMemory where an
+/// allocation was refused; Read at the first error of the reader, with no second try; then
+/// AlreadySuffixed exactly where `read` would answer Ok or DfuSe for the bytes. After these nothing
+/// was written. Write at the first error of the writer, with no second try, and where it takes
+/// nothing of what is left: then a part of the file from its start, and not the whole, was written.
+pub fn add<R: Read + Drop, W: Write>(
+    alloc: Global,
+    reader: R,
+    ids: Ids,
+    writer: &mut W,
+) -> Result<u32, SuffixFault>
+    // The answer follows from the bytes that the reader gives, however it cuts them. Where it is
+    // Ok, a file of the grammar with that payload and these identifiers is out.
+    ensures answer { IfSome (R.remaining reader) (λ all. Adds all ids (W.contents writer.old) (W.contents writer.new) result) }
+    // After a fault other than Write nothing is out.
+    ensures kept { KeepsAtFault (W.contents writer.old) (W.contents writer.new) result }
+{
+    let text = file_of(alloc, reader, ids)?;
+    put_out(writer, &text)?;
+    Ok(text.len() as u32)
+}

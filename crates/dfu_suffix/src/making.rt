@@ -1,0 +1,64 @@
+// The suffix that a payload gets (USB DFU 1.1, appendix B), and whether bytes have one.
+
+ghost use Rattle.std.specs.Prelude.{◌≡◌, ◌↔◌, ◌++◌, ℕ, true, OnOk};
+ghost use Rattle.dfu_suffix.specs.Adding.{HasSuffix, added_fields, added_suffix};
+ghost use Rattle.dfu_suffix.specs.Register.{register};
+ghost use Rattle.dfu_suffix.specs.declared.fault.SuffixFault.TheVariants.{DfuSe};
+
+use crate::crc::Crc;
+use crate::fault::SuffixFault;
+use crate::ids::Ids;
+use crate::parse::read;
+use std::alloc::AllocError;
+
+// The fields up to dwCRC: bcdDFU is 0100h and bLength 16.
+fn fields_of(ids: Ids) -> [u8; 12]
+    ensures { result ≡ added_fields ids }
+{
+    let device = ids.device.to_le_bytes();
+    let product = ids.product.to_le_bytes();
+    let vendor = ids.vendor.to_le_bytes();
+    [
+        device[0], device[1], product[0], product[1], vendor[0], vendor[1], 0x00, 0x01, b'U', b'F',
+        b'D', 16,
+    ]
+}
+
+// dwCRC over a payload and the fields after it.
+fn crc_over(payload: &[u8], fields: &[u8]) -> u32
+    ensures { result ≡ register (payload.now ++ fields.now) }
+{
+    let mut crc = Crc::new();
+    crc.update(payload);
+    crc.update(fields);
+    crc.value()
+}
+
+// Makes a file of its payload. Nothing changes where an allocation is refused.
+pub(crate) fn append_suffix(text: &mut Vec<u8>, ids: Ids) -> Result<(), AllocError>
+    ensures { OnOk result (text.new.items ≡ text.old.items ++ added_suffix text.old.items ids) }
+{
+    let fields = fields_of(ids);
+    let crc = crc_over(text, &fields);
+    text.extend_from_slice(&fields)?;
+    text.extend_from_slice(&crc.to_le_bytes())
+}
+
+fn is_dfuse(fault: SuffixFault) -> bool
+    ensures { (result ≡ true) ↔ (fault ≡ DfuSe) }
+{
+    match fault {
+        SuffixFault::DfuSe => true,
+        _ => false,
+    }
+}
+
+// Whether the bytes have a suffix, which may be a DfuSe file's.
+pub(crate) fn has_suffix(bytes: &[u8]) -> bool
+    ensures { (result ≡ true) ↔ HasSuffix bytes.now }
+{
+    match read(bytes) {
+        Ok(_) => true,
+        Err(fault) => is_dfuse(fault),
+    }
+}
