@@ -5,3 +5,4 @@ pub mod Checking
 pub mod CommandLine
 pub mod ShowLines
 pub mod Showing
+pub mod Adding

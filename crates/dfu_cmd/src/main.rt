@@ -2,10 +2,12 @@
 //! what the library crates answer. It doesn't talk to a USB device.
 #![tactic(auto)]
 
+mod adding;
 mod checking;
 mod command_line;
 mod exit;
 mod faults;
+mod files;
 mod help;
 mod numbers;
 mod output;
@@ -14,44 +16,32 @@ mod showing;
 mod task;
 mod words;
 
+pub use adding::add_text;
 pub use checking::check_text;
 use dfu_suffix::SuffixFault;
 pub use exit::Exit;
 pub use faults::fault_text;
+use files::{run_add, run_check};
 pub use showing::show_text;
 use std::process::ExitCode;
-use std::{fs, io};
+use std::io;
 pub use task::{Job, JobFault};
 pub use words::job;
 
 #[cfg(test)]
 mod tests;
 
-// Checks a file, or standard input.
-fn run_check(rt: &HostRuntime, file: &str) -> Exit {
-    let mut out = io::writer(rt);
-    if file == "-" {
-        return check_text(rt.alloc(), rt.reader(), &mut out);
-    }
-    match fs::open(rt, file) {
-        Ok(reader) => check_text(rt.alloc(), reader, &mut out),
-        Err(_error) => fault_text(SuffixFault::Read, &mut out),
-    }
-}
-
 fn run_job(rt: &HostRuntime, job: Job) -> Exit {
     match job {
-        Job::Check { file } => run_check(rt, file.as_str()),
+        Job::Check { file } => run_check(rt, &file),
         Job::Add {
-            file: _file,
-            to: _to,
-            vid: _vid,
-            pid: _pid,
-            did: _did,
-        } => Exit::BadWords,
-        Job::Show { kind, hex } => {
-            show_text(rt.alloc(), kind.as_str(), hex.as_str(), &mut io::writer(rt))
-        }
+            file,
+            to,
+            vid,
+            pid,
+            did,
+        } => run_add(rt, &file, &to, &vid, &pid, &did),
+        Job::Show { kind, hex } => show_text(rt.alloc(), &kind, &hex, &mut io::writer(rt)),
     }
 }
 

@@ -1,0 +1,31 @@
+-- What `dfu add` writes.
+use Rattle.std.specs.Prelude.{◌⊎◌, ℕ, List, [], ◌∷◌, ◌++◌, Option, IfSome, Result, Ok, Err, codes}
+use Rattle.std.specs.Fmt.{decimal}
+use Rattle.dfu_suffix.specs.Adding.{Adds, KeepsAtFault}
+use Rattle.dfu_suffix.specs.declared.ids.Ids.{Ids}
+use Rattle.dfu_suffix.specs.declared.fault.SuffixFault.{SuffixFault}
+use Rattle.dfu_suffix.specs.declared.fault.SuffixFault.TheVariants.{NoMemory}
+use Rattle.dfu_cmd.specs.declared.exit.Exit.{Exit}
+use Rattle.dfu_cmd.specs.declared.exit.Exit.TheVariants.{Done, Refused}
+use Rattle.dfu_cmd.specs.Lines.{fault_exit, fault_line}
+use Rattle.dfu_cmd.specs.Output.{Wrote}
+
+-- wrote N
+unfoldable pub wrote_line : ℕ → List ℕ
+wrote_line count = codes "wrote" ++ (codes " " ++ decimal count) ++ 10 ∷ []
+
+-- the line for what adding a suffix answered
+abbrev pub added_line : Result ℕ SuffixFault → List ℕ
+added_line (Ok count) = wrote_line count
+added_line (Err f) = fault_line f
+
+-- how the command ends for what adding a suffix answered
+abbrev pub added_exit : Result ℕ SuffixFault → Exit
+added_exit (Ok count) = Done
+added_exit (Err f) = fault_exit f
+
+-- the file holds what adding a suffix wrote for all that the reader gave, and the line is that of the answer, or says that memory ran out
+abbrev pub WritesAdd : Option (List ℕ) → Ids → Option (List ℕ) → Option (List ℕ) → Option (List ℕ) → Option (List ℕ) → Exit → Type 0
+WritesAdd given ids file written old new result =
+    (answer : Result ℕ SuffixFault) × IfSome given (λ all. Adds all ids file written answer) × KeepsAtFault file written answer
+    × (Wrote old new (added_line answer) (added_exit answer) result ⊎ Wrote old new (fault_line NoMemory) Refused result)
