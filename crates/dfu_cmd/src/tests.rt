@@ -1,6 +1,167 @@
-use crate::Exit;
+mod readers;
+
+use crate::{Exit, Job, JobFault, add_text, check_text, job, show_text};
+use dfu_suffix::Ids;
+use readers::{Failing, Refusing};
+use std::test::Fail;
+
+// Payload FFFFFFFFh, identifiers FFFFh.
+const FOUR_ONES: [u8; 20] = [
+    0xff, 0xff, 0xff, 0xff, 0xff, 0xff, 0xff, 0xff, 0xff, 0xff, 0x00, 0x01, 0x55, 0x46, 0x44, 0x10,
+    0x71, 0xc8, 0x51, 0x0c,
+];
+
+// Payload '123456789', vendor 1209h, product 0001h, device 0100h.
+const DIGITS: [u8; 25] = [
+    0x31, 0x32, 0x33, 0x34, 0x35, 0x36, 0x37, 0x38, 0x39, 0x00, 0x01, 0x01, 0x00, 0x09, 0x12, 0x00,
+    0x01, 0x55, 0x46, 0x44, 0x10, 0x62, 0x1c, 0x70, 0xfe,
+];
+
+const DIGITS_IDS: Ids = Ids {
+    device: 0x0100,
+    product: 0x0001,
+    vendor: 0x1209,
+};
 
 #[test]
-fn statuses(rt: HostRuntime) {
-    assert_eq!(rt; Exit::Done.status(), 0);
+fn checks_known_files(rt: HostRuntime) {
+    let known: [(&[u8], &[u8], Exit); 4] = [
+        (
+            &FOUR_ONES,
+            b"ok payload 4 suffix 16 device ffff product ffff vendor ffff dfu 0100 crc 0c51c871\n",
+            Exit::Done,
+        ),
+        (
+            &DIGITS,
+            b"ok payload 9 suffix 16 device 0100 product 0001 vendor 1209 dfu 0100 crc fe701c62\n",
+            Exit::Done,
+        ),
+        (&FOUR_ONES[..15], b"refused TooShort\n", Exit::Refused),
+        (&FOUR_ONES[..19], b"refused NoSignature\n", Exit::Refused),
+    ];
+    for (bytes, line, exit) in known {
+        let mut out = Vec::new(rt.alloc());
+        assert_eq!(rt; check_text(rt.alloc(), bytes, &mut out), exit, "of {bytes:?}");
+        assert_eq!(rt; out.as_slice(), line, "of {bytes:?}");
+    }
+}
+
+#[test]
+fn checks_a_reader_that_fails(rt: HostRuntime) {
+    let mut out = Vec::new(rt.alloc());
+    assert_eq!(rt; check_text(rt.alloc(), Failing, &mut out), Exit::Fault);
+    assert_eq!(rt; out.as_slice(), &b"fault Read\n"[..]);
+}
+
+// A writer that refuses after some bytes: a prefix is out, and nothing more is tried.
+#[test]
+fn stops_at_a_writer_that_fails(rt: HostRuntime) {
+    for room in [0usize, 1, 16] {
+        let mut out = Refusing {
+            left: room,
+            calls_after: 0,
+        };
+        assert_eq!(rt; check_text(rt.alloc(), &FOUR_ONES[..15], &mut out), Exit::Fault);
+        assert_eq!(rt; (out.left, out.calls_after), (0, 1), "with room for {room}");
+    }
+}
+
+#[test]
+fn adds_a_suffix(rt: HostRuntime) {
+    let mut file = Vec::new(rt.alloc());
+    let mut out = Vec::new(rt.alloc());
+    let exit = add_text(rt.alloc(), &b"123456789"[..], DIGITS_IDS, &mut file, &mut out);
+    assert_eq!(rt; exit, Exit::Done);
+    assert_eq!(rt; file.as_slice(), &DIGITS[..]);
+    assert_eq!(rt; out.as_slice(), &b"wrote 25\n"[..]);
+}
+
+#[test]
+fn adds_no_second_suffix(rt: HostRuntime) {
+    let mut file = Vec::new(rt.alloc());
+    let mut out = Vec::new(rt.alloc());
+    let exit = add_text(rt.alloc(), &FOUR_ONES[..], DIGITS_IDS, &mut file, &mut out);
+    assert_eq!(rt; exit, Exit::Refused);
+    assert_eq!(rt; file.len(), 0);
+    assert_eq!(rt; out.as_slice(), &b"refused AlreadySuffixed\n"[..]);
+}
+
+#[test]
+fn shows_known_bytes(rt: HostRuntime) {
+    let descriptor: &[u8] = b"functional download yes upload no tolerant yes will-detach yes detach 255 transfer 8 version 0110\n";
+    let known: [(&str, &str, &[u8], Exit); 13] = [
+        ("functional", "09210dff0008001001", descriptor, Exit::Done),
+        ("functional", "0921FDff0008001001", descriptor, Exit::Done),
+        ("functional", "07210dff000800", b"refused WrongLength\n", Exit::Refused),
+        ("functional", "", b"refused Short\n", Exit::Refused),
+        ("status", "000500000400", b"status OK poll 5 state dfuDNBUSY string 0\n", Exit::Done),
+        ("status", "0f0000000a07", b"status errSTALLEDPKT poll 0 state dfuERROR string 7\n", Exit::Done),
+        ("status", "0005000004", b"refused Short\n", Exit::Refused),
+        ("status", "000000000b00", b"refused UnknownState\n", Exit::Refused),
+        ("status", "1000000b0b00", b"refused UnknownCode\n", Exit::Refused),
+        ("status", "00050000040", b"refused BadHex\n", Exit::Refused),
+        ("status", "0005000004zz", b"refused BadHex\n", Exit::Refused),
+        ("status", "-", b"refused BadHex\n", Exit::Refused),
+        ("state", "zz", b"bad words\n", Exit::BadWords),
+    ];
+    for (kind, hex, line, exit) in known {
+        let mut out = Vec::new(rt.alloc());
+        assert_eq!(rt; show_text(rt.alloc(), kind, hex, &mut out), exit, "{kind} {hex}");
+        assert_eq!(rt; out.as_slice(), line, "{kind} {hex}");
+    }
+}
+
+fn job_of(rt: &HostRuntime, words: &str) -> Result<Job, JobFault> {
+    let mut list = Vec::new(rt.alloc());
+    for word in words.split_whitespace() {
+        let Ok(text) = String::from_str(rt.alloc(), word) else {
+            return Err(JobFault::NoMemory);
+        };
+        let Ok(()) = list.push(text) else {
+            return Err(JobFault::NoMemory);
+        };
+    }
+    job(rt.alloc(), &list)
+}
+
+#[test]
+fn jobs_of_words(rt: HostRuntime) -> Result<(), Fail> {
+    match job_of(&rt, "dfu add a b --pid 0001") {
+        Ok(Job::Add { file, to, vid, pid, did }) => {
+            assert_eq!(rt; (file.as_str(), to.as_str()), ("a", "b"));
+            assert_eq!(rt; (vid.as_str(), pid.as_str(), did.as_str()), ("ffff", "0001", "ffff"));
+        }
+        _ => assert!(rt; false, "no job to add"),
+    }
+    match job_of(&rt, "dfu check -") {
+        Ok(Job::Check { file }) => assert_eq!(rt; file.as_str(), "-"),
+        _ => assert!(rt; false, "no job to check"),
+    }
+    match job_of(&rt, "dfu show status 00") {
+        Ok(Job::Show { kind, hex }) => assert_eq!(rt; (kind.as_str(), hex.as_str()), ("status", "00")),
+        _ => assert!(rt; false, "no job to show"),
+    }
+    Ok(())
+}
+
+// Words that are no job are the parser's refusal, with its status, and help has status 0.
+#[test]
+fn words_that_are_no_job(rt: HostRuntime) {
+    let refused = [
+        ("dfu", 2),
+        ("dfu check", 2),
+        ("dfu add a", 2),
+        ("dfu add a b c", 2),
+        ("dfu run a", 2),
+        ("dfu --version", 2),
+        ("dfu show status -x", 2),
+        ("dfu --help", 0),
+        ("dfu help add", 0),
+    ];
+    for (words, status) in refused {
+        match job_of(&rt, words) {
+            Err(JobFault::Words(error)) => assert_eq!(rt; error.exit_code(), status, "{words}"),
+            _ => assert!(rt; false, "{words}"),
+        }
+    }
 }
