@@ -4,7 +4,7 @@ use thiserror::Error;
 
 /// Why a file isn't read, checked or written. `read` and `check` answer the first of TooLarge,
 /// TooShort, NoSignature, BadLength, DfuSe, BadCrc whose condition holds, looked for in this
-/// order.
+/// order; `add` looks for TooLarge and then AlreadySuffixed.
 #[derive(Clone, Copy, Debug, PartialEq, Eq, Error)]
 pub enum SuffixFault {
     /// The file has under 16 bytes.
@@ -22,11 +22,11 @@ pub enum SuffixFault {
     /// dwCRC isn't the register over the bytes before it.
     #[error("the file's CRC differs from the one in its suffix")]
     BadCrc,
-    /// A file that is to get a suffix has one, which may be a DfuSe file's.
+    /// The bytes that are to get a suffix have one: `read` would answer Ok or DfuSe for them.
     #[error("the file has a suffix already")]
     AlreadySuffixed,
-    /// The file has over 16,777,216 bytes.
-    #[error("the file has over 16777216 bytes")]
+    /// The file has over 16,777,216 bytes, or would have with the 16 of a suffix.
+    #[error("the file with its suffix has over 16777216 bytes")]
     TooLarge,
     /// An allocation was refused.
     #[error("out of memory")]
