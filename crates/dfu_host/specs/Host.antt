@@ -1,0 +1,67 @@
+-- A host as one value, what it does, and what one more thing seen makes of it.
+use Rattle.std.specs.Prelude.{◌≡◌, ℕ, zero, suc, pred, List, [], ◌∷◌}
+use Rattle.dfu_host.specs.declared.report.Report.TheVariants as report
+use Rattle.dfu_host.specs.declared.action.Action.{Action}
+use Rattle.dfu_host.specs.declared.seen.Seen.{Seen}
+use Rattle.dfu_host.specs.Table.{Task, Phase, Find, GiveUp, Over, OverUploaded, deed, Heard, Restarted, row}
+use Rattle.dfu_host.specs.Wire.{Hears, Spells}
+
+-- A host: its task, its phase, the actions that it has left, and the restarts of its device that it still takes.
+pub record HostState : Type 0 where
+  pub task : Task
+  pub phase : Phase
+  pub actions : ℕ
+  pub restarts : ℕ
+
+-- The host is done.
+abbrev pub IsOver : Phase → Type 0
+IsOver (Over r) = Unit {0}
+IsOver (OverUploaded kept) = Unit {0}
+IsOver phase = ⊥
+
+-- The budget: a host that is not done and has no action left gives up.
+abbrev pub budgeted : (left : ℕ) → Phase → Phase
+budgeted left (Over r) = Over r
+budgeted left (OverUploaded kept) = OverUploaded kept
+budgeted zero phase = Over report.GaveUp
+budgeted (suc left) phase = phase
+
+-- A host after one action that leads to this phase.
+abbrev pub spent : HostState → Phase → (restarts : ℕ) → HostState
+spent h phase restarts = record { task = h.task; phase = budgeted (pred h.actions) phase; actions = pred h.actions; restarts = restarts }
+
+-- A restart of the device: from the beginning, unless the host gives up anyway or takes no more of them.
+abbrev pub restarted : HostState → Phase → (restarts : ℕ) → HostState
+restarted h GiveUp restarts = spent h (Over report.Aborted) restarts
+restarted h phase zero = spent h (Over report.RestartsSpent) zero
+restarted h phase (suc restarts) = spent h Find restarts
+
+-- What is heard: a restart, or what the table's row takes.
+abbrev pub told : HostState → Phase → Heard → HostState
+told h phase Restarted = restarted h phase h.restarts
+told h phase heard = spent h (row h.task phase heard) h.restarts
+
+-- A host that is done stays as it is.
+abbrev pub after_phase : HostState → Phase → Heard → HostState
+after_phase h (Over r) heard = h
+after_phase h (OverUploaded kept) heard = h
+after_phase h phase heard = told h phase heard
+
+-- A host after it hears this.
+abbrev pub after : HostState → Heard → HostState
+after h heard = after_phase h h.phase heard
+
+-- What a host that is asked for its next action answers: the action of its phase, as setup and body.
+abbrev pub Act : HostState → Action → Type 0
+Act h action = Spells (deed h.task h.phase) action
+
+-- What a host becomes by what it sees: the bytes are understood as its action says, and the table gives the rest.
+pub record HostRow (h : HostState) (seen : Seen) (h' : HostState) : Type 0 where
+  pub heard : Heard
+  pub hears : Hears (deed h.task h.phase) seen heard
+  pub same : h' ≡ after h heard
+
+-- One after the other.
+pub data HostRows : HostState → List Seen → HostState → Type 0 where
+  seen_all : {h : HostState} → HostRows h [] h
+  sees : {h mid h' : HostState} {seen : Seen} {more : List Seen} → HostRow h seen mid → HostRows mid more h' → HostRows h (seen ∷ more) h'

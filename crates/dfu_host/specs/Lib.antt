@@ -1,0 +1,9 @@
+pub mod Blocks
+pub mod BlockLaws
+pub mod Table
+pub mod Clean
+pub mod Wire
+pub mod Host
+pub mod Download
+pub mod HostLaws
+pub mod WireLaws

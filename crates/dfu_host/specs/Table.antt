@@ -1,0 +1,243 @@
+-- The host's table: what a host does in each phase, and which phase follows what is heard.
+use Rattle.std.specs.Prelude.{ℕ, zero, suc, ◌%◌, ◌==◌, nat_lt, max, Bool, true, false, if◌then◌else◌, List, [], ◌++◌, length, slice_index_or}
+use Rattle.dfu_wire.specs.declared.codes.Code.{Code}
+use Rattle.dfu_wire.specs.declared.codes.Code.TheVariants as code
+use Rattle.dfu_wire.specs.declared.states.State.{State}
+use Rattle.dfu_wire.specs.declared.states.State.TheVariants as state
+use Rattle.dfu_wire.specs.declared.requests.Request.{Request}
+use Rattle.dfu_wire.specs.declared.requests.Request.TheVariants as request
+use Rattle.dfu_host.specs.declared.report.Report.{Report}
+use Rattle.dfu_host.specs.declared.report.Report.TheVariants as report
+use Rattle.dfu_host.specs.Blocks.{blocks}
+
+-- What a session is for: to install a payload, or to fetch the active image.
+pub data Goal : Type 0 where
+  ToLoad : (payload : List ℕ) → Goal
+  ToFetch : Goal
+
+-- What a session is to do, and what its device's descriptor says.
+pub record Task : Type 0 where
+  pub goal : Goal
+  pub transfer : ℕ
+  pub tolerant : Bool
+  pub will_detach : Bool
+  pub detach_ms : ℕ
+
+-- The phases of a session, with what each keeps. Block, Ask and Poll count blocks from 0; Fetch keeps what was uploaded.
+pub data Phase : Type 0 where
+  Find : Phase
+  FindAgain : Phase
+  Detach : Phase
+  Enter : Phase
+  Clear : Phase
+  Quit : Phase
+  WaitFind : (poll : ℕ) → Phase
+  ResetFind : Phase
+  Block : (n : ℕ) → Phase
+  Ask : (n : ℕ) → Phase
+  Poll : (n : ℕ) → Phase
+  WaitPoll : (n poll : ℕ) → Phase
+  Close : Phase
+  AskLast : Phase
+  Manifest : Phase
+  WaitManifest : (poll : ℕ) → Phase
+  WaitLast : (poll : ℕ) → Phase
+  Trouble : Phase
+  Fetch : (k : ℕ) (kept : List ℕ) → Phase
+  LastUploaded : (kept : List ℕ) → Phase
+  Last : Report → Phase
+  GiveUp : Phase
+  Over : Report → Phase
+  OverUploaded : (kept : List ℕ) → Phase
+
+-- What a host does: it sends a request with its body, waits, resets the bus, or is done.
+pub data Deed : Type 0 where
+  Send : (request : Request) (body : List ℕ) → Deed
+  Wait : (ms : ℕ) → Deed
+  Reset : Deed
+  Done : Report → Deed
+
+-- What a host understands of what it sees. NoRoom is a part of an upload that found no memory.
+pub data Heard : Type 0 where
+  Acked : Heard
+  Status : Code → (poll : ℕ) → State → Heard
+  StateIs : State → Heard
+  Part : (bytes : List ℕ) → Heard
+  NoRoom : Heard
+  Stalled : Heard
+  Nothing : Heard
+  Waited : Heard
+  WasReset : Heard
+  Restarted : Heard
+
+-- The phase in which the work begins once the device is in dfuIDLE.
+abbrev pub start_of : Goal → Phase
+start_of (ToLoad payload) = Block 0
+start_of ToFetch = Fetch 0 []
+
+-- The blocks that a session sends.
+abbrev pub blocks_of : Goal → ℕ → List (List ℕ)
+blocks_of (ToLoad payload) t = blocks payload t
+blocks_of ToFetch t = []
+
+abbrev pub pieces : Task → List (List ℕ)
+pieces task = blocks_of task.goal task.transfer
+
+-- GETSTATUS asks for the whole status, GETSTATE for its one byte.
+abbrev pub get_status : Deed
+get_status = Send (request.GetStatus 6) []
+
+abbrev pub get_state : Deed
+get_state = Send (request.GetState 1) []
+
+-- DNLOAD of a block goes with its number modulo 65,536 and its length.
+abbrev pub download : ℕ → List ℕ → Deed
+download n body = Send (request.Dnload (n % 65536) (length body)) body
+
+-- The action of each phase.
+abbrev pub deed : Task → Phase → Deed
+deed task Find = get_status
+deed task FindAgain = get_status
+deed task Detach = Send (request.Detach task.detach_ms) []
+deed task Enter = if task.will_detach then Wait (max 1 task.detach_ms) else Reset
+deed task Clear = Send request.ClrStatus []
+deed task Quit = Send request.Abort []
+deed task (WaitFind poll) = Wait poll
+deed task ResetFind = Reset
+deed task (Block n) = download n (slice_index_or (pieces task) n [])
+deed task (Ask n) = get_state
+deed task (Poll n) = get_status
+deed task (WaitPoll n poll) = Wait poll
+deed task Close = download (length (pieces task)) []
+deed task AskLast = get_state
+deed task Manifest = get_status
+deed task (WaitManifest poll) = Wait poll
+deed task (WaitLast poll) = Wait poll
+deed task Trouble = get_status
+deed task (Fetch k kept) = Send (request.Upload (k % 65536) task.transfer) []
+deed task (LastUploaded kept) = Reset
+deed task (Last report) = Reset
+deed task GiveUp = Send request.Abort []
+deed task (Over report) = Done report
+deed task (OverUploaded kept) = Done report.Uploaded
+
+-- The list: what follows a status, by its state.
+abbrev pub listed : Phase → State → ℕ → Phase
+listed start state.AppIdle poll = Detach
+listed start state.AppDetach poll = Enter
+listed start state.DfuIdle poll = start
+listed start state.DownloadSync poll = WaitFind poll
+listed start state.DownloadBusy poll = WaitFind poll
+listed start state.DownloadIdle poll = Quit
+listed start state.ManifestSync poll = WaitFind poll
+listed start state.Manifest poll = WaitFind poll
+listed start state.ManifestWaitReset poll = ResetFind
+listed start state.UploadIdle poll = Quit
+listed start state.Error poll = Clear
+
+-- Trouble: dfuERROR with a code of its own ends the session, every other status goes by the list.
+abbrev pub troubled : Phase → Code → ℕ → State → Phase
+troubled start code.Ok poll s = listed start s poll
+troubled start code.StalledPkt poll s = listed start s poll
+troubled start c poll state.Error = Over (report.Refused c)
+troubled start c poll s = listed start s poll
+
+-- Poll: the block is being written, or is written, or there is trouble.
+abbrev pub polled : Phase → (blocks n : ℕ) → Code → ℕ → State → Phase
+polled start blocks n c poll state.DownloadSync = WaitPoll n poll
+polled start blocks n c poll state.DownloadBusy = WaitPoll n poll
+polled start blocks n c poll state.DownloadIdle = if suc n == blocks then Close else Block (suc n)
+polled start blocks n c poll s = troubled start c poll s
+
+-- Manifest: of a tolerant device only dfuIDLE with OK is an install; of another nothing confirms one.
+abbrev pub manifested : Phase → (tolerant : Bool) → Code → ℕ → State → Phase
+manifested start true c poll state.ManifestSync = WaitManifest poll
+manifested start true c poll state.Manifest = WaitManifest poll
+manifested start true code.Ok poll state.DfuIdle = Last report.Installed
+manifested start true c poll s = troubled start c poll s
+manifested start false c poll state.ManifestSync = WaitLast poll
+manifested start false c poll state.Manifest = WaitLast poll
+manifested start false c poll state.DfuIdle = Last report.Unconfirmed
+manifested start false c poll state.ManifestWaitReset = Last report.Unconfirmed
+manifested start false c poll s = troubled start c poll s
+
+-- Ask: whether the block whose answer was lost has come.
+abbrev pub asked : ℕ → State → Phase
+asked n state.DownloadSync = Poll n
+asked zero state.DfuIdle = Block zero
+asked (suc n) state.DownloadIdle = Block (suc n)
+asked n s = Trouble
+
+-- Ask last: whether the closing request whose answer was lost has come.
+abbrev pub asked_last : State → Phase
+asked_last state.ManifestSync = Manifest
+asked_last state.DownloadIdle = Close
+asked_last s = Trouble
+
+-- Fetch: a full answer, a shorter one, which is the last, or one that is too long.
+abbrev pub fetched : (t k : ℕ) (kept bytes : List ℕ) → Phase
+fetched t k kept bytes =
+    if length bytes == t then (if suc k == 65535 then Over report.TooManyBlocks else Fetch (suc k) (kept ++ bytes))
+    else if nat_lt (length bytes) t then LastUploaded (kept ++ bytes)
+    else Find
+
+-- What follows GETSTATUS: by the status, a stall, or nothing. What does not fit is nothing.
+abbrev pub on_status : Heard → (Code → ℕ → State → Phase) → (stalled nothing : Phase) → Phase
+on_status (Status c poll s) told stalled nothing = told c poll s
+on_status Stalled told stalled nothing = stalled
+on_status heard told stalled nothing = nothing
+
+-- What follows GETSTATE: by the state, a stall, or nothing.
+abbrev pub on_state : Heard → (State → Phase) → (stalled nothing : Phase) → Phase
+on_state (StateIs s) told stalled nothing = told s
+on_state Stalled told stalled nothing = stalled
+on_state heard told stalled nothing = nothing
+
+-- What follows a request without an answer of bytes: by its acknowledgement, a stall, or nothing.
+abbrev pub on_ack : Heard → (acked stalled nothing : Phase) → Phase
+on_ack Acked acked stalled nothing = acked
+on_ack Stalled acked stalled nothing = stalled
+on_ack heard acked stalled nothing = nothing
+
+-- What follows a wait, which is asked again until it was waited.
+abbrev pub on_waited : Heard → (waited again : Phase) → Phase
+on_waited Waited waited again = waited
+on_waited heard waited again = again
+
+-- What follows a reset, which is asked again until it was done.
+abbrev pub on_reset : Heard → (done again : Phase) → Phase
+on_reset WasReset done again = done
+on_reset heard done again = again
+
+-- What follows UPLOAD: by the bytes of a part, or, where no memory was found for them, the end.
+abbrev pub on_part : (t k : ℕ) (kept : List ℕ) → Heard → Phase
+on_part t k kept (Part bytes) = fetched t k kept bytes
+on_part t k kept NoRoom = Over report.NoMemory
+on_part t k kept heard = Find
+
+-- The table, but for a restart of the device and the budget: the phase that follows.
+abbrev pub row : Task → Phase → Heard → Phase
+row task Find heard = on_status heard (λ c poll s. listed (start_of task.goal) s poll) FindAgain Find
+row task FindAgain heard = on_status heard (λ c poll s. listed (start_of task.goal) s poll) ResetFind FindAgain
+row task Detach heard = on_ack heard Enter Find Find
+row task Enter heard = if task.will_detach then on_waited heard Find Enter else on_reset heard Find Enter
+row task Clear heard = Find
+row task Quit heard = Find
+row task (WaitFind poll) heard = on_waited heard Find (WaitFind poll)
+row task ResetFind heard = on_reset heard Find ResetFind
+row task (Block n) heard = on_ack heard (Poll n) Trouble (Ask n)
+row task (Ask n) heard = on_state heard (asked n) Trouble (Ask n)
+row task (Poll n) heard = on_status heard (polled (start_of task.goal) (length (pieces task)) n) Trouble (Poll n)
+row task (WaitPoll n poll) heard = on_waited heard (Poll n) (WaitPoll n poll)
+row task Close heard = on_ack heard Manifest Trouble AskLast
+row task AskLast heard = on_state heard asked_last Trouble AskLast
+row task Manifest heard = on_status heard (manifested (start_of task.goal) task.tolerant) Trouble Manifest
+row task (WaitManifest poll) heard = on_waited heard Manifest (WaitManifest poll)
+row task (WaitLast poll) heard = on_waited heard (Last report.Unconfirmed) (WaitLast poll)
+row task Trouble heard = on_status heard (troubled (start_of task.goal)) FindAgain Trouble
+row task (Fetch k kept) heard = on_part task.transfer k kept heard
+row task (LastUploaded kept) heard = on_reset heard (OverUploaded kept) (LastUploaded kept)
+row task (Last report) heard = on_reset heard (Over report) (Last report)
+row task GiveUp heard = Over report.Aborted
+row task (Over report) heard = Over report
+row task (OverUploaded kept) heard = OverUploaded kept

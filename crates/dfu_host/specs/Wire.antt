@@ -1,0 +1,60 @@
+-- What of the host's table goes over the wire: its actions as setups, and what is seen as what is understood.
+use Rattle.std.specs.Prelude.{◌≡◌, ◌≢◌, ◌⊎◌, ℕ, List, [], ◌∷◌}
+use Rattle.dfu_wire.specs.declared.setups.Setup.{Setup}
+use Rattle.dfu_wire.specs.declared.states.State.{State}
+use Rattle.dfu_wire.specs.declared.requests.Request.{Request}
+use Rattle.dfu_wire.specs.declared.requests.Request.TheVariants as request
+use Rattle.dfu_wire.specs.Status.{StatusFields, IsStatus}
+use Rattle.dfu_wire.specs.Setup.{IsSetup}
+use Rattle.dfu_wire.specs.Request.{Asks, IsPlain}
+use Rattle.dfu_wire.specs.State.{state_byte}
+use Rattle.dfu_host.specs.declared.action.Action.{Action}
+use Rattle.dfu_host.specs.declared.action.Action.TheVariants as action
+use Rattle.dfu_host.specs.declared.seen.Seen.{Seen}
+use Rattle.dfu_host.specs.declared.seen.Seen.TheVariants as seen
+use Rattle.dfu_host.specs.Table.{Deed, Send, Wait, Reset, Done, Heard, Acked, Status, StateIs, Part, NoRoom, Stalled, Nothing, Waited, WasReset, Restarted}
+
+-- The eight bytes are a setup that asks for this, with 0 where its value has no meaning.
+pub record IsAsked (q : Request) (bytes : List ℕ) : Type 0 where
+  pub setup : Setup
+  pub fields : IsSetup setup bytes
+  pub asks : Asks setup q
+  pub plain : IsPlain setup q
+
+-- An action as it is handed out: a request is the bytes of its setup, with its body.
+abbrev pub Spells : Deed → Action → Type 0
+Spells (Send q body) (action.Send setup given) = IsAsked q setup × (given.now ≡ body)
+Spells (Wait ms) (action.Wait given) = given ≡ ms
+Spells Reset action.Reset = Unit {0}
+Spells (Done report) (action.Done given) = given ≡ report
+Spells deed given = ⊥
+
+-- Bytes that answer GETSTATUS are the status that they spell; where they spell none, it is as if nothing came.
+abbrev pub ReadsStatus : List ℕ → Heard → Type 0
+ReadsStatus bytes (Status code poll state) = IsStatus (record { code = code; poll_ms = poll; state = state }) bytes
+ReadsStatus bytes Nothing = (s : StatusFields) → IsStatus s bytes → ⊥
+ReadsStatus bytes heard = ⊥
+
+-- Bytes that answer GETSTATE are the state whose number is their one byte; else it is as if nothing came.
+abbrev pub ReadsState : List ℕ → Heard → Type 0
+ReadsState bytes (StateIs state) = bytes ≡ state_byte state ∷ []
+ReadsState bytes Nothing = (state : State) → bytes ≢ state_byte state ∷ []
+ReadsState bytes heard = ⊥
+
+-- Bytes that answer a request: to UPLOAD they are a part, for which there may be no memory; a request without an answer has none.
+abbrev pub Reads : Request → List ℕ → Heard → Type 0
+Reads (request.GetStatus len) bytes heard = ReadsStatus bytes heard
+Reads (request.GetState len) bytes heard = ReadsState bytes heard
+Reads (request.Upload block len) bytes heard = (heard ≡ Part bytes) ⊎ (heard ≡ NoRoom)
+Reads q bytes heard = heard ≡ Nothing
+
+-- What is seen of an action, as it is understood. Whether it fits the action is the table's matter.
+abbrev pub Hears : Deed → Seen → Heard → Type 0
+Hears (Send q body) (seen.Bytes bytes) heard = Reads q bytes.now heard
+Hears deed (seen.Bytes bytes) heard = heard ≡ Nothing
+Hears deed seen.Ack heard = heard ≡ Acked
+Hears deed seen.Stall heard = heard ≡ Stalled
+Hears deed seen.Nothing heard = heard ≡ Nothing
+Hears deed seen.Waited heard = heard ≡ Waited
+Hears deed seen.WasReset heard = heard ≡ WasReset
+Hears deed seen.Restarted heard = heard ≡ Restarted
