@@ -7,3 +7,4 @@ pub mod Host
 pub mod Download
 pub mod HostLaws
 pub mod WireLaws
+pub mod View

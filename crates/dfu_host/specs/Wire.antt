@@ -1,5 +1,5 @@
 -- What of the host's table goes over the wire: its actions as setups, and what is seen as what is understood.
-use Rattle.std.specs.Prelude.{◌≡◌, ◌≢◌, ◌⊎◌, ℕ, List, [], ◌∷◌}
+use Rattle.std.specs.Prelude.{◌≡◌, ◌≢◌, ◌⊎◌, ℕ, Bool, true, false, List, [], ◌∷◌}
 use Rattle.dfu_wire.specs.declared.setups.Setup.{Setup}
 use Rattle.dfu_wire.specs.declared.states.State.{State}
 use Rattle.dfu_wire.specs.declared.requests.Request.{Request}
@@ -20,6 +20,12 @@ pub record IsAsked (q : Request) (bytes : List ℕ) : Type 0 where
   pub fields : IsSetup setup bytes
   pub asks : Asks setup q
   pub plain : IsPlain setup q
+
+-- A request of the seven that a host sends.
+abbrev pub is_sent : Request → Bool
+is_sent request.OtherClass = false
+is_sent request.NotDfu = false
+is_sent q = true
 
 -- An action as it is handed out: a request is the bytes of its setup, with its body.
 abbrev pub Spells : Deed → Action → Type 0
@@ -48,10 +54,14 @@ Reads (request.GetState len) bytes heard = ReadsState bytes heard
 Reads (request.Upload block len) bytes heard = (heard ≡ Part bytes) ⊎ (heard ≡ NoRoom)
 Reads q bytes heard = heard ≡ Nothing
 
+-- Bytes that come of an action: where the action is no request, it is as if nothing came.
+abbrev pub HearsBytes : Deed → List ℕ → Heard → Type 0
+HearsBytes (Send q body) bytes heard = Reads q bytes heard
+HearsBytes deed bytes heard = heard ≡ Nothing
+
 -- What is seen of an action, as it is understood. Whether it fits the action is the table's matter.
 abbrev pub Hears : Deed → Seen → Heard → Type 0
-Hears (Send q body) (seen.Bytes bytes) heard = Reads q bytes.now heard
-Hears deed (seen.Bytes bytes) heard = heard ≡ Nothing
+Hears deed (seen.Bytes bytes) heard = HearsBytes deed bytes.now heard
 Hears deed seen.Ack heard = heard ≡ Acked
 Hears deed seen.Stall heard = heard ≡ Stalled
 Hears deed seen.Nothing heard = heard ≡ Nothing

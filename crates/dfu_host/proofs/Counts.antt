@@ -1,0 +1,55 @@
+-- The blocks of a payload as the code counts and cuts them.
+use Rattle.std.proofs.Common.{◌≡◌, ℕ, suc, ◌+◌, ◌-◌, ◌*◌, ◌/◌, ◌<◌, ◌≤◌, ◌==◌, nat_le, min, true, false, List, [], length, take, drop, slice_index_or, sym, ap, ◌∙◌, arith, inl, inr}
+use Rattle.std.proofs.Math.Nat.{suc-mul, lt-div-mul-add, div-mul-le_self, eq-or-lt_of_le}
+use Rattle.std.proofs.lemmas.Bool.Decides.{nat_tests}
+use Rattle.std.proofs.lemmas.Bool.{cases_lt}
+use Rattle.std.proofs.lemmas.List.{take_min, take_rest}
+use Rattle.dfu_host.specs.Blocks.{blocks}
+use Rattle.dfu_host.specs.BlockLaws.{block_is, block_starts, block_counts}
+
+module _ (p : List ℕ) (t : ℕ) where
+  -- A block as a slice of what is left of the payload.
+  pub block_cut : (n m : ℕ) → 0 < t → n * t < length p → m ≡ min t (length (take (length p - n * t) (drop (n * t) p))) →
+      take m (take (length p - n * t) (drop (n * t) p)) ≡ slice_index_or (blocks p t) n []
+  block_cut n m ht h e =
+      let rest = take (length p - n * t) (drop (n * t) p) in
+      ap (λ z. take z rest) e ∙ take_min t rest ∙ ap (take t) (take_rest p (n * t)) ∙ sym (block_is p t n (block_counts p t n ht h))
+
+  -- A block is the last where what is left fits it.
+  pub last_test : (n : ℕ) → 0 < t → n * t < length p → nat_le (length p - n * t) t ≡ (suc n == length (blocks p t))
+  last_test n ht h = elim (cases_lt t (length p - n * t)) [
+    | inl more ↦
+        let next : suc n < length (blocks p t) = block_counts p t (suc n) ht (omega (arith, suc-mul n t, more)) in
+        let e : nat_le (length p - n * t) t ≡ false = grind (arith, nat_tests) in
+        let f : (suc n == length (blocks p t)) ≡ false = grind (arith, nat_tests) in
+        e ∙ sym f
+    | inr fits ↦
+        let is : suc n ≡ length (blocks p t) = elim (eq-or-lt_of_le (block_counts p t n ht h)) [
+          | inl same ↦ same
+          | inr less ↦ absurd (omega (arith, block_starts p t (suc n) less, suc-mul n t, fits))
+        ] in
+        let e : nat_le (length p - n * t) t ≡ true = grind (arith, nat_tests) in
+        let f : (suc n == length (blocks p t)) ≡ true = grind (arith, nat_tests) in
+        e ∙ sym f
+  ]
+
+  -- How many blocks there are.
+  pub block_count : 0 < t → 0 < length p → (length p - 1) / t + 1 ≡ length (blocks p t)
+  block_count ht h =
+      let q = (length p - 1) / t in
+      let low : q * t ≤ length p - 1 = div-mul-le_self (length p - 1) t in
+      let high : length p - 1 < q * t + t = lt-div-mul-add {a = length p - 1} ht in
+      let some : q < length (blocks p t) = block_counts p t q ht (omega (arith, low, h)) in
+      elim (eq-or-lt_of_le some) [
+        | inl same ↦ omega (arith, same)
+        | inr less ↦ absurd (omega (arith, block_starts p t (suc q) less, suc-mul q t, high, h))
+      ]
+
+  -- Behind a block that is not the last there is another.
+  pub next_starts : (n : ℕ) → 0 < t → n * t < length p → (suc n == length (blocks p t)) ≡ false → (n + 1) * t < length p
+  next_starts n ht h e =
+      let some : suc n < length (blocks p t) = elim (eq-or-lt_of_le (block_counts p t n ht h)) [
+        | inl same ↦ let is : (suc n == length (blocks p t)) ≡ true = grind (arith, nat_tests) in absurd (let clash : true ≡ false = sym is ∙ e in cc)
+        | inr less ↦ less
+      ] in
+      omega (arith, block_starts p t (suc n) some, suc-mul n t)

@@ -1,0 +1,76 @@
+//! The action of each phase, as it is handed out.
+
+ghost use Rattle.std.specs.Prelude.{◌≡◌, ◌≤◌, ◌*◌, ◌<◌, ◌^◌, IsTrue, length};
+ghost use Rattle.dfu_host.specs.Table as table;
+ghost use Rattle.dfu_host.specs.Wire.{Spells, is_sent};
+ghost use Rattle.dfu_host.specs.View.{number_of, phase_of, task_of};
+
+use crate::action::Action;
+use crate::phase::Phase;
+use crate::task::Task;
+use dfu_wire::Request;
+
+impl<'f> Task<'f> {
+    /// The action of a phase.
+    pub(crate) fn action(&self, phase: Phase) -> Action<'f>
+        requires { number_of phase * self.now.transfer < length self.now.payload.now }
+        ensures { Spells (table.deed (task_of self.now) (phase_of phase)) result }
+    {
+        match phase {
+            Phase::Find | Phase::FindAgain | Phase::Poll(_) | Phase::Manifest | Phase::Trouble => {
+                send(Request::GetStatus { length: 6 }, &[])
+            }
+            Phase::Ask(_) | Phase::AskLast => send(Request::GetState { length: 1 }, &[]),
+            Phase::Detach => {
+                let timeout = self.detach_ms;
+                send(Request::Detach { timeout }, &[])
+            }
+            Phase::Enter => self.entering(),
+            Phase::Clear => send(Request::ClrStatus, &[]),
+            Phase::Quit => send(Request::Abort, &[]),
+            Phase::Block(number) => download(number, self.block(number)),
+            Phase::Close => download(self.count(), &[]),
+            Phase::WaitFind(poll_ms)
+            | Phase::WaitPoll(_, poll_ms)
+            | Phase::WaitManifest(poll_ms)
+            | Phase::WaitLast(poll_ms) => Action::Wait(poll_ms),
+            Phase::ResetFind | Phase::Last(_) => Action::Reset,
+            Phase::Over(report) => Action::Done(report),
+        }
+    }
+
+    /// A wait where the device detaches by itself, of 1 ms at least, else a reset.
+    fn entering(&self) -> Action<'f>
+        ensures { Spells (table.deed (task_of self.now) table.Enter) result }
+    {
+        if self.will_detach {
+            Action::Wait(self.detach_ms.max(1) as u32)
+        } else {
+            Action::Reset
+        }
+    }
+}
+
+/// DNLOAD of a block; its number wraps at 65,536.
+fn download(number: usize, body: &[u8]) -> Action<'_>
+    requires { length body.now < 2 ^ 16 }
+    ensures { Spells (table.download number body.now) result }
+{
+    let block = (number % 65_536) as u16;
+    let length = body.len() as u16;
+    send(Request::Dnload { block, length }, body)
+}
+
+/// A request with its body.
+fn send(request: Request, body: &[u8]) -> Action<'_>
+    requires { IsTrue (is_sent request) }
+    ensures { Spells (table.Send request body.now) result }
+{
+    match request.setup() {
+        Some(setup) => Action::Send {
+            setup: setup.encode(),
+            body,
+        },
+        None => unreachable!(),
+    }
+}

@@ -1,0 +1,100 @@
+//! The rows of the phases that bring a device to dfuIDLE, and the list that each new beginning
+//! goes by (states: USB DFU 1.1, appendix A).
+
+ghost use Rattle.std.specs.Prelude.{◌≡◌};
+ghost use Rattle.dfu_host.specs.Table as table;
+ghost use Rattle.dfu_host.specs.View.{heard_of, number_of, phase_of, task_of};
+
+use crate::heard::Heard;
+use crate::phase::Phase;
+use crate::task::Task;
+use dfu_wire::{State, Status};
+
+/// The list: what follows a status, by its state.
+pub(crate) fn listed(status: Status) -> Phase
+    ensures next { phase_of result ≡ table.listed (table.Block 0) status.state status.poll_ms }
+    ensures number { number_of result ≡ 0 }
+{
+    match status.state() {
+        State::AppIdle => Phase::Detach,
+        State::AppDetach => Phase::Enter,
+        State::DfuIdle => Phase::Block(0),
+        State::DownloadSync | State::DownloadBusy | State::ManifestSync | State::Manifest => {
+            Phase::WaitFind(status.poll_ms())
+        }
+        State::DownloadIdle | State::UploadIdle => Phase::Quit,
+        State::ManifestWaitReset => Phase::ResetFind,
+        State::Error => Phase::Clear,
+    }
+}
+
+impl Task<'_> {
+    /// GETSTATUS, to find out where the device stands.
+    pub(crate) fn after_find(&self, heard: Heard) -> Phase
+        ensures next { phase_of result ≡ table.row (task_of self.now) table.Find (heard_of heard) }
+        ensures number { number_of result ≡ 0 }
+    {
+        match heard {
+            Heard::Told(status) => listed(status),
+            Heard::Stalled => Phase::FindAgain,
+            _ => Phase::Find,
+        }
+    }
+
+    /// GETSTATUS once more, after a stall.
+    pub(crate) fn after_find_again(&self, heard: Heard) -> Phase
+        ensures next { phase_of result ≡ table.row (task_of self.now) table.FindAgain (heard_of heard) }
+        ensures number { number_of result ≡ 0 }
+    {
+        match heard {
+            Heard::Told(status) => listed(status),
+            Heard::Stalled => Phase::ResetFind,
+            _ => Phase::FindAgain,
+        }
+    }
+
+    /// DETACH.
+    pub(crate) fn after_detach(&self, heard: Heard) -> Phase
+        ensures next { phase_of result ≡ table.row (task_of self.now) table.Detach (heard_of heard) }
+        ensures number { number_of result ≡ 0 }
+    {
+        match heard {
+            Heard::Acked => Phase::Enter,
+            _ => Phase::Find,
+        }
+    }
+
+    /// A wait where the device detaches by itself, else a reset.
+    pub(crate) fn after_enter(&self, heard: Heard) -> Phase
+        ensures next { phase_of result ≡ table.row (task_of self.now) table.Enter (heard_of heard) }
+        ensures number { number_of result ≡ 0 }
+    {
+        match heard {
+            Heard::Waited if self.will_detach => Phase::Find,
+            Heard::WasReset if !self.will_detach => Phase::Find,
+            _ => Phase::Enter,
+        }
+    }
+
+    /// A wait for what an earlier session left running.
+    pub(crate) fn after_wait_find(&self, poll_ms: u32, heard: Heard) -> Phase
+        ensures next { phase_of result ≡ table.row (task_of self.now) (table.WaitFind poll_ms) (heard_of heard) }
+        ensures number { number_of result ≡ 0 }
+    {
+        match heard {
+            Heard::Waited => Phase::Find,
+            _ => Phase::WaitFind(poll_ms),
+        }
+    }
+
+    /// A reset, to begin anew.
+    pub(crate) fn after_reset_find(&self, heard: Heard) -> Phase
+        ensures next { phase_of result ≡ table.row (task_of self.now) table.ResetFind (heard_of heard) }
+        ensures number { number_of result ≡ 0 }
+    {
+        match heard {
+            Heard::WasReset => Phase::Find,
+            _ => Phase::ResetFind,
+        }
+    }
+}

@@ -1,0 +1,49 @@
+//! Where a session stands.
+
+use crate::report::Report;
+
+/// Where a session stands, with what it has to remember there. Blocks are counted from 0, poll
+/// times are in milliseconds.
+#[derive(Clone, Copy)]
+pub(crate) enum Phase {
+    /// Ask for the status, to find out where the device stands.
+    Find,
+    /// The same, after a stall.
+    FindAgain,
+    /// Ask the application to make way.
+    Detach,
+    /// Let the device get from its application into upgrade mode.
+    Enter,
+    /// Clear the fault of an earlier session.
+    Clear,
+    /// Leave the transfer of an earlier session.
+    Quit,
+    /// Wait for what an earlier session left running, then find.
+    WaitFind(u32),
+    /// Reset, then find.
+    ResetFind,
+    /// Send the block.
+    Block(usize),
+    /// The answer to the block was lost: ask whether it came.
+    Ask(usize),
+    /// The block came: ask whether it is written.
+    Poll(usize),
+    /// It isn't written yet: wait, then poll again.
+    WaitPoll(usize, u32),
+    /// All blocks are written: say that there are no more.
+    Close,
+    /// The answer to that was lost: ask whether it came.
+    AskLast,
+    /// Ask whether the new image is in place.
+    Manifest,
+    /// It isn't yet: wait, then ask again.
+    WaitManifest(u32),
+    /// The device won't tell: wait, then end unconfirmed.
+    WaitLast(u32),
+    /// Something was refused: ask for the reason.
+    Trouble,
+    /// The last reset, and then the report.
+    Last(Report),
+    /// The session is over.
+    Over(Report),
+}

@@ -1,0 +1,40 @@
+//! The host's table.
+
+ghost use Rattle.std.specs.Prelude.{◌≡◌, ◌*◌, ◌<◌, length};
+ghost use Rattle.dfu_host.specs.Table as table;
+ghost use Rattle.dfu_host.specs.View.{heard_of, number_of, phase_of, task_of};
+
+use crate::heard::Heard;
+use crate::phase::Phase;
+use crate::task::Task;
+
+impl Task<'_> {
+    /// The phase that follows, by the phase and what was heard in it.
+    pub(crate) fn row(&self, phase: Phase, heard: Heard) -> Phase
+        requires { number_of phase * self.now.transfer < length self.now.payload.now }
+        ensures next { phase_of result ≡ table.row (task_of self.now) (phase_of phase) (heard_of heard) }
+        ensures within { number_of result * self.now.transfer < length self.now.payload.now }
+    {
+        match phase {
+            Phase::Find => self.after_find(heard),
+            Phase::FindAgain => self.after_find_again(heard),
+            Phase::Detach => self.after_detach(heard),
+            Phase::Enter => self.after_enter(heard),
+            Phase::Clear | Phase::Quit => Phase::Find,
+            Phase::WaitFind(poll_ms) => self.after_wait_find(poll_ms, heard),
+            Phase::ResetFind => self.after_reset_find(heard),
+            Phase::Block(number) => self.after_block(number, heard),
+            Phase::Ask(number) => self.after_ask(number, heard),
+            Phase::Poll(number) => self.after_poll(number, heard),
+            Phase::WaitPoll(number, poll_ms) => self.after_wait_poll(number, poll_ms, heard),
+            Phase::Close => self.after_close(heard),
+            Phase::AskLast => self.after_ask_last(heard),
+            Phase::Manifest => self.after_manifest(heard),
+            Phase::WaitManifest(poll_ms) => self.after_wait_manifest(poll_ms, heard),
+            Phase::WaitLast(poll_ms) => self.after_wait_last(poll_ms, heard),
+            Phase::Trouble => self.after_trouble(heard),
+            Phase::Last(report) => self.after_last(report, heard),
+            Phase::Over(_) => phase,
+        }
+    }
+}

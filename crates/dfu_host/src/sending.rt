@@ -1,0 +1,107 @@
+//! The rows of the phases that send the blocks and close the transfer.
+
+ghost use Rattle.std.specs.Prelude.{◌≡◌, ◌*◌, ◌<◌, length};
+ghost use Rattle.dfu_host.specs.Table as table;
+ghost use Rattle.dfu_host.specs.View.{heard_of, number_of, phase_of, task_of};
+
+use crate::ending::troubled;
+use crate::heard::Heard;
+use crate::phase::Phase;
+use crate::task::Task;
+use dfu_wire::{State, Status};
+
+impl Task<'_> {
+    /// DNLOAD of a block.
+    pub(crate) fn after_block(&self, number: usize, heard: Heard) -> Phase
+        requires { number * self.now.transfer < length self.now.payload.now }
+        ensures next { phase_of result ≡ table.row (task_of self.now) (table.Block number) (heard_of heard) }
+        ensures within { number_of result * self.now.transfer < length self.now.payload.now }
+    {
+        match heard {
+            Heard::Acked => Phase::Poll(number),
+            Heard::Stalled => Phase::Trouble,
+            _ => Phase::Ask(number),
+        }
+    }
+
+    /// GETSTATE, to learn whether a block came whose answer was lost.
+    pub(crate) fn after_ask(&self, number: usize, heard: Heard) -> Phase
+        requires { number * self.now.transfer < length self.now.payload.now }
+        ensures next { phase_of result ≡ table.row (task_of self.now) (table.Ask number) (heard_of heard) }
+        ensures within { number_of result * self.now.transfer < length self.now.payload.now }
+    {
+        match heard {
+            Heard::StateIs(State::DownloadSync) => Phase::Poll(number),
+            Heard::StateIs(State::DfuIdle) if number == 0 => Phase::Block(number),
+            Heard::StateIs(State::DownloadIdle) if number > 0 => Phase::Block(number),
+            Heard::StateIs(_) | Heard::Stalled => Phase::Trouble,
+            _ => Phase::Ask(number),
+        }
+    }
+
+    /// GETSTATUS, to learn whether a block is written.
+    pub(crate) fn after_poll(&self, number: usize, heard: Heard) -> Phase
+        requires { number * self.now.transfer < length self.now.payload.now }
+        ensures next { phase_of result ≡ table.row (task_of self.now) (table.Poll number) (heard_of heard) }
+        ensures within { number_of result * self.now.transfer < length self.now.payload.now }
+    {
+        match heard {
+            Heard::Told(status) => self.polled(number, status),
+            Heard::Stalled => Phase::Trouble,
+            _ => Phase::Poll(number),
+        }
+    }
+
+    /// What follows a status that was asked for behind a block.
+    fn polled(&self, number: usize, status: Status) -> Phase
+        requires { number * self.now.transfer < length self.now.payload.now }
+        ensures next { phase_of result ≡ table.polled (table.Block 0) (length (table.pieces (task_of self.now))) number status.code status.poll_ms status.state }
+        ensures within { number_of result * self.now.transfer < length self.now.payload.now }
+    {
+        match status.state() {
+            State::DownloadSync | State::DownloadBusy => {
+                Phase::WaitPoll(number, status.poll_ms())
+            }
+            State::DownloadIdle if self.is_last(number) => Phase::Close,
+            State::DownloadIdle => Phase::Block(number + 1),
+            _ => troubled(status),
+        }
+    }
+
+    /// A wait until a block should be written.
+    pub(crate) fn after_wait_poll(&self, number: usize, poll_ms: u32, heard: Heard) -> Phase
+        requires { number * self.now.transfer < length self.now.payload.now }
+        ensures next { phase_of result ≡ table.row (task_of self.now) (table.WaitPoll number poll_ms) (heard_of heard) }
+        ensures within { number_of result * self.now.transfer < length self.now.payload.now }
+    {
+        match heard {
+            Heard::Waited => Phase::Poll(number),
+            _ => Phase::WaitPoll(number, poll_ms),
+        }
+    }
+
+    /// DNLOAD of no bytes, which says that there are no more blocks.
+    pub(crate) fn after_close(&self, heard: Heard) -> Phase
+        ensures next { phase_of result ≡ table.row (task_of self.now) table.Close (heard_of heard) }
+        ensures number { number_of result ≡ 0 }
+    {
+        match heard {
+            Heard::Acked => Phase::Manifest,
+            Heard::Stalled => Phase::Trouble,
+            _ => Phase::AskLast,
+        }
+    }
+
+    /// GETSTATE, to learn whether the close came whose answer was lost.
+    pub(crate) fn after_ask_last(&self, heard: Heard) -> Phase
+        ensures next { phase_of result ≡ table.row (task_of self.now) table.AskLast (heard_of heard) }
+        ensures number { number_of result ≡ 0 }
+    {
+        match heard {
+            Heard::StateIs(State::ManifestSync) => Phase::Manifest,
+            Heard::StateIs(State::DownloadIdle) => Phase::Close,
+            Heard::StateIs(_) | Heard::Stalled => Phase::Trouble,
+            _ => Phase::AskLast,
+        }
+    }
+}
