@@ -1,5 +1,5 @@
 -- Laws of the blocks of a payload.
-use Rattle.std.proofs.Common.{◌≡◌, ℕ, zero, suc, ◌+◌, ◌*◌, ◌<◌, ◌≤◌, List, [], ◌∷◌, ◌++◌, length, take, drop, slice_index_or, refl, sym, ap, ◌∙◌, subst, arith, append_assoc, append-nil, take-append-drop, length-append, length-take, length-drop, take_all, le_of_suc-le-suc}
+use Rattle.std.proofs.Common.{◌≡◌, ◌↔◌, ℕ, zero, suc, ◌+◌, ◌*◌, ◌<◌, ◌≤◌, List, [], ◌∷◌, ◌++◌, length, take, drop, slice_index_or, refl, sym, ap, ◌∙◌, subst, arith, append_assoc, append-nil, take-append-drop, length-append, length-take, length-drop, take_all, le_of_suc-le-suc}
 use Rattle.std.proofs.Math.Seq.{take-append_seam, drop-append_seam}
 use Rattle.std.proofs.Math.Nat.{suc-mul}
 use Rattle.std.proofs.lemmas.List.{drop-drop}
@@ -149,3 +149,10 @@ module _ (p : List ℕ) (t : ℕ) where
 
   pub full_block : (n : ℕ) → 0 < t → n < length (blocks p t) → 0 < length (slice_index_or (blocks p t) n [])
   full_block n ht h = omega (arith, block_size n h, length-take t (drop (n * t) p), length-drop (n * t) p, block_starts n h)
+
+-- For a size over 0, the blocks of a payload are one list, and no other.
+abbrev pub OneCut : Type 0
+OneCut = (payload : List ℕ) (t : ℕ) (pieces : List (List ℕ)) → 0 < t → Blocks payload t pieces ↔ (pieces ≡ blocks payload t)
+
+pub one_cut : OneCut
+one_cut payload t pieces ht = (blocks_only payload t pieces ht, λ e. subst (Blocks payload t) (sym e) (blocks_are payload t ht))

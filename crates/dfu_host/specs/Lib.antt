@@ -5,6 +5,7 @@ pub mod Clean
 pub mod Wire
 pub mod Host
 pub mod Download
-pub mod HostLaws
+pub mod Installing
+pub mod Budget
 pub mod WireLaws
 pub mod View

@@ -1,32 +1,31 @@
--- Laws of what is understood.
-use Rattle.std.proofs.Common.{◌≡◌, ℕ, List, [], ◌∷◌, refl, sym, ap, ◌∙◌, arith}
+-- Laws of what is understood: what a device means by its bytes is what the host hears.
+use Rattle.std.proofs.Common.{◌≡◌, ℕ, List, [], ◌∷◌, refl, ap, arith}
 use Rattle.dfu_wire.specs.declared.codes.Code.{Code}
 use Rattle.dfu_wire.specs.declared.states.State.{State}
-use Rattle.dfu_wire.specs.Code.{code_byte}
 use Rattle.dfu_wire.specs.State.{state_byte}
-use Rattle.dfu_wire.specs.Status.{IsStatus}
+use Rattle.dfu_wire.specs.Status.{StatusFields, IsStatus}
+use Rattle.dfu_wire.specs.OneStatus.{IsStatus-one}
 use Rattle.dfu_host.specs.Table.{Heard, Status, StateIs, Nothing}
 use Rattle.dfu_host.specs.Wire.{ReadsStatus, ReadsState}
 
--- Two codes of one number are one, and so are two states.
-one_code : (c d : Code) → code_byte c ≡ code_byte d → c ≡ d
-one_code c d e = grind arith
+-- Bytes that spell a status are understood as that status.
+abbrev pub StatusUnderstood : Type 0
+StatusUnderstood = (s : StatusFields) (bytes : List ℕ) (heard : Heard) → IsStatus s bytes → ReadsStatus bytes heard → heard ≡ Status s.code s.poll_ms s.state
+
+-- The one byte of a state is understood as that state.
+abbrev pub StateUnderstood : Type 0
+StateUnderstood = (state : State) (heard : Heard) → ReadsState (state_byte state ∷ []) heard → heard ≡ StateIs state
+
+pub status_understood : StatusUnderstood
+status_understood s bytes (Status code poll state) is reads =
+    ap (λ (z : StatusFields). Status z.code z.poll_ms z.state) (IsStatus-one (record { code = code; poll_ms = poll; state = state }) s bytes reads is)
+status_understood s bytes Nothing is reads = absurd (reads s is)
+status_understood s bytes heard is reads = elim reads [ ]
 
 one_state : (s t : State) → state_byte s ≡ state_byte t → s ≡ t
 one_state s t e = grind arith
 
--- The status that bytes spell is what they are understood as.
-pub reads_status : (code : Code) (poll : ℕ) (state : State) (bytes : List ℕ) (heard : Heard) → IsStatus (record { code = code; poll_ms = poll; state = state }) bytes → ReadsStatus bytes heard → heard ≡ Status code poll state
-reads_status code poll state bytes (Status c p s) is reads =
-    let same_code : c ≡ code = one_code c code (sym reads.code ∙ is.code) in
-    let same_poll : p ≡ poll = reads.poll ∙ sym is.poll in
-    let same_state : s ≡ state = one_state s state (sym reads.state ∙ is.state) in
-    λ k. Status (same_code k) (same_poll k) (same_state k)
-reads_status code poll state bytes Nothing is reads = absurd (reads (record { code = code; poll_ms = poll; state = state }) is)
-reads_status code poll state bytes heard is reads = elim reads [ ]
-
--- The state whose number is the one byte is what it is understood as.
-pub reads_state : (state : State) (heard : Heard) → ReadsState (state_byte state ∷ []) heard → heard ≡ StateIs state
-reads_state state (StateIs s) reads = let e : state_byte s ≡ state_byte state = cc in ap StateIs (one_state s state e)
-reads_state state Nothing reads = absurd (reads state refl)
-reads_state state heard reads = elim reads [ ]
+pub state_understood : StateUnderstood
+state_understood state (StateIs s) reads = let e : state_byte s ≡ state_byte state = cc in ap StateIs (one_state s state e)
+state_understood state Nothing reads = absurd (reads state refl)
+state_understood state heard reads = elim reads [ ]

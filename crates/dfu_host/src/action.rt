@@ -5,8 +5,14 @@ use crate::report::Report;
 /// What a host asks its caller to do.
 #[derive(Clone, Copy, Debug, PartialEq, Eq)]
 pub enum Action<'f> {
+    /// Send this request (USB DFU 1.1, section 3). `body` is what goes out with it: a block of
+    /// the payload with a DNLOAD, else nothing. The answer is asked for where the setup's first
+    /// byte is A1h.
     Send { setup: [u8; 8], body: &'f [u8] },
+    /// Wait for so many milliseconds, 0 to 16,777,215.
     Wait(u32),
+    /// Reset the bus.
     Reset,
+    /// Nothing: the session is over, and this is its report.
     Done(Report),
 }

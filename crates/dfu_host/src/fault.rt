@@ -2,17 +2,23 @@
 
 use thiserror::Error;
 
-/// Why a session does not begin.
+/// Why a session does not begin. A call answers the first that holds, in this order.
 #[derive(Clone, Copy, Debug, PartialEq, Eq, Error)]
 pub enum HostFault {
+    /// The file's payload has no bytes. Of downloads alone.
     #[error("the payload is empty")]
     EmptyPayload,
+    /// The file's vendor is neither FFFFh nor the device's, or its product is neither FFFFh nor
+    /// the device's. The release of the device isn't compared. Of downloads alone.
     #[error("the file is for another device")]
     WrongTarget,
+    /// The descriptor has bitCanDnload 0. Of downloads alone.
     #[error("the device takes no downloads")]
     CannotDownload,
+    /// The descriptor has bitCanUpload 0. Of uploads alone.
     #[error("the device gives no uploads")]
     CannotUpload,
+    /// The descriptor's transfer size is 0.
     #[error("the device's transfer size is 0")]
     BadDescriptor,
 }

@@ -1,6 +1,6 @@
 //! The host machine.
 
-ghost use Rattle.std.specs.Prelude.{◌≡◌, ◌↔◌, IfOk, Err, Some};
+ghost use Rattle.std.specs.Prelude.{◌≡◌, ◌≤◌, ◌-◌, ◌↔◌, IsTrue, IfOk, Err, Some};
 
 use crate::action::Action;
 use crate::fault::HostFault;
@@ -15,7 +15,11 @@ use dfu_suffix::{File, Ids};
 use dfu_wire::Functional;
 use std::marker::Model;
 
-/// A host in a session: a machine that does nothing itself.
+/// A host in a session (USB DFU 1.1, appendix A, seen from the host's side).
+///
+/// It does nothing itself and takes no memory: its caller does what `next` asks for, and tells
+/// `take` what came of it, until `next` answers `Done`. Contracts see it as a `HostState`: the
+/// task, the phase, and the actions and restarts that are left.
 #[derive(Drop)]
 pub struct Host<'f> {
     task: Task<'f>,
@@ -36,10 +40,19 @@ impl<'f> Model for Host<'f> {
 
 impl<'f> Host<'f> {
     ghost use Rattle.dfu_host.specs.Host.{Act, HostRow, IsOver};
+    ghost use Rattle.dfu_host.specs.Budget.{is_done, takes_left};
     ghost use Rattle.dfu_host.specs.Download.{first_fault, started};
     ghost use Rattle.dfu_host.specs.declared.fault.HostFault.{HostFault};
 
-    /// A host that is to install a file.
+    /// A host that is to install a file on the device with this descriptor and these
+    /// identifiers. It borrows the file's payload, and takes a transfer size of 1 to 65,535.
+    ///
+    /// The faults, in the order in which they are looked for:
+    ///
+    /// 1. `EmptyPayload`: the payload has no bytes.
+    /// 2. `WrongTarget`: the file's vendor or product is neither FFFFh nor the device's.
+    /// 3. `CannotDownload`: the descriptor has bitCanDnload 0.
+    /// 4. `BadDescriptor`: the descriptor's transfer size is 0.
     pub fn download(
         file: &File<'f>,
         functional: &Functional,
@@ -78,16 +91,20 @@ impl<'f> Host<'f> {
         })
     }
 
-    /// What the host wants done next.
+    /// What the host wants done next. It changes nothing, so it may be asked again.
     pub fn next(&self) -> Action<'f>
-        ensures { Act self.now result }
+        ensures act { Act self.now result }
+        ensures done { IsTrue (is_done result) ↔ (takes_left self.now ≡ 0) }
     {
         self.task.action(self.progress.phase)
     }
 
-    /// Tells the host what came of its action.
+    /// Tells the host what came of its action. Whatever it is told, it is done after at most
+    /// `actions` calls, or after one where the limits have 0; then nothing changes any more.
     pub fn take(&mut self, seen: Seen<'_>)
         ensures row { HostRow self.old seen.entry self.new }
+        ensures budget { takes_left self.new ≤ takes_left self.old - 1 }
+        ensures over { IsOver self.old.phase → self.new ≡ self.old }
     {
         let heard = understood(self.progress.phase, seen);
         self.progress = self.progress.after(&self.task, heard);

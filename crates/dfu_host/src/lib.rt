@@ -1,4 +1,8 @@
-//! The host.
+//! The host of USB device firmware upgrade (USB DFU 1.1): a machine that says which request, wait
+//! or reset comes next, and what a session's end was.
+//!
+//! It sends nothing itself. No call takes memory, and only the call that begins a session can
+//! refuse.
 #![tactic(auto)]
 
 mod action;
@@ -8,6 +12,7 @@ mod fault;
 mod finding;
 mod heard;
 mod host;
+mod laws;
 mod limits;
 mod phase;
 mod progress;
@@ -21,6 +26,10 @@ mod task;
 pub use action::Action;
 pub use fault::HostFault;
 pub use host::Host;
+pub use laws::{done_in_time, installed_once_confirmed, one_cut, understood_as_meant};
 pub use limits::Limits;
 pub use report::Report;
 pub use seen::Seen;
+
+#[cfg(test)]
+mod tests;

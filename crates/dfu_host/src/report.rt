@@ -3,15 +3,30 @@
 use dfu_wire::Code;
 
 /// How a session ended.
+///
+/// Only [`Report::Installed`] says that the payload of this session is in place. All others
+/// leave open which image the device has.
 #[derive(Clone, Copy, Debug, PartialEq, Eq)]
 pub enum Report {
+    /// A tolerant device took the whole payload, told after it that it stands in dfuIDLE with
+    /// OK, and was reset.
     Installed,
+    /// A device that isn't tolerant took the whole payload and was reset. It can't tell whether
+    /// the image is in place.
     Unconfirmed,
+    /// The caller gave the session up.
     Aborted,
+    /// The budget of actions is spent.
     GaveUp,
+    /// After a stall, or in the midst of the download, the device stood in dfuERROR with this
+    /// code, which is neither OK nor errSTALLEDPKT.
     Refused(Code),
+    /// The device was restarted more often than the limits allow.
     RestartsSpent,
+    /// The whole image was fetched. Of uploads alone.
     Uploaded,
+    /// The image has more blocks than block numbers can tell apart. Of uploads alone.
     TooManyBlocks,
+    /// There was no memory for a part of the image. Of uploads alone.
     NoMemory,
 }

@@ -1,13 +1,21 @@
 //! What a host is told.
 
-/// What came of an action.
+/// What came of an action. What doesn't fit the action is taken as [`Seen::Nothing`].
 #[derive(Clone, Copy, Debug, PartialEq, Eq)]
 pub enum Seen<'s> {
+    /// A request that has no answer of bytes was acknowledged.
     Ack,
+    /// A request was answered with these bytes, of any length.
     Bytes(&'s [u8]),
+    /// A request was stalled.
     Stall,
+    /// A request, or its answer, was lost.
     Nothing,
+    /// The wait is over.
     Waited,
+    /// The bus was reset.
     WasReset,
+    /// The device was restarted, or somebody else reset it. The host is told so before any later
+    /// answer.
     Restarted,
 }

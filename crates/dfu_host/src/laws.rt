@@ -1,0 +1,31 @@
+//! Laws of the definitions: each function has an empty body, and its contract is the law.
+
+ghost use Rattle.dfu_host.specs.BlockLaws.{OneCut};
+ghost use Rattle.dfu_host.specs.Budget.{DoneInTime, StaysDone};
+ghost use Rattle.dfu_host.specs.Installing.{OnlyConfirmed};
+ghost use Rattle.dfu_host.specs.WireLaws.{StateUnderstood, StatusUnderstood};
+
+/// A payload is cut into blocks in one way: the pieces that joined give it, each of the transfer
+/// size but the last, which has 1 byte or more.
+pub fn one_cut()
+    ensures { OneCut }
+{}
+
+/// Whatever is seen, a host is done after as many calls of `take` as it has actions, and after
+/// one where it has none; and then nothing changes any more.
+pub fn done_in_time()
+    ensures ends { DoneInTime }
+    ensures stays { StaysDone }
+{}
+
+/// The bytes of a status or of a state are understood as what the device means by them.
+pub fn understood_as_meant()
+    ensures status { StatusUnderstood }
+    ensures state { StateUnderstood }
+{}
+
+/// No row of the table leads to Installed but the one where a tolerant device tells, after the
+/// close, that it stands in dfuIDLE with OK.
+pub fn installed_once_confirmed()
+    ensures { OnlyConfirmed }
+{}
