@@ -1,13 +1,11 @@
 -- The budget of actions: a host is done in time, and stays done.
-use Rattle.std.proofs.Common.{◌≡◌, ◌≢◌, ◌⊎◌, ◌↔◌, ℕ, zero, suc, pred, ◌≤◌, max, Bool, true, false, if◌then◌else◌, IsTrue, List, [], ◌∷◌, length, refl, sym, ap, ◌∙◌, subst, arith, inl, inr}
-use Rattle.dfu_host.specs.declared.report.Report.{Report}
-use Rattle.dfu_host.specs.declared.report.Report.TheVariants as report
+use Rattle.std.proofs.Common.{◌≡◌, ◌↔◌, ℕ, zero, suc, pred, ◌≤◌, max, Bool, true, false, if◌then◌else◌, IsTrue, List, [], ◌∷◌, length, refl, sym, ◌∙◌, subst, arith}
 use Rattle.dfu_host.specs.declared.action.Action.{Action}
 use Rattle.dfu_host.specs.declared.action.Action.TheVariants as action
 use Rattle.dfu_host.specs.declared.seen.Seen.{Seen}
 use Rattle.dfu_host.specs.Table.{Task, Phase, Enter, Over, OverUploaded, GiveUp, Find, Deed, Send, Wait, Reset, Done, deed, Heard, Restarted, row}
 use Rattle.dfu_host.specs.Wire.{Spells}
-use Rattle.dfu_host.specs.Host.{HostState, IsOver, budgeted, spent, restarted, told, after_phase, after, Act, HostRow, HostRows, seen_all, sees}
+use Rattle.dfu_host.specs.Host.{HostState, IsOver, budgeted, restarted, told, after_phase, Act, HostRow, HostRows, seen_all, sees}
 
 -- How often a host takes what is seen, at most, until it is done: as often as it has actions left, and once at least.
 abbrev pub takes_in : Phase → (actions : ℕ) → ℕ

@@ -1,5 +1,5 @@
 -- What of the host's table goes over the wire: its actions as setups, and what is seen as what is understood.
-use Rattle.std.specs.Prelude.{◌≡◌, ◌≢◌, ◌⊎◌, ℕ, Bool, true, false, List, [], ◌∷◌}
+use Rattle.std.specs.Prelude.{◌≡◌, ◌≢◌, ◌⊎◌, ℕ, List, [], ◌∷◌}
 use Rattle.dfu_wire.specs.declared.setups.Setup.{Setup}
 use Rattle.dfu_wire.specs.declared.states.State.{State}
 use Rattle.dfu_wire.specs.declared.requests.Request.{Request}
@@ -20,12 +20,6 @@ pub record IsAsked (q : Request) (bytes : List ℕ) : Type 0 where
   pub fields : IsSetup setup bytes
   pub asks : Asks setup q
   pub plain : IsPlain setup q
-
--- A request of the seven that a host sends.
-abbrev pub is_sent : Request → Bool
-is_sent request.OtherClass = false
-is_sent request.NotDfu = false
-is_sent q = true
 
 -- An action as it is handed out: a request is the bytes of its setup, with its body.
 abbrev pub Spells : Deed → Action → Type 0

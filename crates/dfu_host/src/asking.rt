@@ -1,8 +1,9 @@
 //! The action of each phase, as it is handed out.
 
-ghost use Rattle.std.specs.Prelude.{◌≡◌, ◌≤◌, ◌*◌, ◌<◌, ◌^◌, IsTrue, length};
+ghost use Rattle.std.specs.Prelude.{◌≡◌, ◌≤◌, ◌*◌, ◌<◌, ◌^◌, length};
+ghost use Rattle.dfu_wire.specs.Request.{IsUnnamed};
 ghost use Rattle.dfu_host.specs.Table as table;
-ghost use Rattle.dfu_host.specs.Wire.{Spells, is_sent};
+ghost use Rattle.dfu_host.specs.Wire.{Spells};
 ghost use Rattle.dfu_host.specs.View.{number_of, phase_of, task_of};
 
 use crate::action::Action;
@@ -61,9 +62,9 @@ fn download(number: usize, body: &[u8]) -> Action<'_>
     send(Request::Dnload { block, length }, body)
 }
 
-/// A request with its body.
+/// One of the seven requests, with its body.
 fn send(request: Request, body: &[u8]) -> Action<'_>
-    requires { IsTrue (is_sent request) }
+    requires { IsUnnamed request → ⊥ }
     ensures { Spells (table.Send request body.now) result }
 {
     match request.setup() {

@@ -1,80 +1,23 @@
 //! Sessions played by hand, from the tables of the standard and of this project's profile.
 
+mod dialogue;
 mod files;
+mod phases;
 mod played;
 
 use crate::{
     Action, Host, HostFault, Limits, Report, Seen, done_in_time, installed_once_confirmed, one_cut,
     understood_as_meant,
 };
-use dfu_suffix::{Ids, read};
+use dfu_suffix::read;
 use dfu_wire::{Code, Functional};
+use dialogue::{
+    AMPLE, APP_IDLE, BLOCK, BUSY, CLOSE, DETACH, DEVICE, DFU_IDLE, GET_STATUS, MANIFEST, SILENT,
+    TOLERANT, WRITTEN,
+};
 use files::{ALL_ONES, EMPTY, FOR_ZERO, NINE, zeros};
 use played::{play, told};
 use std::test::Fail;
-
-const DEVICE: Ids = Ids {
-    device: 0x0100,
-    product: 0x0001,
-    vendor: 0x1209,
-};
-
-const TOLERANT: Functional = Functional {
-    can_download: true,
-    can_upload: true,
-    tolerant: true,
-    will_detach: false,
-    detach_ms: 255,
-    transfer: 8,
-    version: 0x0110,
-};
-
-const SILENT: Functional = Functional {
-    can_download: true,
-    can_upload: true,
-    tolerant: false,
-    will_detach: true,
-    detach_ms: 255,
-    transfer: 8,
-    version: 0x0110,
-};
-
-const AMPLE: Limits = Limits {
-    actions: 1_000_000,
-    restarts: 0,
-};
-
-const GET_STATUS: Action<'static> = Action::Send {
-    setup: [0xa1, 3, 0, 0, 0, 0, 6, 0],
-    body: &[],
-};
-
-const GET_STATE: Action<'static> = Action::Send {
-    setup: [0xa1, 5, 0, 0, 0, 0, 1, 0],
-    body: &[],
-};
-
-const DETACH: Action<'static> = Action::Send {
-    setup: [0x21, 0, 0xff, 0, 0, 0, 0, 0],
-    body: &[],
-};
-
-const BLOCK: Action<'static> = Action::Send {
-    setup: [0x21, 1, 0, 0, 0, 0, 4, 0],
-    body: &[0xff, 0xff, 0xff, 0xff],
-};
-
-const CLOSE: Action<'static> = Action::Send {
-    setup: [0x21, 1, 1, 0, 0, 0, 0, 0],
-    body: &[],
-};
-
-const APP_IDLE: Seen<'static> = Seen::Bytes(&[0, 0, 0, 0, 0, 0]);
-const DFU_IDLE: Seen<'static> = Seen::Bytes(&[0, 0, 0, 0, 2, 0]);
-const BUSY: Seen<'static> = Seen::Bytes(&[0, 5, 0, 0, 4, 0]);
-const WRITTEN: Seen<'static> = Seen::Bytes(&[0, 0, 0, 0, 5, 0]);
-const MANIFEST: Seen<'static> = Seen::Bytes(&[0, 10, 0, 0, 7, 0]);
-const OLD_ERROR: Seen<'static> = Seen::Bytes(&[15, 0, 0, 0, 10, 0]);
 
 #[test]
 fn clean_download_takes_thirteen_actions(rt: HostRuntime) -> Result<(), Fail> {
@@ -147,7 +90,10 @@ fn refusals_come_in_their_order(rt: HostRuntime) -> Result<(), Fail> {
         (read(&ALL_ONES)?, TOLERANT, None),
     ];
     for (file, functional, fault) in &refused {
-        assert_eq!(rt; Host::download(file, functional, DEVICE, AMPLE).err(), *fault);
+        assert_eq!(rt;
+            Host::download(file, functional, DEVICE, AMPLE).err(),
+            *fault
+        );
     }
     Ok(())
 }
@@ -229,55 +175,6 @@ fn refusal_of_a_block_is_reported_with_its_code(rt: HostRuntime) -> Result<(), F
     assert_eq!(rt; host.next(), GET_STATUS);
     host.take(Seen::Bytes(&[8, 0, 0, 0, 10, 0]));
     assert_eq!(rt; host.next(), Action::Done(Report::Refused(Code::Address)));
-    Ok(())
-}
-
-#[test]
-fn every_phase_takes_everything_seen(rt: HostRuntime) -> Result<(), Fail> {
-    let wait = Action::Wait(5);
-    let late = Action::Wait(10);
-    let reset = Action::Reset;
-    let done = Action::Done(Report::Installed);
-    // How a phase is reached, and what is wanted after Ack, Stall, Nothing, Waited and WasReset.
-    let phases: [(&[Seen<'_>], [Action<'_>; 5]); 19] = [
-        (&[], [GET_STATUS; 5]),
-        (&[Seen::Stall], [GET_STATUS, reset, GET_STATUS, GET_STATUS, GET_STATUS]),
-        (&[APP_IDLE], [reset, GET_STATUS, GET_STATUS, GET_STATUS, GET_STATUS]),
-        (&[APP_IDLE, Seen::Ack], [reset, reset, reset, reset, GET_STATUS]),
-        (&[OLD_ERROR], [GET_STATUS; 5]),
-        (&[WRITTEN], [GET_STATUS; 5]),
-        (&[BUSY], [wait, wait, wait, GET_STATUS, wait]),
-        (&[Seen::Stall, Seen::Stall], [reset, reset, reset, reset, GET_STATUS]),
-        (&[DFU_IDLE], [GET_STATUS, GET_STATUS, GET_STATE, GET_STATE, GET_STATE]),
-        (&[DFU_IDLE, Seen::Nothing], [GET_STATE, GET_STATUS, GET_STATE, GET_STATE, GET_STATE]),
-        (&[DFU_IDLE, Seen::Ack], [GET_STATUS; 5]),
-        (&[DFU_IDLE, Seen::Ack, BUSY], [wait, wait, wait, GET_STATUS, wait]),
-        (&[DFU_IDLE, Seen::Ack, WRITTEN], [GET_STATUS, GET_STATUS, GET_STATE, GET_STATE, GET_STATE]),
-        (&[DFU_IDLE, Seen::Ack, WRITTEN, Seen::Nothing], [GET_STATE, GET_STATUS, GET_STATE, GET_STATE, GET_STATE]),
-        (&[DFU_IDLE, Seen::Ack, WRITTEN, Seen::Ack], [GET_STATUS; 5]),
-        (&[DFU_IDLE, Seen::Ack, WRITTEN, Seen::Ack, MANIFEST], [late, late, late, GET_STATUS, late]),
-        (&[DFU_IDLE, Seen::Stall], [GET_STATUS; 5]),
-        (&[DFU_IDLE, Seen::Ack, WRITTEN, Seen::Ack, DFU_IDLE], [reset, reset, reset, reset, done]),
-        (&[DFU_IDLE, Seen::Ack, WRITTEN, Seen::Ack, DFU_IDLE, Seen::WasReset], [done; 5]),
-    ];
-    let words = [Seen::Ack, Seen::Stall, Seen::Nothing, Seen::Waited, Seen::WasReset];
-    let bytes = [0xff; 4097];
-    let file = read(&ALL_ONES)?;
-    for (path, wanted) in &phases {
-        for place in 0..5 {
-            let mut host = Host::download(&file, &TOLERANT, DEVICE, AMPLE)?;
-            told(&mut host, path);
-            host.take(words[place]);
-            assert_eq!(rt; host.next(), wanted[place]);
-        }
-        // Bytes that are no status and no state are as nothing.
-        for len in [0, 1, 2, 3, 4, 5, 6, 7, 4097] {
-            let mut host = Host::download(&file, &TOLERANT, DEVICE, AMPLE)?;
-            told(&mut host, path);
-            host.take(Seen::Bytes(&bytes[..len]));
-            assert_eq!(rt; host.next(), wanted[2]);
-        }
-    }
     Ok(())
 }
 
