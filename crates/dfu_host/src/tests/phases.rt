@@ -1,109 +1,102 @@
 //! Each phase of a download, with everything that can be seen in it.
 
 use super::dialogue::{
-    AMPLE, APP_IDLE, BUSY, DEVICE, DFU_IDLE, GET_STATE, GET_STATUS, MANIFEST, OLD_ERROR, TOLERANT,
-    WRITTEN,
+    AMPLE, APP_IDLE, BUSY, DEVICE, DFU_IDLE, GET_STATE as STATE, GET_STATUS as STATUS, MANIFEST,
+    OLD_ERROR, SILENT, TOLERANT, WRITTEN,
 };
 use super::files::ALL_ONES;
 use super::played::told;
+use crate::Seen::{Ack, Nothing, Stall, Waited, WasReset};
 use crate::{Action, Host, Report, Seen};
 use dfu_suffix::read;
+use dfu_wire::Functional;
+use std::process::Abort;
 use std::test::Fail;
+
+const WAIT: Action<'static> = Action::Wait(5);
+
+const LATE: Action<'static> = Action::Wait(10);
+
+const LONG: Action<'static> = Action::Wait(255);
+
+const RESET: Action<'static> = Action::Reset;
+
+const DONE: Action<'static> = Action::Done(Report::Installed);
+
+/// What is seen on the way to a phase, and what is wanted after an Ack, a Stall, Nothing, Waited
+/// and WasReset in it.
+type Row = (&'static [Seen<'static>], [Action<'static>; 5]);
+
+/// Find, FindAgain, Detach, Enter, Clear, Quit, WaitFind and ResetFind.
+#[rattlefmt::skip]
+const FINDING: [Row; 8] = [
+    (&[], [STATUS, STATUS, STATUS, STATUS, STATUS]),
+    (&[Stall], [STATUS, RESET, STATUS, STATUS, STATUS]),
+    (&[APP_IDLE], [RESET, STATUS, STATUS, STATUS, STATUS]),
+    (&[APP_IDLE, Ack], [RESET, RESET, RESET, RESET, STATUS]),
+    (&[OLD_ERROR], [STATUS, STATUS, STATUS, STATUS, STATUS]),
+    (&[WRITTEN], [STATUS, STATUS, STATUS, STATUS, STATUS]),
+    (&[BUSY], [WAIT, WAIT, WAIT, STATUS, WAIT]),
+    (&[Stall, Stall], [RESET, RESET, RESET, RESET, STATUS]),
+];
+
+/// Block, Ask, Poll, WaitPoll, Close, AskLast and Trouble.
+#[rattlefmt::skip]
+const SENDING: [Row; 7] = [
+    (&[DFU_IDLE], [STATUS, STATUS, STATE, STATE, STATE]),
+    (&[DFU_IDLE, Nothing], [STATE, STATUS, STATE, STATE, STATE]),
+    (&[DFU_IDLE, Ack], [STATUS, STATUS, STATUS, STATUS, STATUS]),
+    (&[DFU_IDLE, Ack, BUSY], [WAIT, WAIT, WAIT, STATUS, WAIT]),
+    (&[DFU_IDLE, Ack, WRITTEN], [STATUS, STATUS, STATE, STATE, STATE]),
+    (&[DFU_IDLE, Ack, WRITTEN, Nothing], [STATE, STATUS, STATE, STATE, STATE]),
+    (&[DFU_IDLE, Stall], [STATUS, STATUS, STATUS, STATUS, STATUS]),
+];
+
+/// Manifest, WaitManifest, Last and Over.
+#[rattlefmt::skip]
+const ENDING: [Row; 4] = [
+    (&[DFU_IDLE, Ack, WRITTEN, Ack], [STATUS, STATUS, STATUS, STATUS, STATUS]),
+    (&[DFU_IDLE, Ack, WRITTEN, Ack, MANIFEST], [LATE, LATE, LATE, STATUS, LATE]),
+    (&[DFU_IDLE, Ack, WRITTEN, Ack, DFU_IDLE], [RESET, RESET, RESET, RESET, DONE]),
+    (&[DFU_IDLE, Ack, WRITTEN, Ack, DFU_IDLE, WasReset], [DONE, DONE, DONE, DONE, DONE]),
+];
+
+/// Enter and WaitLast, with a device that detaches by itself and isn't tolerant.
+#[rattlefmt::skip]
+const SILENTLY: [Row; 2] = [
+    (&[APP_IDLE, Ack], [LONG, LONG, LONG, STATUS, LONG]),
+    (&[DFU_IDLE, Ack, WRITTEN, Ack, MANIFEST], [LATE, LATE, LATE, RESET, LATE]),
+];
+
+/// Each of the five in a phase, and then bytes that are no status and no state, which are as
+/// nothing.
+fn try_row(rt: &impl Abort, device: &Functional, row: &Row) -> Result<(), Fail> {
+    let (path, wanted) = row;
+    let file = read(&ALL_ONES)?;
+    let words = [Ack, Stall, Nothing, Waited, WasReset];
+    for place in 0..5 {
+        let mut host = Host::download(&file, device, DEVICE, AMPLE)?;
+        told(&mut host, path);
+        host.take(words[place]);
+        assert_eq!(rt; host.next(), wanted[place]);
+    }
+    let bytes = [0xff; 4097];
+    for len in [0, 1, 2, 3, 4, 5, 6, 7, 4097] {
+        let mut host = Host::download(&file, device, DEVICE, AMPLE)?;
+        told(&mut host, path);
+        host.take(Seen::Bytes(&bytes[..len]));
+        assert_eq!(rt; host.next(), wanted[2]);
+    }
+    Ok(())
+}
 
 #[test]
 fn every_phase_takes_everything_seen(rt: HostRuntime) -> Result<(), Fail> {
-    let wait = Action::Wait(5);
-    let late = Action::Wait(10);
-    let reset = Action::Reset;
-    let done = Action::Done(Report::Installed);
-    // How a phase is reached, and what is wanted after Ack, Stall, Nothing, Waited and WasReset.
-    let phases: [(&[Seen<'_>], [Action<'_>; 5]); 19] = [
-        (&[], [GET_STATUS; 5]),
-        (
-            &[Seen::Stall],
-            [GET_STATUS, reset, GET_STATUS, GET_STATUS, GET_STATUS],
-        ),
-        (
-            &[APP_IDLE],
-            [reset, GET_STATUS, GET_STATUS, GET_STATUS, GET_STATUS],
-        ),
-        (
-            &[APP_IDLE, Seen::Ack],
-            [reset, reset, reset, reset, GET_STATUS],
-        ),
-        (&[OLD_ERROR], [GET_STATUS; 5]),
-        (&[WRITTEN], [GET_STATUS; 5]),
-        (&[BUSY], [wait, wait, wait, GET_STATUS, wait]),
-        (
-            &[Seen::Stall, Seen::Stall],
-            [reset, reset, reset, reset, GET_STATUS],
-        ),
-        (
-            &[DFU_IDLE],
-            [GET_STATUS, GET_STATUS, GET_STATE, GET_STATE, GET_STATE],
-        ),
-        (
-            &[DFU_IDLE, Seen::Nothing],
-            [GET_STATE, GET_STATUS, GET_STATE, GET_STATE, GET_STATE],
-        ),
-        (&[DFU_IDLE, Seen::Ack], [GET_STATUS; 5]),
-        (
-            &[DFU_IDLE, Seen::Ack, BUSY],
-            [wait, wait, wait, GET_STATUS, wait],
-        ),
-        (
-            &[DFU_IDLE, Seen::Ack, WRITTEN],
-            [GET_STATUS, GET_STATUS, GET_STATE, GET_STATE, GET_STATE],
-        ),
-        (
-            &[DFU_IDLE, Seen::Ack, WRITTEN, Seen::Nothing],
-            [GET_STATE, GET_STATUS, GET_STATE, GET_STATE, GET_STATE],
-        ),
-        (&[DFU_IDLE, Seen::Ack, WRITTEN, Seen::Ack], [GET_STATUS; 5]),
-        (
-            &[DFU_IDLE, Seen::Ack, WRITTEN, Seen::Ack, MANIFEST],
-            [late, late, late, GET_STATUS, late],
-        ),
-        (&[DFU_IDLE, Seen::Stall], [GET_STATUS; 5]),
-        (
-            &[DFU_IDLE, Seen::Ack, WRITTEN, Seen::Ack, DFU_IDLE],
-            [reset, reset, reset, reset, done],
-        ),
-        (
-            &[
-                DFU_IDLE,
-                Seen::Ack,
-                WRITTEN,
-                Seen::Ack,
-                DFU_IDLE,
-                Seen::WasReset,
-            ],
-            [done; 5],
-        ),
-    ];
-    let words = [
-        Seen::Ack,
-        Seen::Stall,
-        Seen::Nothing,
-        Seen::Waited,
-        Seen::WasReset,
-    ];
-    let bytes = [0xff; 4097];
-    let file = read(&ALL_ONES)?;
-    for (path, wanted) in &phases {
-        for place in 0..5 {
-            let mut host = Host::download(&file, &TOLERANT, DEVICE, AMPLE)?;
-            told(&mut host, path);
-            host.take(words[place]);
-            assert_eq!(rt; host.next(), wanted[place]);
-        }
-        // Bytes that are no status and no state are as nothing.
-        for len in [0, 1, 2, 3, 4, 5, 6, 7, 4097] {
-            let mut host = Host::download(&file, &TOLERANT, DEVICE, AMPLE)?;
-            told(&mut host, path);
-            host.take(Seen::Bytes(&bytes[..len]));
-            assert_eq!(rt; host.next(), wanted[2]);
-        }
+    for row in FINDING.iter().chain(&SENDING).chain(&ENDING) {
+        try_row(&rt, &TOLERANT, row)?;
+    }
+    for row in &SILENTLY {
+        try_row(&rt, &SILENT, row)?;
     }
     Ok(())
 }
