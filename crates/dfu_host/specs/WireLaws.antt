@@ -1,11 +1,15 @@
 -- Laws of what is understood: what a device means by its bytes is what the host hears.
-use Rattle.std.proofs.Common.{◌≡◌, ℕ, List, [], ◌∷◌, refl, ap, arith}
+use Rattle.std.proofs.Common.{◌≡◌, ℕ, List, [], ◌∷◌, refl, sym, ap, ◌∙◌, subst, arith}
+use Rattle.dfu_wire.specs.declared.requests.Request.{Request}
+use Rattle.dfu_wire.specs.declared.requests.Request.TheVariants as request
 use Rattle.dfu_wire.specs.declared.states.State.{State}
 use Rattle.dfu_wire.specs.State.{state_byte}
 use Rattle.dfu_wire.specs.Status.{StatusFields, IsStatus}
 use Rattle.dfu_wire.specs.OneStatus.{IsStatus-one}
-use Rattle.dfu_host.specs.Table.{Heard, Status, StateIs, Nothing}
-use Rattle.dfu_host.specs.Wire.{ReadsStatus, ReadsState}
+use Rattle.dfu_host.specs.declared.seen.Seen.{Seen}
+use Rattle.dfu_host.specs.declared.seen.Seen.TheVariants as seen
+use Rattle.dfu_host.specs.Table.{Deed, Send, Heard, Status, StateIs, Nothing}
+use Rattle.dfu_host.specs.Wire.{ReadsStatus, ReadsState, Reads, HearsBytes, Hears}
 
 -- Bytes that spell a status are understood as that status.
 abbrev pub StatusUnderstood : Type 0
@@ -28,3 +32,49 @@ pub state_understood : StateUnderstood
 state_understood state (StateIs s) reads = let e : state_byte s ≡ state_byte state = cc in ap StateIs (one_state s state e)
 state_understood state Nothing reads = absurd (reads state refl)
 state_understood state heard reads = elim reads [ ]
+
+-- A request whose answer is understood in one way: of a part of an upload, memory decides.
+abbrev pub IsReadOnce : Request → Type 0
+IsReadOnce (request.Upload block len) = ⊥
+IsReadOnce q = Unit {0}
+
+abbrev pub IsHeardOnce : Deed → Type 0
+IsHeardOnce (Send q body) = IsReadOnce q
+IsHeardOnce deed = Unit {0}
+
+-- What is seen of an action is understood in one way, but for a part of an upload.
+abbrev pub OneMeaning : Type 0
+OneMeaning = (d : Deed) (what : Seen) (x y : Heard) → IsHeardOnce d → Hears d what x → Hears d what y → x ≡ y
+
+status_once : (bytes : List ℕ) (x y : Heard) → ReadsStatus bytes x → ReadsStatus bytes y → x ≡ y
+status_once bytes (Status code poll state) y a b = sym (status_understood (record { code = code; poll_ms = poll; state = state }) bytes y a b)
+status_once bytes Nothing (Status code poll state) a b = absurd (a (record { code = code; poll_ms = poll; state = state }) b)
+status_once bytes Nothing Nothing a b = refl
+status_once bytes Nothing y a b = elim b [ ]
+status_once bytes x y a b = elim a [ ]
+
+state_once : (bytes : List ℕ) (x y : Heard) → ReadsState bytes x → ReadsState bytes y → x ≡ y
+state_once bytes (StateIs s) y a b = sym (state_understood s y (subst (λ (l : List ℕ). ReadsState l y) a b))
+state_once bytes Nothing (StateIs s) a b = absurd (a s b)
+state_once bytes Nothing Nothing a b = refl
+state_once bytes Nothing y a b = elim b [ ]
+state_once bytes x y a b = elim a [ ]
+
+reads_once : (q : Request) (bytes : List ℕ) (x y : Heard) → IsReadOnce q → Reads q bytes x → Reads q bytes y → x ≡ y
+reads_once (request.GetStatus len) bytes x y o a b = status_once bytes x y a b
+reads_once (request.GetState len) bytes x y o a b = state_once bytes x y a b
+reads_once (request.Upload block len) bytes x y o a b = absurd o
+reads_once q bytes x y o a b = a ∙ sym b
+
+bytes_once : (d : Deed) (bytes : List ℕ) (x y : Heard) → IsHeardOnce d → HearsBytes d bytes x → HearsBytes d bytes y → x ≡ y
+bytes_once (Send q body) bytes x y o a b = reads_once q bytes x y o a b
+bytes_once d bytes x y o a b = a ∙ sym b
+
+pub one_meaning : OneMeaning
+one_meaning d (seen.Bytes bytes) x y o a b = bytes_once d bytes.now x y o a b
+one_meaning d seen.Ack x y o a b = a ∙ sym b
+one_meaning d seen.Stall x y o a b = a ∙ sym b
+one_meaning d seen.Nothing x y o a b = a ∙ sym b
+one_meaning d seen.Waited x y o a b = a ∙ sym b
+one_meaning d seen.WasReset x y o a b = a ∙ sym b
+one_meaning d seen.Restarted x y o a b = a ∙ sym b

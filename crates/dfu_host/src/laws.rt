@@ -3,7 +3,7 @@
 ghost use Rattle.dfu_host.specs.BlockLaws.{OneCut};
 ghost use Rattle.dfu_host.specs.Budget.{DoneInTime, StaysDone};
 ghost use Rattle.dfu_host.specs.Installing.{OnlyConfirmed};
-ghost use Rattle.dfu_host.specs.WireLaws.{StateUnderstood, StatusUnderstood};
+ghost use Rattle.dfu_host.specs.WireLaws.{OneMeaning, StateUnderstood, StatusUnderstood};
 
 /// A payload is cut into blocks in one way: the pieces that joined give it, each of the transfer
 /// size but the last, which has 1 byte or more.
@@ -18,10 +18,12 @@ pub fn done_in_time()
     ensures stays { StaysDone }
 {}
 
-/// The bytes of a status or of a state are understood as what the device means by them.
+/// The bytes of a status or of a state are understood as what the device means by them, and what
+/// is seen is understood in one way, but for a part of an upload, where memory decides.
 pub fn understood_as_meant()
     ensures status { StatusUnderstood }
     ensures state { StateUnderstood }
+    ensures one { OneMeaning }
 {}
 
 /// No row of the table leads to Installed but the one where a tolerant device tells, after the
