@@ -68,8 +68,8 @@ const SILENTLY: [Row; 2] = [
     (&[DFU_IDLE, Ack, WRITTEN, Ack, MANIFEST], [LATE, LATE, LATE, RESET, LATE]),
 ];
 
-/// Each of the five in a phase, and then bytes that are no status and no state, which are as
-/// nothing.
+/// Each of the five in a phase, then a restart, of which none is allowed, and then bytes that are
+/// no status and no state, which are as nothing.
 fn try_row(rt: &impl Abort, device: &Functional, row: &Row) -> Result<(), Fail> {
     let (path, wanted) = row;
     let file = read(&ALL_ONES)?;
@@ -80,6 +80,14 @@ fn try_row(rt: &impl Abort, device: &Functional, row: &Row) -> Result<(), Fail> 
         host.take(words[place]);
         assert_eq!(rt; host.next(), wanted[place]);
     }
+    let mut host = Host::download(&file, device, DEVICE, AMPLE)?;
+    told(&mut host, path);
+    let spent = match host.next() {
+        Action::Done(report) => report,
+        _ => Report::RestartsSpent,
+    };
+    host.take(Seen::Restarted);
+    assert_eq!(rt; host.next(), Action::Done(spent));
     let bytes = [0xff; 4097];
     for len in [0, 1, 2, 3, 4, 5, 6, 7, 4097] {
         let mut host = Host::download(&file, device, DEVICE, AMPLE)?;
