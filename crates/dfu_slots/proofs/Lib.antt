@@ -1,0 +1,17 @@
+mod Answered
+mod Begun
+mod Commit
+mod Formatted
+mod Kept
+mod Newest
+mod Opening
+mod Parts
+mod Pieces
+mod Put
+mod Refused
+mod Seeing
+mod Series
+mod Simulated
+mod Torn
+mod Unique
+mod Within

@@ -1,0 +1,43 @@
+-- What the calls answer and leave.
+use Rattle.std.specs.Prelude.{◌≡◌, ℕ, List, Result, Ok, Err}
+use Rattle.dfu_slots.specs.Medium.{MediumState, Write, AllWrites, BrokenWrites}
+use Rattle.dfu_slots.specs.Layout.{slot_size, ArePlaces, HasHeader}
+use Rattle.dfu_slots.specs.Image.{slot_of, IsSized, Counts, IsNewest}
+use Rattle.dfu_slots.specs.Seen.{SlotsState}
+use Rattle.dfu_slots.specs.declared.fault.OpenFault.{OpenFault}
+use Rattle.dfu_slots.specs.declared.fault.OpenFault.TheVariants.{WrongSize, NoImage, TwoImages, BadHeader}
+use Rattle.dfu_slots.specs.declared.fault.PutFault.{PutFault}
+use Rattle.dfu_slots.specs.declared.fault.PutFault.TheVariants.{TooLarge, Failed, NotBegun}
+
+-- Ok: these writes, all of them. Failed: those up to one that failed. Another fault: no write.
+abbrev pub Changes : {T : Type 0} → SlotsState → List Write → Result T PutFault → SlotsState → Type 0
+Changes old writes (Ok _) now = AllWrites old.medium writes now.medium
+Changes old writes (Err Failed) now = BrokenWrites old.medium writes now.medium
+Changes old writes (Err TooLarge) now = now ≡ old
+Changes old writes (Err NotBegun) now = now ≡ old
+
+-- one of the two slots counts, and the other one does not or is one generation behind
+pub record HasNewest (m : MediumState) : Type 0 where
+  pub at : ℕ
+  pub other : ℕ
+  pub places : ArePlaces m.bytes at other
+  pub newest : IsNewest (slot_of m at) (slot_of m other)
+
+-- one of the two slots is the newest, and has no well-formed header
+pub record HasBadHeader (m : MediumState) : Type 0 where
+  pub newest : HasNewest m
+  pub none : (len : ℕ) → ¬ HasHeader (slot_of m newest.at) len
+
+-- the first slot and the second slot of a medium count, each or not
+abbrev pub FirstCounts : MediumState → Type 0
+FirstCounts m = Counts (slot_of m 0)
+
+abbrev pub SecondCounts : MediumState → Type 0
+SecondCounts m = Counts (slot_of m (slot_size m.bytes))
+
+-- this is the first thing that is wrong with a medium
+abbrev pub IsOpenFault : OpenFault → MediumState → Type 0
+IsOpenFault WrongSize m = ¬ IsSized m
+IsOpenFault NoImage m = IsSized m × (¬ FirstCounts m) × (¬ SecondCounts m)
+IsOpenFault TwoImages m = IsSized m × FirstCounts m × SecondCounts m × (¬ HasNewest m)
+IsOpenFault BadHeader m = IsSized m × HasBadHeader m

@@ -1,0 +1,78 @@
+-- Which image of a medium is the active one.
+use Rattle.std.specs.Prelude.{◌≡◌, ◌⊎◌, ◌&&◌, ◌||◌, not, ℕ, Bool, List, length, take, if◌then◌else◌, ◌==◌}
+use Rattle.dfu_slots.specs.Medium.{MediumState}
+use Rattle.dfu_slots.specs.Layout.{Slot, slot, slot_size, HasTwoSlots, capacity, ArePlaces, OPEN, IsOpen, generation, next_generation, HasHeader}
+
+-- a slot counts where its gate is open
+abbrev pub Counts : Slot → Type 0
+Counts s = IsOpen s
+
+-- a slot counts, and the other one does not, or is one generation behind
+pub record IsNewest (mine other : Slot) : Type 0 where
+  pub counts : Counts mine
+  pub newer : ¬ Counts other ⊎ generation mine ≡ next_generation (generation other)
+
+-- the first of two slots is the active one, and has this image
+pub record IsActive (mine other : Slot) (image : List ℕ) : Type 0 where
+  pub newest : IsNewest mine other
+  pub header_is : HasHeader mine (length image)
+  pub image_is : image ≡ take (length image) mine.data_bytes
+
+-- the slot at one of the two places is the active one, and has this image
+pub record ActiveAt (g : ℕ) (bytes : List ℕ) (at spare : ℕ) (image : List ℕ) : Type 0 where
+  pub sized : HasTwoSlots g bytes
+  pub places : ArePlaces bytes at spare
+  pub is_active : IsActive (slot g bytes at) (slot g bytes spare) image
+
+-- how many bytes the gate unit and the header unit of a medium have each
+abbrev pub gate_of : MediumState → ℕ
+gate_of m = 16
+
+-- the slot of a medium that begins at this place
+abbrev pub slot_of : MediumState → ℕ → Slot
+slot_of m at = slot (gate_of m) m.bytes at
+
+-- how many bytes of data each slot of a medium has
+abbrev pub capacity_of : MediumState → ℕ
+capacity_of m = capacity (gate_of m) m.bytes
+
+-- the medium has a length that two slots can have
+abbrev pub IsSized : MediumState → Type 0
+IsSized m = HasTwoSlots (gate_of m) m.bytes
+
+-- this is the active image of the medium
+pub record Active (m : MediumState) (image : List ℕ) : Type 0 where
+  pub at : ℕ
+  pub spare : ℕ
+  pub stands : ActiveAt (gate_of m) m.bytes at spare image
+
+-- the medium has an active image
+pub record HasImage (m : MediumState) : Type 0 where
+  pub image : List ℕ
+  pub active : Active m image
+
+-- The same as tests, which find the places of the two slots.
+
+-- whether a slot counts
+abbrev pub counts : Slot → Bool
+counts s = s.gate == OPEN
+
+-- whether a slot counts, and the other one does not or is one generation behind
+abbrev pub is_newest : Slot → Slot → Bool
+is_newest mine other = counts mine && (not (counts other) || (generation mine == next_generation (generation other)))
+
+-- whether the first slot is the active one
+abbrev pub first_is_active : ℕ → List ℕ → Bool
+first_is_active g bytes = is_newest (slot g bytes 0) (slot g bytes (slot_size bytes))
+
+-- where the active slot stands
+abbrev pub active_at : ℕ → List ℕ → ℕ
+active_at g bytes = if first_is_active g bytes then 0 else slot_size bytes
+
+-- where the spare slot stands
+abbrev pub spare_at : ℕ → List ℕ → ℕ
+spare_at g bytes = if first_is_active g bytes then slot_size bytes else 0
+
+-- what stands in the spare slot
+abbrev pub spare : ℕ → List ℕ → Slot
+spare g bytes = slot g bytes (spare_at g bytes)

@@ -1,0 +1,9 @@
+pub mod Medium
+pub mod Layout
+pub mod Image
+pub mod Writes
+pub mod Seen
+pub mod Changes
+pub mod Sim
+pub mod Unarmed
+pub mod Determined

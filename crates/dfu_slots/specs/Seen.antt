@@ -1,0 +1,105 @@
+-- What the layers above see of a slot store.
+use Rattle.std.specs.Prelude.{refl, ◌≡◌, ◌⊎◌, ℕ, ◌^◌, ◌≤◌, Bool, true, false, not, ◌==◌, ◌&&◌, nat_le, List, [], ◌∷◌, length, take, drop}
+use Rattle.std.specs.Int.{w32, from_le_bytes}
+use Rattle.dfu_slots.specs.Medium.{MediumState, Fuse, Write, Rose, AllWrites, BrokenWrites}
+use Rattle.dfu_slots.specs.Layout.{Slot, slot, OPEN, capacity}
+use Rattle.dfu_slots.specs.Image.{gate_of, active_at, spare}
+use Rattle.dfu_slots.specs.Writes.{begin_writes, put_writes, commit_writes, format_writes}
+
+-- A slot store: the medium that it stands on.
+pub record SlotsState : Type 0 where
+  pub medium : MediumState
+
+-- the store on this medium
+abbrev pub store_on : MediumState → SlotsState
+store_on m = record { medium = m }
+
+-- the store over the same bytes, with another fuse
+abbrev pub fused : SlotsState → Fuse → SlotsState
+fused s fuse = store_on (record s.medium { fuse = fuse })
+
+-- the length that stands in a slot's header
+abbrev pub header_length : Slot → ℕ
+header_length s = from_le_bytes w32 (take 4 (drop 4 s.header))
+
+-- what stands in the active slot
+abbrev pub active_slot : SlotsState → Slot
+active_slot s = slot (gate_of s.medium) s.medium.bytes (active_at (gate_of s.medium) s.medium.bytes)
+
+-- what stands in the spare slot
+abbrev pub spare_slot : SlotsState → Slot
+spare_slot s = spare (gate_of s.medium) s.medium.bytes
+
+-- the active image
+unfoldable pub image_of : SlotsState → List ℕ
+image_of s = take (header_length (active_slot s)) (active_slot s).data_bytes
+
+-- the data of the spare slot
+unfoldable pub spare_of : SlotsState → List ℕ
+spare_of s = (spare_slot s).data_bytes
+
+-- whether the spare's gate is closed, so that `put` and `commit` may write
+unfoldable pub is_begun : SlotsState → Bool
+is_begun s = not ((spare_slot s).gate == OPEN)
+
+-- how many bytes an image may have
+unfoldable pub room_of : SlotsState → ℕ
+room_of s = capacity (gate_of s.medium) s.medium.bytes
+
+-- whether the spare's data fills the room, of at most 2^24 bytes, and the image fits in it
+abbrev pub is_shaped : SlotsState → Bool
+is_shaped s = (length (spare_of s) == room_of s) && (nat_le (room_of s) (2 ^ 24) && nat_le (length (image_of s)) (room_of s))
+
+-- A call that changes the store.
+pub data Call : Type 0 where
+  Begin : Call
+  Put : (at : ℕ) (bytes : List ℕ) → Call
+  Commit : (len : ℕ) → Call
+
+-- the writes of a call, in their order
+abbrev pub writes_of : SlotsState → Call → List Write
+writes_of s Begin = begin_writes (gate_of s.medium) s.medium.bytes
+writes_of s (Put at bytes) = put_writes (gate_of s.medium) s.medium.bytes at bytes
+writes_of s (Commit len) = commit_writes (gate_of s.medium) s.medium.bytes len
+
+-- the writes of a `format` of this medium with this image, in their order
+abbrev pub format_series : MediumState → List ℕ → List Write
+format_series m image = format_writes (gate_of m) m.bytes image
+
+-- a call made all its writes, or those up to one that failed
+abbrev pub Calls : SlotsState → Call → Bool → SlotsState → Type 0
+Calls old call true now = AllWrites old.medium (writes_of old call) now.medium
+Calls old call false now = BrokenWrites old.medium (writes_of old call) now.medium
+
+-- a call answered Ok or Failed, and the count of failures rose where it failed
+pub record DidCall (s : SlotsState) (call : Call) (ok : Bool) (now : SlotsState) : Type 0 where
+  pub calls : Calls s call ok now
+  pub count : s.medium.failures ≤ now.medium.failures
+  pub rose : ok ≡ false → Rose s.medium.failures now.medium.failures
+
+-- these calls came one after the other: all of them Ok, or those up to one that failed
+abbrev pub Called : SlotsState → List Call → Bool → SlotsState → Type 0
+Called old [] true now = now ≡ old
+Called old [] false now = ⊥
+Called old (call ∷ calls) true now = (mid : SlotsState) × Calls old call true mid × Called mid calls true now
+Called old (call ∷ calls) false now = Calls old call false now ⊎ ((mid : SlotsState) × Calls old call true mid × Called mid calls false now)
+
+-- the image does not change with the fuse
+pub image_fused : (s : SlotsState) (fuse : Fuse) → image_of (fused s fuse) ≡ image_of s
+unfolding image_of
+image_fused s fuse = refl
+
+-- nor does the spare's data
+pub spare_fused : (s : SlotsState) (fuse : Fuse) → spare_of (fused s fuse) ≡ spare_of s
+unfolding spare_of
+spare_fused s fuse = refl
+
+-- nor whether the spare's gate is closed
+pub begun_fused : (s : SlotsState) (fuse : Fuse) → is_begun (fused s fuse) ≡ is_begun s
+unfolding is_begun
+begun_fused s fuse = refl
+
+-- nor the room
+pub room_fused : (s : SlotsState) (fuse : Fuse) → room_of (fused s fuse) ≡ room_of s
+unfolding room_of
+room_fused s fuse = refl

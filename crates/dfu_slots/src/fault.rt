@@ -1,0 +1,62 @@
+//! Why a call of the store was refused.
+use crate::Failed;
+use thiserror::Error;
+
+/// Why `format` gave the medium back. It looks for them in this order.
+#[derive(Clone, Copy, Debug, PartialEq, Eq, Drop, Error)]
+pub enum FormatFault {
+    /// The medium's length is not 2 * (32 + C) with C from 1 to 16,777,216. Nothing was written.
+    #[error("the medium has no length that two slots can have")]
+    WrongSize,
+    /// The image has more bytes than the data of a slot. Nothing was written.
+    #[error("the image is longer than a slot's data")]
+    TooLarge,
+    /// A write to the medium failed. The medium may have an active image or none.
+    #[error("a write to the medium failed")]
+    Failed,
+}
+
+/// Why `open` gave the medium back, unchanged. It looks for them in this order.
+#[derive(Clone, Copy, Debug, PartialEq, Eq, Drop, Error)]
+pub enum OpenFault {
+    /// The medium's length is not 2 * (32 + C) with C from 1 to 16,777,216.
+    #[error("the medium has no length that two slots can have")]
+    WrongSize,
+    /// Neither slot's gate is open.
+    #[error("no slot of the medium has an image")]
+    NoImage,
+    /// Both gates are open, and neither generation is the other's plus 1 modulo 256.
+    #[error("two slots of the medium have an image, and neither follows the other")]
+    TwoImages,
+    /// The active slot's header has a version other than 1, a byte other than 0 where zero is due,
+    /// or a length over C.
+    #[error("the header of the active slot is not well formed")]
+    BadHeader,
+}
+
+/// Why `begin`, `put` or `commit` did not do what was asked.
+#[derive(Clone, Copy, Debug, PartialEq, Eq, Drop, Error)]
+pub enum PutFault {
+    /// What was to be put or committed ends past the capacity, and the spare's gate is closed.
+    /// Nothing was written. `begin` never answers it.
+    #[error("the image is longer than a slot's data")]
+    TooLarge,
+    /// A write to the medium failed. The active image is as it was, or after `commit` the new one.
+    #[error("a write to the medium failed")]
+    Failed,
+    /// The spare's gate reads open, so it may hold the image before this one: `begin` comes first.
+    /// Nothing was written. It is looked for before `TooLarge`, and `begin` never answers it.
+    #[error("the spare slot was not begun")]
+    NotBegun,
+}
+
+impl From<Failed> for PutFault {
+    ghost use Rattle.std.specs.Prelude.{◌≡◌};
+    ghost use Rattle.dfu_slots.specs.declared.fault.PutFault.TheVariants.{Failed as FailedChange};
+
+    ghost from_gives = { λ _ e. e ≡ FailedChange };
+
+    fn from(_: Failed) -> PutFault {
+        PutFault::Failed
+    }
+}

@@ -1,0 +1,50 @@
+//! A medium of bytes whose writes may fail.
+ghost use Rattle.std.specs.Prelude.{◌≡◌, ◌+◌, ◌≤◌, length, take, slice_range, OnOk, OnErr};
+ghost use Rattle.dfu_slots.specs.Medium.{MediumState, Fuse, Wrote, FailedWrite};
+ghost use Rattle.dfu_slots.specs.Medium.Fuse.{Armed, Whole};
+
+use thiserror::Error;
+
+/// A write failed: its range may hold any bytes now, and all other bytes are as they were.
+#[derive(Clone, Copy, Debug, PartialEq, Eq, Drop, Error)]
+#[error("a write to the medium failed")]
+pub struct Failed;
+
+/// Bytes that can be read and written, as a flash part or a file.
+pub trait Medium: Drop {
+    /// The bytes now, how often a write has failed, and what is known of the next writes.
+    ghost state: { Self → MediumState };
+
+    /// How many bytes it has, always the same.
+    fn len(&self) -> u32
+        ensures { result ≡ length (state self.now).bytes };
+
+    /// Reads the bytes from `at` on. The range must lie within the length.
+    fn read(&self, at: u32, out: &mut [u8])
+        requires { at + length out.old ≤ length (state self.now).bytes }
+        ensures { out.new ≡ slice_range (state self.now).bytes at (at + length out.old) };
+
+    /// Writes over the bytes from `at` on. The range must lie within the length.
+    ///
+    /// After Ok exactly `bytes` stand there. After `Failed` any bytes may stand there, and the count
+    /// of failures rose (at its last value, 2^64 - 1, it stays). All other bytes are as they were.
+    fn write(&mut self, at: u32, bytes: &[u8]) -> Result<(), Failed>
+        requires { at + length bytes.now ≤ length (state self.old).bytes }
+        ensures ok { OnOk result (Wrote (state self.old) at bytes.now (state self.new)) }
+        ensures failed { OnErr result (FailedWrite (state self.old) at bytes.now (state self.new)) };
+}
+
+/// A medium that can be told which write is to fail, and what that write leaves.
+pub trait Faulty: Medium {
+    /// The next `writes` writes work; the one after them fails and leaves the first bytes of `tear`
+    /// at the front of its range, and the old bytes in the rest of it. Of `tear` at most 4,096 bytes are kept.
+    ///
+    /// With `stop` all later writes fail too and leave nothing, until `disarm`; without it they work.
+    /// It replaces an earlier `arm`, and changes no byte.
+    fn arm(&mut self, writes: u32, tear: &[u8], stop: bool)
+        ensures { Self.state self.new ≡ record (Self.state self.old) { fuse = Armed writes (take 4096 tear.now) stop } };
+
+    /// From now on no write fails. It changes no byte.
+    fn disarm(&mut self)
+        ensures { Self.state self.new ≡ record (Self.state self.old) { fuse = Whole } };
+}

@@ -1,0 +1,107 @@
+//! What is read of a medium to tell which slot is active. Nothing of it is kept between calls.
+ghost use Rattle.std.specs.Prelude.{◌≡◌, ℕ, ◌+◌, ◌*◌, ◌≤◌, ◌<◌, length, slice_index, slice_range, ◌==◌, IfSome, IfNone};
+ghost use Rattle.dfu_slots.specs.Layout.{OPEN, slot_size, generation, HasHeader};
+ghost use Rattle.dfu_slots.specs.Image.{gate_of, IsSized, slot_of, capacity_of, counts, is_newest, active_at, spare_at};
+
+use crate::Medium;
+use crate::layout::{DATA_AT, OPEN_GATE, UNIT_SIZE, make_header_unit};
+
+/// Where the active slot stands, and where the spare one does.
+#[derive(Clone, Copy, Drop)]
+pub struct Places {
+    pub active: u32,
+    pub spare: u32,
+}
+
+fn byte_at<M: Medium>(medium: &M, at: u32) -> u8
+    requires { at < length (M.state medium.now).bytes }
+    ensures { result ≡ slice_index (M.state medium.now).bytes at }
+{
+    let mut byte = [0];
+    medium.read(at, &mut byte);
+    byte[0]
+}
+
+/// Whether the gate of the slot that begins there is open.
+pub fn is_open<M: Medium>(medium: &M, at: u32) -> bool
+    requires { at < length (M.state medium.now).bytes }
+    ensures { result ≡ ((slot_of (M.state medium.now) at).gate == OPEN) }
+{
+    byte_at(medium, at) == OPEN_GATE
+}
+
+/// Whether the slot that begins there counts.
+pub fn counts<M: Medium>(medium: &M, at: u32) -> bool
+    requires { at < length (M.state medium.now).bytes }
+    ensures { result ≡ counts (slot_of (M.state medium.now) at) }
+{
+    is_open(medium, at)
+}
+
+/// The generation in the header of the slot that begins there.
+pub fn generation<M: Medium>(medium: &M, at: u32) -> u8
+    requires sized { IsSized (M.state medium.now) }
+    requires within { at + 16 < length (M.state medium.now).bytes }
+    ensures { result ≡ generation (slot_of (M.state medium.now) at) }
+{
+    byte_at(medium, at + UNIT_SIZE)
+}
+
+/// Whether the first of two slots counts, and the other one does not or is one generation behind.
+pub fn is_newest<M: Medium>(medium: &M, mine: u32, other: u32) -> bool
+    requires sized { IsSized (M.state medium.now) }
+    requires mine { mine + 16 < length (M.state medium.now).bytes }
+    requires other { other + 16 < length (M.state medium.now).bytes }
+    ensures { result ≡ is_newest (slot_of (M.state medium.now) mine) (slot_of (M.state medium.now) other) }
+{
+    counts(medium, mine)
+        && (!counts(medium, other)
+            || generation(medium, mine) == generation(medium, other).wrapping_add(1))
+}
+
+/// Where the two slots stand.
+pub fn find_places<M: Medium>(medium: &M) -> Places
+    requires { IsSized (M.state medium.now) }
+    ensures active { result.active ≡ active_at (gate_of (M.state medium.now)) (M.state medium.now).bytes }
+    ensures spare { result.spare ≡ spare_at (gate_of (M.state medium.now)) (M.state medium.now).bytes }
+{
+    let second = medium.len() / 2;
+    if is_newest(medium, 0, second) {
+        Places {
+            active: 0,
+            spare: second,
+        }
+    } else {
+        Places {
+            active: second,
+            spare: 0,
+        }
+    }
+}
+
+/// The length in the header of the slot that begins there, if that is a well-formed header of an image that fits.
+pub fn header_len<M: Medium>(medium: &M, at: u32) -> Option<u32>
+    requires sized { IsSized (M.state medium.now) }
+    requires within { at + slot_size (M.state medium.now).bytes ≤ length (M.state medium.now).bytes }
+    ensures some { IfSome result (λ len. HasHeader (slot_of (M.state medium.now) at) len) }
+    ensures none { IfNone result ((len : ℕ) → ¬ HasHeader (slot_of (M.state medium.now) at) len) }
+{
+    let mut header = [0; 16];
+    medium.read(at + UNIT_SIZE, &mut header);
+    let len = u32::from_le_bytes([header[4], header[5], header[6], header[7]]);
+    if header == make_header_unit(header[0], len) && len <= medium.len() / 2 - DATA_AT {
+        Some(len)
+    } else {
+        None
+    }
+}
+
+/// Reads from the data of the slot that begins there.
+pub fn read_data<M: Medium>(medium: &M, slot_at: u32, at: u32, out: &mut [u8])
+    requires sized { IsSized (M.state medium.now) }
+    requires slot { slot_at + slot_size (M.state medium.now).bytes ≤ length (M.state medium.now).bytes }
+    requires within { at + length out.old ≤ capacity_of (M.state medium.now) }
+    ensures { out.new ≡ slice_range (slot_of (M.state medium.now) slot_at).data_bytes at (at + length out.old) }
+{
+    medium.read(slot_at + DATA_AT + at, out);
+}
