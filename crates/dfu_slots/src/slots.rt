@@ -77,10 +77,10 @@ impl<M: Medium> Slots<M> {
         ensures fault { IfErr result (λ e. IsOpenFault e.0 (M.state medium)) }
         ensures refused { OnErr result (¬ HasImage (M.state medium)) }
     {
-        match open::check(&medium) {
-            Ok(()) => Ok(Slots { medium }),
-            Err(fault) => Err((fault, medium)),
+        if let Err(fault) = open::check(&medium) {
+            return Err((fault, medium));
         }
+        Ok(Slots { medium })
     }
 
     /// How many bytes an image may have: C, from 1 to 16,777,216.
