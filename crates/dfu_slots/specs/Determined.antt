@@ -1,33 +1,41 @@
--- On a medium whose fuse is known, the writes fix the bytes and the fuse.
+-- On a medium whose fuse is known, the bytes and the fuse fix what a list of writes leaves.
 use Rattle.std.specs.Prelude.{◌≡◌, ℕ, ◌+◌, Bool, true, false, List, [], ◌∷◌}
 use Rattle.std.proofs.Common.{inl, inr, sym, ap, ◌∙◌, subst, arith}
 use Rattle.dfu_slots.specs.Medium.{MediumState, Fuse, Works, Breaks, written, Write, Wrote, FailedWrite, AllWrites, BrokenWrites}
 use Rattle.dfu_slots.specs.Medium.Fuse.{Unknown, Whole, Armed, Stopped}
+use Rattle.dfu_slots.specs.Writes.{begin_writes, put_writes, commit_writes}
+use Rattle.dfu_slots.specs.Seen.{SlotsState, Call, Begin, Put, Commit, writes_of, Called}
 
+-- a fuse says what the next writes will do
 abbrev pub IsKnown : Fuse → Type 0
 IsKnown Unknown = ⊥
 IsKnown fuse = Unit {0}
 
--- the same bytes and the same fuse
+-- two media have the same bytes and the same fuse
 pub record Same (a b : MediumState) : Type 0 where
   pub bytes : a.bytes ≡ b.bytes
   pub fuse : a.fuse ≡ b.fuse
 
+-- One write.
+
 armed_more : {more less : ℕ} (tear : List ℕ) (stop : Bool) → more + 1 ≡ less + 1 → Armed more tear stop ≡ Armed less tear stop
 armed_more tear stop e = ap (λ n. Armed n tear stop) (omega (arith, e))
 
+-- the fuse after a write that works is one
 works_one : (f g h : Fuse) → Works f g → Works f h → g ≡ h
 works_one Unknown g h a b = a ∙ sym b
 works_one Whole g h a b = a ∙ sym b
 works_one (Armed n tear stop) g h (m, e, a) (k, f, b) = a ∙ armed_more tear stop (sym e ∙ f) ∙ sym b
 works_one Stopped g h a b = absurd a
 
+-- and it is known
 works_known : (f g : Fuse) → IsKnown f → Works f g → IsKnown g
 works_known Unknown g k a = absurd k
 works_known Whole g k a = subst IsKnown (sym a) tt
 works_known (Armed n tear stop) g k (m, e, a) = subst IsKnown (sym a) tt
 works_known Stopped g k a = absurd a
 
+-- what a write that fails leaves is one, and so is the fuse after it
 breaks_one : (f : Fuse) (old : List ℕ) (at : ℕ) (new l r : List ℕ) (g h : Fuse) → IsKnown f → Breaks f old at new l g → Breaks f old at new r h → (l ≡ r) × (g ≡ h)
 breaks_one Unknown old at new l r g h k a b = absurd k
 breaks_one Whole old at new l r g h k a b = absurd a
@@ -35,7 +43,7 @@ breaks_one (Armed n tear true) old at new l r g h k a b = (a.1 ∙ sym b.1, a.2 
 breaks_one (Armed n tear false) old at new l r g h k a b = (a.1 ∙ sym b.1, a.2 ∙ sym b.2)
 breaks_one Stopped old at new l r g h k a b = (a.0 ∙ sym b.0, a.1 ∙ sym b.1)
 
--- a write works or breaks, never both
+-- a write works or fails, and never both
 not_both : (f g h : Fuse) (old : List ℕ) (at : ℕ) (new l : List ℕ) → IsKnown f → Works f g → Breaks f old at new l h → ⊥
 not_both Unknown g h old at new l k a b = k
 not_both Whole g h old at new l k a b = b
@@ -47,19 +55,20 @@ module _ (w : Write) (s t x y : MediumState) (same : Same s t) where
   known_on : IsKnown s.fuse → IsKnown t.fuse
   known_on k = subst IsKnown same.fuse k
 
-  pub wrote_same : Wrote s w.at w.bytes x → Wrote t w.at w.bytes y → Same x y
+  wrote_same : Wrote s w.at w.bytes x → Wrote t w.at w.bytes y → Same x y
   wrote_same a b = record {
     bytes = a.bytes ∙ ap (λ (l : List ℕ). written l w.at w.bytes) same.bytes ∙ sym b.bytes;
     fuse = works_one t.fuse x.fuse y.fuse (subst (λ (f : Fuse). Works f x.fuse) same.fuse a.fuse) b.fuse;
   }
 
-  pub failed_same : IsKnown s.fuse → FailedWrite s w.at w.bytes x → FailedWrite t w.at w.bytes y → Same x y
+  failed_same : IsKnown s.fuse → FailedWrite s w.at w.bytes x → FailedWrite t w.at w.bytes y → Same x y
   failed_same k a b =
-      let moved : Breaks t.fuse t.bytes w.at w.bytes x.bytes x.fuse = subst (λ (f : Fuse). Breaks f t.bytes w.at w.bytes x.bytes x.fuse) same.fuse (subst (λ (l : List ℕ). Breaks s.fuse l w.at w.bytes x.bytes x.fuse) same.bytes a.fuse) in
+      let moved : Breaks t.fuse t.bytes w.at w.bytes x.bytes x.fuse =
+      subst (λ (f : Fuse). Breaks f t.bytes w.at w.bytes x.bytes x.fuse) same.fuse (subst (λ (l : List ℕ). Breaks s.fuse l w.at w.bytes x.bytes x.fuse) same.bytes a.fuse) in
       let both = breaks_one t.fuse t.bytes w.at w.bytes x.bytes y.bytes x.fuse y.fuse (known_on k) moved b.fuse in
       record { bytes = both.0; fuse = both.1 }
 
-  pub one_way : IsKnown s.fuse → Wrote s w.at w.bytes x → FailedWrite t w.at w.bytes y → ⊥
+  one_way : IsKnown s.fuse → Wrote s w.at w.bytes x → FailedWrite t w.at w.bytes y → ⊥
   one_way k a b = not_both t.fuse x.fuse y.fuse t.bytes w.at w.bytes y.bytes (known_on k) (subst (λ (f : Fuse). Works f x.fuse) same.fuse a.fuse) b.fuse
 
 known_next : (w : Write) (s x : MediumState) → IsKnown s.fuse → Wrote s w.at w.bytes x → IsKnown x.fuse
@@ -68,18 +77,69 @@ known_next w s x k a = works_known s.fuse x.fuse k a.fuse
 flip : (s t : MediumState) → Same s t → Same t s
 flip s t same = record { bytes = sym same.bytes; fuse = sym same.fuse }
 
+-- Lists of writes.
+
+-- the fuse stays known
+pub all_known : (ws : List Write) (s x : MediumState) → IsKnown s.fuse → AllWrites s ws x → IsKnown x.fuse
+all_known [] s x k same = subst IsKnown (sym (ap (λ (m : MediumState). m.fuse) same)) k
+all_known (w ∷ ws) s x k (p, a, more) = all_known ws p x (known_next w s p k a) more
+
+-- the same writes from the same bytes and fuse, all Ok, leave the same bytes and fuse
 pub all_same_end : (ws : List Write) (s t x y : MediumState) → Same s t → AllWrites s ws x → AllWrites t ws y → Same x y
-all_same_end [] s t x y same a b = record { bytes = ap (λ (m : MediumState). m.bytes) a ∙ same.bytes ∙ sym (ap (λ (m : MediumState). m.bytes) b); fuse = ap (λ (m : MediumState). m.fuse) a ∙ same.fuse ∙ sym (ap (λ (m : MediumState). m.fuse) b) }
+all_same_end [] s t x y same a b = record {
+  bytes = ap (λ (m : MediumState). m.bytes) a ∙ same.bytes ∙ sym (ap (λ (m : MediumState). m.bytes) b);
+  fuse = ap (λ (m : MediumState). m.fuse) a ∙ same.fuse ∙ sym (ap (λ (m : MediumState). m.fuse) b);
+}
 all_same_end (w ∷ ws) s t x y same (p, a, more) (q, b, rest) = all_same_end ws p q x y (wrote_same w s t p q same a b) more rest
 
+-- they are not all Ok here and broken off there
 pub never_both : (ws : List Write) (s t x y : MediumState) → Same s t → IsKnown s.fuse → AllWrites s ws x → BrokenWrites t ws y → ⊥
 never_both [] s t x y same k a b = b
 never_both (w ∷ ws) s t x y same k (p, a, more) (inl failed) = one_way w s t p y same k a failed
 never_both (w ∷ ws) s t x y same k (p, a, more) (inr (q, b, rest)) = never_both ws p q x y (wrote_same w s t p q same a b) (known_next w s p k a) more rest
 
+-- broken off, they leave the same bytes and fuse too
 pub broken_same_end : (ws : List Write) (s t x y : MediumState) → Same s t → IsKnown s.fuse → BrokenWrites s ws x → BrokenWrites t ws y → Same x y
 broken_same_end [] s t x y same k a b = absurd a
 broken_same_end (w ∷ ws) s t x y same k (inl a) (inl b) = failed_same w s t x y same k a b
 broken_same_end (w ∷ ws) s t x y same k (inl a) (inr (q, b, rest)) = absurd (one_way w t s q x (flip s t same) (subst IsKnown same.fuse k) b a)
 broken_same_end (w ∷ ws) s t x y same k (inr (p, a, more)) (inl b) = absurd (one_way w s t p y same k a b)
 broken_same_end (w ∷ ws) s t x y same k (inr (p, a, more)) (inr (q, b, rest)) = broken_same_end ws p q x y (wrote_same w s t p q same a b) (known_next w s p k a) more rest
+
+-- Lists of calls.
+
+-- the same bytes have the same writes
+writes_same : (s t : SlotsState) (call : Call) → Same s.medium t.medium → writes_of s call ≡ writes_of t call
+writes_same s t Begin same = ap (λ (l : List ℕ). begin_writes 16 l) same.bytes
+writes_same s t (Put at bytes) same = ap (λ (l : List ℕ). put_writes 16 l at bytes) same.bytes
+writes_same s t (Commit len) same = ap (λ (l : List ℕ). commit_writes 16 l len) same.bytes
+
+module _ (s t x y : SlotsState) (call : Call) (same : Same s.medium t.medium) where
+  call_all : AllWrites t.medium (writes_of t call) y.medium → AllWrites t.medium (writes_of s call) y.medium
+  call_all b = subst (λ (ws : List Write). AllWrites t.medium ws y.medium) (sym (writes_same s t call same)) b
+
+  call_broken : BrokenWrites t.medium (writes_of t call) y.medium → BrokenWrites t.medium (writes_of s call) y.medium
+  call_broken b = subst (λ (ws : List Write). BrokenWrites t.medium ws y.medium) (sym (writes_same s t call same)) b
+
+-- the same calls from the same bytes and fuse, with the same outcome, leave the same bytes and fuse
+pub called_same_end : (calls : List Call) (ok : Bool) (s t x y : SlotsState) → Same s.medium t.medium → IsKnown s.medium.fuse → Called s calls ok x → Called t calls ok y → Same x.medium y.medium
+called_same_end [] true s t x y same k a b = record {
+  bytes = ap (λ (m : SlotsState). m.medium.bytes) a ∙ same.bytes ∙ sym (ap (λ (m : SlotsState). m.medium.bytes) b);
+  fuse = ap (λ (m : SlotsState). m.medium.fuse) a ∙ same.fuse ∙ sym (ap (λ (m : SlotsState). m.medium.fuse) b);
+}
+called_same_end [] false s t x y same k a b = absurd a
+called_same_end (call ∷ calls) true s t x y same k (p, a, more) (q, b, rest) =
+    called_same_end calls true p q x y (all_same_end (writes_of s call) s.medium t.medium p.medium q.medium same a (call_all s t p q call same b)) (all_known (writes_of s call) s.medium p.medium k a) more rest
+called_same_end (call ∷ calls) false s t x y same k (inl a) (inl b) = broken_same_end (writes_of s call) s.medium t.medium x.medium y.medium same k a (call_broken s t x y call same b)
+called_same_end (call ∷ calls) false s t x y same k (inl a) (inr (q, b, rest)) =
+    absurd (never_both (writes_of s call) t.medium s.medium q.medium x.medium (flip s.medium t.medium same) (subst IsKnown same.fuse k) (call_all s t x q call same b) a)
+called_same_end (call ∷ calls) false s t x y same k (inr (p, a, more)) (inl b) = absurd (never_both (writes_of s call) s.medium t.medium p.medium y.medium same k a (call_broken s t x y call same b))
+called_same_end (call ∷ calls) false s t x y same k (inr (p, a, more)) (inr (q, b, rest)) =
+    called_same_end calls false p q x y (all_same_end (writes_of s call) s.medium t.medium p.medium q.medium same a (call_all s t p q call same b)) (all_known (writes_of s call) s.medium p.medium k a) more rest
+
+-- they are not all Ok here and broken off there
+pub called_never_both : (calls : List Call) (s t x y : SlotsState) → Same s.medium t.medium → IsKnown s.medium.fuse → Called s calls true x → Called t calls false y → ⊥
+called_never_both [] s t x y same k a b = b
+called_never_both (call ∷ calls) s t x y same k (p, a, more) (inl b) = never_both (writes_of s call) s.medium t.medium p.medium y.medium same k a (call_broken s t x y call same b)
+called_never_both (call ∷ calls) s t x y same k (p, a, more) (inr (q, b, rest)) =
+    called_never_both calls p q x y (all_same_end (writes_of s call) s.medium t.medium p.medium q.medium same a (call_all s t p q call same b)) (all_known (writes_of s call) s.medium p.medium k a) more rest

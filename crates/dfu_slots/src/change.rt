@@ -7,7 +7,7 @@ ghost use Rattle.dfu_slots.specs.Seen.{store_on, spare_slot, writes_of, Begin, P
 ghost use Rattle.dfu_slots.specs.Changes.{Changes};
 
 use crate::layout::{CLOSED_GATE, DATA_AT, OPEN_GATE, UNIT_SIZE, make_gate_unit, make_header_unit};
-use crate::read::{find_places, generation, is_open};
+use crate::read::{capacity_of, find_places, generation, is_open};
 use crate::{Failed, Medium, PutFault};
 
 /// Writes these bytes there. Every write of the store goes through it.
@@ -44,8 +44,7 @@ pub fn put<M: Medium>(medium: &mut M, at: u32, bytes: &[u8]) -> Result<(), PutFa
     if is_open(medium, places.spare) {
         return Err(PutFault::NotBegun);
     }
-    let capacity = medium.len() / 2 - DATA_AT;
-    if u64::from(at) + bytes.len() as u64 > u64::from(capacity) {
+    if u64::from(at) + bytes.len() as u64 > u64::from(capacity_of(medium)) {
         return Err(PutFault::TooLarge);
     }
     if !bytes.is_empty() {
@@ -65,7 +64,7 @@ pub fn commit<M: Medium>(medium: &mut M, len: u32) -> Result<(), PutFault>
     if is_open(medium, places.spare) {
         return Err(PutFault::NotBegun);
     }
-    if len > medium.len() / 2 - DATA_AT {
+    if len > capacity_of(medium) {
         return Err(PutFault::TooLarge);
     }
     let next = generation(medium, places.active).wrapping_add(1);

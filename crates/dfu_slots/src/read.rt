@@ -22,6 +22,14 @@ fn byte_at<M: Medium>(medium: &M, at: u32) -> u8
     byte[0]
 }
 
+/// How many bytes of data each slot has.
+pub fn capacity_of<M: Medium>(medium: &M) -> u32
+    requires { IsSized (M.state medium.now) }
+    ensures { result ≡ capacity_of (M.state medium.now) }
+{
+    medium.len() / 2 - DATA_AT
+}
+
 /// Whether the gate of the slot that begins there is open.
 pub fn is_open<M: Medium>(medium: &M, at: u32) -> bool
     requires { at < length (M.state medium.now).bytes }
@@ -89,7 +97,7 @@ pub fn header_len<M: Medium>(medium: &M, at: u32) -> Option<u32>
     let mut header = [0; 16];
     medium.read(at + UNIT_SIZE, &mut header);
     let len = u32::from_le_bytes([header[4], header[5], header[6], header[7]]);
-    if header == make_header_unit(header[0], len) && len <= medium.len() / 2 - DATA_AT {
+    if header == make_header_unit(header[0], len) && len <= capacity_of(medium) {
         Some(len)
     } else {
         None

@@ -6,8 +6,7 @@ ghost use Rattle.dfu_slots.specs.Image.{IsSized, capacity_of, Active, HasImage};
 ghost use Rattle.dfu_slots.specs.Seen.{fused, spare_slot, image_of, spare_of, is_begun, room_of, is_shaped, Begin, Put, Commit, writes_of, format_series, DidCall};
 ghost use Rattle.dfu_slots.specs.Changes.{Changes, IsOpenFault};
 
-use crate::layout::DATA_AT;
-use crate::read::{find_places, header_len, read_data};
+use crate::read::{capacity_of, find_places, header_len, read_data};
 use crate::{Faulty, FormatFault, Medium, OpenFault, PutFault, change, format, open};
 use std::marker::Model;
 
@@ -51,7 +50,7 @@ impl<M: Medium> Slots<M> {
         if !open::is_sized(&medium) {
             return Err((FormatFault::WrongSize, medium));
         }
-        if image.len() as u64 > u64::from(medium.len() / 2 - DATA_AT) {
+        if image.len() as u64 > u64::from(capacity_of(&medium)) {
             return Err((FormatFault::TooLarge, medium));
         }
         let mut medium = medium;
@@ -90,7 +89,7 @@ impl<M: Medium> Slots<M> {
         ensures shape { is_shaped self.now ≡ true }
         ensures image { Active self.now.medium (image_of self.now) }
     {
-        self.medium.len() / 2 - DATA_AT
+        capacity_of(&self.medium)
     }
 
     /// How many bytes the active image has, from 0 to the capacity.
