@@ -2,9 +2,9 @@
 use Rattle.std.proofs.Common.{◌≡◌, ◌⊎◌, inl, inr, ℕ, zero, suc, ◌+◌, ◌≤◌, ◌<◌, min, List, [], ◌∷◌, ◌++◌, length, take, drop, Result, Ok, Err, OnOk, OnErr, refl, sym, ◌∙◌, ap, subst, arith, length-drop}
 use Rattle.std.proofs.lemmas.List.{length-take, take_min, drop_all}
 use Rattle.std.proofs.lemmas.Bool.{cases_lt}
-use Rattle.dfu_slots.specs.Medium.{MediumState, Write, Wrote, FailedWrite, AllWrites, BrokenWrites}
+use Rattle.dfu_slots.specs.Medium.{MediumState, Write, Wrote, FailedWrite, AllWrites, BrokenWrites, Series}
 use Rattle.dfu_slots.specs.Writes.{piece_writes}
-use Rattle.dfu_slots.proofs.Series.{AllInside, all_append, broken_later}
+use Rattle.dfu_slots.proofs.Series.{AllInside, series_after}
 
 pub pieces_nil : (n at : ℕ) → piece_writes n at [] ≡ []
 pieces_nil zero at = refl
@@ -33,24 +33,16 @@ pieces_step (suc m) at (b ∷ bs) size is some le =
         ∙ sym (ap (λ (l : List ℕ). piece_writes m (at + size) l) (drop_all size (b ∷ bs) (omega arith)) ∙ pieces_nil m (at + size))
     tail (inr long) = let e : 4096 ≡ size = omega arith in ap (λ (k : ℕ). piece_writes m (at + k) (drop k (b ∷ bs))) e
 
--- what `write_pieces` leaves, by its parts
-module _ {T E : Type 0} (s mid now : MediumState) (n at size : ℕ) (bytes tail : List ℕ) (is : size ≡ min 4096 (length bytes)) (some : 0 < length bytes) (le : length bytes ≤ n) (is_tail : tail ≡ drop size bytes) where
-  pub pieces_ok : (r : Result T E) → Wrote s at (take size bytes) mid → ((m : ℕ) → length tail ≤ m → OnOk r (AllWrites mid (piece_writes m (at + size) tail) now)) → OnOk r (AllWrites s (piece_writes n at bytes) now)
-  pieces_ok (Err e) wrote rest = tt
-  pieces_ok (Ok x) wrote rest =
-      let step = pieces_step n at bytes size is some le in
-      let last : AllWrites mid (piece_writes step.0 (at + size) (drop size bytes)) now =
-      subst (λ (l : List ℕ). AllWrites mid (piece_writes step.0 (at + size) l) now) is_tail (rest step.0 (subst (λ (l : List ℕ). length l ≤ step.0) (sym is_tail) step.1)) in
-      subst (λ (ws : List Write). AllWrites s ws now) (sym step.2) (mid, wrote, last)
+-- the pieces after the first one
+pub pieces_rest : {T E : Type 0} (s mid now : MediumState) (n at size : ℕ) (bytes tail : List ℕ) → size ≡ min 4096 (length bytes) → 0 < length bytes → length bytes ≤ n → tail ≡ drop size bytes
+    → (r : Result T E) → Wrote s at (take size bytes) mid → ((m : ℕ) → length tail ≤ m → Series mid (piece_writes m (at + size) tail) r now) → Series s (piece_writes n at bytes) r now
+pieces_rest s mid now n at size bytes tail is some le is_tail r wrote rest =
+    let step = pieces_step n at bytes size is some le in
+    let last : Series mid (piece_writes step.0 (at + size) (drop size bytes)) r now =
+    subst (λ (l : List ℕ). Series mid (piece_writes step.0 (at + size) l) r now) is_tail (rest step.0 (subst (λ (l : List ℕ). length l ≤ step.0) (sym is_tail) step.1)) in
+    subst (λ (ws : List Write). Series s ws r now) (sym step.2) (series_after (record { at = at; bytes = take size bytes } ∷ []) (piece_writes step.0 (at + size) (drop size bytes)) s mid now r (mid, wrote, refl) last)
 
-  pub pieces_failed : (r : Result T E) → Wrote s at (take size bytes) mid → ((m : ℕ) → length tail ≤ m → OnErr r (BrokenWrites mid (piece_writes m (at + size) tail) now)) → OnErr r (BrokenWrites s (piece_writes n at bytes) now)
-  pieces_failed (Ok x) wrote rest = tt
-  pieces_failed (Err e) wrote rest =
-      let step = pieces_step n at bytes size is some le in
-      let last : BrokenWrites mid (piece_writes step.0 (at + size) (drop size bytes)) now =
-      subst (λ (l : List ℕ). BrokenWrites mid (piece_writes step.0 (at + size) l) now) is_tail (rest step.0 (subst (λ (l : List ℕ). length l ≤ step.0) (sym is_tail) step.1)) in
-      subst (λ (ws : List Write). BrokenWrites s ws now) (sym step.2) (inr (mid, wrote, last))
-
+-- the first piece, where its write fails
 pub pieces_first : (s now : MediumState) (n at size : ℕ) (bytes : List ℕ) → size ≡ min 4096 (length bytes) → 0 < length bytes → length bytes ≤ n → FailedWrite s at (take size bytes) now → BrokenWrites s (piece_writes n at bytes) now
 pieces_first s now n at size bytes is some le failed =
     let step = pieces_step n at bytes size is some le in
@@ -72,13 +64,3 @@ pieces_inside (suc n) from to at (b ∷ bs) low high = (
     | inr long ↦ pieces_inside n from to (at + 4096) (drop 4096 (b ∷ bs)) (omega arith) (omega (arith, length-drop 4096 (b ∷ bs)))
   ]),
 )
-
--- the parts of a format, one after another
-module _ {T E : Type 0} (closing pieces opening : List Write) (s a b now : MediumState) (closed : AllWrites s closing a) (written_all : AllWrites a pieces b) where
-  pub format_ok : (r : Result T E) → OnOk r (AllWrites b opening now) → OnOk r (AllWrites s (closing ++ pieces ++ opening) now)
-  format_ok (Err e) last = tt
-  format_ok (Ok x) last = all_append (closing ++ pieces) opening s b now (all_append closing pieces s a b closed written_all) last
-
-  pub format_failed : (r : Result T E) → OnErr r (BrokenWrites b opening now) → OnErr r (BrokenWrites s (closing ++ pieces ++ opening) now)
-  format_failed (Ok x) last = tt
-  format_failed (Err e) last = broken_later (closing ++ pieces) opening s b now (all_append closing pieces s a b closed written_all) last

@@ -1,6 +1,6 @@
 -- Lists of writes: what they leave outside a range, the count of failures, and their parts.
-use Rattle.std.proofs.Common.{◌≡◌, ◌⊎◌, inl, inr, Bool, true, false, if◌then◌else◌, ℕ, ◌+◌, ◌≤◌, List, [], ◌∷◌, ◌++◌, length, Result, Ok, Err, OnOk, OnErr, IsErrOf, IsErrAnd, refl, sym, ap, subst, arith}
-use Rattle.dfu_slots.specs.Medium.{MediumState, Write, KeepsOutside, Torn, Rose, Wrote, FailedWrite, AllWrites, BrokenWrites}
+use Rattle.std.proofs.Common.{◌≡◌, ◌⊎◌, inl, inr, Bool, true, false, if◌then◌else◌, ℕ, ◌+◌, ◌≤◌, List, [], ◌∷◌, ◌++◌, length, Result, Ok, Err, OnOk, OnErr, IsErr, IsErrOf, IsErrAnd, refl, sym, ap, subst, arith}
+use Rattle.dfu_slots.specs.Medium.{MediumState, Write, KeepsOutside, Torn, Rose, Wrote, FailedWrite, AllWrites, BrokenWrites, Series}
 use Rattle.dfu_slots.specs.Seen.{SlotsState}
 use Rattle.dfu_slots.specs.Changes.{Changes}
 use Rattle.dfu_slots.specs.declared.fault.PutFault.{PutFault}
@@ -98,6 +98,16 @@ broken_first (w ∷ ws) vs s now (inr (next, wrote, broken)) = inr (next, wrote,
 pub broken_later : (ws vs : List Write) (s mid now : MediumState) → AllWrites s ws mid → BrokenWrites mid vs now → BrokenWrites s (ws ++ vs) now
 broken_later [] vs s mid now same broken = subst (λ (m : MediumState). BrokenWrites m vs now) same broken
 broken_later (w ∷ ws) vs s mid now (next, wrote, rest) broken = inr (next, wrote, broken_later ws vs next mid now rest broken)
+
+-- a list of writes that came, and a series after it
+pub series_after : {T E : Type 0} (ws vs : List Write) (s mid now : MediumState) (r : Result T E) → AllWrites s ws mid → Series mid vs r now → Series s (ws ++ vs) r now
+series_after ws vs s mid now (Ok x) first second = all_append ws vs s mid now first second
+series_after ws vs s mid now (Err e) first second = broken_later ws vs s mid now first second
+
+-- a series that an error broke off
+pub series_broken : {T E : Type 0} (ws : List Write) (s now : MediumState) (r : Result T E) → IsErr r → BrokenWrites s ws now → Series s ws r now
+series_broken ws s now (Ok x) is broken = absurd (cc)
+series_broken ws s now (Err e) is broken = broken
 
 -- the medium after the first part of a list, all of which came
 pub record Halfway (ws vs : List Write) (s : MediumState) (mid : MediumState) (rest : Type 0) : Type 0 where

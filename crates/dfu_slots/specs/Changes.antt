@@ -1,9 +1,11 @@
 -- What the calls answer and leave.
-use Rattle.std.specs.Prelude.{◌≡◌, ℕ, List, Result, Ok, Err}
+use Rattle.std.specs.Prelude.{◌≡◌, ◌≤◌, ◌<◌, ℕ, List, length, Result, Ok, Err}
 use Rattle.dfu_slots.specs.Medium.{MediumState, Write, AllWrites, BrokenWrites}
 use Rattle.dfu_slots.specs.Layout.{slot_size, ArePlaces, HasHeader}
-use Rattle.dfu_slots.specs.Image.{slot_of, IsSized, Counts, IsNewest}
+use Rattle.dfu_slots.specs.Image.{slot_of, capacity_of, IsSized, Counts, IsNewest}
 use Rattle.dfu_slots.specs.Seen.{SlotsState}
+use Rattle.dfu_slots.specs.declared.fault.FormatFault.{FormatFault}
+use Rattle.dfu_slots.specs.declared.fault.FormatFault.TheVariants.{WrongSize as NotSized, TooLarge as ImageTooLarge, Failed as FormatFailed}
 use Rattle.dfu_slots.specs.declared.fault.OpenFault.{OpenFault}
 use Rattle.dfu_slots.specs.declared.fault.OpenFault.TheVariants.{WrongSize, NoImage, TwoImages, BadHeader}
 use Rattle.dfu_slots.specs.declared.fault.PutFault.{PutFault}
@@ -15,6 +17,17 @@ Changes old writes (Ok _) now = AllWrites old.medium writes now.medium
 Changes old writes (Err Failed) now = BrokenWrites old.medium writes now.medium
 Changes old writes (Err TooLarge) now = now ≡ old
 Changes old writes (Err NotBegun) now = now ≡ old
+
+-- the medium has a length that two slots can have, and each has room for the image
+pub record CanFormat (m : MediumState) (image : List ℕ) : Type 0 where
+  pub sized : IsSized m
+  pub fits : length image ≤ capacity_of m
+
+-- this is the first thing that is wrong with a medium and an image, and nothing is where a write failed
+abbrev pub IsFormatFault : FormatFault → MediumState → List ℕ → Type 0
+IsFormatFault NotSized m image = ¬ IsSized m
+IsFormatFault ImageTooLarge m image = IsSized m × (capacity_of m < length image)
+IsFormatFault FormatFailed m image = CanFormat m image
 
 -- one of the two slots counts, and the other one does not or is one generation behind
 pub record HasNewest (m : MediumState) : Type 0 where

@@ -1,5 +1,5 @@
 -- What a medium is seen as, and what a write may do to it.
-use Rattle.std.specs.Prelude.{◌≡◌, ◌⊎◌, ℕ, ◌+◌, ◌-◌, ◌^◌, ◌≤◌, min, max, Bool, true, false, List, [], ◌∷◌, ◌++◌, length, take, drop}
+use Rattle.std.specs.Prelude.{◌≡◌, ◌⊎◌, ℕ, ◌+◌, ◌-◌, ◌^◌, ◌≤◌, min, max, Bool, true, false, List, [], ◌∷◌, ◌++◌, length, take, drop, Result, Ok, Err}
 use Rattle.std.proofs.Common.{arith}
 
 -- What the next writes of a medium will do.
@@ -94,3 +94,8 @@ AllWrites old (w ∷ ws) now = (next : MediumState) × Wrote old w.at w.bytes ne
 abbrev pub BrokenWrites : MediumState → List Write → MediumState → Type 0
 BrokenWrites old [] now = ⊥
 BrokenWrites old (w ∷ ws) now = FailedWrite old w.at w.bytes now ⊎ ((next : MediumState) × Wrote old w.at w.bytes next × BrokenWrites next ws now)
+
+-- a series of writes: at Ok all of them, at an error those up to one that failed
+abbrev pub Series : {T E : Type 0} → MediumState → List Write → Result T E → MediumState → Type 0
+Series old writes (Ok _) now = AllWrites old writes now
+Series old writes (Err _) now = BrokenWrites old writes now

@@ -22,7 +22,8 @@ pub fn program<M: Medium>(medium: &mut M, at: u32, bytes: &[u8]) -> Result<(), F
 /// Closes the spare's gate, where it reads open.
 pub fn begin<M: Medium>(medium: &mut M) -> Result<(), PutFault>
     requires { IsSized (M.state medium.old) }
-    ensures changes { Changes (store_on (M.state medium.old)) (writes_of (store_on (M.state medium.old)) (Begin)) result (store_on (M.state medium.new)) }
+    ensures changes { let was = store_on (M.state medium.old) in
+        Changes was (writes_of was (Begin)) result (store_on (M.state medium.new)) }
     ensures fault { OnErr result (IsErrOf result PutFault.Failed) }
 {
     let places = find_places(medium);
@@ -36,9 +37,12 @@ pub fn begin<M: Medium>(medium: &mut M) -> Result<(), PutFault>
 pub fn put<M: Medium>(medium: &mut M, at: u32, bytes: &[u8]) -> Result<(), PutFault>
     requires sized { IsSized (M.state medium.old) }
     requires short { length bytes.now ≤ 4096 }
-    ensures changes { Changes (store_on (M.state medium.old)) (writes_of (store_on (M.state medium.old)) (Put at bytes.now)) result (store_on (M.state medium.new)) }
-    ensures not_begun { IsErrOf result PutFault.NotBegun ↔ IsOpen (spare_slot (store_on (M.state medium.old))) }
-    ensures too_large { IsErrOf result PutFault.TooLarge ↔ ((¬ IsOpen (spare_slot (store_on (M.state medium.old)))) × (capacity_of (M.state medium.old) < at + length bytes.now)) }
+    ensures changes { let was = store_on (M.state medium.old) in
+        Changes was (writes_of was (Put at bytes.now)) result (store_on (M.state medium.new)) }
+    ensures not_begun { IsErrOf result PutFault.NotBegun ↔
+        IsOpen (spare_slot (store_on (M.state medium.old))) }
+    ensures too_large { IsErrOf result PutFault.TooLarge ↔
+        ((¬ IsOpen (spare_slot (store_on (M.state medium.old)))) × (capacity_of (M.state medium.old) < at + length bytes.now)) }
 {
     let places = find_places(medium);
     if is_open(medium, places.spare) {
@@ -56,9 +60,12 @@ pub fn put<M: Medium>(medium: &mut M, at: u32, bytes: &[u8]) -> Result<(), PutFa
 /// Writes the spare's header, and then, in a write of its own, opens its gate.
 pub fn commit<M: Medium>(medium: &mut M, len: u32) -> Result<(), PutFault>
     requires { IsSized (M.state medium.old) }
-    ensures changes { Changes (store_on (M.state medium.old)) (writes_of (store_on (M.state medium.old)) (Commit len)) result (store_on (M.state medium.new)) }
-    ensures not_begun { IsErrOf result PutFault.NotBegun ↔ IsOpen (spare_slot (store_on (M.state medium.old))) }
-    ensures too_large { IsErrOf result PutFault.TooLarge ↔ ((¬ IsOpen (spare_slot (store_on (M.state medium.old)))) × (capacity_of (M.state medium.old) < len)) }
+    ensures changes { let was = store_on (M.state medium.old) in
+        Changes was (writes_of was (Commit len)) result (store_on (M.state medium.new)) }
+    ensures not_begun { IsErrOf result PutFault.NotBegun ↔
+        IsOpen (spare_slot (store_on (M.state medium.old))) }
+    ensures too_large { IsErrOf result PutFault.TooLarge ↔
+        ((¬ IsOpen (spare_slot (store_on (M.state medium.old)))) × (capacity_of (M.state medium.old) < len)) }
 {
     let places = find_places(medium);
     if is_open(medium, places.spare) {

@@ -1,8 +1,10 @@
 //! Formatting a medium: an image goes into the first slot, whatever stood on the medium.
-ghost use Rattle.std.specs.Prelude.{◌≡◌, ℕ, ◌+◌, ◌*◌, ◌≤◌, ◌<◌, ◌^◌, length, OnOk, OnErr};
-ghost use Rattle.dfu_slots.specs.Medium.{AllWrites, BrokenWrites};
-ghost use Rattle.dfu_slots.specs.Image.{gate_of, IsSized, capacity_of};
-ghost use Rattle.dfu_slots.specs.Writes.{format_writes, piece_writes, close_writes, open_writes};
+ghost use Rattle.std.specs.Prelude.{◌≡◌, ℕ, ◌+◌, ◌*◌, ◌≤◌, ◌<◌, ◌^◌, length};
+ghost use Rattle.dfu_slots.specs.Medium.{Series};
+ghost use Rattle.dfu_slots.specs.Image.{gate_of, IsSized};
+ghost use Rattle.dfu_slots.specs.Writes.{piece_writes, close_writes, open_writes};
+ghost use Rattle.dfu_slots.specs.Seen.{format_series};
+ghost use Rattle.dfu_slots.specs.Changes.{CanFormat};
 
 use crate::change::program;
 use crate::layout::{CLOSED_GATE, DATA_AT, OPEN_GATE, UNIT_SIZE, make_gate_unit, make_header_unit};
@@ -15,8 +17,8 @@ const PIECE: usize = 4096;
 fn write_pieces<M: Medium>(medium: &mut M, at: u32, bytes: &[u8]) -> Result<(), Failed>
     requires within { at + length bytes.now ≤ length (M.state medium.old).bytes }
     requires room { at + length bytes.now < 2 ^ 32 }
-    ensures ok { (n : ℕ) → length bytes.now ≤ n → OnOk result (AllWrites (M.state medium.old) (piece_writes n at bytes.now) (M.state medium.new)) }
-    ensures failed { (n : ℕ) → length bytes.now ≤ n → OnErr result (BrokenWrites (M.state medium.old) (piece_writes n at bytes.now) (M.state medium.new)) }
+    ensures { (n : ℕ) → length bytes.now ≤ n →
+        Series (M.state medium.old) (piece_writes n at bytes.now) result (M.state medium.new) }
 {
     let len = bytes.len();
     if len == 0 {
@@ -32,8 +34,8 @@ fn write_pieces<M: Medium>(medium: &mut M, at: u32, bytes: &[u8]) -> Result<(), 
 // Closes both gates, the second slot's first.
 fn close_gates<M: Medium>(medium: &mut M) -> Result<(), Failed>
     requires { IsSized (M.state medium.old) }
-    ensures ok { OnOk result (AllWrites (M.state medium.old) (close_writes (gate_of (M.state medium.old)) (M.state medium.old).bytes) (M.state medium.new)) }
-    ensures failed { OnErr result (BrokenWrites (M.state medium.old) (close_writes (gate_of (M.state medium.old)) (M.state medium.old).bytes) (M.state medium.new)) }
+    ensures { let was = M.state medium.old in
+        Series was (close_writes (gate_of was) was.bytes) result (M.state medium.new) }
 {
     let second = medium.len() / 2;
     program(medium, second, &make_gate_unit(CLOSED_GATE))?;
@@ -44,8 +46,8 @@ fn close_gates<M: Medium>(medium: &mut M) -> Result<(), Failed>
 // Writes the first slot's header, and then opens its gate.
 fn open_first<M: Medium>(medium: &mut M, len: u32) -> Result<(), Failed>
     requires { IsSized (M.state medium.old) }
-    ensures ok { OnOk result (AllWrites (M.state medium.old) (open_writes (gate_of (M.state medium.old)) len) (M.state medium.new)) }
-    ensures failed { OnErr result (BrokenWrites (M.state medium.old) (open_writes (gate_of (M.state medium.old)) len) (M.state medium.new)) }
+    ensures { let was = M.state medium.old in
+        Series was (open_writes (gate_of was) len) result (M.state medium.new) }
 {
     program(medium, UNIT_SIZE, &make_header_unit(0, len))?;
     program(medium, 0, &make_gate_unit(OPEN_GATE))?;
@@ -54,10 +56,8 @@ fn open_first<M: Medium>(medium: &mut M, len: u32) -> Result<(), Failed>
 
 /// Makes this the active image of the medium.
 pub fn write_image<M: Medium>(medium: &mut M, image: &[u8]) -> Result<(), Failed>
-    requires sized { IsSized (M.state medium.old) }
-    requires fits { length image.now ≤ capacity_of (M.state medium.old) }
-    ensures ok { OnOk result (AllWrites (M.state medium.old) (format_writes (gate_of (M.state medium.old)) (M.state medium.old).bytes image.now) (M.state medium.new)) }
-    ensures failed { OnErr result (BrokenWrites (M.state medium.old) (format_writes (gate_of (M.state medium.old)) (M.state medium.old).bytes image.now) (M.state medium.new)) }
+    requires { CanFormat (M.state medium.old) image.now }
+    ensures { Series (M.state medium.old) (format_series (M.state medium.old) image.now) result (M.state medium.new) }
 {
     match close_gates(medium) {
         Err(failed) => Err(failed),

@@ -20,18 +20,28 @@ pub fn refused_has_no_image()
 
 /// A medium that is not armed fails no write and no call, whatever they are, and stays so.
 pub fn unarmed_never_fails()
-    ensures writes { (writes : List Write) (old now : MediumState) → old.fuse ≡ Whole → ¬ BrokenWrites old writes now }
-    ensures writes_stay { (writes : List Write) (old now : MediumState) → old.fuse ≡ Whole → AllWrites old writes now → now.fuse ≡ Whole }
-    ensures calls { (calls : List Call) (old now : SlotsState) → old.medium.fuse ≡ Whole → ¬ Called old calls false now }
-    ensures calls_stay { (calls : List Call) (old now : SlotsState) → old.medium.fuse ≡ Whole → Called old calls true now → now.medium.fuse ≡ Whole }
+    ensures writes { (writes : List Write) (old now : MediumState) →
+        old.fuse ≡ Whole → ¬ BrokenWrites old writes now }
+    ensures writes_stay { (writes : List Write) (old now : MediumState) →
+        old.fuse ≡ Whole → AllWrites old writes now → now.fuse ≡ Whole }
+    ensures calls { (calls : List Call) (old now : SlotsState) →
+        old.medium.fuse ≡ Whole → ¬ Called old calls false now }
+    ensures calls_stay { (calls : List Call) (old now : SlotsState) →
+        old.medium.fuse ≡ Whole → Called old calls true now → now.medium.fuse ≡ Whole }
 {}
 
 /// From the same bytes and the same fuse the same calls end alike, where the fuse is known:
 /// they are Ok or fail on both, and leave the same bytes and the same fuse.
 pub fn same_bytes_same_end()
-    ensures outcome { (calls : List Call) (a b x y : SlotsState) → Same a.medium b.medium → IsKnown a.medium.fuse → Called a calls true x → ¬ Called b calls false y }
-    ensures end { (calls : List Call) (ok : Bool) (a b x y : SlotsState) → Same a.medium b.medium → IsKnown a.medium.fuse → Called a calls ok x → Called b calls ok y → Same x.medium y.medium }
-    ensures writes { (writes : List Write) (a b x y : MediumState) → Same a b → IsKnown a.fuse → AllWrites a writes x → ¬ BrokenWrites b writes y }
-    ensures written { (writes : List Write) (a b x y : MediumState) → Same a b → AllWrites a writes x → AllWrites b writes y → Same x y }
-    ensures broken { (writes : List Write) (a b x y : MediumState) → Same a b → IsKnown a.fuse → BrokenWrites a writes x → BrokenWrites b writes y → Same x y }
+    ensures outcome { (calls : List Call) (a b x y : SlotsState) →
+        Same a.medium b.medium → IsKnown a.medium.fuse → Called a calls true x → ¬ Called b calls false y }
+    ensures end { (calls : List Call) (ok : Bool) (a b x y : SlotsState) →
+        Same a.medium b.medium → IsKnown a.medium.fuse →
+        Called a calls ok x → Called b calls ok y → Same x.medium y.medium }
+    ensures writes { (writes : List Write) (a b x y : MediumState) →
+        Same a b → IsKnown a.fuse → AllWrites a writes x → ¬ BrokenWrites b writes y }
+    ensures written { (writes : List Write) (a b x y : MediumState) →
+        Same a b → AllWrites a writes x → AllWrites b writes y → Same x y }
+    ensures broken { (writes : List Write) (a b x y : MediumState) →
+        Same a b → IsKnown a.fuse → BrokenWrites a writes x → BrokenWrites b writes y → Same x y }
 {}

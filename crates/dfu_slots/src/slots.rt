@@ -1,10 +1,10 @@
 //! The slot store.
-ghost use Rattle.std.specs.Prelude.{◌≡◌, ℕ, List, ◌+◌, ◌≤◌, ◌<◌, ◌⊎◌, ◌↔◌, length, take, slice_range, OnOk, OnErr, IsErrOf, IfErr, IfOk, IsOk, false, true, is_ok};
+ghost use Rattle.std.specs.Prelude.{◌≡◌, ◌≢◌, ℕ, List, ◌+◌, ◌≤◌, ◌<◌, ◌⊎◌, ◌↔◌, length, take, slice_range, OnOk, OnErr, IsErrOf, IfErr, IfOk, IsOk, false, true, is_ok};
 ghost use Rattle.dfu_slots.specs.Medium.{Rose, written, AllWrites, BrokenWrites};
 ghost use Rattle.dfu_slots.specs.Medium.Fuse.{Whole, Armed};
 ghost use Rattle.dfu_slots.specs.Image.{IsSized, capacity_of, Active, HasImage};
 ghost use Rattle.dfu_slots.specs.Seen.{fused, spare_slot, image_of, spare_of, is_begun, room_of, is_shaped, Begin, Put, Commit, writes_of, format_series, DidCall};
-ghost use Rattle.dfu_slots.specs.Changes.{Changes, IsOpenFault};
+ghost use Rattle.dfu_slots.specs.Changes.{Changes, CanFormat, IsFormatFault, IsOpenFault};
 
 use crate::read::{capacity_of, find_places, header_len, read_data};
 use crate::{Faulty, FormatFault, Medium, OpenFault, PutFault, change, format, open};
@@ -37,15 +37,17 @@ impl<M: Medium> Slots<M> {
     /// the image has more than C bytes; `Failed` where a write failed. They are looked for in this order.
     /// The first two hand the medium back unchanged.
     pub fn format(medium: M, image: &[u8]) -> Result<Slots<M>, (FormatFault, M)>
-        ensures writes { IfOk result (λ slots. AllWrites (M.state medium) (format_series (M.state medium) image.now) slots.medium) }
+        ensures writes { IfOk result (λ slots.
+            AllWrites (M.state medium) (format_series (M.state medium) image.now) slots.medium) }
         ensures active { IfOk result (λ slots. Active slots.medium image.now) }
         ensures image { IfOk result (λ slots. image_of slots ≡ image.now) }
         ensures shape { IfOk result (λ slots. is_shaped slots ≡ true) }
-        ensures fits { OnOk result (IsSized (M.state medium) × (length image.now ≤ capacity_of (M.state medium))) }
+        ensures formats { OnOk result (CanFormat (M.state medium) image.now) }
 
-        ensures wrong_size { IfErr result (λ e. e.0 ≡ FormatFault.WrongSize → (¬ IsSized (M.state medium)) × (e.1 ≡ medium)) }
-        ensures too_large { IfErr result (λ e. e.0 ≡ FormatFault.TooLarge → IsSized (M.state medium) × (capacity_of (M.state medium) < length image.now) × (e.1 ≡ medium)) }
-        ensures failed { IfErr result (λ e. e.0 ≡ FormatFault.Failed → IsSized (M.state medium) × (length image.now ≤ capacity_of (M.state medium)) × BrokenWrites (M.state medium) (format_series (M.state medium) image.now) (M.state e.1)) }
+        ensures fault { IfErr result (λ e. IsFormatFault e.0 (M.state medium) image.now) }
+        ensures unchanged { IfErr result (λ e. e.0 ≢ FormatFault.Failed → e.1 ≡ medium) }
+        ensures failed { IfErr result (λ e. e.0 ≡ FormatFault.Failed →
+            BrokenWrites (M.state medium) (format_series (M.state medium) image.now) (M.state e.1)) }
     {
         if !open::is_sized(&medium) {
             return Err((FormatFault::WrongSize, medium));
@@ -159,10 +161,12 @@ impl<M: Medium> Slots<M> {
     /// `Failed` where the write failed. They are looked for in this order, and the first two write nothing.
     pub fn put(&mut self, at: u32, bytes: &[u8]) -> Result<(), PutFault>
         requires { length bytes.now ≤ 4096 }
-        ensures call { is_begun self.old ≡ true → at + length bytes.now ≤ room_of self.old → DidCall self.old (Put at bytes.now) (is_ok result) self.new }
+        ensures call { is_begun self.old ≡ true → at + length bytes.now ≤ room_of self.old →
+            DidCall self.old (Put at bytes.now) (is_ok result) self.new }
         ensures writes { Changes self.old (writes_of self.old (Put at bytes.now)) result self.new }
         ensures not_begun { IsErrOf result PutFault.NotBegun ↔ (is_begun self.old ≡ false) }
-        ensures too_large { IsErrOf result PutFault.TooLarge ↔ ((is_begun self.old ≡ true) × (room_of self.old < at + length bytes.now)) }
+        ensures too_large { IsErrOf result PutFault.TooLarge ↔
+            ((is_begun self.old ≡ true) × (room_of self.old < at + length bytes.now)) }
         ensures rose { IsErrOf result PutFault.Failed → Rose self.old.medium.failures self.new.medium.failures }
 
         ensures image { image_of self.new ≡ image_of self.old }
@@ -187,14 +191,17 @@ impl<M: Medium> Slots<M> {
     /// `NotBegun` where the spare's gate reads open; `TooLarge` where `len` is over the capacity;
     /// `Failed` where a write failed. They are looked for in this order, and the first two write nothing.
     pub fn commit(&mut self, len: u32) -> Result<(), PutFault>
-        ensures call { is_begun self.old ≡ true → len ≤ room_of self.old → DidCall self.old (Commit len) (is_ok result) self.new }
+        ensures call { is_begun self.old ≡ true → len ≤ room_of self.old →
+            DidCall self.old (Commit len) (is_ok result) self.new }
         ensures writes { Changes self.old (writes_of self.old (Commit len)) result self.new }
         ensures not_begun { IsErrOf result PutFault.NotBegun ↔ (is_begun self.old ≡ false) }
-        ensures too_large { IsErrOf result PutFault.TooLarge ↔ ((is_begun self.old ≡ true) × (room_of self.old < len)) }
+        ensures too_large { IsErrOf result PutFault.TooLarge ↔
+            ((is_begun self.old ≡ true) × (room_of self.old < len)) }
         ensures rose { IsErrOf result PutFault.Failed → Rose self.old.medium.failures self.new.medium.failures }
 
         ensures image { OnOk result (image_of self.new ≡ take len (spare_of self.old)) }
-        ensures kept { OnErr result ((image_of self.new ≡ image_of self.old) ⊎ (image_of self.new ≡ take len (spare_of self.old))) }
+        ensures kept { OnErr result (
+            (image_of self.new ≡ image_of self.old) ⊎ (image_of self.new ≡ take len (spare_of self.old))) }
         ensures active { Active self.new.medium (image_of self.new) }
         ensures has_image { HasImage self.new.medium }
         ensures shape { is_shaped self.new ≡ true }

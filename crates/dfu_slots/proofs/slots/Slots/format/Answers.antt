@@ -11,7 +11,7 @@ returns-in-Ok-clause-active g c =
     let now = g.M.Medium.state c.write_image.new.medium in
     let sized : IsSized s = c.is_sized.ensures.0 c.if-not-is_sized.false in
     let fits : length c.args.image.now ≤ capacity_of s = omega (arith, c.if-image-from.false, c.from.ensures, c.capacity_of.ensures) in
-    record { at = 0; spare = slot_size now.bytes; stands = format_done (gate_of s) (omega arith) s now c.args.image.now sized fits c.in-Ok.ensures.ok }
+    record { at = 0; spare = slot_size now.bytes; stands = format_done (gate_of s) (omega arith) s now c.args.image.now sized fits c.in-Ok.ensures }
 
 pub invariant_of-result : goal.invariant_of-result
 invariant_of-result g c = record { image = c.args.image.now; active = returns-in-Ok-clause-active g c }
