@@ -23,7 +23,7 @@ pub record CanFormat (m : MediumState) (image : List ℕ) : Type 0 where
   pub sized : IsSized m
   pub fits : length image ≤ capacity_of m
 
--- this is the first thing that is wrong with a medium and an image, and nothing is where a write failed
+-- this is the first thing that is wrong with a medium and an image, and nothing is wrong with them where a write failed
 abbrev pub IsFormatFault : FormatFault → MediumState → List ℕ → Type 0
 IsFormatFault NotSized m image = ¬ IsSized m
 IsFormatFault ImageTooLarge m image = IsSized m × (capacity_of m < length image)
