@@ -1,6 +1,6 @@
 -- Which image of a medium is the active one.
 use Rattle.std.specs.Prelude.{◌≡◌, ◌⊎◌, ◌&&◌, ◌||◌, not, ℕ, Bool, List, length, take, if◌then◌else◌, ◌==◌}
-use Rattle.dfu_slots.specs.Medium.{MediumState}
+use Rattle.dfu_slots.specs.Medium.{MediumState, Fuse}
 use Rattle.dfu_slots.specs.Layout.{Slot, slot, slot_size, HasTwoSlots, capacity, ArePlaces, OPEN, IsOpen, generation, next_generation, HasHeader}
 
 -- a slot counts where its gate is open
@@ -50,6 +50,14 @@ pub record Active (m : MediumState) (image : List ℕ) : Type 0 where
 pub record HasImage (m : MediumState) : Type 0 where
   pub image : List ℕ
   pub active : Active m image
+
+-- which image is active does not hang on the fuse
+pub active_fused : (m : MediumState) (fuse : Fuse) (image : List ℕ) → Active m image → Active (record m { fuse = fuse }) image
+active_fused m fuse image active = record { at = active.at; spare = active.spare; stands = active.stands }
+
+-- nor whether there is one
+pub has_image_fused : (m : MediumState) (fuse : Fuse) → HasImage m → HasImage (record m { fuse = fuse })
+has_image_fused m fuse has = record { image = has.image; active = active_fused m fuse has.image has.active }
 
 -- The same as tests, which find the places of the two slots.
 

@@ -1,6 +1,6 @@
 use Rattle.std.proofs.Common.{◌≡◌, ℕ, List, ◌++◌, ◌*◌, length, arith}
 use Rattle.dfu_slots.specs.Image.{gate_of}
-use Rattle.dfu_slots.specs.Medium.{MediumState, AllWrites, KeepsOutside}
+use Rattle.dfu_slots.specs.Medium.{MediumState, AllWrites}
 use Rattle.dfu_slots.specs.Writes.{close_writes, open_writes, piece_writes}
 use Rattle.dfu_slots.specs.Changes.{CanFormat}
 use Rattle.dfu_slots.proofs.Series.{all_keep, all_append, broken_first, broken_later, series_after}
