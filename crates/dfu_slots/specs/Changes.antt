@@ -41,10 +41,11 @@ pub record HasBadHeader (m : MediumState) : Type 0 where
   pub newest : HasNewest m
   pub none : (len : ℕ) → ¬ HasHeader (slot_of m newest.at) len
 
--- the first slot and the second slot of a medium count, each or not
+-- the first slot of a medium counts
 abbrev pub FirstCounts : MediumState → Type 0
 FirstCounts m = Counts (slot_of m 0)
 
+-- the second slot of a medium counts
 abbrev pub SecondCounts : MediumState → Type 0
 SecondCounts m = Counts (slot_of m (slot_size m.bytes))
 

@@ -18,6 +18,7 @@ pub record Same (a b : MediumState) : Type 0 where
 
 -- One write.
 
+-- a fuse that counts to one number counts to the other
 armed_more : {more less : ℕ} (tear : List ℕ) (stop : Bool) → more + 1 ≡ less + 1 → Armed more tear stop ≡ Armed less tear stop
 armed_more tear stop e = ap (λ n. Armed n tear stop) (omega (arith, e))
 
@@ -52,15 +53,18 @@ not_both (Armed n tear false) g h old at new l k (m, e, a) b = omega (arith, e, 
 not_both Stopped g h old at new l k a b = a
 
 module _ (w : Write) (s t x y : MediumState) (same : Same s t) where
+  -- where the fuse is known on one, it is on the other
   known_on : IsKnown s.fuse → IsKnown t.fuse
   known_on k = subst IsKnown same.fuse k
 
+  -- Ok on both, the write leaves the same
   wrote_same : Wrote s w.at w.bytes x → Wrote t w.at w.bytes y → Same x y
   wrote_same a b = record {
     bytes = a.bytes ∙ ap (λ (l : List ℕ). written l w.at w.bytes) same.bytes ∙ sym b.bytes;
     fuse = works_one t.fuse x.fuse y.fuse (subst (λ (f : Fuse). Works f x.fuse) same.fuse a.fuse) b.fuse;
   }
 
+  -- Failed on both, it leaves the same too
   failed_same : IsKnown s.fuse → FailedWrite s w.at w.bytes x → FailedWrite t w.at w.bytes y → Same x y
   failed_same k a b =
       let moved : Breaks t.fuse t.bytes w.at w.bytes x.bytes x.fuse =
@@ -68,12 +72,15 @@ module _ (w : Write) (s t x y : MediumState) (same : Same s t) where
       let both = breaks_one t.fuse t.bytes w.at w.bytes x.bytes y.bytes x.fuse y.fuse (known_on k) moved b.fuse in
       record { bytes = both.0; fuse = both.1 }
 
+  -- it is not Ok on one and Failed on the other
   one_way : IsKnown s.fuse → Wrote s w.at w.bytes x → FailedWrite t w.at w.bytes y → ⊥
   one_way k a b = not_both t.fuse x.fuse y.fuse t.bytes w.at w.bytes y.bytes (known_on k) (subst (λ (f : Fuse). Works f x.fuse) same.fuse a.fuse) b.fuse
 
+-- after a write that works the fuse is known
 known_next : (w : Write) (s x : MediumState) → IsKnown s.fuse → Wrote s w.at w.bytes x → IsKnown x.fuse
 known_next w s x k a = works_known s.fuse x.fuse k a.fuse
 
+-- the same holds the other way round
 flip : (s t : MediumState) → Same s t → Same t s
 flip s t same = record { bytes = sym same.bytes; fuse = sym same.fuse }
 
@@ -115,9 +122,11 @@ writes_same s t (Put at bytes) same = ap (λ (l : List ℕ). put_writes 16 l at 
 writes_same s t (Commit len) same = ap (λ (l : List ℕ). commit_writes 16 l len) same.bytes
 
 module _ (s t x y : SlotsState) (call : Call) (same : Same s.medium t.medium) where
+  -- so the writes of a call on one are those of the call on the other
   call_all : AllWrites t.medium (writes_of t call) y.medium → AllWrites t.medium (writes_of s call) y.medium
   call_all b = subst (λ (ws : List Write). AllWrites t.medium ws y.medium) (sym (writes_same s t call same)) b
 
+  -- and so are those up to one that failed
   call_broken : BrokenWrites t.medium (writes_of t call) y.medium → BrokenWrites t.medium (writes_of s call) y.medium
   call_broken b = subst (λ (ws : List Write). BrokenWrites t.medium ws y.medium) (sym (writes_same s t call same)) b
 

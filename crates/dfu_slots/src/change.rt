@@ -42,7 +42,8 @@ pub fn put<M: Medium>(medium: &mut M, at: u32, bytes: &[u8]) -> Result<(), PutFa
     ensures not_begun { IsErrOf result PutFault.NotBegun ↔
         IsOpen (spare_slot (store_on (M.state medium.old))) }
     ensures too_large { IsErrOf result PutFault.TooLarge ↔
-        ((¬ IsOpen (spare_slot (store_on (M.state medium.old)))) × (capacity_of (M.state medium.old) < at + length bytes.now)) }
+        ((¬ IsOpen (spare_slot (store_on (M.state medium.old)))) ×
+        (capacity_of (M.state medium.old) < at + length bytes.now)) }
 {
     let places = find_places(medium);
     if is_open(medium, places.spare) {

@@ -1,4 +1,5 @@
-//! A firmware image in one of two slots on a medium whose writes may fail or be torn, replaced so that one image is whole and active at all times.
+//! A store that keeps one whole firmware image active on a medium whose writes may fail or be torn,
+//! while the next image is written beside it.
 #![tactic(auto)]
 
 mod change;

@@ -45,12 +45,15 @@ pub struct SimMedium {
 impl Model for SimMedium {
     ghost use Rattle.std.specs.Prelude.{◌<◌, ◌^◌, length};
     ghost use Rattle.dfu_slots.specs.Medium.{MediumState};
+    ghost use Rattle.dfu_slots.specs.Sim.{fuse_of};
 
     ghost Value = { MediumState };
 
-    ghost use Rattle.dfu_slots.specs.Sim.{fuse_of};
-
-    ghost view = { λ m. record { bytes = m.bytes.items; failures = m.failures; fuse = fuse_of m.mode m.writes m.tear.items m.stop } };
+    ghost view = { λ m. record {
+      bytes = m.bytes.items;
+      failures = m.failures;
+      fuse = fuse_of m.mode m.writes m.tear.items m.stop;
+    } };
 
     ghost invariant = { λ m. length m.bytes.items < 2 ^ 32 };
 }
@@ -62,7 +65,8 @@ impl SimMedium {
     ///
     /// `NoMemory` where there is no memory for the bytes.
     pub fn new(alloc: Global, len: u32) -> Result<SimMedium, NoMemory>
-        ensures { IfOk result (λ medium. medium ≡ record { bytes = replicate len 255; failures = 0; fuse = Whole }) }
+        ensures { IfOk result (λ medium.
+            medium ≡ record { bytes = replicate len 255; failures = 0; fuse = Whole }) }
     {
         let mut bytes = Vec::new(alloc);
         bytes.resize(len as usize, 0xff)?;
