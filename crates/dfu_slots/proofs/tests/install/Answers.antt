@@ -1,4 +1,4 @@
-use Rattle.std.proofs.Common.{◌≡◌, ◌⊎◌, inl, inr, ⊎_elim, ◌+◌, List, length, take, drop, Result, Ok, Err, OnOk, OnErr, ◌∙◌, ap, arith}
+use Rattle.std.proofs.Common.{◌≡◌, ◌⊎◌, inl, inr, ⊎_elim, ℕ, ◌+◌, List, length, take, drop, Result, Ok, Err, OnOk, OnErr, ◌∙◌, ap, arith}
 use Rattle.std.proofs.lemmas.List.{take_at}
 use Rattle.dfu_slots.specs.Medium.{written}
 use Rattle.dfu_slots.specs.Seen.{SlotsState, image_of, spare_of}
