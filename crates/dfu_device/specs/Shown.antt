@@ -1,0 +1,54 @@
+-- What a contract sees of a device.
+use Rattle.std.specs.Prelude.{◌≡◌, ℕ, false, List, [], length, take}
+use Rattle.dfu_slots.specs.Medium.{SlotsState}
+use Rattle.dfu_slots.specs.Seen.{image_of, spare_of, room_of}
+use Rattle.dfu_device.specs.Stage.{Profile, Stage, Unwritten, Written, Writing, Ready, Closed, Committing}
+use Rattle.dfu_device.specs.Setting.{Setting}
+use Rattle.dfu_device.specs.Outcome.{Situation}
+
+-- A device: what it is set up with, its slot store with the medium, and the state with what it keeps.
+pub record Shown : Type 0 where
+  pub config : Setting
+  pub slots : SlotsState
+  pub stage : Stage
+
+-- the profile of a device that is set up like this, with room for images of so many bytes
+abbrev pub profile_of : Setting → ℕ → Profile
+profile_of s room = record {
+  can_download = s.functional.can_download;
+  can_upload = s.functional.can_upload;
+  tolerant = s.functional.tolerant;
+  will_detach = s.functional.will_detach;
+  detach_ms = s.functional.detach_ms;
+  transfer = s.functional.transfer;
+  least = s.least;
+  busy = s.busy_ms;
+  manifest = s.manifest_ms;
+  capacity = room;
+}
+
+-- the table without uploads: UPLOAD in dfuIDLE is any other request whatever bitCanUpload says, and so no row ends in dfuUPLOAD-IDLE
+abbrev pub without_upload : Profile → Profile
+without_upload c = record c { can_upload = false }
+
+-- the profile by which a device goes; it does not serve uploads yet
+abbrev pub profile : Shown → Profile
+profile w = without_upload (profile_of w.config (room_of w.slots))
+
+-- the active image of a device, and its state with what it keeps
+abbrev pub situation : Shown → Situation
+situation w = record { image = image_of w.slots; stage = w.stage }
+
+-- the bytes taken and written: all that are taken but for a block that is not written yet
+abbrev pub written_in : Stage → List ℕ
+written_in (Unwritten before block number) = before
+written_in (Written taken number) = taken
+written_in (Writing before block number passed) = before
+written_in (Ready taken number) = taken
+written_in (Closed taken) = taken
+written_in (Committing taken passed) = taken
+written_in stage = []
+
+-- the bytes taken and written stand at the front of the spare slot's data
+abbrev pub IsStored : Shown → Type 0
+IsStored w = take (length (written_in w.stage)) (spare_of w.slots) ≡ written_in w.stage

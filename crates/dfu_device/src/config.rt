@@ -1,0 +1,76 @@
+//! What a device is set up with.
+
+ghost use Rattle.std.specs.Prelude.{◌≡◌, ◌≤◌, ◌<◌, ◌^◌, IfOk, IfErr, false};
+ghost use Rattle.dfu_device.specs.Setting.{IsAllowed, FirstFault, of_this_version};
+
+use crate::ConfigFault;
+use dfu_suffix::Ids;
+use dfu_wire::Functional;
+use std::marker::Model;
+
+/// What a device is set up with: who it is, its functional descriptor, the fewest bytes of an image
+/// (1 to 16,777,216), and how long it takes to write a block and to put an image in place (0 to
+/// 16,777,215 ms; at least 1 ms for an image where the device is not tolerant of manifestation).
+#[derive(Clone, Copy, Debug)]
+pub struct Config {
+    ids: Ids,
+    functional: Functional,
+    least: u32,
+    busy_ms: u32,
+    manifest_ms: u32,
+}
+
+impl Model for Config {
+    ghost use Rattle.dfu_device.specs.Setting.{Setting, IsAllowed};
+
+    ghost Value = { Setting };
+
+    ghost view = { λ c. record { ids = c.ids; functional = c.functional; least = c.least; busy_ms = c.busy_ms; manifest_ms = c.manifest_ms } };
+
+    ghost invariant = { λ c. IsAllowed (record { ids = c.ids; functional = c.functional; least = c.least; busy_ms = c.busy_ms; manifest_ms = c.manifest_ms }) };
+
+    ghost inverse = { λ s. record { ids = s.ids; functional = s.functional; least = s.least; busy_ms = s.busy_ms; manifest_ms = s.manifest_ms } };
+}
+
+impl Config {
+    /// A configuration of these values; the version of the descriptor becomes 0110h. The faults, in
+    /// the order in which they are looked for:
+    ///
+    /// 1. `BadTransfer`: the transfer size is 0 or over 4,096.
+    /// 2. `BadPoll`: a time is over 16,777,215, or `manifest_ms` is 0 where the device is not tolerant.
+    /// 3. `BadLeast`: `least` is 0 or over 16,777,216.
+    pub fn new(
+        ids: Ids,
+        functional: Functional,
+        least: u32,
+        busy_ms: u32,
+        manifest_ms: u32,
+    ) -> Result<Config, ConfigFault>
+        ensures ok { IfOk result (λ c. c ≡ record { ids = ids; functional = of_this_version functional; least = least; busy_ms = busy_ms; manifest_ms = manifest_ms }) }
+        ensures allowed { IfOk result (λ c. IsAllowed c) }
+        ensures err { IfErr result (λ e. FirstFault e (record { ids = ids; functional = functional; least = least; busy_ms = busy_ms; manifest_ms = manifest_ms })) }
+    {
+        if functional.transfer == 0 || functional.transfer > 4096 {
+            return Err(ConfigFault::BadTransfer);
+        }
+        if busy_ms > 0xff_ffff
+            || manifest_ms > 0xff_ffff
+            || !functional.tolerant && manifest_ms == 0
+        {
+            return Err(ConfigFault::BadPoll);
+        }
+        if least == 0 || least > 0x100_0000 {
+            return Err(ConfigFault::BadLeast);
+        }
+        Ok(Config {
+            ids,
+            functional: Functional {
+                version: 0x0110,
+                ..functional
+            },
+            least,
+            busy_ms,
+            manifest_ms,
+        })
+    }
+}

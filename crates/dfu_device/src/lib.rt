@@ -1,0 +1,13 @@
+//! The device's side of USB device firmware upgrade (USB DFU 1.1): a machine that answers every
+//! setup with every body, takes no memory, and never fails. Each of its steps is a row of the
+//! device table, `specs/Table.antt`.
+#![tactic(auto)]
+
+mod answer;
+mod config;
+mod fault;
+mod mode;
+
+pub use answer::Answer;
+pub use config::Config;
+pub use fault::ConfigFault;
