@@ -5,3 +5,4 @@ pub mod Setting
 pub mod Shown
 pub mod Rows
 pub mod Inside
+pub mod View

@@ -1,6 +1,6 @@
 //! What a device is set up with.
 
-ghost use Rattle.std.specs.Prelude.{◌≡◌, ◌≤◌, ◌<◌, ◌^◌, IfOk, IfErr, false};
+ghost use Rattle.std.specs.Prelude.{◌≡◌, ◌≤◌, ◌<◌, ◌^◌, IfOk, IfErr};
 ghost use Rattle.dfu_device.specs.Setting.{IsAllowed, FirstFault, of_this_version};
 
 use crate::ConfigFault;
@@ -72,5 +72,50 @@ impl Config {
             busy_ms,
             manifest_ms,
         })
+    }
+
+    /// Who the device is.
+    pub(crate) fn ids(&self) -> Ids
+        ensures { result ≡ self.now.ids }
+    {
+        self.ids
+    }
+
+    /// The functional descriptor.
+    pub(crate) fn functional(&self) -> Functional
+        ensures { result ≡ self.now.functional }
+    {
+        self.functional
+    }
+
+    /// The most bytes of a block.
+    pub(crate) fn transfer(&self) -> u16
+        ensures value { result ≡ self.now.functional.transfer }
+        ensures fits { result ≤ 4096 }
+    {
+        self.functional.transfer
+    }
+
+    /// The fewest bytes of an image.
+    pub(crate) fn least(&self) -> u32
+        ensures { result ≡ self.now.least }
+    {
+        self.least
+    }
+
+    /// How long it takes to write a block.
+    pub(crate) fn busy_ms(&self) -> u32
+        ensures value { result ≡ self.now.busy_ms }
+        ensures fits { result < 2 ^ 24 }
+    {
+        self.busy_ms
+    }
+
+    /// How long it takes to put an image in place.
+    pub(crate) fn manifest_ms(&self) -> u32
+        ensures value { result ≡ self.now.manifest_ms }
+        ensures fits { result < 2 ^ 24 }
+    {
+        self.manifest_ms
     }
 }

@@ -5,9 +5,15 @@
 
 mod answer;
 mod config;
+mod device;
+mod effects;
 mod fault;
+mod machine;
 mod mode;
+mod states;
+mod time;
 
 pub use answer::Answer;
 pub use config::Config;
+pub use device::Device;
 pub use fault::ConfigFault;

@@ -1,0 +1,21 @@
+use Rattle.std.proofs.Common.{◌≡◌, ℕ, ◌+◌, ◌≤◌, ◌++◌, length, take, OnOk, refl, sym, subst, arith, is_ok}
+use Rattle.dfu_slots.specs.Seen.{spare_of, room_of}
+use Rattle.dfu_device.proofs.Steps.{block_begun, spare_put, fits_spare}
+use Rattle.dfu_device.proofs.effects.put_block.Goals as goal
+
+pub returns-then-written-gt0-clause-spare : goal.returns-then-written-gt0-clause-spare
+returns-then-written-gt0-clause-spare g c =
+    let fits : c.args.written ≤ room_of c.args.slots.now = omega (arith, c.requires.room) in
+    spare_put c.put.result c.args.slots.now c.args.slots.now c.put.new.self c.args.written c.args.block.now refl (fits_spare c.args.slots.now c.args.written c.requires.shape fits) c.put.ensures.spare
+
+pub returns-clause-calls : goal.returns-clause-calls
+returns-clause-calls g c =
+    let none : c.args.written ≡ 0 = omega (arith, c.if-written-gt0.false) in
+    let fits : 0 + length c.args.block.now ≤ room_of c.begin.new.self = omega (arith, c.requires.room, c.in_ok-begin.ensures.room) in
+    block_begun c.args.slots.now c.begin.new.self c.put-2.new.self c.args.written c.args.block.now (is_ok c.put-2.result) none c.in_ok-begin.ensures.call (c.put-2.ensures.call c.in_ok-begin.ensures.shut fits)
+
+pub returns-clause-spare : goal.returns-clause-spare
+returns-clause-spare g c =
+    let none : c.args.written ≡ 0 = omega (arith, c.if-written-gt0.false) in
+    subst (λ (k : ℕ). OnOk c.put-2.result (take (k + length c.args.block.now) (spare_of c.put-2.new.self) ≡ take k (spare_of c.args.slots.now) ++ c.args.block.now)) (sym none)
+    (spare_put c.put-2.result c.args.slots.now c.begin.new.self c.put-2.new.self 0 c.args.block.now c.in_ok-begin.ensures.spare (omega arith) c.put-2.ensures.spare)

@@ -1,0 +1,160 @@
+//! What the states of a device do: a function for each effect.
+
+ghost use Rattle.std.specs.Prelude.{◌≡◌, ◌<◌, ◌≤◌, ◌+◌, ◌++◌, ◌^◌, ◌⊎◌, ℕ, length, take, List, [], true, false, if◌then◌else◌, OnOk, OnErr, is_ok};
+ghost use Rattle.dfu_slots.specs.Medium.{Rose};
+ghost use Rattle.dfu_slots.specs.Seen.{image_of, spare_of, is_begun, room_of, is_shaped, Called};
+ghost use Rattle.dfu_device.specs.Stage.{StateOf, Written, Ready, Broken, state_of, poll_of, status_of};
+ghost use Rattle.dfu_device.specs.Table.{block_plan};
+ghost use Rattle.dfu_device.specs.Shown.{profile};
+ghost use Rattle.dfu_device.specs.Inside.{stage_of};
+ghost use Rattle.dfu_device.specs.Rows.{Answers, Done, WroteBlock, FailedBlock, Committed, FailedCommit, block_calls};
+ghost use Rattle.dfu_device.specs.View.{shown};
+
+use crate::Answer;
+use crate::machine::Machine;
+use crate::mode::Mode;
+use arrayvec::ArrayVec;
+use dfu_slots::{Medium, PutFault, Slots};
+use dfu_wire::{Code, Status};
+
+impl<M: Medium + Drop> Machine<M> {
+    /// How long the host is to wait, in milliseconds.
+    fn poll_ms(&self) -> u32
+        ensures value { result ≡ poll_of (profile (shown self.now)) (shown self.now).stage }
+        ensures fits { result < 2 ^ 24 }
+    {
+        match self.mode {
+            Mode::Writing { .. } => self.config.busy_ms(),
+            Mode::Committing { .. } => self.config.manifest_ms(),
+            _ => 0,
+        }
+    }
+
+    /// Answers with the first `len` bytes of the status, at most six.
+    pub fn report(&self, len: u16, out: &mut ArrayVec<u8, 4096>) -> Answer
+        requires { out.old.items ≡ [] }
+        ensures { Answers len (status_of (profile (shown self.now)) (shown self.now).stage) result out.new.items }
+    {
+        let Ok(status) = Status::new(self.code(), self.poll_ms(), self.state()) else {
+            unreachable!()
+        };
+        let bytes = status.encode();
+        let len = (len as usize).min(6);
+        let _ = out.try_extend_from_slice(&bytes[..len]);
+        Answer::Bytes
+    }
+
+    /// Answers with the state, where at least one byte is asked for.
+    pub fn tell(&self, len: u16, out: &mut ArrayVec<u8, 4096>) -> Answer
+        requires { out.old.items ≡ [] }
+        ensures { Answers len (StateOf (state_of (shown self.now).stage)) result out.new.items }
+    {
+        if len > 0 {
+            out.push(self.state().byte());
+        }
+        Answer::Bytes
+    }
+
+    /// Stalls, and goes to dfuERROR with a code.
+    pub fn fault(&mut self, code: Code) -> Answer
+        ensures answer { result ≡ Answer.Stall }
+        ensures now { shown self.new ≡ record (shown self.old) { stage = Broken code } }
+    {
+        self.mode = Mode::Broken { code };
+        Answer::Stall
+    }
+
+    /// Takes a block of a download behind the bytes written, if its length and its number are right.
+    pub fn take_block(&mut self, written: u32, expected: u16, number: u16, body: &[u8]) -> Answer
+        requires fits { (written ≡ 0) ⊎ ((0 < written) × (written ≤ room_of self.old.slots) × (is_begun self.old.slots ≡ true)) }
+        requires some { 0 < length body.now }
+        ensures row { Done (block_plan (profile (shown self.old)) (take written (spare_of self.old.slots)) expected number body.now) 0 (shown self.old) result [] (shown self.new) }
+    {
+        if body.len() > self.config.transfer() as usize {
+            return self.fault(Code::StalledPkt);
+        }
+        if number != expected {
+            return self.fault(Code::Address);
+        }
+        if body.len() > (self.slots.capacity() - written) as usize {
+            return self.fault(Code::Address);
+        }
+        self.block.clear();
+        let _ = self.block.try_extend_from_slice(body);
+        self.mode = Mode::Unwritten {
+            written,
+            number: expected.wrapping_add(1),
+        };
+        Answer::Ack
+    }
+
+    /// Writes the block. It answers whether the medium worked; `late` is said where time passed, so
+    /// that the host has to ask for the status once more.
+    pub fn write_block(&mut self, written: u32, number: u16, late: bool) -> bool
+        requires { ((passed : ℕ) × (self.old.mode ≡ Mode.Writing written number passed)) ⊎ (self.old.mode ≡ Mode.Unwritten written number) }
+        ensures done { result ≡ true → WroteBlock (take written (spare_of self.old.slots)) self.old.block.items self.old.config self.old.slots (if late then Written (take written (spare_of self.old.slots) ++ self.old.block.items) number else Ready (take written (spare_of self.old.slots) ++ self.old.block.items) number) (shown self.new) }
+        ensures failed { result ≡ false → FailedBlock (take written (spare_of self.old.slots)) self.old.block.items self.old.config self.old.slots (shown self.new) }
+    {
+        match put_block(&mut self.slots, written, self.block.as_slice()) {
+            Ok(()) => {
+                let written = written + self.block.len() as u32;
+                self.mode = if late {
+                    Mode::Written { written, number }
+                } else {
+                    Mode::Ready { written, number }
+                };
+                true
+            }
+            Err(_) => {
+                self.mode = Mode::Broken { code: Code::Write };
+                false
+            }
+        }
+    }
+
+    /// Makes the bytes taken the active image, and goes on to the next state. It answers whether the
+    /// medium worked.
+    pub fn commit_taken(&mut self, written: u32, next: Mode) -> bool
+        requires mode { ((passed : ℕ) × (self.old.mode ≡ Mode.Committing written passed)) ⊎ (self.old.mode ≡ Mode.Closed written) }
+        requires next { (next ≡ Mode.Idle) ⊎ (next ≡ Mode.Complete) ⊎ (next ≡ Mode.Waiting) }
+        ensures done { result ≡ true → Committed (take written (spare_of self.old.slots)) self.old.config self.old.slots (stage_of next [] []) (shown self.new) }
+        ensures failed { result ≡ false → FailedCommit (take written (spare_of self.old.slots)) self.old.config self.old.slots (shown self.new) }
+    {
+        match self.slots.commit(written) {
+            Ok(()) => {
+                self.mode = next;
+                true
+            }
+            Err(_) => {
+                self.mode = Mode::Broken { code: Code::Prog };
+                false
+            }
+        }
+    }
+}
+
+/// Writes a block behind the bytes written, the first one after a `begin`.
+fn put_block<M: Medium + Drop>(
+    slots: &mut Slots<M>,
+    written: u32,
+    block: &[u8],
+) -> Result<(), PutFault>
+    requires begun { (written ≡ 0) ⊎ (is_begun slots.old ≡ true) }
+    requires shape { is_shaped slots.old ≡ true }
+    requires room { written + length block.now ≤ room_of slots.old }
+    requires some { 0 < length block.now }
+    requires small { length block.now ≤ 4096 }
+    ensures shape { is_shaped slots.new ≡ true }
+    ensures room { room_of slots.new ≡ room_of slots.old }
+    ensures image { image_of slots.new ≡ image_of slots.old }
+    ensures calls { Called slots.old (block_calls (take written (spare_of slots.old)) block.now) (is_ok result) slots.new }
+    ensures begun { OnOk result (is_begun slots.new ≡ true) }
+    ensures spare { OnOk result (take (written + length block.now) (spare_of slots.new) ≡ take written (spare_of slots.old) ++ block.now) }
+    ensures err { OnErr result (Rose slots.old.medium.failures slots.new.medium.failures) }
+{
+    if written > 0 {
+        return slots.put(written, block);
+    }
+    slots.begin()?;
+    slots.put(0, block)
+}

@@ -1,0 +1,133 @@
+//! The machine inside a device.
+
+ghost use Rattle.std.specs.Prelude.{◌≡◌, ◌≢◌, ◌<◌, ◌==◌, ◌^◌, length, ℕ, List, IsTrue, []};
+ghost use Rattle.dfu_slots.specs.Seen.{image_of, spare_of};
+ghost use Rattle.dfu_device.specs.Stage.{InApp, state_of, code_of};
+ghost use Rattle.dfu_device.specs.Table.{reset_stage};
+ghost use Rattle.dfu_device.specs.Shown.{Shown};
+ghost use Rattle.dfu_device.specs.Inside.{is_sound};
+ghost use Rattle.dfu_device.specs.Rows.{Serves, Handles, body_length};
+
+use crate::mode::Mode;
+use crate::{Answer, Config};
+use arrayvec::ArrayVec;
+use dfu_slots::{Medium, Slots};
+use dfu_wire::{Code, Request, Setup, State};
+
+/// The machine inside a device: what is fixed, the slot store, the state, and the block that is not
+/// written yet.
+#[derive(Drop)]
+pub struct Machine<M: Medium + Drop> {
+    pub config: Config,
+    pub slots: Slots<M>,
+    pub mode: Mode,
+    pub block: ArrayVec<u8, 4096>,
+    ghost sound: { IsTrue (is_sound mode (length block.items) slots) },
+}
+
+impl<M: Medium + Drop> Machine<M> {
+    ghost use Rattle.dfu_device.specs.View.{shown};
+
+    /// A machine in appIDLE.
+    pub fn start(config: Config, slots: Slots<M>) -> Machine<M>
+        ensures { shown result ≡ record { config = config; slots = slots; stage = InApp } }
+    {
+        let _ = slots.capacity();
+        Machine {
+            config,
+            slots,
+            mode: Mode::InApp,
+            block: ArrayVec::new(),
+        }
+    }
+
+    /// The state of the standard.
+    pub fn state(&self) -> State
+        ensures { result ≡ state_of (shown self.now).stage }
+    {
+        match self.mode {
+            Mode::InApp => State::AppIdle,
+            Mode::Detaching { .. } => State::AppDetach,
+            Mode::Idle => State::DfuIdle,
+            Mode::Unwritten { .. } | Mode::Written { .. } => State::DownloadSync,
+            Mode::Writing { .. } => State::DownloadBusy,
+            Mode::Ready { .. } => State::DownloadIdle,
+            Mode::Closed { .. } | Mode::Complete => State::ManifestSync,
+            Mode::Committing { .. } => State::Manifest,
+            Mode::Waiting => State::ManifestWaitReset,
+            Mode::Broken { .. } => State::Error,
+        }
+    }
+
+    /// The status code: that of dfuERROR, and OK in every other state.
+    pub fn code(&self) -> Code
+        ensures { result ≡ code_of (shown self.now).stage }
+    {
+        match self.mode {
+            Mode::Broken { code } => code,
+            _ => Code::Ok,
+        }
+    }
+
+    /// Answers a setup with its body: the three rules before the table, then the table.
+    pub fn handle(&mut self, setup: &[u8; 8], body: &[u8], out: &mut ArrayVec<u8, 4096>) -> Answer
+        ensures row { Handles setup.now body.now (shown self.old) result out.new.items (shown self.new) }
+    {
+        out.clear();
+        let setup = Setup::decode(setup);
+        let request = setup.request();
+        match request {
+            Request::NotDfu => Answer::Stall,
+            request => {
+                if !goes_with(&setup, body) {
+                    return Answer::Stall;
+                }
+                self.serve(request, body, out)
+            }
+        }
+    }
+
+    /// Answers a request of the class whose body fits, by the state.
+    fn serve(&mut self, request: Request, body: &[u8], out: &mut ArrayVec<u8, 4096>) -> Answer
+        requires fits { (block len : ℕ) → request ≡ Request.Dnload block len → length body.now ≡ len }
+        requires out { out.old.items ≡ [] }
+        ensures row { Serves request body.now (shown self.old) result out.new.items (shown self.new) }
+    {
+        match self.mode {
+            Mode::InApp => self.in_app_idle(request, out),
+            Mode::Detaching { timer, passed } => self.in_app_detach(timer, passed, request, out),
+            Mode::Idle => self.in_idle(request, body, out),
+            Mode::Unwritten { written, number } => self.in_unwritten(written, number, request, out),
+            Mode::Written { written, number } => self.in_written(written, number, request, out),
+            Mode::Writing { .. } => self.in_busy(),
+            Mode::Ready { written, number } => self.in_ready(written, number, request, body, out),
+            Mode::Closed { written } => self.in_closed(written, request, out),
+            Mode::Complete => self.in_complete(request, out),
+            Mode::Committing { .. } => self.in_manifest(),
+            Mode::Waiting => self.in_wait_reset(),
+            Mode::Broken { code } => self.in_error(code, request, out),
+        }
+    }
+
+    /// The bus is reset.
+    pub fn usb_reset(&mut self)
+        ensures { shown self.new ≡ record (shown self.old) { stage = reset_stage (shown self.old).stage } }
+    {
+        self.mode = match self.mode {
+            Mode::Detaching { .. } => Mode::Idle,
+            _ => Mode::InApp,
+        };
+    }
+}
+
+/// Whether a body goes with its setup: wLength bytes where the host sends, none where it reads.
+fn goes_with(setup: &Setup, body: &[u8]) -> bool
+    ensures { result ≡ (length body.now == body_length setup.now) }
+{
+    let len = if setup.kind == 0x21 {
+        setup.length as usize
+    } else {
+        0
+    };
+    body.len() == len
+}
