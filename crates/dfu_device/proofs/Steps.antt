@@ -7,8 +7,8 @@ use Rattle.dfu_wire.specs.declared.setups.Setup.{Setup}
 use Rattle.dfu_wire.specs.declared.requests.Request.{Request as Asked}
 use Rattle.dfu_wire.specs.declared.requests.Request.TheVariants as asked
 use Rattle.dfu_wire.specs.declared.codes.Code.TheVariants.{Prog}
-use Rattle.dfu_slots.specs.Medium.{SlotsState, written}
-use Rattle.dfu_slots.specs.Seen.{image_of, spare_of, is_begun, room_of, is_shaped, Call, Begin, Put, Commit, DidCall, Called}
+use Rattle.dfu_slots.specs.Medium.{written}
+use Rattle.dfu_slots.specs.Seen.{SlotsState, image_of, spare_of, is_begun, room_of, is_shaped, Call, Begin, Put, Commit, DidCall, Called}
 use Rattle.dfu_device.specs.declared.answer.Answer.{Answer}
 use Rattle.dfu_device.specs.declared.answer.Answer.TheVariants as answer
 use Rattle.dfu_device.specs.Setting.{Setting}
@@ -33,6 +33,9 @@ pub block_begun : (s mid now : SlotsState) (n : ℕ) (block : List ℕ) (ok : Bo
 block_begun s mid now n block ok none d e =
     subst (λ (k : ℕ). Called s (block_calls (take k (spare_of s)) block) ok now) (sym none)
     (called_two s mid now Begin (Put 0 block) ok d e)
+
+pub block_not_begun : (s now : SlotsState) (n : ℕ) (block : List ℕ) → n ≡ 0 → DidCall s Begin false now → Called s (block_calls (take n (spare_of s)) block) false now
+block_not_begun s now n block none d = subst (λ (k : ℕ). Called s (block_calls (take k (spare_of s)) block) false now) (sym none) (inl d.calls)
 
 further : (s now : SlotsState) (n : ℕ) (block : List ℕ) (ok : Bool) → 0 < n → DidCall s (Put n block) ok now → Called s (if n == 0 then Begin ∷ Put 0 block ∷ [] else Put n block ∷ []) ok now
 further s now n block ok some d =

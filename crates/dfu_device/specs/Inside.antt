@@ -1,7 +1,6 @@
 -- How the machine inside a device keeps what a contract sees of it.
 use Rattle.std.specs.Prelude.{ℕ, ◌+◌, Bool, true, nat_le, nat_lt, ◌&&◌, ◌||◌, ◌==◌, List, take}
-use Rattle.dfu_slots.specs.Medium.{SlotsState}
-use Rattle.dfu_slots.specs.Seen.{spare_of, is_begun, room_of, is_shaped}
+use Rattle.dfu_slots.specs.Seen.{SlotsState, spare_of, is_begun, room_of, is_shaped}
 use Rattle.dfu_device.specs.declared.mode.Mode.{Mode}
 use Rattle.dfu_device.specs.declared.mode.Mode.TheVariants as mode
 use Rattle.dfu_device.specs.Stage.{Stage, InApp, Detaching, Idle, Unwritten, Written, Writing, Ready, Closed, Complete, Committing, Waiting, Broken}

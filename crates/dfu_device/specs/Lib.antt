@@ -6,3 +6,9 @@ pub mod Shown
 pub mod Rows
 pub mod Inside
 pub mod View
+pub mod Came
+pub mod Taken
+pub mod TakenRow
+pub mod TakenHistory
+pub mod Told
+pub mod Kept

@@ -8,8 +8,8 @@ use Rattle.dfu_wire.specs.Setup.{IsSetup}
 use Rattle.dfu_wire.specs.Request.{Asks}
 use Rattle.dfu_wire.specs.Status.{IsStatus}
 use Rattle.dfu_wire.specs.State.{state_byte}
-use Rattle.dfu_slots.specs.Medium.{SlotsState, Rose}
-use Rattle.dfu_slots.specs.Seen.{image_of, room_of, Call, Begin, Put, Commit, Called}
+use Rattle.dfu_slots.specs.Medium.{Rose}
+use Rattle.dfu_slots.specs.Seen.{SlotsState, image_of, room_of, Call, Begin, Put, Commit, Called}
 use Rattle.dfu_device.specs.declared.answer.Answer.{Answer}
 use Rattle.dfu_device.specs.declared.answer.Answer.TheVariants as answer
 use Rattle.dfu_device.specs.Stage.{Request, Detach, Dnload, Upload, GetStatus, ClrStatus, GetState, Abort, OtherRequest, Reply, Ack, StatusOf, StateOf, Data, Stall, Stage, InApp, Broken}

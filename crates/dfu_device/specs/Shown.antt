@@ -1,7 +1,6 @@
 -- What a contract sees of a device.
 use Rattle.std.specs.Prelude.{◌≡◌, ℕ, false, List, [], length, take}
-use Rattle.dfu_slots.specs.Medium.{SlotsState}
-use Rattle.dfu_slots.specs.Seen.{image_of, spare_of, room_of}
+use Rattle.dfu_slots.specs.Seen.{SlotsState, image_of, spare_of, room_of}
 use Rattle.dfu_device.specs.Stage.{Profile, Stage, Unwritten, Written, Writing, Ready, Closed, Committing}
 use Rattle.dfu_device.specs.Setting.{Setting}
 use Rattle.dfu_device.specs.Outcome.{Situation}

@@ -1,9 +1,9 @@
 //! A device, as a bootloader would run it.
 
 ghost use Rattle.std.specs.Prelude.{◌≡◌, take, OnOk, OnErr, IfOk, IfErr};
-ghost use Rattle.dfu_slots.specs.Medium.{fused};
+ghost use Rattle.dfu_slots.specs.Seen.{store_on, fused};
 ghost use Rattle.dfu_slots.specs.Medium.Fuse.{Whole, Armed};
-ghost use Rattle.dfu_slots.specs.Slots.{HasImage};
+ghost use Rattle.dfu_slots.specs.Image.{HasImage};
 ghost use Rattle.dfu_slots.specs.Changes.{IsOpenFault};
 ghost use Rattle.dfu_device.specs.Stage.{InApp, state_of, code_of};
 ghost use Rattle.dfu_device.specs.Table.{reset_stage};
@@ -49,10 +49,10 @@ impl<M: Medium + Drop> Device<M> {
     /// faults are those of `Slots::open`, and come exactly where the medium has no active image;
     /// they hand the medium back as it was.
     pub fn power_on(config: Config, medium: M) -> Result<Device<M>, (OpenFault, M)>
-        ensures ok { IfOk result (λ d. d ≡ record { config = config; slots = record { medium = M.state medium }; stage = InApp }) }
-        ensures has_image { OnOk result (HasImage (M.state medium).bytes) }
-        ensures err { IfErr result (λ e. (e.1 ≡ medium) × IsOpenFault e.0 (M.state medium).bytes) }
-        ensures refused { OnErr result (¬ HasImage (M.state medium).bytes) }
+        ensures ok { IfOk result (λ d. d ≡ record { config = config; slots = store_on (M.state medium); stage = InApp }) }
+        ensures has_image { OnOk result (HasImage (M.state medium)) }
+        ensures err { IfErr result (λ e. (e.1 ≡ medium) × IsOpenFault e.0 (M.state medium)) }
+        ensures refused { OnErr result (¬ HasImage (M.state medium)) }
     {
         let slots = Slots::open(medium)?;
         Ok(Device::start(config, slots))
@@ -128,7 +128,7 @@ impl<M: Medium + Drop> Device<M> {
     /// refused on it.
     pub fn into_medium(self) -> M
         ensures medium { M.state result ≡ self.slots.medium }
-        ensures has_image { HasImage (M.state result).bytes }
+        ensures has_image { HasImage (M.state result) }
     {
         self.machine.slots.into_medium()
     }

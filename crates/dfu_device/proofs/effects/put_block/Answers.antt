@@ -1,6 +1,7 @@
 use Rattle.std.proofs.Common.{◌≡◌, ℕ, ◌+◌, ◌≤◌, ◌++◌, length, take, OnOk, refl, sym, subst, arith, is_ok}
 use Rattle.dfu_slots.specs.Seen.{spare_of, room_of}
-use Rattle.dfu_device.proofs.Steps.{block_begun, spare_put, fits_spare}
+use Rattle.std.proofs.lemmas.Result.{err_from_is_err_and}
+use Rattle.dfu_device.proofs.Steps.{block_begun, block_not_begun, spare_put, fits_spare}
 use Rattle.dfu_device.proofs.effects.put_block.Goals as goal
 
 pub returns-then-written-gt0-clause-spare : goal.returns-then-written-gt0-clause-spare
@@ -19,3 +20,9 @@ returns-clause-spare g c =
     let none : c.args.written ≡ 0 = omega (arith, c.if-written-gt0.false) in
     subst (λ (k : ℕ). OnOk c.put-2.result (take (k + length c.args.block.now) (spare_of c.put-2.new.self) ≡ take k (spare_of c.args.slots.now) ++ c.args.block.now)) (sym none)
     (spare_put c.put-2.result c.args.slots.now c.begin.new.self c.put-2.new.self 0 c.args.block.now c.in_ok-begin.ensures.spare (omega arith) c.put-2.ensures.spare)
+
+pub returns-in_err-begin-clause-calls : goal.returns-in_err-begin-clause-calls
+returns-in_err-begin-clause-calls g c =
+    let none : c.args.written ≡ 0 = omega (arith, c.if-written-gt0.false) in
+    let p = err_from_is_err_and c.from_residual.result c.from_residual.ensures.1 in
+    rw p.1 (block_not_begun c.args.slots.now c.begin.new.self c.args.written c.args.block.now none c.in_err-begin.ensures.call)

@@ -1,0 +1,158 @@
+-- A row of a device is the outcome of its plan at some luck of the medium: the laws by which a caller goes on from a row.
+use Rattle.std.specs.Prelude.{◌≡◌, ℕ, ◌≤◌, true, false, List, [], ◌∷◌, length}
+use Rattle.std.proofs.Common.{refl, sym, ap, ◌∙◌, inl, inr, subst, arith}
+use Rattle.std.proofs.lemmas.List.{take_all}
+use Rattle.dfu_wire.specs.declared.setups.Setup.{Setup}
+use Rattle.dfu_wire.specs.declared.requests.Request.{Request as Asked}
+use Rattle.dfu_wire.specs.declared.states.State.{State}
+use Rattle.dfu_wire.specs.declared.codes.Code.{Code}
+use Rattle.dfu_wire.specs.Setup.{IsSetup}
+use Rattle.dfu_wire.specs.Status.{IsStatus}
+use Rattle.dfu_wire.specs.Request.{Asks}
+use Rattle.dfu_wire.specs.OneRequest.{Asks-one}
+use Rattle.dfu_wire.specs.OneSetup.{IsSetup-one}
+use Rattle.dfu_slots.specs.Medium.{Rose}
+use Rattle.dfu_slots.specs.Medium.Fuse.{Whole}
+use Rattle.dfu_slots.specs.Unarmed.{called_whole, called_works}
+use Rattle.dfu_slots.specs.Seen.{image_of, room_of, Commit}
+use Rattle.dfu_device.specs.declared.answer.Answer.{Answer}
+use Rattle.dfu_device.specs.declared.answer.Answer.TheVariants as answer
+use Rattle.dfu_device.specs.Stage.{Reply, StatusOf, Stall, Stage}
+use Rattle.dfu_device.specs.Table.{Plan, Sure, Writes, Commits, plan, time_plan}
+use Rattle.dfu_device.specs.Outcome.{Luck, Works, FailsOld, FailsNew, Outcome, outcome}
+use Rattle.dfu_device.specs.Shown.{Shown, profile_of, without_upload, profile, situation}
+use Rattle.dfu_device.specs.Rows.{meant, asked_length, Answers, block_calls, Done, Elapses, is_served, setup_plan, Handles, handled_as}
+
+-- the medium failed only where its count of failures rose
+abbrev pub IsLuck : Luck → Shown → Shown → Type 0
+IsLuck Works w w' = Unit {0}
+IsLuck luck w w' = Rose w.slots.medium.failures w'.slots.medium.failures
+
+-- what a plan led to is its outcome at some luck; an unarmed medium always works, and stays unarmed
+pub record Came (p : Plan) (len : ℕ) (w : Shown) (a : Answer) (out : List ℕ) (w' : Shown) : Type 0 where
+  pub luck : Luck
+  pub reply : Reply
+  pub same : outcome (image_of w.slots) p luck ≡ record { reply = reply; after = situation w' }
+  pub answers : Answers len reply a out
+  pub fixed : profile w' ≡ profile w
+  pub is_luck : IsLuck luck w w'
+  pub unarmed : w.slots.medium.fuse ≡ Whole → (luck ≡ Works) × (w'.slots.medium.fuse ≡ Whole)
+
+fixed_by : (w w' : Shown) → w'.config ≡ w.config → room_of w'.slots ≡ room_of w.slots → profile w' ≡ profile w
+fixed_by w w' config room = λ k. without_upload (profile_of (config k) (room k))
+
+after_is : (reply : Reply) (w' : Shown) (image : List ℕ) (stage : Stage) → image_of w'.slots ≡ image → w'.stage ≡ stage
+    → ◌≡◌ {A = Outcome} (record { reply = reply; after = record { image = image; stage = stage } }) (record { reply = reply; after = situation w' })
+after_is reply w' image stage i s = λ k. record { reply = reply; after = record { image = sym i k; stage = sym s k } }
+
+-- each plan that was carried out
+abbrev pub PlanCame : Type 0
+PlanCame = (p : Plan) (len : ℕ) (w : Shown) (a : Answer) (out : List ℕ) (w' : Shown) → Done p len w a out w' → Came p len w a out w'
+
+pub came : PlanCame
+came (Sure reply stage) len w a out w' (says, is) = record {
+  luck = Works;
+  reply = reply;
+  same = ap (λ (z : Shown). record { reply = reply; after = situation z }) (sym is);
+  answers = says;
+  fixed = ap profile is;
+  is_luck = tt;
+  unarmed = λ e. (refl, ap (λ (z : Shown). z.slots.medium.fuse) is ∙ e);
+}
+came (Writes before block reply stage bad) len w a out w' (inl (says, h)) = record {
+  luck = Works;
+  reply = reply;
+  same = after_is reply w' (image_of w.slots) stage h.image h.stage_is;
+  answers = says;
+  fixed = fixed_by w w' h.config_is h.room;
+  is_luck = tt;
+  unarmed = λ e. (refl, called_whole w.slots w'.slots (block_calls before block) e h.calls);
+}
+came (Writes before block reply stage bad) len w a out w' (inr (says, h)) = record {
+  luck = FailsOld;
+  reply = bad;
+  same = after_is bad w' (image_of w.slots) _ h.image h.stage_is;
+  answers = says;
+  fixed = fixed_by w w' h.config_is h.room;
+  is_luck = h.failed;
+  unarmed = λ e. absurd (called_works w.slots w'.slots (block_calls before block) e h.calls);
+}
+came (Commits taken reply stage bad) len w a out w' (inl (says, h)) = record {
+  luck = Works;
+  reply = reply;
+  same = after_is reply w' taken stage h.image h.stage_is;
+  answers = says;
+  fixed = fixed_by w w' h.config_is h.room;
+  is_luck = tt;
+  unarmed = λ e. (refl, called_whole w.slots w'.slots (Commit (length taken) ∷ []) e h.calls);
+}
+came (Commits taken reply stage bad) len w a out w' (inr (says, h)) = elim (h.image) [
+  | inl old ↦ record {
+    luck = FailsOld;
+    reply = bad;
+    same = after_is bad w' (image_of w.slots) _ old h.stage_is;
+    answers = says;
+    fixed = fixed_by w w' h.config_is h.room;
+    is_luck = h.failed;
+    unarmed = λ e. absurd (called_works w.slots w'.slots (Commit (length taken) ∷ []) e h.calls);
+  }
+  | inr new ↦ record {
+    luck = FailsNew;
+    reply = bad;
+    same = after_is bad w' taken _ new h.stage_is;
+    answers = says;
+    fixed = fixed_by w w' h.config_is h.room;
+    is_luck = h.failed;
+    unarmed = λ e. absurd (called_works w.slots w'.slots (Commit (length taken) ∷ []) e h.calls);
+  }
+]
+
+-- the row of a setup whose reading is known goes by that reading
+abbrev pub RowOf : Type 0
+RowOf = (p : Setup) (q : Asked) (setup body : List ℕ) (w : Shown) (a : Answer) (out : List ℕ) (w' : Shown) → IsSetup p setup → Asks p q → Handles setup body w a out w'
+    → Done (setup_plan w p q body) (asked_length q) w a out w'
+
+pub row_of : RowOf
+row_of p q setup body w a out w' reads asks (handled_as p2 q2 reads2 asks2 done) =
+    let same : p2 ≡ p = IsSetup-one p2 p setup reads2 reads in
+    let one : q2 ≡ q = Asks-one p q2 q (subst (λ (x : Setup). Asks x q2) same asks2) asks in
+    subst (λ (y : Asked). Done (setup_plan w p y body) (asked_length y) w a out w') one (subst (λ (x : Setup). Done (setup_plan w x q2 body) (asked_length q2) w a out w') same done)
+
+-- what comes of a setup that goes by the table
+abbrev pub AskedCame : Type 0
+AskedCame = (p : Setup) (q : Asked) (setup body : List ℕ) (w : Shown) (a : Answer) (out : List ℕ) (w' : Shown) → IsSetup p setup → Asks p q → is_served p q body ≡ true
+    → Handles setup body w a out w' → Came (plan (profile w) (image_of w.slots) w.stage (meant q body)) (asked_length q) w a out w'
+
+pub asked_came : AskedCame
+asked_came p q setup body w a out w' reads asks on h =
+    let row = row_of p q setup body w a out w' reads asks h in
+    came (plan (profile w) (image_of w.slots) w.stage (meant q body)) (asked_length q) w a out w' (rw on at row)
+
+-- a setup that does not go by the table is stalled and changes nothing
+abbrev pub NotServed : Type 0
+NotServed = (p : Setup) (q : Asked) (setup body : List ℕ) (w : Shown) (a : Answer) (out : List ℕ) (w' : Shown) → IsSetup p setup → Asks p q → is_served p q body ≡ false
+    → Handles setup body w a out w' → (a ≡ answer.Stall) × (w' ≡ w)
+
+pub not_served : NotServed
+not_served p q setup body w a out w' reads asks off h =
+    let row : Done (setup_plan w p q body) (asked_length q) w a out w' = row_of p q setup body w a out w' reads asks h in
+    stalled (rw off at row)
+  where
+    stalled : Done (Sure Stall w.stage) (asked_length q) w a out w' → (a ≡ answer.Stall) × (w' ≡ w)
+    stalled x = (x.0.0, x.1)
+
+-- what comes of a time that passes
+abbrev pub TimeCame : Type 0
+TimeCame = (ms : ℕ) (w w' : Shown) → Elapses ms w w' → Came (time_plan (profile w) w.stage ms) 0 w answer.Ack [] w'
+
+pub time_came : TimeCame
+time_came ms w w' row = came (time_plan (profile w) w.stage ms) 0 w answer.Ack [] w' row
+
+-- where six bytes are asked for, the answer to GETSTATUS is read back as the status
+abbrev pub StatusWhole : Type 0
+StatusWhole = (len : ℕ) (code : Code) (poll : ℕ) (state : State) (a : Answer) (out : List ℕ) → 6 ≤ len → Answers len (StatusOf code poll state) a out
+    → (a ≡ answer.Bytes) × IsStatus (record { code = code; poll_ms = poll; state = state }) out
+
+pub status_whole : StatusWhole
+status_whole len code poll state a out room (is, bytes, status, string, front) =
+    (is, subst (λ (l : List ℕ). IsStatus (record { code = code; poll_ms = poll; state = state }) l) (sym (front ∙ take_all len bytes (omega (arith, room, status.length)))) status)
