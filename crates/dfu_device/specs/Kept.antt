@@ -1,11 +1,11 @@
--- What a row does to the image, and where a fault of the medium comes from.
+-- What a row does to the image.
 use Rattle.std.specs.Prelude.{◌≡◌, ◌⊎◌, ℕ, ◌+◌, ◌==◌, nat_lt, nat_le, max, Bool, true, false, not, List, [], ◌∷◌, ◌++◌, length, take, drop}
 use Rattle.std.proofs.Common.{refl, sym, ap, ◌∙◌, inl, inr, subst}
 use Rattle.std.proofs.lemmas.Bool.{true≢false}
 use Rattle.dfu_wire.specs.declared.setups.Setup.{Setup}
 use Rattle.dfu_wire.specs.declared.requests.Request.{Request as Asked}
 use Rattle.dfu_wire.specs.declared.codes.Code.{Code}
-use Rattle.dfu_wire.specs.declared.codes.Code.TheVariants.{Write as ErrWrite, Prog as ErrProg}
+use Rattle.dfu_wire.specs.declared.codes.Code.TheVariants.{Prog as ErrProg}
 use Rattle.dfu_slots.specs.Seen.{image_of, Commit, Called}
 use Rattle.dfu_device.specs.declared.answer.Answer.{Answer}
 use Rattle.dfu_device.specs.declared.answer.Answer.TheVariants as answer
@@ -175,17 +175,3 @@ error_keeps code w (Passing ms) a out w' at (is, none, row) =
     sure_keeps (time_plan (profile w) w.stage ms) 0 w answer.Ack [] w' (subst (λ (st : Stage). IsSure (time_plan (profile w) st ms)) (sym at) tt) row
 error_keeps code w BusReset a out w' at (is, none, same) = ap (λ (z : Shown). z.slots) same
 error_keeps code w PowerOn a out w' at (is, none, same) = ap (λ (z : Shown). z.slots) same
-
--- Faults of the medium.
-
--- dfuERROR with errWRITE or errPROG
-abbrev pub IsMediumFault : Stage → Type 0
-IsMediumFault (Broken ErrWrite) = Unit {0}
-IsMediumFault (Broken ErrProg) = Unit {0}
-IsMediumFault stage = ⊥
-
--- where the medium works, a plan ends in no fault of the medium but one that was there
-abbrev pub WorksWell : Stage → Plan → Type 0
-WorksWell st (Sure reply stage) = IsMediumFault stage → IsMediumFault st
-WorksWell st (Writes before block reply stage bad) = IsMediumFault stage → IsMediumFault st
-WorksWell st (Commits taken reply stage bad) = IsMediumFault stage → IsMediumFault st

@@ -12,3 +12,4 @@ pub mod TakenRow
 pub mod TakenHistory
 pub mod Told
 pub mod Kept
+pub mod Faults

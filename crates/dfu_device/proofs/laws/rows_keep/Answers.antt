@@ -1,0 +1,6 @@
+use Rattle.dfu_device.specs.Kept.{image_kept, error_keeps}
+use Rattle.dfu_device.specs.Faults.{faults_have_cause}
+use Rattle.dfu_device.proofs.laws.rows_keep.Goals as goal
+
+pub returns : goal.returns
+returns c = record { image = image_kept; error = error_keeps; faults = faults_have_cause }

@@ -1,0 +1,5 @@
+use Rattle.dfu_device.specs.TakenHistory.{asked_took, time_took, row_takes, step_takes, history_takes, start_takes}
+use Rattle.dfu_device.proofs.laws.rows_take.Goals as goal
+
+pub returns : goal.returns
+returns c = record { asked = asked_took; time = time_took; row = row_takes; step = step_takes; history = history_takes; from_start = start_takes }

@@ -1,0 +1,5 @@
+use Rattle.dfu_device.specs.Told.{status_told, state_told}
+use Rattle.dfu_device.proofs.laws.rows_tell.Goals as goal
+
+pub returns : goal.returns
+returns c = record { status = status_told; state = state_told }

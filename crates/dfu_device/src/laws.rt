@@ -1,0 +1,44 @@
+//! Laws of the rows of a device: each function has an empty body, and its contract is the law.
+
+ghost use Rattle.dfu_device.specs.Came.{PlanCame, RowOf, AskedCame, NotServed, TimeCame, StatusWhole};
+ghost use Rattle.dfu_device.specs.TakenHistory.{AskedTook, TimeTook, RowTakes, StepTakes, HistoryTakes, StartTakes};
+ghost use Rattle.dfu_device.specs.Told.{StatusTold, StateTold};
+ghost use Rattle.dfu_device.specs.Kept.{RowKeeps, ErrorKeeps};
+ghost use Rattle.dfu_device.specs.Faults.{FaultsHaveCause};
+
+/// What a row leads to: the outcome of its plan, at some luck of the medium. A setup whose reading
+/// is known goes by that reading; one that does not go by the table is stalled and changes nothing.
+/// Where six bytes are asked for, the answer to GETSTATUS is read back as the status.
+pub fn rows_come_to_outcomes()
+    ensures plan { PlanCame }
+    ensures row_of { RowOf }
+    ensures asked { AskedCame }
+    ensures not_served { NotServed }
+    ensures time { TimeCame }
+    ensures status { StatusWhole }
+{}
+
+/// The bytes taken: a row takes the body that it acknowledges, and a device has taken what its
+/// history says, one row or many.
+pub fn rows_take()
+    ensures asked { AskedTook }
+    ensures time { TimeTook }
+    ensures row { RowTakes }
+    ensures step { StepTakes }
+    ensures history { HistoryTakes }
+    ensures from_start { StartTakes }
+{}
+
+/// A status or a state that was answered is that of the state entered.
+pub fn rows_tell()
+    ensures status { StatusTold }
+    ensures state { StateTold }
+{}
+
+/// A row changes the image only by a commit, and to the bytes taken; in dfuERROR it stays. errWRITE
+/// and errPROG come only where the medium failed.
+pub fn rows_keep()
+    ensures image { RowKeeps }
+    ensures error { ErrorKeeps }
+    ensures faults { FaultsHaveCause }
+{}
