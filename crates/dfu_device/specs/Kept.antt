@@ -15,91 +15,9 @@ use Rattle.dfu_device.specs.Shown.{Shown, profile, situation}
 use Rattle.dfu_device.specs.Rows.{meant, asked_length, Done, is_served, setup_plan, handled_as, Cause, Transfer, Passing, BusReset, PowerOn, Row}
 use Rattle.dfu_device.specs.Taken.{taken_in, taken_of}
 use Rattle.dfu_device.specs.TakenRow.{either_way}
+use Rattle.dfu_device.specs.Leads.{CommitsOnly, row_leads, time_leads}
 
 -- The image.
-
--- a plan that commits commits these bytes
-abbrev pub CommitsOnly : List ℕ → Plan → Type 0
-CommitsOnly x (Commits taken reply stage bad) = taken ≡ x
-CommitsOnly x p = Unit {0}
-
-block_commits : (x : List ℕ) (c : Profile) (before : List ℕ) (expected number : ℕ) (body : List ℕ) → CommitsOnly x (block_plan c before expected number body)
-block_commits x c before expected number body =
-    either_way (CommitsOnly x) (nat_lt c.transfer (length body)) _ _ tt (either_way (CommitsOnly x) (not (number == expected)) _ _ tt
-    (either_way (CommitsOnly x) (nat_lt c.capacity (length before + length body)) _ _ tt tt))
-
-upload_commits : (x : List ℕ) (c : Profile) (i : List ℕ) (place expected number size : ℕ) → CommitsOnly x (upload_plan c i place expected number size)
-upload_commits x c i place expected number size =
-    let part = take size (drop place i) in
-    either_way (CommitsOnly x) (size == 0) _ _ tt (either_way (CommitsOnly x) (nat_lt c.transfer size) _ _ tt (either_way (CommitsOnly x) (not (number == expected)) _ _ tt
-    (either_way (CommitsOnly x) (nat_lt (length part) size) (Sure (Data part) Idle) (Sure (Data part) (Sending (place + size) (next_number expected))) tt tt)))
-
-further_commits : (x : List ℕ) (c : Profile) (taken : List ℕ) (expected number : ℕ) (body : List ℕ) → CommitsOnly x (further_plan c taken expected number body)
-further_commits x c taken expected number body =
-    either_way (CommitsOnly x) (is_empty body) _ _ (either_way (CommitsOnly x) (nat_le c.least (length taken)) _ _ tt tt) (block_commits x c taken expected number body)
-
-row_commits : (c : Profile) (i : List ℕ) (st : Stage) (r : Request) → CommitsOnly (taken_in i st) (plan c i st r)
-row_commits c i InApp (Detach timeout) = tt
-row_commits c i InApp GetStatus = tt
-row_commits c i InApp GetState = tt
-row_commits c i InApp r = tt
-row_commits c i (Detaching timer passed) GetStatus = tt
-row_commits c i (Detaching timer passed) GetState = tt
-row_commits c i (Detaching timer passed) r = tt
-row_commits c i Idle (Dnload number body) =
-    either_way (CommitsOnly []) (not c.can_download) _ _ tt (either_way (CommitsOnly []) (is_empty body) _ _ tt (block_commits [] c [] 0 number body))
-row_commits c i Idle (Upload number size) = either_way (CommitsOnly []) c.can_upload _ _ (upload_commits [] c i 0 0 number size) tt
-row_commits c i Idle Abort = tt
-row_commits c i Idle GetStatus = tt
-row_commits c i Idle GetState = tt
-row_commits c i Idle r = tt
-row_commits c i (Unwritten before block number) GetStatus = either_way (CommitsOnly (before ++ block)) (c.busy == 0) _ _ tt tt
-row_commits c i (Unwritten before block number) GetState = tt
-row_commits c i (Unwritten before block number) r = tt
-row_commits c i (Written taken number) GetStatus = tt
-row_commits c i (Written taken number) GetState = tt
-row_commits c i (Written taken number) r = tt
-row_commits c i (Writing before block number passed) r = tt
-row_commits c i (Ready taken number) (Dnload k body) = further_commits taken c taken number k body
-row_commits c i (Ready taken number) Abort = tt
-row_commits c i (Ready taken number) GetStatus = tt
-row_commits c i (Ready taken number) GetState = tt
-row_commits c i (Ready taken number) r = tt
-row_commits c i (Closed taken) GetStatus = either_way (CommitsOnly taken) (c.manifest == 0) _ _ refl tt
-row_commits c i (Closed taken) GetState = tt
-row_commits c i (Closed taken) r = tt
-row_commits c i Complete GetStatus = tt
-row_commits c i Complete GetState = tt
-row_commits c i Complete r = tt
-row_commits c i (Committing taken passed) r = tt
-row_commits c i Waiting r = tt
-row_commits c i (Sending place number) (Upload k size) = upload_commits [] c i place number k size
-row_commits c i (Sending place number) Abort = tt
-row_commits c i (Sending place number) GetStatus = tt
-row_commits c i (Sending place number) GetState = tt
-row_commits c i (Sending place number) r = tt
-row_commits c i (Broken code) ClrStatus = tt
-row_commits c i (Broken code) GetStatus = tt
-row_commits c i (Broken code) GetState = tt
-row_commits c i (Broken code) r = tt
-
-time_commits : (c : Profile) (i : List ℕ) (st : Stage) (ms : ℕ) → CommitsOnly (taken_in i st) (time_plan c st ms)
-time_commits c i (Detaching timer passed) ms =
-    either_way (CommitsOnly []) (ms == 0) _ _ tt (either_way (CommitsOnly []) c.will_detach _ _ tt (either_way (CommitsOnly []) (nat_le (max 1 timer) (passed + ms)) _ _ tt tt))
-time_commits c i (Writing before block number passed) ms =
-    either_way (CommitsOnly (before ++ block)) (ms == 0) _ _ tt (either_way (CommitsOnly (before ++ block)) (nat_le c.busy (passed + ms)) _ _ tt tt)
-time_commits c i (Committing taken passed) ms =
-    either_way (CommitsOnly taken) (ms == 0) _ _ tt (either_way (CommitsOnly taken) (nat_le c.manifest (passed + ms)) _ _ refl tt)
-time_commits c i InApp ms = tt
-time_commits c i Idle ms = tt
-time_commits c i (Unwritten before block number) ms = tt
-time_commits c i (Written taken number) ms = tt
-time_commits c i (Ready taken number) ms = tt
-time_commits c i (Closed taken) ms = tt
-time_commits c i Complete ms = tt
-time_commits c i Waiting ms = tt
-time_commits c i (Sending place number) ms = tt
-time_commits c i (Broken code) ms = tt
 
 -- the image became the bytes taken, by a commit of them and no other call; where that failed the code is errPROG
 pub record PutInPlace (w w' : Shown) : Type 0 where
@@ -133,7 +51,7 @@ done_keeps (Commits taken reply stage bad) len w a out w' only (inr (says, h)) =
 ]
 
 setup_commits : (w : Shown) (p : Setup) (q : Asked) (body : List ℕ) → CommitsOnly (taken_of (situation w)) (setup_plan w p q body)
-setup_commits w p q body = either_way (CommitsOnly (taken_of (situation w))) (is_served p q body) _ _ (row_commits (profile w) (image_of w.slots) w.stage (meant q body)) tt
+setup_commits w p q body = either_way (CommitsOnly (taken_of (situation w))) (is_served p q body) _ _ (row_leads (profile w) (image_of w.slots) w.stage (meant q body)).0 tt
 
 -- a row changes the image only by a commit, and then to the bytes taken
 abbrev pub RowKeeps : Type 0
@@ -141,7 +59,7 @@ RowKeeps = (w : Shown) (cause : Cause) (a : Answer) (out : List ℕ) (w' : Shown
 
 pub image_kept : RowKeeps
 image_kept w (Transfer setup body) a out w' (handled_as p q reads asks done) = done_keeps (setup_plan w p q body) (asked_length q) w a out w' (setup_commits w p q body) done
-image_kept w (Passing ms) a out w' (is, none, row) = done_keeps (time_plan (profile w) w.stage ms) 0 w answer.Ack [] w' (time_commits (profile w) (image_of w.slots) w.stage ms) row
+image_kept w (Passing ms) a out w' (is, none, row) = done_keeps (time_plan (profile w) w.stage ms) 0 w answer.Ack [] w' (time_leads (profile w) (image_of w.slots) w.stage ms).0 row
 image_kept w BusReset a out w' (is, none, same) = inl (ap (λ (z : Shown). image_of z.slots) same)
 image_kept w PowerOn a out w' (is, none, same) = inl (ap (λ (z : Shown). image_of z.slots) same)
 

@@ -11,5 +11,6 @@ pub mod Taken
 pub mod TakenRow
 pub mod TakenHistory
 pub mod Told
+pub mod Leads
 pub mod Kept
 pub mod Faults

@@ -166,132 +166,61 @@ fn check_all(rt: &impl Abort, device: &mut Device<SimMedium>, station: &Station)
 }
 
 /// The station after so many steps of a download.
-fn after(
-    steps: usize,
-    state: State,
-    polled: Option<State>,
-    other: State,
-    acknowledged: &'static [(u8, u16, State)],
-) -> Station {
-    Station {
-        way: &DOWNLOAD[..steps.min(9)],
-        state,
-        polled,
-        other,
-        acknowledged,
-    }
+#[rattlefmt::skip]
+fn after(steps: usize, state: State, polled: Option<State>, other: State, acknowledged: &'static [(u8, u16, State)]) -> Station {
+    Station { way: &DOWNLOAD[..steps.min(9)], state, polled, other, acknowledged }
 }
 
+#[rattlefmt::skip]
 #[test]
 fn every_setup_is_answered_before_a_download(rt: HostRuntime) -> Result<(), Fail> {
     let mut device = device(rt.alloc(), functional(0x07), 1, 5, 10)?;
     for station in [
-        after(
-            0,
-            State::AppIdle,
-            Some(State::AppIdle),
-            State::AppIdle,
-            &[(0, 0, State::AppDetach)],
-        ),
-        after(
-            1,
-            State::AppDetach,
-            Some(State::AppDetach),
-            State::AppIdle,
-            &[],
-        ),
-        after(
-            2,
-            State::DfuIdle,
-            Some(State::DfuIdle),
-            State::Error,
-            &[(1, 1, State::DownloadSync), (6, 0, State::DfuIdle)],
-        ),
+        after(0, State::AppIdle, Some(State::AppIdle), State::AppIdle, &[(0, 0, State::AppDetach)]),
+        after(1, State::AppDetach, Some(State::AppDetach), State::AppIdle, &[]),
+        after(2, State::DfuIdle, Some(State::DfuIdle), State::Error, &[(1, 1, State::DownloadSync), (6, 0, State::DfuIdle)]),
     ] {
         check_all(&rt, &mut device, &station);
     }
     Ok(())
 }
 
+#[rattlefmt::skip]
 #[test]
 fn every_setup_is_answered_while_blocks_come(rt: HostRuntime) -> Result<(), Fail> {
     let mut device = device(rt.alloc(), functional(0x07), 1, 5, 10)?;
     for station in [
-        after(
-            3,
-            State::DownloadSync,
-            Some(State::DownloadBusy),
-            State::Error,
-            &[],
-        ),
+        after(3, State::DownloadSync, Some(State::DownloadBusy), State::Error, &[]),
         after(4, State::DownloadBusy, None, State::Error, &[]),
-        after(
-            5,
-            State::DownloadSync,
-            Some(State::DownloadIdle),
-            State::Error,
-            &[],
-        ),
-        after(
-            6,
-            State::DownloadIdle,
-            Some(State::DownloadIdle),
-            State::Error,
-            &[(1, 0, State::ManifestSync), (6, 0, State::DfuIdle)],
-        ),
+        after(5, State::DownloadSync, Some(State::DownloadIdle), State::Error, &[]),
+        after(6, State::DownloadIdle, Some(State::DownloadIdle), State::Error, &[(1, 0, State::ManifestSync), (6, 0, State::DfuIdle)]),
     ] {
         check_all(&rt, &mut device, &station);
     }
     Ok(())
 }
 
+#[rattlefmt::skip]
 #[test]
 fn every_setup_is_answered_while_the_image_is_put_in_place(rt: HostRuntime) -> Result<(), Fail> {
     let mut device = device(rt.alloc(), functional(0x07), 1, 5, 10)?;
     for station in [
-        after(
-            7,
-            State::ManifestSync,
-            Some(State::Manifest),
-            State::Error,
-            &[],
-        ),
+        after(7, State::ManifestSync, Some(State::Manifest), State::Error, &[]),
         after(8, State::Manifest, None, State::Error, &[]),
-        after(
-            9,
-            State::ManifestSync,
-            Some(State::DfuIdle),
-            State::Error,
-            &[],
-        ),
+        after(9, State::ManifestSync, Some(State::DfuIdle), State::Error, &[]),
     ] {
         check_all(&rt, &mut device, &station);
     }
     Ok(())
 }
 
+#[rattlefmt::skip]
 #[test]
 fn every_setup_is_answered_at_the_end(rt: HostRuntime) -> Result<(), Fail> {
     let mut waiting = device(rt.alloc(), functional(0x03), 1, 5, 10)?;
-    check_all(
-        &rt,
-        &mut waiting,
-        &after(
-            9,
-            State::ManifestWaitReset,
-            None,
-            State::ManifestWaitReset,
-            &[],
-        ),
-    );
+    check_all(&rt, &mut waiting, &after(9, State::ManifestWaitReset, None, State::ManifestWaitReset, &[]));
     let mut broken = device(rt.alloc(), functional(0x07), 1, 5, 10)?;
-    let trouble = Station {
-        way: &TROUBLE,
-        state: State::Error,
-        polled: Some(State::Error),
-        other: State::Error,
-        acknowledged: &[(4, 0, State::DfuIdle)],
-    };
+    let trouble = Station { way: &TROUBLE, state: State::Error, polled: Some(State::Error), other: State::Error, acknowledged: &[(4, 0, State::DfuIdle)] };
     check_all(&rt, &mut broken, &trouble);
     Ok(())
 }

@@ -1,7 +1,7 @@
 use Rattle.std.proofs.Common.{◌≡◌, ℕ, ◌+◌, ◌≤◌, ◌++◌, length, take, OnOk, refl, sym, subst, arith, is_ok}
 use Rattle.dfu_slots.specs.Seen.{spare_of, room_of}
 use Rattle.std.proofs.lemmas.Result.{err_from_is_err_and}
-use Rattle.dfu_device.proofs.Steps.{block_begun, block_not_begun, spare_put, fits_spare}
+use Rattle.dfu_device.proofs.Calls.{block_begun, block_not_begun, spare_put, fits_spare}
 use Rattle.dfu_device.proofs.effects.put_block.Goals as goal
 
 pub returns-then-written-gt0-clause-spare : goal.returns-then-written-gt0-clause-spare

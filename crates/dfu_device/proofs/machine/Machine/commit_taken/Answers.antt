@@ -1,5 +1,5 @@
 use Rattle.std.proofs.Common.{length}
-use Rattle.dfu_device.proofs.Steps.{commit_ready, committed, not_committed}
+use Rattle.dfu_device.proofs.Commits.{commit_ready, committed, not_committed}
 use Rattle.dfu_device.proofs.machine.Machine.commit_taken.Goals as goal
 
 pub returns-in-Ok-clause-done : goal.returns-in-Ok-clause-done

@@ -4,7 +4,7 @@ use Rattle.dfu_wire.specs.declared.functionals.Functional.{Functional}
 use Rattle.dfu_slots.specs.Seen.{spare_of}
 use Rattle.dfu_device.specs.Stage.{Complete, Waiting}
 use Rattle.dfu_device.specs.View.{shown}
-use Rattle.dfu_device.proofs.Steps.{commit_late}
+use Rattle.dfu_device.proofs.Passing.{commit_late}
 use Rattle.dfu_device.proofs.machine.Machine.elapse_committing.Goals as goal
 
 -- what the code reads is what the configuration says

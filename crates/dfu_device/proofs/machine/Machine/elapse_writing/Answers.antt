@@ -1,7 +1,7 @@
 use Rattle.std.proofs.Common.{arith, take}
 use Rattle.dfu_slots.specs.Seen.{spare_of}
 use Rattle.dfu_device.specs.View.{shown}
-use Rattle.dfu_device.proofs.Steps.{write_late}
+use Rattle.dfu_device.proofs.Passing.{write_late}
 use Rattle.dfu_device.proofs.machine.Machine.elapse_writing.Goals as goal
 
 pub returns-else-now-busy_ms : goal.returns-else-now-busy_ms

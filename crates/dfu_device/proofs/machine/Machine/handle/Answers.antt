@@ -1,7 +1,7 @@
 use Rattle.dfu_device.specs.Rows.{handled_as}
 use Rattle.dfu_device.specs.View.{shown}
 use Rattle.std.proofs.Common.{refl, sym, ◌∙◌}
-use Rattle.dfu_device.proofs.Steps.{refused_class, served_class}
+use Rattle.dfu_device.proofs.Before.{refused_class, served_class}
 use Rattle.dfu_device.proofs.machine.Machine.handle.Goals as goal
 
 pub returns-in-NotDfu : goal.returns-in-NotDfu

@@ -1,0 +1,45 @@
+-- The calls of the slot store that write a block.
+use Rattle.std.proofs.Common.{◌≡◌, inl, inr, ◌==◌, Bool, true, false, if◌then◌else◌, ℕ, ◌+◌, ◌≤◌, ◌<◌, List, [], ◌∷◌, ◌++◌, length, take, drop, refl, sym, ◌∙◌, ap, subst, arith, length-append, Result, Ok, Err, OnOk}
+use Rattle.std.proofs.lemmas.Grind.{common_steps}
+use Rattle.std.proofs.lemmas.List.{length-take-le, take_at}
+use Rattle.std.proofs.lemmas.Bool.{cond-false, ne_eqb}
+use Rattle.dfu_slots.specs.Medium.{written}
+use Rattle.dfu_slots.specs.Seen.{SlotsState, spare_of, room_of, is_shaped, Call, Begin, Put, DidCall, Called}
+use Rattle.dfu_device.specs.Rows.{block_calls}
+
+pub called_one : (s now : SlotsState) (call : Call) (ok : Bool) → DidCall s call ok now → Called s (call ∷ []) ok now
+called_one s now call true d = (now, d.calls, refl)
+called_one s now call false d = inl d.calls
+
+called_two : (s mid now : SlotsState) (first second : Call) (ok : Bool) → DidCall s first true mid → DidCall mid second ok now → Called s (first ∷ second ∷ []) ok now
+called_two s mid now first second true d e = (mid, d.calls, (now, e.calls, refl))
+called_two s mid now first second false d e = inr (mid, d.calls, inl e.calls)
+
+pub block_begun : (s mid now : SlotsState) (n : ℕ) (block : List ℕ) (ok : Bool) → n ≡ 0 → DidCall s Begin true mid → DidCall mid (Put 0 block) ok now → Called s (block_calls (take n (spare_of s)) block) ok now
+block_begun s mid now n block ok none d e =
+    subst (λ (k : ℕ). Called s (block_calls (take k (spare_of s)) block) ok now) (sym none)
+    (called_two s mid now Begin (Put 0 block) ok d e)
+
+pub block_not_begun : (s now : SlotsState) (n : ℕ) (block : List ℕ) → n ≡ 0 → DidCall s Begin false now → Called s (block_calls (take n (spare_of s)) block) false now
+block_not_begun s now n block none d = subst (λ (k : ℕ). Called s (block_calls (take k (spare_of s)) block) false now) (sym none) (inl d.calls)
+
+further : (s now : SlotsState) (n : ℕ) (block : List ℕ) (ok : Bool) → 0 < n → DidCall s (Put n block) ok now → Called s (if n == 0 then Begin ∷ Put 0 block ∷ [] else Put n block ∷ []) ok now
+further s now n block ok some d =
+    subst (λ (calls : List Call). Called s calls ok now) (sym (cond-false (n == 0) (Begin ∷ Put 0 block ∷ []) (Put n block ∷ []) (ne_eqb n 0 (λ e. omega (arith, some, e))))) (called_one s now (Put n block) ok d)
+
+pub block_further : (s now : SlotsState) (n : ℕ) (block : List ℕ) (ok : Bool) → 0 < n → n ≤ length (spare_of s) → DidCall s (Put n block) ok now → Called s (block_calls (take n (spare_of s)) block) ok now
+block_further s now n block ok some fits d =
+    subst (λ (k : ℕ). Called s (if k == 0 then Begin ∷ Put 0 block ∷ [] else Put k block ∷ []) ok now) (sym (length-take-le n (spare_of s) fits)) (further s now n block ok some d)
+
+pub front_written : (l : List ℕ) (n : ℕ) (new : List ℕ) → n ≤ length l → take (n + length new) (written l n new) ≡ take n l ++ new
+front_written l n new fits =
+    take_at (take n l ++ new) (drop (n + length new) l) (n + length new) (omega (arith, length-append (take n l) new, length-take-le n l fits))
+
+pub fits_spare : (s : SlotsState) (n : ℕ) → is_shaped s ≡ true → n ≤ room_of s → n ≤ length (spare_of s)
+fits_spare s n shape fits = grind (arith, common_steps)
+
+pub spare_put : {T E : Type 0} (result : Result T E) (s here now : SlotsState) (n : ℕ) (block : List ℕ) → spare_of here ≡ spare_of s → n ≤ length (spare_of s)
+    → OnOk result (spare_of now ≡ written (spare_of here) n block) → OnOk result (take (n + length block) (spare_of now) ≡ take n (spare_of s) ++ block)
+spare_put (Ok x) s here now n block same fits put =
+    ap (λ (l : List ℕ). take (n + length block) l) (put ∙ ap (λ (l : List ℕ). written l n block) same) ∙ front_written (spare_of s) n block fits
+spare_put (Err e) s here now n block same fits put = tt

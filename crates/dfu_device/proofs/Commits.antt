@@ -1,0 +1,56 @@
+-- The call of the slot store that puts an image in place.
+use Rattle.std.proofs.Common.{◌≡◌, ◌⊎◌, inl, inr, Bool, true, false, IsTrue, ℕ, ◌≤◌, List, [], ◌∷◌, length, take, refl, sym, subst, arith}
+use Rattle.std.proofs.lemmas.Grind.{common_steps}
+use Rattle.std.proofs.lemmas.List.{length-take-le}
+use Rattle.dfu_wire.specs.declared.codes.Code.TheVariants.{Prog}
+use Rattle.dfu_slots.specs.Seen.{SlotsState, image_of, spare_of, is_begun, room_of, Commit, DidCall, Called}
+use Rattle.dfu_device.specs.Setting.{Setting}
+use Rattle.dfu_device.specs.declared.mode.Mode.{Mode}
+use Rattle.dfu_device.specs.declared.mode.Mode.TheVariants as mode
+use Rattle.dfu_device.specs.Inside.{shows, stage_of, is_sound}
+use Rattle.dfu_device.specs.Rows.{Committed, FailedCommit}
+use Rattle.dfu_device.proofs.Calls.{called_one}
+
+-- what is closed stands in the closed spare, within its room
+pub record IsReady (s : SlotsState) (n : ℕ) : Type 0 where
+  pub begun : is_begun s ≡ true
+  pub room : n ≤ room_of s
+  pub spare : n ≤ length (spare_of s)
+
+pub closed_ready : (b n : ℕ) (s : SlotsState) → IsTrue (is_sound (mode.Closed n) b s) → IsReady s n
+closed_ready b n s sound = record { begun = grind (arith, common_steps); room = grind (arith, common_steps); spare = grind (arith, common_steps) }
+
+pub committing_ready : (b n passed : ℕ) (s : SlotsState) → IsTrue (is_sound (mode.Committing n passed) b s) → IsReady s n
+committing_ready b n passed s sound = closed_ready b n s sound
+
+pub commit_ready : (m : Mode) (b n : ℕ) (s : SlotsState) → ((passed : ℕ) × (m ≡ mode.Committing n passed)) ⊎ (m ≡ mode.Closed n) → IsTrue (is_sound m b s) → IsReady s n
+commit_ready m b n s (inl (passed, e)) sound = committing_ready b n passed s (subst (λ (k : Mode). IsTrue (is_sound k b s)) e sound)
+commit_ready m b n s (inr e) sound = closed_ready b n s (subst (λ (k : Mode). IsTrue (is_sound k b s)) e sound)
+
+pub commit_calls : (s now : SlotsState) (n : ℕ) (ok : Bool) → n ≤ length (spare_of s) → DidCall s (Commit n) ok now → Called s (Commit (length (take n (spare_of s))) ∷ []) ok now
+commit_calls s now n ok fits d =
+    subst (λ (k : ℕ). Called s (Commit k ∷ []) ok now) (sym (length-take-le n (spare_of s) fits)) (called_one s now (Commit n) ok d)
+
+rested : (m : Mode) → (m ≡ mode.Idle) ⊎ (m ≡ mode.Complete) ⊎ (m ≡ mode.Waiting) → (xs ys : List ℕ) → stage_of m xs ys ≡ stage_of m [] []
+rested m three xs ys = elim three [ inl e ↦ rw e refl | inr other ↦ elim other [ inl e ↦ rw e refl | inr e ↦ rw e refl ] ]
+
+pub committed : (config : Setting) (s now : SlotsState) (next : Mode) (block : List ℕ) (n : ℕ) → IsReady s n → DidCall s (Commit n) true now → image_of now ≡ take n (spare_of s) → room_of now ≡ room_of s
+    → (next ≡ mode.Idle) ⊎ (next ≡ mode.Complete) ⊎ (next ≡ mode.Waiting) → Committed (take n (spare_of s)) config s (stage_of next [] []) (shows config now next block)
+committed config s now next block n ready d image room three = record {
+  config_is = refl;
+  room = room;
+  stage_is = rested next three (spare_of now) block;
+  calls = commit_calls s now n true ready.spare d;
+  image = image;
+}
+
+pub not_committed : (config : Setting) (s now : SlotsState) (block : List ℕ) (n : ℕ) → IsReady s n → DidCall s (Commit n) false now → (image_of now ≡ image_of s) ⊎ (image_of now ≡ take n (spare_of s)) → room_of now ≡ room_of s
+    → FailedCommit (take n (spare_of s)) config s (shows config now (mode.Broken Prog) block)
+not_committed config s now block n ready d image room = record {
+  config_is = refl;
+  room = room;
+  stage_is = refl;
+  calls = commit_calls s now n false ready.spare d;
+  image = image;
+  failed = d.rose refl;
+}

@@ -1,0 +1,115 @@
+-- What every row of the table is like: what it commits, and in which fault of the medium it ends.
+use Rattle.std.specs.Prelude.{◌≡◌, ◌⊎◌, ℕ, ◌+◌, ◌==◌, nat_lt, nat_le, max, Bool, true, false, not, List, [], ◌∷◌, ◌++◌, length, take, drop}
+use Rattle.std.proofs.Common.{refl}
+use Rattle.dfu_wire.specs.declared.codes.Code.TheVariants.{Write as ErrWrite, Prog as ErrProg}
+use Rattle.dfu_device.specs.Stage.{Ack, Data, Request, Detach, Dnload, Upload, GetStatus, ClrStatus, GetState, Abort, Profile, Stage, InApp, Detaching, Idle, Unwritten, Written, Writing, Ready, Closed, Complete, Committing, Waiting, Sending, Broken}
+use Rattle.dfu_device.specs.Table.{next_number, Plan, Sure, Writes, Commits, plan, time_plan, further_plan, block_plan, upload_plan, is_empty}
+use Rattle.dfu_device.specs.Taken.{taken_in}
+use Rattle.dfu_device.specs.TakenRow.{either_way}
+
+-- a plan that commits commits these bytes
+abbrev pub CommitsOnly : List ℕ → Plan → Type 0
+CommitsOnly x (Commits taken reply stage bad) = taken ≡ x
+CommitsOnly x p = Unit {0}
+
+-- dfuERROR with errWRITE or errPROG
+abbrev pub IsMediumFault : Stage → Type 0
+IsMediumFault (Broken ErrWrite) = Unit {0}
+IsMediumFault (Broken ErrProg) = Unit {0}
+IsMediumFault stage = ⊥
+
+-- where the medium works, a plan ends in no fault of the medium but one that was there
+abbrev pub WorksWell : Stage → Plan → Type 0
+WorksWell st (Sure reply stage) = IsMediumFault stage → IsMediumFault st
+WorksWell st (Writes before block reply stage bad) = IsMediumFault stage → IsMediumFault st
+WorksWell st (Commits taken reply stage bad) = IsMediumFault stage → IsMediumFault st
+
+-- a plan commits the bytes taken or nothing, and ends in a fault of the medium only where that failed or the fault was there
+abbrev pub Leads : List ℕ → Stage → Plan → Type 0
+Leads i st p = CommitsOnly (taken_in i st) p × WorksWell st p
+
+block_leads : (i : List ℕ) (st : Stage) (c : Profile) (before : List ℕ) (expected number : ℕ) (body : List ℕ) → Leads i st (block_plan c before expected number body)
+block_leads i st c before expected number body =
+    either_way (Leads i st) (nat_lt c.transfer (length body)) _ _ (tt, λ y. absurd y) (either_way (Leads i st) (not (number == expected)) _ _ (tt, λ y. absurd y)
+    (either_way (Leads i st) (nat_lt c.capacity (length before + length body)) _ _ (tt, λ y. absurd y) (tt, λ y. absurd y)))
+
+upload_leads : (i : List ℕ) (st : Stage) (c : Profile) (place expected number size : ℕ) → Leads i st (upload_plan c i place expected number size)
+upload_leads i st c place expected number size =
+    let part = take size (drop place i) in
+    either_way (Leads i st) (size == 0) _ _ (tt, λ y. absurd y) (either_way (Leads i st) (nat_lt c.transfer size) _ _ (tt, λ y. absurd y)
+    (either_way (Leads i st) (not (number == expected)) _ _ (tt, λ y. absurd y)
+    (either_way (Leads i st) (nat_lt (length part) size) (Sure (Data part) Idle) (Sure (Data part) (Sending (place + size) (next_number expected))) (tt, λ y. absurd y) (tt, λ y. absurd y))))
+
+further_leads : (i : List ℕ) (st : Stage) (c : Profile) (taken : List ℕ) (expected number : ℕ) (body : List ℕ) → Leads i st (further_plan c taken expected number body)
+further_leads i st c taken expected number body =
+    either_way (Leads i st) (is_empty body) _ _ (either_way (Leads i st) (nat_le c.least (length taken)) _ _ (tt, λ y. absurd y) (tt, λ y. absurd y)) (block_leads i st c taken expected number body)
+
+-- each row by state and request
+pub row_leads : (c : Profile) (i : List ℕ) (st : Stage) (r : Request) → Leads i st (plan c i st r)
+row_leads c i InApp (Detach timeout) = (tt, λ y. absurd y)
+row_leads c i InApp GetStatus = (tt, λ y. absurd y)
+row_leads c i InApp GetState = (tt, λ y. absurd y)
+row_leads c i InApp r = (tt, λ y. absurd y)
+row_leads c i (Detaching timer passed) GetStatus = (tt, λ y. absurd y)
+row_leads c i (Detaching timer passed) GetState = (tt, λ y. absurd y)
+row_leads c i (Detaching timer passed) r = (tt, λ y. absurd y)
+row_leads c i Idle (Dnload number body) =
+    either_way (Leads i Idle) (not c.can_download) _ _ (tt, λ y. absurd y) (either_way (Leads i Idle) (is_empty body) _ _ (tt, λ y. absurd y) (block_leads i Idle c [] 0 number body))
+row_leads c i Idle (Upload number size) = either_way (Leads i Idle) c.can_upload _ _ (upload_leads i Idle c 0 0 number size) (tt, λ y. absurd y)
+row_leads c i Idle Abort = (tt, λ y. absurd y)
+row_leads c i Idle GetStatus = (tt, λ y. absurd y)
+row_leads c i Idle GetState = (tt, λ y. absurd y)
+row_leads c i Idle r = (tt, λ y. absurd y)
+row_leads c i (Unwritten before block number) GetStatus = either_way (Leads i (Unwritten before block number)) (c.busy == 0) _ _ (tt, λ y. absurd y) (tt, λ y. absurd y)
+row_leads c i (Unwritten before block number) GetState = (tt, λ y. absurd y)
+row_leads c i (Unwritten before block number) r = (tt, λ y. absurd y)
+row_leads c i (Written taken number) GetStatus = (tt, λ y. absurd y)
+row_leads c i (Written taken number) GetState = (tt, λ y. absurd y)
+row_leads c i (Written taken number) r = (tt, λ y. absurd y)
+row_leads c i (Writing before block number passed) r = (tt, λ y. absurd y)
+row_leads c i (Ready taken number) (Dnload k body) = further_leads i (Ready taken number) c taken number k body
+row_leads c i (Ready taken number) Abort = (tt, λ y. absurd y)
+row_leads c i (Ready taken number) GetStatus = (tt, λ y. absurd y)
+row_leads c i (Ready taken number) GetState = (tt, λ y. absurd y)
+row_leads c i (Ready taken number) r = (tt, λ y. absurd y)
+row_leads c i (Closed taken) GetStatus = either_way (Leads i (Closed taken)) (c.manifest == 0) _ _ (refl, λ y. absurd y) (tt, λ y. absurd y)
+row_leads c i (Closed taken) GetState = (tt, λ y. absurd y)
+row_leads c i (Closed taken) r = (tt, λ y. absurd y)
+row_leads c i Complete GetStatus = (tt, λ y. absurd y)
+row_leads c i Complete GetState = (tt, λ y. absurd y)
+row_leads c i Complete r = (tt, λ y. absurd y)
+row_leads c i (Committing taken passed) r = (tt, λ y. absurd y)
+row_leads c i Waiting r = (tt, λ y. absurd y)
+row_leads c i (Sending place number) (Upload k size) = upload_leads i (Sending place number) c place number k size
+row_leads c i (Sending place number) Abort = (tt, λ y. absurd y)
+row_leads c i (Sending place number) GetStatus = (tt, λ y. absurd y)
+row_leads c i (Sending place number) GetState = (tt, λ y. absurd y)
+row_leads c i (Sending place number) r = (tt, λ y. absurd y)
+row_leads c i (Broken code) ClrStatus = (tt, λ y. absurd y)
+row_leads c i (Broken code) GetStatus = (tt, λ y. y)
+row_leads c i (Broken code) GetState = (tt, λ y. y)
+row_leads c i (Broken code) r = (tt, λ y. y)
+
+-- each row of a time that passes
+pub time_leads : (c : Profile) (i : List ℕ) (st : Stage) (ms : ℕ) → Leads i st (time_plan c st ms)
+time_leads c i (Detaching timer passed) ms =
+    let P : Plan → Type 0 = Leads i (Detaching timer passed) in
+    either_way P (ms == 0) _ _ (tt, λ y. absurd y) (either_way P c.will_detach _ _ (tt, λ y. absurd y)
+    (either_way P (nat_le (max 1 timer) (passed + ms)) _ _ (tt, λ y. absurd y) (tt, λ y. absurd y)))
+time_leads c i (Writing before block number passed) ms =
+    let P : Plan → Type 0 = Leads i (Writing before block number passed) in
+    either_way P (ms == 0) _ _ (tt, λ y. absurd y) (either_way P (nat_le c.busy (passed + ms)) _ _ (tt, λ y. absurd y) (tt, λ y. absurd y))
+time_leads c i (Committing taken passed) ms =
+    let P : Plan → Type 0 = Leads i (Committing taken passed) in
+    either_way P (ms == 0) _ _ (tt, λ y. absurd y) (either_way P (nat_le c.manifest (passed + ms)) _ _
+    (either_way (λ (st : Stage). P (Commits taken Ack st Ack)) c.tolerant Complete Waiting (refl, λ y. absurd y) (refl, λ y. absurd y)) (tt, λ y. absurd y))
+time_leads c i InApp ms = (tt, λ y. absurd y)
+time_leads c i Idle ms = (tt, λ y. absurd y)
+time_leads c i (Unwritten before block number) ms = (tt, λ y. absurd y)
+time_leads c i (Written taken number) ms = (tt, λ y. absurd y)
+time_leads c i (Ready taken number) ms = (tt, λ y. absurd y)
+time_leads c i (Closed taken) ms = (tt, λ y. absurd y)
+time_leads c i Complete ms = (tt, λ y. absurd y)
+time_leads c i Waiting ms = (tt, λ y. absurd y)
+time_leads c i (Sending place number) ms = (tt, λ y. absurd y)
+time_leads c i (Broken code) ms = (tt, λ y. y)

@@ -1,0 +1,16 @@
+ghost use Rattle.std.specs.Prelude.{◌≡◌};
+ghost use Rattle.dfu_device.specs.Stage.{InApp};
+
+use crate::Device;
+use dfu_slots::Medium;
+
+/// Power goes and comes back. That is never refused: the medium of a device has an active image.
+pub(crate) fn restarted<M: Medium + Drop>(device: Device<M>) -> Device<M>
+    ensures { result ≡ record device { stage = InApp } }
+{
+    let config = device.config();
+    match Device::power_on(config, device.into_medium()) {
+        Ok(device) => device,
+        Err(_) => unreachable!(),
+    }
+}
