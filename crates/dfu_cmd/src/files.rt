@@ -1,14 +1,13 @@
 // Files that the commands open and make.
 
-
 use crate::adding::add_text;
 use crate::checking::check_text;
 use crate::exit::Exit;
 use crate::faults::fault_text;
 use crate::output::write_out;
 use dfu_suffix::{Ids, SuffixFault};
-use std::io::{self, Write};
 use std::fs;
+use std::io::{self, Write};
 
 // Checks a file, or standard input where the name is `-`.
 pub(crate) fn run_check(rt: &HostRuntime, file: &str) -> Exit {
@@ -51,9 +50,20 @@ fn replace(rt: &HostRuntime, path: &str, bytes: &[u8]) -> io::Result<()> {
 }
 
 // Adds a suffix to a file, and makes the other file only where that succeeded.
-pub(crate) fn run_add(rt: &HostRuntime, file: &str, to: &str, vid: &str, pid: &str, did: &str) -> Exit {
+pub(crate) fn run_add(
+    rt: &HostRuntime,
+    file: &str,
+    to: &str,
+    vid: &str,
+    pid: &str,
+    did: &str,
+) -> Exit {
     let mut out = io::writer(rt);
-    let (Some(vendor), Some(product), Some(device)) = (identifier(vid), identifier(pid), identifier(did)) else {
+    let (Some(vendor), Some(product), Some(device)) = (
+        identifier(vid),
+        identifier(pid),
+        identifier(did),
+    ) else {
         return write_out(&mut out, b"bad words\n", Exit::BadWords);
     };
     let ids = Ids {

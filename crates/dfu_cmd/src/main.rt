@@ -23,8 +23,8 @@ pub use exit::Exit;
 pub use faults::fault_text;
 use files::{run_add, run_check};
 pub use showing::show_text;
-use std::process::ExitCode;
 use std::io;
+use std::process::ExitCode;
 pub use task::{Job, JobFault};
 pub use words::job;
 

@@ -41,7 +41,11 @@ fn checks_known_files(rt: HostRuntime) {
     ];
     for (bytes, line, exit) in known {
         let mut out = Vec::new(rt.alloc());
-        assert_eq!(rt; check_text(rt.alloc(), bytes, &mut out), exit, "of {bytes:?}");
+        assert_eq!(rt;
+            check_text(rt.alloc(), bytes, &mut out),
+            exit,
+            "of {bytes:?}"
+        );
         assert_eq!(rt; out.as_slice(), line, "of {bytes:?}");
     }
 }
@@ -61,7 +65,10 @@ fn stops_at_a_writer_that_fails(rt: HostRuntime) {
             left: room,
             calls_after: 0,
         };
-        assert_eq!(rt; check_text(rt.alloc(), &FOUR_ONES[..15], &mut out), Exit::Fault);
+        assert_eq!(rt;
+            check_text(rt.alloc(), &FOUR_ONES[..15], &mut out),
+            Exit::Fault
+        );
         assert_eq!(rt; (out.left, out.calls_after), (0, 1), "with room for {room}");
     }
 }
@@ -70,7 +77,13 @@ fn stops_at_a_writer_that_fails(rt: HostRuntime) {
 fn adds_a_suffix(rt: HostRuntime) {
     let mut file = Vec::new(rt.alloc());
     let mut out = Vec::new(rt.alloc());
-    let exit = add_text(rt.alloc(), &b"123456789"[..], DIGITS_IDS, &mut file, &mut out);
+    let exit = add_text(
+        rt.alloc(),
+        &b"123456789"[..],
+        DIGITS_IDS,
+        &mut file,
+        &mut out,
+    );
     assert_eq!(rt; exit, Exit::Done);
     assert_eq!(rt; file.as_slice(), &DIGITS[..]);
     assert_eq!(rt; out.as_slice(), &b"wrote 25\n"[..]);
@@ -88,17 +101,43 @@ fn adds_no_second_suffix(rt: HostRuntime) {
 
 #[test]
 fn shows_known_bytes(rt: HostRuntime) {
-    let descriptor: &[u8] = b"functional download yes upload no tolerant yes will-detach yes detach 255 transfer 8 version 0110\n";
+    let descriptor: &[u8] =
+        b"functional download yes upload no tolerant yes will-detach yes detach 255 transfer 8 version 0110\n";
     let known: [(&str, &str, &[u8], Exit); 13] = [
         ("functional", "09210dff0008001001", descriptor, Exit::Done),
         ("functional", "0921FDff0008001001", descriptor, Exit::Done),
-        ("functional", "07210dff000800", b"refused WrongLength\n", Exit::Refused),
+        (
+            "functional",
+            "07210dff000800",
+            b"refused WrongLength\n",
+            Exit::Refused,
+        ),
         ("functional", "", b"refused Short\n", Exit::Refused),
-        ("status", "000500000400", b"status OK poll 5 state dfuDNBUSY string 0\n", Exit::Done),
-        ("status", "0f0000000a07", b"status errSTALLEDPKT poll 0 state dfuERROR string 7\n", Exit::Done),
+        (
+            "status",
+            "000500000400",
+            b"status OK poll 5 state dfuDNBUSY string 0\n",
+            Exit::Done,
+        ),
+        (
+            "status",
+            "0f0000000a07",
+            b"status errSTALLEDPKT poll 0 state dfuERROR string 7\n",
+            Exit::Done,
+        ),
         ("status", "0005000004", b"refused Short\n", Exit::Refused),
-        ("status", "000000000b00", b"refused UnknownState\n", Exit::Refused),
-        ("status", "1000000b0b00", b"refused UnknownCode\n", Exit::Refused),
+        (
+            "status",
+            "000000000b00",
+            b"refused UnknownState\n",
+            Exit::Refused,
+        ),
+        (
+            "status",
+            "1000000b0b00",
+            b"refused UnknownCode\n",
+            Exit::Refused,
+        ),
         ("status", "00050000040", b"refused BadHex\n", Exit::Refused),
         ("status", "0005000004zz", b"refused BadHex\n", Exit::Refused),
         ("status", "-", b"refused BadHex\n", Exit::Refused),
@@ -106,7 +145,11 @@ fn shows_known_bytes(rt: HostRuntime) {
     ];
     for (kind, hex, line, exit) in known {
         let mut out = Vec::new(rt.alloc());
-        assert_eq!(rt; show_text(rt.alloc(), kind, hex, &mut out), exit, "{kind} {hex}");
+        assert_eq!(rt;
+            show_text(rt.alloc(), kind, hex, &mut out),
+            exit,
+            "{kind} {hex}"
+        );
         assert_eq!(rt; out.as_slice(), line, "{kind} {hex}");
     }
 }
@@ -127,9 +170,20 @@ fn job_of(rt: &HostRuntime, words: &str) -> Result<Job, JobFault> {
 #[test]
 fn jobs_of_words(rt: HostRuntime) -> Result<(), Fail> {
     match job_of(&rt, "dfu add a b --pid 0001") {
-        Ok(Job::Add { file, to, vid, pid, did }) => {
+        Ok(
+            Job::Add {
+                file,
+                to,
+                vid,
+                pid,
+                did,
+            },
+        ) => {
             assert_eq!(rt; (file.as_str(), to.as_str()), ("a", "b"));
-            assert_eq!(rt; (vid.as_str(), pid.as_str(), did.as_str()), ("ffff", "0001", "ffff"));
+            assert_eq!(rt;
+                (vid.as_str(), pid.as_str(), did.as_str()),
+                ("ffff", "0001", "ffff")
+            );
         }
         _ => assert!(rt; false, "no job to add"),
     }
@@ -138,7 +192,10 @@ fn jobs_of_words(rt: HostRuntime) -> Result<(), Fail> {
         _ => assert!(rt; false, "no job to check"),
     }
     match job_of(&rt, "dfu show status 00") {
-        Ok(Job::Show { kind, hex }) => assert_eq!(rt; (kind.as_str(), hex.as_str()), ("status", "00")),
+        Ok(Job::Show { kind, hex }) => assert_eq!(rt;
+            (kind.as_str(), hex.as_str()),
+            ("status", "00")
+        ),
         _ => assert!(rt; false, "no job to show"),
     }
     Ok(())
