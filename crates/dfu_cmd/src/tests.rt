@@ -3,6 +3,7 @@ mod readers;
 use crate::{Exit, Job, JobFault, add_text, check_text, job, show_text};
 use dfu_suffix::Ids;
 use readers::{Failing, Refusing};
+use std::alloc::{AllocError, Global};
 use std::test::Fail;
 
 // Payload FFFFFFFFh, identifiers FFFFh.
@@ -154,71 +155,80 @@ fn shows_known_bytes(rt: HostRuntime) {
     }
 }
 
-fn job_of(rt: &HostRuntime, words: &str) -> Result<Job, JobFault> {
-    let mut list = Vec::new(rt.alloc());
-    for word in words.split_whitespace() {
-        let Ok(text) = String::from_str(rt.alloc(), word) else {
-            return Err(JobFault::NoMemory);
-        };
-        let Ok(()) = list.push(text) else {
-            return Err(JobFault::NoMemory);
-        };
+// The words of a line, as a command gets them.
+fn words_of(alloc: Global, line: &str) -> Result<Vec<String>, AllocError> {
+    let mut words = Vec::new(alloc);
+    for word in line.split_whitespace() {
+        words.push(String::from_str(alloc, word)?)?;
     }
-    job(rt.alloc(), &list)
+    Ok(words)
 }
 
+fn joined(alloc: Global, texts: &[&str]) -> Result<String, AllocError> {
+    let mut line = String::new(alloc);
+    for text in texts {
+        line.push_str(text)?;
+        line.push_str(";")?;
+    }
+    Ok(line)
+}
+
+// A job in words.
+fn told(alloc: Global, job: Job) -> Result<String, AllocError> {
+    match job {
+        Job::Check { file } => joined(alloc, &["check", &file]),
+        Job::Add {
+            file,
+            to,
+            vid,
+            pid,
+            did,
+        } => joined(alloc, &["add", &file, &to, &vid, &pid, &did]),
+        Job::Show { kind, hex } => joined(alloc, &["show", &kind, &hex]),
+    }
+}
+
+// Why there is no job, in words: the parser's exit status.
+fn refused(alloc: Global, fault: JobFault) -> Result<String, AllocError> {
+    match fault {
+        JobFault::Words(error) => {
+            let status = error.exit_code();
+            format!(in alloc; "words {status}")
+        }
+        JobFault::NoMemory => String::from_str(alloc, "no memory"),
+    }
+}
+
+fn outcome(alloc: Global, line: &str) -> Result<String, AllocError> {
+    let words = words_of(alloc, line)?;
+    let answer = job(alloc, &words);
+    match answer {
+        Ok(job) => told(alloc, job),
+        Err(fault) => refused(alloc, fault),
+    }
+}
+
+// Words that are no job are the parser's refusal, with status 2; help has status 0.
 #[test]
 fn jobs_of_words(rt: HostRuntime) -> Result<(), Fail> {
-    match job_of(&rt, "dfu add a b --pid 0001") {
-        Ok(
-            Job::Add {
-                file,
-                to,
-                vid,
-                pid,
-                did,
-            },
-        ) => {
-            assert_eq!(rt; (file.as_str(), to.as_str()), ("a", "b"));
-            assert_eq!(rt;
-                (vid.as_str(), pid.as_str(), did.as_str()),
-                ("ffff", "0001", "ffff")
-            );
-        }
-        _ => assert!(rt; false, "no job to add"),
-    }
-    match job_of(&rt, "dfu check -") {
-        Ok(Job::Check { file }) => assert_eq!(rt; file.as_str(), "-"),
-        _ => assert!(rt; false, "no job to check"),
-    }
-    match job_of(&rt, "dfu show status 00") {
-        Ok(Job::Show { kind, hex }) => assert_eq!(rt;
-            (kind.as_str(), hex.as_str()),
-            ("status", "00")
-        ),
-        _ => assert!(rt; false, "no job to show"),
+    let known = [
+        ("dfu add a b --pid 0001", "add;a;b;ffff;0001;ffff;"),
+        ("dfu add a b --did 1 --vid=2", "add;a;b;2;ffff;1;"),
+        ("dfu check -", "check;-;"),
+        ("dfu show status 00", "show;status;00;"),
+        ("dfu", "words 2"),
+        ("dfu check", "words 2"),
+        ("dfu add a", "words 2"),
+        ("dfu add a b c", "words 2"),
+        ("dfu run a", "words 2"),
+        ("dfu --version", "words 2"),
+        ("dfu show status -x", "words 2"),
+        ("dfu --help", "words 0"),
+        ("dfu help add", "words 0"),
+    ];
+    for (line, found) in known {
+        let text = outcome(rt.alloc(), line)?;
+        assert_eq!(rt; text.as_str(), found, "{line}");
     }
     Ok(())
-}
-
-// Words that are no job are the parser's refusal, with its status, and help has status 0.
-#[test]
-fn words_that_are_no_job(rt: HostRuntime) {
-    let refused = [
-        ("dfu", 2),
-        ("dfu check", 2),
-        ("dfu add a", 2),
-        ("dfu add a b c", 2),
-        ("dfu run a", 2),
-        ("dfu --version", 2),
-        ("dfu show status -x", 2),
-        ("dfu --help", 0),
-        ("dfu help add", 0),
-    ];
-    for (words, status) in refused {
-        match job_of(&rt, words) {
-            Err(JobFault::Words(error)) => assert_eq!(rt; error.exit_code(), status, "{words}"),
-            _ => assert!(rt; false, "{words}"),
-        }
-    }
 }
