@@ -1,0 +1,12 @@
+pub mod Quiet
+pub mod Tells
+pub mod Kept
+pub mod Fates
+pub mod Next
+pub mod Blocks
+pub mod Go
+pub mod Fetch
+pub mod GoUp
+pub mod Taking
+pub mod Acting
+pub mod Whole

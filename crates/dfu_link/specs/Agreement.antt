@@ -1,0 +1,50 @@
+-- What a link shows of the session machine.
+use Rattle.std.specs.Prelude.{◌≡◌, ℕ, List, ◌++◌, Option, Some, None}
+use Rattle.dfu_device.specs.Stage.{Stage, Unwritten, Written, Writing, Ready, Closed, Committing}
+use Rattle.dfu_host.specs.Table.{Goal, ToLoad, ToFetch}
+use Rattle.dfu_link.specs.Session.{IsOneOf, Machine, Live, NoOne, Loading, Fetching}
+use Rattle.dfu_link.specs.Play.{Link, Session, Nobody, Hosted}
+
+-- What is pending: the bytes taken, where the device takes an image and has not put it in place.
+abbrev pub pending_of : Stage → Option (List ℕ)
+pending_of (Unwritten before block number) = Some (before ++ block)
+pending_of (Written taken number) = Some taken
+pending_of (Writing before block number passed) = Some (before ++ block)
+pending_of (Ready taken number) = Some taken
+pending_of (Closed taken) = Some taken
+pending_of (Committing taken passed) = Some taken
+pending_of stage = None
+
+-- What a session is for is what is live.
+abbrev pub live_goal : Goal → Live
+live_goal (ToLoad payload) = Loading payload
+live_goal ToFetch = Fetching
+
+abbrev pub live_of : Session → Live
+live_of Nobody = NoOne
+live_of (Hosted h) = live_goal h.task.goal
+
+-- Bytes that were closed are one of the offers.
+abbrev pub IsSound : List (List ℕ) → Stage → Type 0
+IsSound offers (Closed taken) = IsOneOf taken offers
+IsSound offers (Committing taken passed) = IsOneOf taken offers
+IsSound offers stage = Unit {0}
+
+-- The payload of a live session is one of the offers.
+abbrev pub IsGoalOffer : List (List ℕ) → Goal → Type 0
+IsGoalOffer offers (ToLoad payload) = IsOneOf payload offers
+IsGoalOffer offers ToFetch = Unit {0}
+
+abbrev pub IsLiveOffer : List (List ℕ) → Session → Type 0
+IsLiveOffer offers Nobody = Unit {0}
+IsLiveOffer offers (Hosted h) = IsGoalOffer offers h.task.goal
+
+-- A link, with what the last reported upload gave, agrees with a session machine: the active image, what is pending, what is live and what was uploaded
+-- are the machine's; bytes that were closed, and the payload of the live session, are among its offers. So the link fixes all of it but the offers.
+pub record Agrees (w : Link) (up : List ℕ) (m : Machine) : Type 0 where
+  pub cur : m.cur ≡ w.device.image
+  pub pending : m.pending ≡ pending_of w.device.stage
+  pub live : m.live ≡ live_of w.session
+  pub up_is : m.up ≡ up
+  pub sound : IsSound m.offers w.device.stage
+  pub offered : IsLiveOffer m.offers w.session

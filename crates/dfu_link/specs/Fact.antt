@@ -1,0 +1,144 @@
+-- The phase fact: what holds of the device in each phase of a live session, kept by every event beside agreement.
+use Rattle.std.specs.Prelude.{[], ◌%◌, take, ◌≡◌, ℕ, suc, ◌<◌, IsTrue, List, ◌++◌, length}
+use Rattle.dfu_host.specs.declared.report.Report.{Report}
+use Rattle.dfu_host.specs.declared.report.Report.TheVariants.{Installed}
+use Rattle.dfu_host.specs.Blocks.{blocks, first}
+use Rattle.dfu_device.specs.Stage.{Profile, Stage, InApp, Idle, Unwritten, Written, Writing, Ready, Closed, Complete, Committing, Waiting, Sending, Broken}
+use Rattle.dfu_device.specs.Outcome.{Situation}
+use Rattle.dfu_host.specs.Table.{Goal, ToLoad, ToFetch, Phase, Block, Ask, Poll, WaitPoll, Close, AskLast, Manifest, WaitManifest, WaitLast, Fetch, LastUploaded, Last, Over, OverUploaded}
+use Rattle.dfu_host.specs.Host.{HostState}
+use Rattle.dfu_link.specs.Session.{IsPlain}
+use Rattle.dfu_link.specs.Play.{Session, Nobody, Hosted, task_for}
+
+-- The states of a phase.
+
+-- The device is in dfuIDLE.
+abbrev pub IsIdle : Stage → Type 0
+IsIdle Idle = Unit {0}
+IsIdle stage = ⊥
+
+-- The device is in appIDLE.
+abbrev pub IsInApp : Stage → Type 0
+IsInApp InApp = Unit {0}
+IsInApp stage = ⊥
+
+-- Block n: the first n blocks are taken, and the device waits for one more.
+abbrev pub Begun : List ℕ → (t n : ℕ) → Stage → Type 0
+Begun p t n Idle = n ≡ 0
+Begun p t n (Ready taken number) = (0 < n) × (taken ≡ first p t n)
+Begun p t n stage = ⊥
+
+-- Ask n: so it is, or one more block is taken and not yet written, or there was a fault.
+abbrev pub Asking : List ℕ → (t n : ℕ) → Stage → Type 0
+Asking p t n Idle = n ≡ 0
+Asking p t n (Ready taken number) = (0 < n) × (taken ≡ first p t n)
+Asking p t n (Unwritten before block number) = before ++ block ≡ first p t (suc n)
+Asking p t n (Broken code) = Unit {0}
+Asking p t n stage = ⊥
+
+-- Poll: these bytes are taken, or there was a fault.
+abbrev pub Holds : List ℕ → Stage → Type 0
+Holds x (Unwritten before block number) = before ++ block ≡ x
+Holds x (Written taken number) = taken ≡ x
+Holds x (Writing before block number passed) = before ++ block ≡ x
+Holds x (Ready taken number) = taken ≡ x
+Holds x (Broken code) = Unit {0}
+Holds x stage = ⊥
+
+-- Close: the whole payload is taken, and the device waits for more.
+abbrev pub Whole : List ℕ → Stage → Type 0
+Whole p (Ready taken number) = taken ≡ p
+Whole p stage = ⊥
+
+-- Ask last: so it is, or it is closed, or there was a fault.
+abbrev pub AskingLast : List ℕ → Stage → Type 0
+AskingLast p (Ready taken number) = taken ≡ p
+AskingLast p (Closed taken) = taken ≡ p
+AskingLast p (Broken code) = Unit {0}
+AskingLast p stage = ⊥
+
+-- Manifest: the whole payload is closed, or it is the active image, or there was a fault.
+abbrev pub Managing : List ℕ → (image : List ℕ) → Stage → Type 0
+Managing p image (Closed taken) = taken ≡ p
+Managing p image (Committing taken passed) = taken ≡ p
+Managing p image Complete = image ≡ p
+Managing p image Idle = image ≡ p
+Managing p image Waiting = image ≡ p
+Managing p image (Broken code) = Unit {0}
+Managing p image stage = ⊥
+
+-- Where a session ends with Installed the device is tolerant, the payload is active and the state is this one; no download ends with Uploaded.
+abbrev pub EndsAs : Profile → List ℕ → Situation → (Stage → Type 0) → Report → Type 0
+EndsAs c p s P Installed = IsTrue c.tolerant × (s.image ≡ p) × P s.stage
+EndsAs c p s P report = IsPlain report
+
+-- Fetch k: what was kept is the active image as far as the device's place, and the number that is expected is k.
+abbrev pub Fetches : (k : ℕ) → (kept image : List ℕ) → Stage → Type 0
+Fetches k kept image Idle = (k ≡ 0) × (kept ≡ [])
+Fetches k kept image (Sending place number) = (0 < k) × (number ≡ k % 65536) × (kept ≡ take place image)
+Fetches k kept image stage = ⊥
+
+-- The fact.
+
+-- In a download's phases. Those of an upload do not occur; in the others, any state may be.
+abbrev pub Fact : Profile → List ℕ → Phase → Situation → Type 0
+Fact c p (Fetch k kept) s = ⊥
+Fact c p (LastUploaded kept) s = ⊥
+Fact c p (OverUploaded kept) s = ⊥
+Fact c p (Block n) s = (n < length (blocks p c.transfer)) × Begun p c.transfer n s.stage
+Fact c p (Ask n) s = (n < length (blocks p c.transfer)) × Asking p c.transfer n s.stage
+Fact c p (Poll n) s = (n < length (blocks p c.transfer)) × Holds (first p c.transfer (suc n)) s.stage
+Fact c p (WaitPoll n poll) s = (n < length (blocks p c.transfer)) × Holds (first p c.transfer (suc n)) s.stage
+Fact c p Close s = Whole p s.stage
+Fact c p AskLast s = AskingLast p s.stage
+Fact c p Manifest s = Managing p s.image s.stage
+Fact c p (WaitManifest poll) s = Managing p s.image s.stage
+Fact c p (Last report) s = EndsAs c p s IsIdle report
+Fact c p (Over report) s = EndsAs c p s IsInApp report
+Fact c p phase s = Unit {0}
+
+-- In an upload's phases. Those of a download do not occur.
+abbrev pub FetchFact : Phase → Situation → Type 0
+FetchFact (Fetch k kept) s = (k < 65535) × Fetches k kept s.image s.stage
+FetchFact (LastUploaded kept) s = (kept ≡ s.image) × IsIdle s.stage
+FetchFact (OverUploaded kept) s = kept ≡ s.image
+FetchFact (Over report) s = IsPlain report
+FetchFact (Block n) s = ⊥
+FetchFact (Ask n) s = ⊥
+FetchFact (Poll n) s = ⊥
+FetchFact (WaitPoll n poll) s = ⊥
+FetchFact Close s = ⊥
+FetchFact AskLast s = ⊥
+FetchFact Manifest s = ⊥
+FetchFact (WaitManifest poll) s = ⊥
+FetchFact (WaitLast poll) s = ⊥
+FetchFact (Last report) s = ⊥
+FetchFact phase s = Unit {0}
+
+-- By what the session is for.
+abbrev pub GoalFact : Profile → Goal → Phase → Situation → Type 0
+GoalFact c (ToLoad p) phase s = Fact c p phase s
+GoalFact c ToFetch phase s = FetchFact phase s
+
+-- A download has a block at least.
+abbrev pub HasBlocks : Profile → Goal → Type 0
+HasBlocks c (ToLoad p) = 0 < length (blocks p c.transfer)
+HasBlocks c ToFetch = Unit {0}
+
+-- The host is not done.
+abbrev pub IsOn : Phase → Type 0
+IsOn (Over report) = ⊥
+IsOn (OverUploaded kept) = ⊥
+IsOn phase = Unit {0}
+
+-- The fact of a live host: it goes by the device's descriptor, it is not done, it has something to do, and what holds of the device fits its phase.
+pub record HostFact (c : Profile) (s : Situation) (h : HostState) : Type 0 where
+  pub task_is : h.task ≡ task_for c h.task.goal
+  pub on : IsOn h.phase
+  pub some : HasBlocks c h.task.goal
+  pub fact : GoalFact c h.task.goal h.phase s
+
+-- The phase fact of a link: nothing where no session is live.
+abbrev pub SessionFact : Profile → Situation → Session → Type 0
+SessionFact c s Nobody = Unit {0}
+SessionFact c s (Hosted h) = HostFact c s h

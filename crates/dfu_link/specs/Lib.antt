@@ -1,0 +1,5 @@
+pub mod Session
+pub mod Play
+pub mod Agreement
+pub mod Fact
+pub mod Headline

@@ -1,0 +1,208 @@
+-- The table of fates: what an event of the link does to a device and a host, over the device table and the host table.
+use Rattle.std.specs.Prelude.{◌≡◌, ℕ, ◌<◌, max, Bool, false, List, length, Option, Some, None}
+use Rattle.dfu_host.specs.declared.report.Report.{Report}
+use Rattle.dfu_host.specs.declared.report.Report.TheVariants.{Uploaded}
+use Rattle.dfu_device.specs.Stage.{Request, Reply, Ack, StatusOf, StateOf, Data, Stall, Profile}
+use Rattle.dfu_device.specs.Table.{Plan, plan}
+use Rattle.dfu_device.specs.Outcome.{Situation, Luck, Works, outcome, handled, elapsed, was_reset, powered}
+use Rattle.dfu_device.specs.Rows.{meant}
+use Rattle.dfu_host.specs.Table.{Goal, ToLoad, ToFetch, Task, Phase, Find, GiveUp, Over, OverUploaded, Deed, Send, Wait, Reset, Done, deed, Heard, Acked, Status, StateIs, Part, NoRoom, Stalled, Nothing, Waited, WasReset, Restarted}
+use Rattle.dfu_host.specs.Host.{HostState, after}
+use Rattle.dfu_link.specs.Session.{Kind, AnOffer, AnUpload, AnAbort, ATime, ARestart, AGo}
+
+-- The events.
+
+-- What becomes of one action of the host: it passes; its request or its answer is lost; it is handled twice, and then perhaps its answer is lost;
+-- time passes after it; the power is cut in it, at any write of the medium; or a write of the medium fails in it.
+pub data Fate : Type 0 where
+  Pass : Fate
+  LostOut : Fate
+  LostBack : Fate
+  Twice : Fate
+  TwiceLostBack : Fate
+  Slip : (ms : ℕ) → Fate
+  CutIn : Fate
+  Fail : Fate
+
+-- What happens to the link: a payload is offered, an upload begins, the session is aborted, the host takes its next action, time passes, the bus is reset,
+-- or the power is cut.
+pub data Event : Type 0 where
+  Offer : (payload : List ℕ) (actions restarts : ℕ) → Event
+  UploadIt : (actions restarts : ℕ) → Event
+  AbortIt : Event
+  Go : Fate → Event
+  Time : (ms : ℕ) → Event
+  ResetBus : Event
+  Cut : Event
+
+-- What an event is to the session machine.
+abbrev pub kind_of : Event → Kind
+kind_of (Offer payload actions restarts) = AnOffer payload
+kind_of (UploadIt actions restarts) = AnUpload
+kind_of AbortIt = AnAbort
+kind_of (Go fate) = AGo
+kind_of (Time ms) = ATime
+kind_of ResetBus = ARestart
+kind_of Cut = ARestart
+
+-- The link.
+
+-- The session that is live: none, or one with its host.
+pub data Session : Type 0 where
+  Nobody : Session
+  Hosted : HostState → Session
+
+-- The link: a device in its situation, and the session that is live. What was uploaded goes with the answer.
+pub record Link : Type 0 where
+  pub device : Situation
+  pub session : Session
+
+-- What an event answers: a report, or none, and with Uploaded the bytes that were uploaded.
+pub record Answered : Type 0 where
+  pub report : Option Report
+  pub gave : Option (List ℕ)
+
+-- Nothing is reported.
+abbrev pub silent : Answered
+silent = record { report = None; gave = None }
+
+-- What the last reported upload gave, after an answer.
+abbrev pub given : Option (List ℕ) → List ℕ → List ℕ
+given None up = up
+given (Some bytes) up = bytes
+
+-- The link after an event, and what it answers.
+pub record Played : Type 0 where
+  pub link : Link
+  pub answer : Answered
+
+-- The host.
+
+-- A session's task goes by what the device's descriptor says.
+abbrev pub task_for : Profile → Goal → Task
+task_for c goal = record { goal = goal; transfer = c.transfer; tolerant = c.tolerant; will_detach = c.will_detach; detach_ms = c.detach_ms }
+
+-- A session begins in phase Find with at least one action.
+abbrev pub opened : Profile → Goal → (actions restarts : ℕ) → Session
+opened c goal actions restarts = Hosted (record { task = task_for c goal; phase = Find; actions = max 1 actions; restarts = restarts })
+
+-- What becomes of a session by what its host takes: it stays live, or it is over with its report.
+pub record Took : Type 0 where
+  pub session : Session
+  pub answer : Answered
+
+-- A host that is done ends its session with its report, an upload with what it kept; any other stays live.
+abbrev pub settled : HostState → Phase → Took
+settled h (Over report) = record { session = Nobody; answer = record { report = Some report; gave = None } }
+settled h (OverUploaded kept) = record { session = Nobody; answer = record { report = Some Uploaded; gave = Some kept } }
+settled h phase = record { session = Hosted h; answer = silent }
+
+-- The host takes what it hears, by its own table.
+abbrev pub took : HostState → Heard → Took
+took h heard = let h' = after h heard in settled h' h'.phase
+
+-- A restart that comes from outside is told to a live host at once.
+abbrev pub told : Session → Took
+told Nobody = record { session = Nobody; answer = silent }
+told (Hosted h) = took h Restarted
+
+-- An abort makes a live host give up.
+abbrev pub aborted : Session → Session
+aborted Nobody = Nobody
+aborted (Hosted h) = Hosted (record h { phase = GiveUp })
+
+-- One action.
+
+-- What a host hears of a device's reply. That the bytes of the reply are heard like this is a law.
+abbrev pub heard_as : Reply → Heard
+heard_as Ack = Acked
+heard_as (StatusOf code poll state) = Status code poll state
+heard_as (StateOf state) = StateIs state
+heard_as (Data bytes) = Part bytes
+heard_as Stall = Stalled
+
+-- Where there is no memory for a part of an upload, the host hears that instead.
+abbrev pub with_room : Bool → Heard → Heard
+with_room false (Part bytes) = NoRoom
+with_room room heard = heard
+
+-- The device after an action, and what the host hears of it; after a cut it hears of the restart alone.
+pub record Passed : Type 0 where
+  pub device : Situation
+  pub heard : Heard
+
+-- A request that the table answers by this plan, by its fate. The medium's luck is said for the first and for the second thing that the device does.
+abbrev pub sent_by : Profile → Situation → Request → Plan → Fate → (first second : Luck) → Passed
+sent_by c s r p Pass l k = let o = outcome s.image p l in record { device = o.after; heard = heard_as o.reply }
+sent_by c s r p LostOut l k = record { device = s; heard = Nothing }
+sent_by c s r p LostBack l k = record { device = (outcome s.image p l).after; heard = Nothing }
+sent_by c s r p Twice l k = let o = handled c (outcome s.image p l).after r k in record { device = o.after; heard = heard_as o.reply }
+sent_by c s r p TwiceLostBack l k = record { device = (handled c (outcome s.image p l).after r k).after; heard = Nothing }
+sent_by c s r p (Slip ms) l k = let o = outcome s.image p l in record { device = elapsed c o.after ms k; heard = heard_as o.reply }
+sent_by c s r p CutIn l k = record { device = powered (outcome s.image p l).after; heard = Restarted }
+sent_by c s r p Fail l k = let o = outcome s.image p l in record { device = o.after; heard = heard_as o.reply }
+
+-- A request, by its fate.
+abbrev pub sent : Profile → Situation → Request → Fate → (first second : Luck) → Passed
+sent c s r fate l k = sent_by c s r (plan c s.image s.stage r) fate l k
+
+-- A wait, by its fate: with Slip another time passes in its place.
+abbrev pub waited : Profile → Situation → ℕ → Fate → Luck → Passed
+waited c s ms (Slip other) l = record { device = elapsed c s other l; heard = Waited }
+waited c s ms CutIn l = record { device = powered (elapsed c s ms l); heard = Restarted }
+waited c s ms fate l = record { device = elapsed c s ms l; heard = Waited }
+
+-- A reset of the bus by the host, by its fate: with Slip a time passes after it.
+abbrev pub bus_reset : Profile → Situation → Fate → Luck → Passed
+bus_reset c s (Slip ms) l = record { device = elapsed c (was_reset s) ms l; heard = WasReset }
+bus_reset c s CutIn l = record { device = powered (was_reset s); heard = Restarted }
+bus_reset c s fate l = record { device = was_reset s; heard = WasReset }
+
+-- An action of the host, by its fate. A host that is done has none.
+abbrev pub acted : Profile → Situation → Deed → Fate → (first second : Luck) → Passed
+acted c s (Send q body) fate l k = sent c s (meant q body) fate l k
+acted c s (Wait ms) fate l k = waited c s ms fate l
+acted c s Reset fate l k = bus_reset c s fate l
+acted c s (Done report) fate l k = record { device = s; heard = Nothing }
+
+-- The rows.
+
+-- The host's next action, by its fate; the host takes what it hears.
+abbrev pub gone : Profile → Link → Session → Fate → (first second : Luck) → (room : Bool) → Played
+gone c w Nobody fate l k room = record { link = w; answer = silent }
+gone c w (Hosted h) fate l k room =
+    let d = acted c w.device (deed h.task h.phase) fate l k in
+    let t = took h (with_room room d.heard) in
+    record { link = record { device = d.device; session = t.session }; answer = t.answer }
+
+-- A restart that comes from outside: the device is in this situation, and a live host is told.
+abbrev pub restarted_to : Situation → Session → Played
+restarted_to s session = let t = told session in record { link = record { device = s; session = t.session }; answer = t.answer }
+
+-- Each event. Between actions the medium is not armed, so that it works while time passes.
+abbrev pub played : Profile → Link → Event → (first second : Luck) → (room : Bool) → Played
+played c w (Offer payload actions restarts) l k room = record { link = record { device = w.device; session = opened c (ToLoad payload) actions restarts }; answer = silent }
+played c w (UploadIt actions restarts) l k room = record { link = record { device = w.device; session = opened c ToFetch actions restarts }; answer = silent }
+played c w AbortIt l k room = record { link = record { device = w.device; session = aborted w.session }; answer = silent }
+played c w (Go fate) l k room = gone c w w.session fate l k room
+played c w (Time ms) l k room = record { link = record { device = elapsed c w.device ms Works; session = w.session }; answer = silent }
+played c w ResetBus l k room = restarted_to (was_reset w.device) w.session
+played c w Cut l k room = restarted_to (powered w.device) w.session
+
+-- An event that is not refused: a session begins only where none is live, and no offer is empty; an abort and an action need a live session.
+abbrev pub IsAllowed : Session → Event → Type 0
+IsAllowed Nobody AbortIt = ⊥
+IsAllowed Nobody (Go fate) = ⊥
+IsAllowed Nobody (Offer payload actions restarts) = 0 < length payload
+IsAllowed Nobody event = Unit {0}
+IsAllowed (Hosted h) (Offer payload actions restarts) = ⊥
+IsAllowed (Hosted h) (UploadIt actions restarts) = ⊥
+IsAllowed (Hosted h) event = Unit {0}
+
+-- A play: an event that is not refused, at some luck of the medium and with or without memory for a part of an upload.
+pub record Play (c : Profile) (w : Link) (event : Event) (w' : Link) (answer : Answered) : Type 0 where
+  pub allowed : IsAllowed w.session event
+  pub first : Luck
+  pub second : Luck
+  pub room : Bool
+  pub same : played c w event first second room ≡ record { link = w'; answer = answer }
