@@ -10,3 +10,7 @@ pub mod GoUp
 pub mod Taking
 pub mod Acting
 pub mod Whole
+pub mod Passes
+pub mod Turns
+pub mod Clean
+pub mod Saying

@@ -9,7 +9,7 @@ use Rattle.dfu_host.specs.Blocks.{blocks}
 use Rattle.dfu_host.specs.Table.{Goal, ToLoad, ToFetch, Task, Phase, Find, Fetch, GiveUp, Over, OverUploaded, Heard, Part, NoRoom, Restarted, row}
 use Rattle.dfu_host.specs.Host.{HostState, budgeted, restarted, after_phase, told as host_told}
 use Rattle.dfu_link.specs.Session.{Machine, Live, NoOne, Fetching, IsOneOf, IsPlain, Says, says_not, says_installed, says_uploaded, says_other, OnlyPlain}
-use Rattle.dfu_link.specs.Play.{Nobody, given, task_for, Took, settled, took, with_room}
+use Rattle.dfu_link.specs.Play.{Nobody, given, task_for, Took, settled, took, remembered}
 use Rattle.dfu_link.specs.Agreement.{pending_of, live_goal, live_of, IsGoalOffer, IsLiveOffer}
 use Rattle.dfu_link.specs.Fact.{IsInApp, EndsAs, Fact, FetchFact, GoalFact, HasBlocks, IsOn, SessionFact}
 use Rattle.dfu_link.proofs.Fates.{IfHeard}
@@ -115,34 +115,34 @@ module _ (c : Profile) (offers : List (List ℕ)) where
   fetch_told s up phase left again heard n = fetch_well s up (row (task_for c ToFetch) phase heard) (pred left) again n
 
   -- with or without memory for a part
-  load_room : (p : List ℕ) (phase : Phase) (s d : Situation) (room : Bool) (heard : Heard) → Fact c p phase s → IfHeard heard (λ x. Fact c p (row (task_for c (ToLoad p)) phase x) d) → IfHeard (with_room room heard) (λ x. Fact c p (row (task_for c (ToLoad p)) phase x) d)
+  load_room : (p : List ℕ) (phase : Phase) (s d : Situation) (room : Bool) (heard : Heard) → Fact c p phase s → IfHeard heard (λ x. Fact c p (row (task_for c (ToLoad p)) phase x) d) → IfHeard (remembered heard room) (λ x. Fact c p (row (task_for c (ToLoad p)) phase x) d)
   load_room p phase s d false (Part bytes) f n = no_part phase f n
     where
       no_part : (phase : Phase) → Fact c p phase s → Fact c p (row (task_for c (ToLoad p)) phase (Part bytes)) d → Fact c p (row (task_for c (ToLoad p)) phase NoRoom) d
       no_part (Fetch k kept) f h = elim f [ ]
       no_part phase f h = h
-  load_room p phase s d true heard f n = n
-  load_room p phase s d false heard f n = n
+  load_room p phase s d true (Part bytes) f n = n
+  load_room p phase s d room heard f n = n
 
-  fetch_room : (phase : Phase) (d : Situation) (room : Bool) (heard : Heard) → IfHeard heard (λ x. FetchFact (row (task_for c ToFetch) phase x) d) → IfHeard (with_room room heard) (λ x. FetchFact (row (task_for c ToFetch) phase x) d)
+  fetch_room : (phase : Phase) (d : Situation) (room : Bool) (heard : Heard) → IfHeard heard (λ x. FetchFact (row (task_for c ToFetch) phase x) d) → IfHeard (remembered heard room) (λ x. FetchFact (row (task_for c ToFetch) phase x) d)
   fetch_room phase d false (Part bytes) n = no_part phase n
     where
       no_part : (phase : Phase) → FetchFact (row (task_for c ToFetch) phase (Part bytes)) d → FetchFact (row (task_for c ToFetch) phase NoRoom) d
       no_part (Fetch k kept) h = tt
       no_part phase h = h
-  fetch_room phase d true heard n = n
-  fetch_room phase d false heard n = n
+  fetch_room phase d true (Part bytes) n = n
+  fetch_room phase d room heard n = n
 
   pub load_taken : (s d : Situation) (p up : List ℕ) (phase : Phase) (left again : ℕ) (room : Bool) (heard : Heard) → IsOn phase → IsOneOf p offers → 0 < length (blocks p c.transfer) → Fact c p phase s
-      → IfHeard heard (λ x. Fact c p (row (task_for c (ToLoad p)) phase x) d) → TookWell d (ToLoad p) up (took (record { task = task_for c (ToLoad p); phase = phase; actions = left; restarts = again }) (with_room room heard))
+      → IfHeard heard (λ x. Fact c p (row (task_for c (ToLoad p)) phase x) d) → TookWell d (ToLoad p) up (took (record { task = task_for c (ToLoad p); phase = phase; actions = left; restarts = again }) (remembered heard room))
   load_taken s d p up phase left again room heard on o some f n =
       let h : HostState = record { task = task_for c (ToLoad p); phase = phase; actions = left; restarts = again } in
-      subst (λ (q : HostState). TookWell d (ToLoad p) up (settled q q.phase)) (sym (after_on h phase (with_room room heard) on))
-      (load_told d p up phase left again (with_room room heard) (record { task_is = refl; offer = o; some = some }) (load_room p phase s d room heard f n))
+      subst (λ (q : HostState). TookWell d (ToLoad p) up (settled q q.phase)) (sym (after_on h phase (remembered heard room) on))
+      (load_told d p up phase left again (remembered heard room) (record { task_is = refl; offer = o; some = some }) (load_room p phase s d room heard f n))
 
   pub fetch_taken : (d : Situation) (up : List ℕ) (phase : Phase) (left again : ℕ) (room : Bool) (heard : Heard) → IsOn phase
-      → IfHeard heard (λ x. FetchFact (row (task_for c ToFetch) phase x) d) → TookWell d ToFetch up (took (record { task = task_for c ToFetch; phase = phase; actions = left; restarts = again }) (with_room room heard))
+      → IfHeard heard (λ x. FetchFact (row (task_for c ToFetch) phase x) d) → TookWell d ToFetch up (took (record { task = task_for c ToFetch; phase = phase; actions = left; restarts = again }) (remembered heard room))
   fetch_taken d up phase left again room heard on n =
       let h : HostState = record { task = task_for c ToFetch; phase = phase; actions = left; restarts = again } in
-      subst (λ (q : HostState). TookWell d ToFetch up (settled q q.phase)) (sym (after_on h phase (with_room room heard) on))
-      (fetch_told d up phase left again (with_room room heard) (fetch_room phase d room heard n))
+      subst (λ (q : HostState). TookWell d ToFetch up (settled q q.phase)) (sym (after_on h phase (remembered heard room) on))
+      (fetch_told d up phase left again (remembered heard room) (fetch_room phase d room heard n))

@@ -15,6 +15,7 @@ use Rattle.dfu_link.specs.Fact.{IsIdle, Fetches, FetchFact, GoalFact, IsOn, Sess
 use Rattle.dfu_link.specs.Headline.{Follows, Plays, ends, plays, FollowsAll}
 use Rattle.dfu_link.proofs.Kept.{fact_time}
 use Rattle.dfu_link.proofs.Taking.{shown, restart_taken, restart_plain, stop_fact}
+use Rattle.dfu_link.proofs.Saying.{step_live}
 use Rattle.dfu_link.proofs.Acting.{Simulated, go_simulated}
 
 module _ (c : Profile) (sized : 0 < c.transfer) (offers : List (List ℕ)) where
@@ -85,16 +86,16 @@ module _ (c : Profile) (sized : 0 < c.transfer) (offers : List (List ℕ)) where
   more_sound p stage h = tt
 
 -- the offers after an event
-abbrev offers_after : Event → List (List ℕ) → List (List ℕ)
-offers_after (Offer payload actions again) offers = payload ∷ offers
-offers_after event offers = offers
+abbrev offers_by : Event → List (List ℕ) → List (List ℕ)
+offers_by (Offer payload actions again) offers = payload ∷ offers
+offers_by event offers = offers
 
 module _ (c : Profile) (sized : 0 < c.transfer) where
   some_blocks : (p : List ℕ) → 0 < length p → 0 < length (blocks p c.transfer)
   some_blocks p h = block_counts p c.transfer 0 sized (omega (arith, h))
 
   simulated : (offers : List (List ℕ)) (s : Situation) (session : Session) (up : List ℕ) (event : Event) (l k : Luck) (room : Bool) → IsAllowed session event → IsSound offers s.stage → IsLiveOffer offers session → SessionFact c s session
-      → let w : Link = record { device = s; session = session } in Simulated c offers w up (kind_of event) (played c w event l k room) (offers_after event offers)
+      → let w : Link = record { device = s; session = session } in Simulated c offers w up (kind_of event) (played c w event l k room) (offers_by event offers)
   simulated offers s Nobody up (Offer payload actions again) l k room a q o f =
       record { step = offered; sound = more_sound c sized offers payload s.stage q; offer = inl refl; fact = record { task_is = refl; on = tt; some = some_blocks payload a; fact = tt }; done = λ e. cc }
   simulated offers s (Hosted h) up (Offer payload actions again) l k room a q o f = elim a [ ]
@@ -121,14 +122,14 @@ module _ (c : Profile) (sized : 0 < c.transfer) where
         step = s.step;
         agrees = record { cur = refl; pending = refl; live = refl; up_is = refl; sound = s.sound; offered = s.offer };
         fact = s.fact;
-        done = s.done;
+        installed = λ e. (s.done e, step_live s.step e);
       }
 
   pub follows : (w w' : Link) (up : List ℕ) (m : Machine) (event : Event) (answer : Answered) → SessionFact c w.device w.session → Agrees w up m → Play c w event w' answer → Follows c m event w' (given answer.gave up) answer.report
   follows w w' up m event answer f a p =
       let r : Played = played c w event p.first p.second p.room in
       let s = simulated m.offers w.device w.session up event p.first p.second p.room p.allowed a.sound a.offered f in
-      let e = shown_follows w up m.offers (offers_after event m.offers) event r s in
+      let e = shown_follows w up m.offers (offers_by event m.offers) event r s in
       subst (λ (q : Played). Follows c m event q.link (given q.answer.gave up) q.answer.report) p.same
       (subst (λ (n : Machine). Follows c n event r.link (given r.answer.gave up) r.answer.report) (is_shown w up m a) e)
 

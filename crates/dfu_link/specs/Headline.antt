@@ -1,22 +1,22 @@
 -- The laws of plays, as statements.
-use Rattle.std.specs.Prelude.{◌≡◌, ◌<◌, ℕ, List, [], ◌∷◌, ◌++◌, map, Option, Some}
-use Rattle.dfu_host.specs.declared.report.Report.{Report}
-use Rattle.dfu_host.specs.declared.report.Report.TheVariants.{Installed}
+use Rattle.std.specs.Prelude.{◌≡◌, ◌⊎◌, ℕ, ◌<◌, Bool, List, [], ◌∷◌, ◌++◌, Option, Some, map}
 use Rattle.dfu_wire.specs.declared.states.State.TheVariants.{AppIdle}
 use Rattle.dfu_device.specs.Stage.{Profile, state_of}
-use Rattle.dfu_link.specs.Session.{Machine, Step, Legal, said}
-use Rattle.dfu_link.specs.Play.{Link, Event, Answered, given, Play, kind_of}
+use Rattle.dfu_host.specs.declared.report.Report.{Report}
+use Rattle.dfu_host.specs.declared.report.Report.TheVariants.{Installed}
+use Rattle.dfu_link.specs.Session.{Machine, Loading, IsOneOf, Kind, AnOffer, Step, Legal, said}
+use Rattle.dfu_link.specs.Play.{Event, kind_of, Link, Answered, given, Play}
 use Rattle.dfu_link.specs.Agreement.{Agrees}
 use Rattle.dfu_link.specs.Fact.{SessionFact}
 
 -- The session machine follows an event: it makes one legal step, agreement and the phase fact hold again, and where Installed is reported the device
--- is in appIDLE. That exactly the session's payload is active there is the condition of the step.
+-- is in appIDLE, and the payload of the session that was live is the active image.
 pub record Follows (c : Profile) (m : Machine) (event : Event) (w' : Link) (up' : List ℕ) (report : Option Report) : Type 0 where
   pub after : Machine
   pub step : Step c.tolerant c.transfer (kind_of event) m report after
   pub agrees : Agrees w' up' after
   pub fact : SessionFact c w'.device w'.session
-  pub done : report ≡ Some Installed → state_of w'.device.stage ≡ AppIdle
+  pub installed : report ≡ Some Installed → (state_of w'.device.stage ≡ AppIdle) × (m.live ≡ Loading w'.device.image)
 
 -- Each play is one legal step of every session machine that the link agrees with.
 abbrev pub Simulation : Type 0
@@ -40,3 +40,14 @@ pub record FollowsAll (c : Profile) (m : Machine) (events : List Event) (reports
 abbrev pub Headline : Type 0
 Headline = (c : Profile) (w w' : Link) (up up' : List ℕ) (m : Machine) (events : List Event) (reports : List Report) → 0 < c.transfer
     → SessionFact c w.device w.session → Agrees w up m → Plays c w up events reports w' up' → FollowsAll c m events reports w' up'
+
+-- The offers after events of these kinds: each payload that was offered is added.
+abbrev pub offers_after : List Kind → List (List ℕ) → List (List ℕ)
+offers_after [] offers = offers
+offers_after (AnOffer payload ∷ kinds) offers = offers_after kinds (payload ∷ offers)
+offers_after (kind ∷ kinds) offers = offers_after kinds offers
+
+-- After a legal run the active image is the one before it, or a whole payload that was offered so far.
+abbrev pub OnlyOffered : Type 0
+OnlyOffered = (tolerant : Bool) (t : ℕ) (m m' : Machine) (kinds : List Kind) (reports : List Report) → Legal tolerant t m kinds reports m'
+    → (m'.offers ≡ offers_after kinds m.offers) × ((m'.cur ≡ m.cur) ⊎ IsOneOf m'.cur (offers_after kinds m.offers))

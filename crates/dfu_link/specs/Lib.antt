@@ -3,3 +3,4 @@ pub mod Play
 pub mod Agreement
 pub mod Fact
 pub mod Headline
+pub mod CleanRun

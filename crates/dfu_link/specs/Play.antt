@@ -122,9 +122,9 @@ heard_as (Data bytes) = Part bytes
 heard_as Stall = Stalled
 
 -- Where there is no memory for a part of an upload, the host hears that instead.
-abbrev pub with_room : Bool → Heard → Heard
-with_room false (Part bytes) = NoRoom
-with_room room heard = heard
+abbrev pub remembered : Heard → (room : Bool) → Heard
+remembered (Part bytes) false = NoRoom
+remembered heard room = heard
 
 -- The device after an action, and what the host hears of it; after a cut it hears of the restart alone.
 pub record Passed : Type 0 where
@@ -172,7 +172,7 @@ abbrev pub gone : Profile → Link → Session → Fate → (first second : Luck
 gone c w Nobody fate l k room = record { link = w; answer = silent }
 gone c w (Hosted h) fate l k room =
     let d = acted c w.device (deed h.task h.phase) fate l k in
-    let t = took h (with_room room d.heard) in
+    let t = took h (remembered d.heard room) in
     record { link = record { device = d.device; session = t.session }; answer = t.answer }
 
 -- A restart that comes from outside: the device is in this situation, and a live host is told.

@@ -1,6 +1,7 @@
 //! Laws of plays: each function has an empty body, and its contract is the law.
 
-ghost use Rattle.dfu_link.specs.Headline.{Headline, Simulation};
+ghost use Rattle.dfu_link.specs.CleanRun.{CleanRun};
+ghost use Rattle.dfu_link.specs.Headline.{Headline, OnlyOffered, Simulation};
 
 /// Each play of an event, from a link that agrees with a session machine, is one legal step of it.
 /// Agreement and the phase fact hold again, and Installed is reported only in appIDLE with exactly
@@ -13,4 +14,16 @@ pub fn simulation()
 /// reports in order.
 pub fn headline()
     ensures { Headline }
+{}
+
+/// A download in which nothing is lost and nothing fails is installed after exactly the clean count
+/// of actions: Installed is reported in the last of them and nothing in those before.
+pub fn clean_run()
+    ensures { CleanRun }
+{}
+
+/// After a legal run the active image is the one before it, or a whole payload that was offered so
+/// far.
+pub fn only_offered()
+    ensures { OnlyOffered }
 {}

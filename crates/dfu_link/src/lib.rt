@@ -6,4 +6,4 @@
 
 mod laws;
 
-pub use laws::{headline, simulation};
+pub use laws::{clean_run, headline, only_offered, simulation};
