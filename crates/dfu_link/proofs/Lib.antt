@@ -14,3 +14,5 @@ pub mod Passes
 pub mod Turns
 pub mod Clean
 pub mod Saying
+pub mod Replies
+pub mod Projected

@@ -4,3 +4,5 @@ pub mod Agreement
 pub mod Fact
 pub mod Headline
 pub mod CleanRun
+pub mod Bytes
+pub mod Understood

@@ -2,6 +2,7 @@
 
 ghost use Rattle.dfu_link.specs.CleanRun.{CleanRun};
 ghost use Rattle.dfu_link.specs.Headline.{Headline, OnlyOffered, Simulation};
+ghost use Rattle.dfu_link.specs.Understood.{BytesHeadline, BytesShow, Understood};
 
 /// Each play of an event, from a link that agrees with a session machine, is one legal step of it.
 /// Agreement and the phase fact hold again, and Installed is reported only in appIDLE with exactly
@@ -26,4 +27,17 @@ pub fn clean_run()
 /// far.
 pub fn only_offered()
     ensures { OnlyOffered }
+{}
+
+/// What goes over the wire is understood: what a device answers to a request of a host, in bytes,
+/// is heard as what the device meant. A part of an upload may find no memory.
+pub fn understood()
+    ensures { Understood }
+{}
+
+/// A play with its bytes, over a device on a medium, is a play of the values that it shows. So any
+/// list of them is a legal run.
+pub fn bytes_show()
+    ensures plays { BytesShow }
+    ensures headline { BytesHeadline }
 {}

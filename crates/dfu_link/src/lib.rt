@@ -6,4 +6,4 @@
 
 mod laws;
 
-pub use laws::{clean_run, headline, only_offered, simulation};
+pub use laws::{bytes_show, clean_run, headline, only_offered, simulation, understood};

@@ -1,0 +1,199 @@
+-- What a device answers fits the request, and is heard as it was meant.
+use Rattle.std.proofs.Common.{◌≡◌, ℕ, ◌+◌, ◌==◌, nat_lt, nat_le, not, Bool, true, false, List, [], ◌∷◌, length, take, drop, refl, sym, ap, ◌∙◌, subst, arith, inl, inr}
+use Rattle.std.proofs.lemmas.Bool.Decides.{nat_tests}
+use Rattle.dfu_device.specs.Stage.{Request, Dnload, Upload, GetStatus, ClrStatus, GetState, Reply, Ack, StatusOf, StateOf, Data, Stall, Profile, Stage, InApp, Detaching, Idle, Unwritten, Written, Writing, Ready, Closed, Complete, Committing, Waiting, Sending, Broken}
+use Rattle.dfu_device.specs.Table.{Plan, Sure, Writes, Commits, plan, block_plan, upload_plan, is_empty, next_number}
+use Rattle.dfu_device.specs.Outcome.{Luck, Works, outcome}
+use Rattle.dfu_device.specs.TakenRow.{either_way}
+use Rattle.dfu_host.specs.Table.{Task, Phase, Find, FindAgain, Detach, Enter, Clear, Quit, Block, Ask, Poll, Close, AskLast, Manifest, Trouble, Fetch, GiveUp, Deed, Send, deed, Heard, Acked, Part, Stalled}
+use Rattle.dfu_link.specs.Play.{heard_as, remembered}
+use Rattle.dfu_wire.specs.declared.requests.Request.{Request as Asked}
+use Rattle.dfu_wire.specs.declared.requests.Request.TheVariants as request
+use Rattle.dfu_wire.specs.declared.setups.Setup.{Setup}
+use Rattle.dfu_wire.specs.Request.{Asks}
+use Rattle.dfu_wire.specs.Status.{IsStatus}
+use Rattle.dfu_wire.specs.State.{state_byte}
+use Rattle.dfu_device.specs.Stage.{Detach as AskDetach}
+use Rattle.dfu_device.specs.declared.answer.Answer.{Answer}
+use Rattle.dfu_device.specs.declared.answer.Answer.TheVariants as answer
+use Rattle.dfu_device.specs.Rows.{meant, asked_length, Answers, body_length, is_served}
+use Rattle.dfu_device.specs.Came.{status_whole}
+use Rattle.dfu_host.specs.Wire.{HearsBytes, ReadsState}
+use Rattle.dfu_host.specs.WireLaws.{status_understood, state_understood}
+use Rattle.dfu_link.specs.Bytes.{HearsAnswer}
+use Rattle.dfu_link.specs.Understood.{Understood}
+
+-- a reply of the kind that a request has
+abbrev pub Fitting : Request → Reply → Type 0
+Fitting GetStatus (StatusOf code poll state) = Unit {0}
+Fitting GetStatus Stall = Unit {0}
+Fitting GetStatus reply = ⊥
+Fitting GetState (StateOf state) = Unit {0}
+Fitting GetState Stall = Unit {0}
+Fitting GetState reply = ⊥
+Fitting (Upload number size) (Data bytes) = Unit {0}
+Fitting (Upload number size) Stall = Unit {0}
+Fitting (Upload number size) reply = ⊥
+Fitting r Ack = Unit {0}
+Fitting r Stall = Unit {0}
+Fitting r reply = ⊥
+
+abbrev FitsPlan : Request → Plan → Type 0
+FitsPlan r (Sure reply stage) = Fitting r reply
+FitsPlan r (Writes before block reply stage bad) = Fitting r reply × Fitting r bad
+FitsPlan r (Commits taken reply stage bad) = Fitting r reply × Fitting r bad
+
+fits_outcome : (r : Request) (i : List ℕ) (p : Plan) (luck : Luck) → FitsPlan r p → Fitting r (outcome i p luck).reply
+fits_outcome r i (Sure reply stage) luck f = f
+fits_outcome r i (Writes before block reply stage bad) Works f = f.0
+fits_outcome r i (Writes before block reply stage bad) luck f = f.1
+fits_outcome r i (Commits taken reply stage bad) Works f = f.0
+fits_outcome r i (Commits taken reply stage bad) luck f = f.1
+
+block_fits : (c : Profile) (before : List ℕ) (expected number : ℕ) (body : List ℕ) → FitsPlan (Dnload number body) (block_plan c before expected number body)
+block_fits c before expected number body =
+    let P : Plan → Type 0 = FitsPlan (Dnload number body) in
+    either_way P (nat_lt c.transfer (length body)) _ _ tt (either_way P (not (number == expected)) _ _ tt (either_way P (nat_lt c.capacity (length before + length body)) _ _ tt tt))
+
+upload_fits : (c : Profile) (i : List ℕ) (place expected number size : ℕ) → FitsPlan (Upload number size) (upload_plan c i place expected number size)
+upload_fits c i place expected number size =
+    let P : Plan → Type 0 = FitsPlan (Upload number size) in
+    let part = take size (drop place i) in
+    either_way P (size == 0) _ _ tt (either_way P (nat_lt c.transfer size) _ _ tt (either_way P (not (number == expected)) _ _ tt
+    (either_way P (nat_lt (length part) size) (Sure (Data part) Idle) (Sure (Data part) (Sending (place + size) (next_number expected))) tt tt)))
+
+-- each row by state and request
+fits_plan : (c : Profile) (i : List ℕ) (st : Stage) (r : Request) → FitsPlan r (plan c i st r)
+fits_plan c i InApp (AskDetach timeout) = tt
+fits_plan c i InApp GetStatus = tt
+fits_plan c i InApp r = tt
+fits_plan c i (Detaching timer passed) GetStatus = tt
+fits_plan c i (Detaching timer passed) r = tt
+fits_plan c i Idle (Dnload number body) =
+    let P : Plan → Type 0 = FitsPlan (Dnload number body) in
+    either_way P (not c.can_download) _ _ tt (either_way P (is_empty body) _ _ tt (block_fits c [] 0 number body))
+fits_plan c i Idle (Upload number size) = either_way (FitsPlan (Upload number size)) c.can_upload _ _ (upload_fits c i 0 0 number size) tt
+fits_plan c i Idle r = tt
+fits_plan c i (Unwritten before block number) GetStatus = either_way (FitsPlan GetStatus) (c.busy == 0) _ _ (tt, tt) tt
+fits_plan c i (Unwritten before block number) r = tt
+fits_plan c i (Written taken number) GetStatus = tt
+fits_plan c i (Written taken number) r = tt
+fits_plan c i (Writing before block number passed) GetStatus = tt
+fits_plan c i (Writing before block number passed) r = tt
+fits_plan c i (Ready taken number) (Dnload k body) =
+    let P : Plan → Type 0 = FitsPlan (Dnload k body) in
+    either_way P (is_empty body) _ _ (either_way P (nat_le c.least (length taken)) _ _ tt tt) (block_fits c taken number k body)
+fits_plan c i (Ready taken number) r = tt
+fits_plan c i (Closed taken) GetStatus = either_way (FitsPlan GetStatus) (c.manifest == 0) _ _ (tt, tt) tt
+fits_plan c i (Closed taken) r = tt
+fits_plan c i Complete GetStatus = tt
+fits_plan c i Complete r = tt
+fits_plan c i (Committing taken passed) GetStatus = tt
+fits_plan c i (Committing taken passed) r = tt
+fits_plan c i Waiting GetStatus = tt
+fits_plan c i Waiting r = tt
+fits_plan c i (Sending place number) (Upload k size) = upload_fits c i place number k size
+fits_plan c i (Sending place number) r = tt
+fits_plan c i (Broken code) ClrStatus = tt
+fits_plan c i (Broken code) r = tt
+
+-- a request as a host sends it
+abbrev pub IsHosts : Asked → List ℕ → Type 0
+IsHosts (request.GetStatus len) body = (len ≡ 6) × (body ≡ [])
+IsHosts (request.GetState len) body = (len ≡ 1) × (body ≡ [])
+IsHosts (request.Dnload block len) body = len ≡ length body
+IsHosts (request.Detach timeout) body = body ≡ []
+IsHosts (request.Upload block len) body = body ≡ []
+IsHosts request.ClrStatus body = body ≡ []
+IsHosts request.Abort body = body ≡ []
+IsHosts q body = ⊥
+
+abbrev pub HostsDeed : Deed → Type 0
+HostsDeed (Send q body) = IsHosts q body
+HostsDeed d = Unit {0}
+
+pub hosts_deed : (task : Task) (phase : Phase) → HostsDeed (deed task phase)
+hosts_deed task Find = (refl, refl)
+hosts_deed task FindAgain = (refl, refl)
+hosts_deed task Detach = refl
+hosts_deed task Enter = either_way HostsDeed task.will_detach _ _ tt tt
+hosts_deed task Clear = refl
+hosts_deed task Quit = refl
+hosts_deed task (Block n) = refl
+hosts_deed task (Ask n) = (refl, refl)
+hosts_deed task (Poll n) = (refl, refl)
+hosts_deed task Close = refl
+hosts_deed task AskLast = (refl, refl)
+hosts_deed task Manifest = (refl, refl)
+hosts_deed task Trouble = (refl, refl)
+hosts_deed task (Fetch k kept) = refl
+hosts_deed task GiveUp = refl
+hosts_deed task phase = tt
+
+pub hosts : (task : Task) (phase : Phase) (q : Asked) (body : List ℕ) → deed task phase ≡ Send q body → IsHosts q body
+hosts task phase q body e = subst HostsDeed e (hosts_deed task phase)
+
+heard_stall : (d : Deed) (a : Answer) (out : List ℕ) (heard : Heard) → a ≡ answer.Stall → HearsAnswer d a out heard → heard ≡ Stalled
+heard_stall d a out heard e h = subst (λ (x : Answer). HearsAnswer d x out heard) e h
+
+heard_ack : (d : Deed) (a : Answer) (out : List ℕ) (heard : Heard) → a ≡ answer.Ack → HearsAnswer d a out heard → heard ≡ Acked
+heard_ack d a out heard e h = subst (λ (x : Answer). HearsAnswer d x out heard) e h
+
+heard_bytes : (d : Deed) (a : Answer) (out : List ℕ) (heard : Heard) → a ≡ answer.Bytes → HearsAnswer d a out heard → HearsBytes d out heard
+heard_bytes d a out heard e h = subst (λ (x : Answer). HearsAnswer d x out heard) e h
+
+abbrev HeardAs : Reply → Heard → Type 0
+HeardAs reply heard = (room : Bool) × (heard ≡ remembered (heard_as reply) room)
+
+-- a reply that fits, as its bytes
+pub reply_heard : (q : Asked) (body : List ℕ) (reply : Reply) (a : Answer) (out : List ℕ) (heard : Heard) → IsHosts q body → Fitting (meant q body) reply
+    → Answers (asked_length q) reply a out → HearsAnswer (Send q body) a out heard → HeardAs reply heard
+reply_heard (request.GetStatus len) body (StatusOf code poll state) a out heard i f says h =
+    let whole : (a ≡ answer.Bytes) × IsStatus (record { code = code; poll_ms = poll; state = state }) out = status_whole len code poll state a out (omega (arith, i.0)) says in
+    (true, status_understood (record { code = code; poll_ms = poll; state = state }) out heard whole.1 (heard_bytes (Send (request.GetStatus len) body) a out heard whole.0 h))
+reply_heard (request.GetStatus len) body Stall a out heard i f says h = (true, heard_stall (Send (request.GetStatus len) body) a out heard says.0 h)
+reply_heard (request.GetStatus len) body reply a out heard i f says h = elim f [ ]
+reply_heard (request.GetState len) body (StateOf state) a out heard i f says h =
+    let whole : out ≡ state_byte state ∷ [] = says.1 ∙ ap (λ n. take n (state_byte state ∷ [])) i.0 in
+    (true, state_understood state heard (subst (λ l. ReadsState l heard) whole (heard_bytes (Send (request.GetState len) body) a out heard says.0 h)))
+reply_heard (request.GetState len) body Stall a out heard i f says h = (true, heard_stall (Send (request.GetState len) body) a out heard says.0 h)
+reply_heard (request.GetState len) body reply a out heard i f says h = elim f [ ]
+reply_heard (request.Upload block len) body (Data bytes) a out heard i f says h =
+    elim (heard_bytes (Send (request.Upload block len) body) a out heard says.0 h) [
+      | inl part ↦ (true, part ∙ ap Part says.1)
+      | inr none ↦ (false, none)
+    ]
+reply_heard (request.Upload block len) body Stall a out heard i f says h = (true, heard_stall (Send (request.Upload block len) body) a out heard says.0 h)
+reply_heard (request.Upload block len) body reply a out heard i f says h = elim f [ ]
+reply_heard request.OtherClass body reply a out heard i f says h = elim i [ ]
+reply_heard request.NotDfu body reply a out heard i f says h = elim i [ ]
+reply_heard q body Ack a out heard i f says h = (true, heard_ack (Send q body) a out heard says.0 h)
+reply_heard q body Stall a out heard i f says h = (true, heard_stall (Send q body) a out heard says.0 h)
+reply_heard q body reply a out heard i f says h = elim f [ ]
+
+-- what a plan of the table answers
+pub plan_heard : (q : Asked) (body : List ℕ) (c : Profile) (i : List ℕ) (st : Stage) (luck : Luck) (a : Answer) (out : List ℕ) (heard : Heard) → IsHosts q body → let reply = (outcome i (plan c i st (meant q body)) luck).reply in
+    Answers (asked_length q) reply a out → HearsAnswer (Send q body) a out heard → HeardAs reply heard
+plan_heard q body c i st luck a out heard is says h =
+    reply_heard q body _ a out heard is (fits_outcome (meant q body) i (plan c i st (meant q body)) luck (fits_plan c i st (meant q body))) says h
+
+pub understood : Understood
+understood task phase q body c image stage luck a out heard e says h = plan_heard q body c image stage luck a out heard (hosts task phase q body e) says h
+
+out_served : (p : Setup) (body : List ℕ) → p.kind ≡ 0x21 → length body ≡ p.length → (length body == body_length p) ≡ true
+out_served p body k e = let f : (p.kind == 0x21) ≡ true = grind (arith, nat_tests) in let g : (length body == p.length) ≡ true = grind (arith, nat_tests) in rw f g
+
+in_served : (p : Setup) (body : List ℕ) → p.kind ≡ 0xa1 → length body ≡ 0 → (length body == body_length p) ≡ true
+in_served p body k e = let f : (p.kind == 0x21) ≡ false = grind (arith, nat_tests) in let g : (length body == 0) ≡ true = grind (arith, nat_tests) in rw f g
+
+-- what a host sends goes by the device's table
+pub served : (p : Setup) (q : Asked) (body : List ℕ) → IsHosts q body → Asks p q → is_served p q body ≡ true
+served p (request.Detach timeout) body i a = out_served p body a.0.kind (ap length i ∙ sym a.1)
+served p (request.Dnload block len) body i a = out_served p body a.0.kind (sym i ∙ a.2)
+served p (request.Upload block len) body i a = in_served p body a.0.kind (ap length i)
+served p (request.GetStatus len) body i a = in_served p body a.0.kind (ap length i.1)
+served p request.ClrStatus body i a = out_served p body a.0.kind (ap length i ∙ sym a.1)
+served p (request.GetState len) body i a = in_served p body a.0.kind (ap length i.1)
+served p request.Abort body i a = out_served p body a.0.kind (ap length i ∙ sym a.1)
+served p request.OtherClass body i a = elim i [ ]
+served p request.NotDfu body i a = elim i [ ]
