@@ -14,7 +14,7 @@ use Rattle.dfu_link.proofs.Quiet.{Quiet, stays, forgets, commits}
 use Rattle.dfu_link.proofs.Blocks.{Moves, quietly, takes_block, loses_block}
 use Rattle.dfu_link.proofs.Go.{go}
 use Rattle.dfu_link.proofs.GoUp.{go_up}
-use Rattle.dfu_link.proofs.Taking.{shown, load_taken, fetch_taken}
+use Rattle.dfu_link.proofs.Taking.{shown, load_taken, fetch_taken, task_by}
 
 record Moved (t : ℕ) (m m' : Machine) : Type 0 where
   mid : Machine
@@ -61,5 +61,5 @@ module _ (c : Profile) (sized : 0 < c.transfer) (offers : List (List ℕ)) where
   pub go_simulated : (s : Situation) (h : HostState) (up : List ℕ) (fate : Fate) (l k : Luck) (room : Bool) → IsSound offers s.stage → IsGoalOffer offers h.task.goal → HostFact c s h
       → let w : Link = record { device = s; session = Hosted h } in Simulated c offers w up AGo (played c w (Go fate) l k room) offers
   go_simulated s h up fate l k room q o f =
-      subst (λ (task : Task). let w : Link = record { device = s; session = Hosted (record { task = task; phase = h.phase; actions = h.actions; restarts = h.restarts }) } in Simulated c offers w up AGo (played c w (Go fate) l k room) offers) (sym f.task_is)
+      subst (λ (task : Task). let w : Link = record { device = s; session = Hosted (record { task = task; phase = h.phase; actions = h.actions; restarts = h.restarts }) } in Simulated c offers w up AGo (played c w (Go fate) l k room) offers) (sym (task_by c h.task f.task_is))
       (goal_simulated s h.task.goal h.phase h.actions h.restarts up fate l k room q o f.on f.fact f.some)

@@ -11,7 +11,7 @@ use Rattle.dfu_host.specs.Host.{HostState, budgeted, restarted, after_phase, tol
 use Rattle.dfu_link.specs.Session.{Machine, Live, NoOne, Fetching, IsOneOf, IsPlain, Says, says_not, says_installed, says_uploaded, says_other, OnlyPlain}
 use Rattle.dfu_link.specs.Play.{Nobody, given, task_for, Took, settled, took, remembered}
 use Rattle.dfu_link.specs.Agreement.{pending_of, live_goal, live_of, IsGoalOffer, IsLiveOffer}
-use Rattle.dfu_link.specs.Fact.{IsInApp, EndsAs, Fact, FetchFact, GoalFact, HasBlocks, IsOn, SessionFact}
+use Rattle.dfu_link.specs.Fact.{IsInApp, EndsAs, Fact, FetchFact, GoalFact, HasBlocks, IsOn, GoesBy, SessionFact}
 use Rattle.dfu_link.proofs.Fates.{IfHeard}
 
 -- the machine that a link shows
@@ -23,6 +23,13 @@ after_on : (h : HostState) (phase : Phase) (heard : Heard) → IsOn phase → af
 after_on h (Over report) heard on = elim on [ ]
 after_on h (OverUploaded kept) heard on = elim on [ ]
 after_on h phase heard on = refl
+
+-- a task made by the descriptor goes by it, and is the only one of its goal that does
+pub goes_by : (c : Profile) (goal : Goal) → GoesBy c (task_for c goal)
+goes_by c goal = record { transfer = refl; tolerant = refl; will_detach = refl; detach_ms = refl }
+
+pub task_by : (c : Profile) (task : Task) → GoesBy c task → task ≡ task_for c task.goal
+task_by c task g = λ i. record { goal = task.goal; transfer = g.transfer i; tolerant = g.tolerant i; will_detach = g.will_detach i; detach_ms = g.detach_ms i }
 
 module _ (c : Profile) (offers : List (List ℕ)) where
   -- what a host took, over a device
@@ -55,7 +62,7 @@ module _ (c : Profile) (offers : List (List ℕ)) where
   budget task phase left again = let next = budgeted left phase in settled (record { task = task; phase = next; actions = left; restarts = again }) next
 
   record Lives (task : Task) : Type 0 where
-    task_is : task ≡ task_for c task.goal
+    task_is : GoesBy c task
     offer : IsGoalOffer offers task.goal
     some : HasBlocks c task.goal
 
@@ -73,7 +80,7 @@ module _ (c : Profile) (offers : List (List ℕ)) where
   fetch_well : (s : Situation) (up : List ℕ) (phase : Phase) (left again : ℕ) → FetchFact phase s → TookWell s ToFetch up (budget (task_for c ToFetch) phase left again)
   fetch_well s up (Over report) left again f = plain_well s ToFetch up report f
   fetch_well s up (OverUploaded kept) left again f = uploaded_well s up kept f
-  fetch_well s up phase left again f = budget_well s (task_for c ToFetch) up phase left again (record { task_is = refl; offer = tt; some = tt }) tt f
+  fetch_well s up phase left again f = budget_well s (task_for c ToFetch) up phase left again (record { task_is = goes_by c ToFetch; offer = tt; some = tt }) tt f
 
   pub find_fact : (g : Goal) (s : Situation) → GoalFact c g Find s
   find_fact (ToLoad p) s = tt
@@ -89,7 +96,7 @@ module _ (c : Profile) (offers : List (List ℕ)) where
   restarted_well s h up phase (suc again) v = budget_well s h.task up Find (pred h.actions) again v tt (find_fact h.task.goal s)
 
   -- a restart of the device, told to a live host
-  pub restart_taken : (s : Situation) (h : HostState) (up : List ℕ) → IsOn h.phase → h.task ≡ task_for c h.task.goal → IsGoalOffer offers h.task.goal → HasBlocks c h.task.goal → TookWell s h.task.goal up (took h Restarted)
+  pub restart_taken : (s : Situation) (h : HostState) (up : List ℕ) → IsOn h.phase → GoesBy c h.task → IsGoalOffer offers h.task.goal → HasBlocks c h.task.goal → TookWell s h.task.goal up (took h Restarted)
   restart_taken s h up on e o some =
       subst (λ (q : HostState). TookWell s h.task.goal up (settled q q.phase)) (sym (after_on h h.phase Restarted on))
       (restarted_well s h up h.phase h.restarts (record { task_is = e; offer = o; some = some }))
@@ -111,7 +118,7 @@ module _ (c : Profile) (offers : List (List ℕ)) where
 
   fetch_told : (s : Situation) (up : List ℕ) (phase : Phase) (left again : ℕ) (heard : Heard) → IfHeard heard (λ x. FetchFact (row (task_for c ToFetch) phase x) s)
       → let q = host_told (record { task = task_for c ToFetch; phase = phase; actions = left; restarts = again }) phase heard in TookWell s ToFetch up (settled q q.phase)
-  fetch_told s up phase left again Restarted n = restarted_well s (record { task = task_for c ToFetch; phase = phase; actions = left; restarts = again }) up phase again (record { task_is = refl; offer = tt; some = tt })
+  fetch_told s up phase left again Restarted n = restarted_well s (record { task = task_for c ToFetch; phase = phase; actions = left; restarts = again }) up phase again (record { task_is = goes_by c ToFetch; offer = tt; some = tt })
   fetch_told s up phase left again heard n = fetch_well s up (row (task_for c ToFetch) phase heard) (pred left) again n
 
   -- with or without memory for a part
@@ -138,7 +145,7 @@ module _ (c : Profile) (offers : List (List ℕ)) where
   load_taken s d p up phase left again room heard on o some f n =
       let h : HostState = record { task = task_for c (ToLoad p); phase = phase; actions = left; restarts = again } in
       subst (λ (q : HostState). TookWell d (ToLoad p) up (settled q q.phase)) (sym (after_on h phase (remembered heard room) on))
-      (load_told d p up phase left again (remembered heard room) (record { task_is = refl; offer = o; some = some }) (load_room p phase s d room heard f n))
+      (load_told d p up phase left again (remembered heard room) (record { task_is = goes_by c (ToLoad p); offer = o; some = some }) (load_room p phase s d room heard f n))
 
   pub fetch_taken : (d : Situation) (up : List ℕ) (phase : Phase) (left again : ℕ) (room : Bool) (heard : Heard) → IsOn phase
       → IfHeard heard (λ x. FetchFact (row (task_for c ToFetch) phase x) d) → TookWell d ToFetch up (took (record { task = task_for c ToFetch; phase = phase; actions = left; restarts = again }) (remembered heard room))

@@ -14,7 +14,7 @@ use Rattle.dfu_link.specs.Agreement.{pending_of, live_goal, live_of, IsSound, Is
 use Rattle.dfu_link.specs.Fact.{IsIdle, Fetches, FetchFact, GoalFact, IsOn, SessionFact}
 use Rattle.dfu_link.specs.Headline.{Follows, Plays, ends, plays, FollowsAll}
 use Rattle.dfu_link.proofs.Kept.{fact_time}
-use Rattle.dfu_link.proofs.Taking.{shown, restart_taken, restart_plain, stop_fact}
+use Rattle.dfu_link.proofs.Taking.{shown, restart_taken, restart_plain, stop_fact, goes_by}
 use Rattle.dfu_link.proofs.Saying.{step_live}
 use Rattle.dfu_link.proofs.Acting.{Simulated, go_simulated}
 
@@ -97,9 +97,9 @@ module _ (c : Profile) (sized : 0 < c.transfer) where
   simulated : (offers : List (List ℕ)) (s : Situation) (session : Session) (up : List ℕ) (event : Event) (l k : Luck) (room : Bool) → IsAllowed session event → IsSound offers s.stage → IsLiveOffer offers session → SessionFact c s session
       → let w : Link = record { device = s; session = session } in Simulated c offers w up (kind_of event) (played c w event l k room) (offers_by event offers)
   simulated offers s Nobody up (Offer payload actions again) l k room a q o f =
-      record { step = offered; sound = more_sound c sized offers payload s.stage q; offer = inl refl; fact = record { task_is = refl; on = tt; some = some_blocks payload a; fact = tt }; done = λ e. cc }
+      record { step = offered; sound = more_sound c sized offers payload s.stage q; offer = inl refl; fact = record { task_is = goes_by c (ToLoad payload); on = tt; some = some_blocks payload a; fact = tt }; done = λ e. cc }
   simulated offers s (Hosted h) up (Offer payload actions again) l k room a q o f = elim a [ ]
-  simulated offers s Nobody up (UploadIt actions again) l k room a q o f = record { step = uploads; sound = q; offer = tt; fact = record { task_is = refl; on = tt; some = tt; fact = tt }; done = λ e. cc }
+  simulated offers s Nobody up (UploadIt actions again) l k room a q o f = record { step = uploads; sound = q; offer = tt; fact = record { task_is = goes_by c ToFetch; on = tt; some = tt; fact = tt }; done = λ e. cc }
   simulated offers s (Hosted h) up (UploadIt actions again) l k room a q o f = elim a [ ]
   simulated offers s Nobody up AbortIt l k room a q o f = elim a [ ]
   simulated offers s (Hosted h) up AbortIt l k room a q o f = record { step = aborts; sound = q; offer = o; fact = record { task_is = f.task_is; on = tt; some = f.some; fact = stop_fact c offers h.task.goal s }; done = λ e. cc }

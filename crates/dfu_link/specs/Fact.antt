@@ -5,10 +5,10 @@ use Rattle.dfu_host.specs.declared.report.Report.TheVariants.{Installed}
 use Rattle.dfu_host.specs.Blocks.{blocks, first}
 use Rattle.dfu_device.specs.Stage.{Profile, Stage, InApp, Idle, Unwritten, Written, Writing, Ready, Closed, Complete, Committing, Waiting, Sending, Broken}
 use Rattle.dfu_device.specs.Outcome.{Situation}
-use Rattle.dfu_host.specs.Table.{Goal, ToLoad, ToFetch, Phase, Block, Ask, Poll, WaitPoll, Close, AskLast, Manifest, WaitManifest, WaitLast, Fetch, LastUploaded, Last, Over, OverUploaded}
+use Rattle.dfu_host.specs.Table.{Goal, ToLoad, ToFetch, Task, Phase, Block, Ask, Poll, WaitPoll, Close, AskLast, Manifest, WaitManifest, WaitLast, Fetch, LastUploaded, Last, Over, OverUploaded}
 use Rattle.dfu_host.specs.Host.{HostState}
 use Rattle.dfu_link.specs.Session.{IsPlain}
-use Rattle.dfu_link.specs.Play.{Session, Nobody, Hosted, task_for}
+use Rattle.dfu_link.specs.Play.{Session, Nobody, Hosted}
 
 -- The states of a phase.
 
@@ -131,9 +131,16 @@ IsOn (Over report) = ⊥
 IsOn (OverUploaded kept) = ⊥
 IsOn phase = Unit {0}
 
--- The fact of a live host: it goes by the device's descriptor, it is not done, it has something to do, and what holds of the device fits its phase.
+-- A session's task goes by the device's descriptor.
+pub record GoesBy (c : Profile) (task : Task) : Type 0 where
+  pub transfer : task.transfer ≡ c.transfer
+  pub tolerant : task.tolerant ≡ c.tolerant
+  pub will_detach : task.will_detach ≡ c.will_detach
+  pub detach_ms : task.detach_ms ≡ c.detach_ms
+
+-- The fact of a live host: its task goes by the device's descriptor, it is not done, a download has a block at least, and what holds of the device fits its phase.
 pub record HostFact (c : Profile) (s : Situation) (h : HostState) : Type 0 where
-  pub task_is : h.task ≡ task_for c h.task.goal
+  pub task_is : GoesBy c h.task
   pub on : IsOn h.phase
   pub some : HasBlocks c h.task.goal
   pub fact : GoalFact c h.task.goal h.phase s

@@ -6,3 +6,4 @@ pub mod Headline
 pub mod CleanRun
 pub mod Bytes
 pub mod Understood
+pub mod FactProps
