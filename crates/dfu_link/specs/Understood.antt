@@ -1,6 +1,7 @@
 -- What ties the bytes to the values, as statements.
 use Rattle.std.specs.Prelude.{◌≡◌, ◌<◌, ℕ, List, [], ◌∷◌, ◌++◌, Bool}
 use Rattle.dfu_slots.specs.Medium.Fuse.{Whole}
+use Rattle.dfu_slots.specs.Image.{Active, HasImage}
 use Rattle.dfu_device.specs.declared.answer.Answer.{Answer}
 use Rattle.dfu_device.specs.Table.{plan}
 use Rattle.dfu_device.specs.Outcome.{Luck, outcome}
@@ -43,3 +44,8 @@ pub data BytePlays : Bench → List ℕ → List Event → List Report → Bench
 abbrev pub BytesHeadline : Type 0
 BytesHeadline = (b b' : Bench) (up up' : List ℕ) (m : Machine) (events : List Event) (reports : List Report) → 0 < (profile b.device).transfer
     → SessionFact (profile b.device) (situation b.device) b.session → Agrees (link_of b) up m → BytePlays b up events reports b' up' → FollowsAll (profile b.device) m events reports (link_of b') up'
+
+-- The image of the link that a bench shows is the active image of the bytes of its medium, where they have one; and they have no other.
+abbrev pub ImageShown : Type 0
+ImageShown = (b : Bench) → (HasImage b.device.slots.medium → Active b.device.slots.medium (link_of b).device.image)
+    × ((image : List ℕ) → Active b.device.slots.medium image → image ≡ (link_of b).device.image)

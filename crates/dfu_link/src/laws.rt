@@ -2,7 +2,9 @@
 
 ghost use Rattle.dfu_link.specs.CleanRun.{CleanRun};
 ghost use Rattle.dfu_link.specs.Headline.{Headline, OnlyOffered, Simulation};
-ghost use Rattle.dfu_link.specs.Understood.{BytesHeadline, BytesShow, Understood};
+ghost use Rattle.dfu_link.specs.Understood.{ImageShown, BytesHeadline, BytesShow, Understood};
+
+use dfu_slots::shown_image_is_active;
 
 /// Each play of an event, from a link that agrees with a session machine, is one legal step of it.
 /// Agreement and the phase fact hold again, and Installed is reported only in appIDLE with exactly
@@ -41,3 +43,10 @@ pub fn bytes_show()
     ensures plays { BytesShow }
     ensures headline { BytesHeadline }
 {}
+
+/// The image that plays speak of is the active image of the medium's bytes.
+pub fn image_shown()
+    ensures { ImageShown }
+{
+    shown_image_is_active();
+}

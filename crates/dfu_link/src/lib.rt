@@ -6,4 +6,6 @@
 
 mod laws;
 
-pub use laws::{bytes_show, clean_run, headline, only_offered, simulation, understood};
+pub use laws::{
+    bytes_show, clean_run, headline, image_shown, only_offered, simulation, understood,
+};

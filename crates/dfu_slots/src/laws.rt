@@ -3,7 +3,7 @@ ghost use Rattle.std.specs.Prelude.{◌≡◌, ℕ, Bool, true, false, List};
 ghost use Rattle.dfu_slots.specs.Medium.{MediumState, Write, AllWrites, BrokenWrites};
 ghost use Rattle.dfu_slots.specs.Medium.Fuse.{Whole};
 ghost use Rattle.dfu_slots.specs.Image.{Active, HasImage};
-ghost use Rattle.dfu_slots.specs.Seen.{SlotsState, Call, Called};
+ghost use Rattle.dfu_slots.specs.Seen.{SlotsState, Call, Called, image_of};
 ghost use Rattle.dfu_slots.specs.Changes.{IsOpenFault};
 ghost use Rattle.dfu_slots.specs.Determined.{IsKnown, Same};
 ghost use Rattle.dfu_slots.specs.declared.fault.OpenFault.{OpenFault};
@@ -11,6 +11,12 @@ ghost use Rattle.dfu_slots.specs.declared.fault.OpenFault.{OpenFault};
 /// No medium has two active images.
 pub fn active_image_is_one()
     ensures { (m : MediumState) (a b : List ℕ) → Active m a → Active m b → a ≡ b }
+{}
+
+/// The image that a store shows is the active image of its medium, and no other is.
+pub fn shown_image_is_active()
+    ensures active { (s : SlotsState) → HasImage s.medium → Active s.medium (image_of s) }
+    ensures only { (s : SlotsState) (image : List ℕ) → Active s.medium image → image ≡ image_of s }
 {}
 
 /// A medium that `open` refuses has no active image.

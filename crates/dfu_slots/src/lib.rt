@@ -15,7 +15,8 @@ mod slots;
 
 pub use fault::{FormatFault, OpenFault, PutFault};
 pub use laws::{
-    active_image_is_one, refused_has_no_image, same_bytes_same_end, unarmed_never_fails,
+    active_image_is_one, refused_has_no_image, same_bytes_same_end, shown_image_is_active,
+    unarmed_never_fails,
 };
 pub use medium::{Failed, Faulty, Medium};
 pub use sim::{NoMemory, SimMedium};
