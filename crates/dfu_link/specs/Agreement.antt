@@ -20,6 +20,7 @@ abbrev pub live_goal : Goal → Live
 live_goal (ToLoad payload) = Loading payload
 live_goal ToFetch = Fetching
 
+-- What is live on a link.
 abbrev pub live_of : Session → Live
 live_of Nobody = NoOne
 live_of (Hosted h) = live_goal h.task.goal
@@ -30,11 +31,12 @@ IsSound offers (Closed taken) = IsOneOf taken offers
 IsSound offers (Committing taken passed) = IsOneOf taken offers
 IsSound offers stage = Unit {0}
 
--- The payload of a live session is one of the offers.
+-- The payload that a session is to install is one of the offers.
 abbrev pub IsGoalOffer : List (List ℕ) → Goal → Type 0
 IsGoalOffer offers (ToLoad payload) = IsOneOf payload offers
 IsGoalOffer offers ToFetch = Unit {0}
 
+-- So it is where a session is live.
 abbrev pub IsLiveOffer : List (List ℕ) → Session → Type 0
 IsLiveOffer offers Nobody = Unit {0}
 IsLiveOffer offers (Hosted h) = IsGoalOffer offers h.task.goal
