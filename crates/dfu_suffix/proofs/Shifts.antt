@@ -124,19 +124,26 @@ zero-shifts (suc n) = zero-shifts n
 peel : (m n s : ℕ) → m ≡ 8 + n → shifts m s ≡ bit_xor (shifts m (s % 256)) (shifts n (s / 256))
 peel m n s e = subst (λ (k : ℕ). shifts k s ≡ bit_xor (shifts k (s % 256)) (shifts n (s / 256))) (sym e) (shifts_peel n s)
 
--- 64 + n bits 0, by the eight bytes of a number below 2^64
-pub shifts_by_eights : (n s : ℕ) → s < 2 ^ 64 → shifts (64 + n) s ≡ bit_xor (bit_xor (bit_xor (bit_xor (bit_xor (bit_xor (bit_xor (shifts (64 + n) (s % 256)) (shifts (56 + n) (s / 2 ^ 8 % 256))) (shifts (48 + n) (s / 2 ^ 16 % 256))) (shifts (40 + n) (s / 2 ^ 24 % 256))) (shifts (32 + n) (s / 2 ^ 32 % 256))) (shifts (24 + n) (s / 2 ^ 40 % 256))) (shifts (16 + n) (s / 2 ^ 48 % 256))) (shifts (8 + n) (s / 2 ^ 56 % 256))
-shifts_by_eights n s h =
-    let e0 = peel (64 + n) (56 + n) s (omega arith) in
-    let e1 = peel (56 + n) (48 + n) (s / 2 ^ 8) (omega arith) ∙ ap (λ (z : ℕ). bit_xor (shifts (56 + n) (s / 2 ^ 8 % 256)) (shifts (48 + n) z)) (shr-shr s 8 8) in
-    let e2 = peel (48 + n) (40 + n) (s / 2 ^ 16) (omega arith) ∙ ap (λ (z : ℕ). bit_xor (shifts (48 + n) (s / 2 ^ 16 % 256)) (shifts (40 + n) z)) (shr-shr s 16 8) in
-    let e3 = peel (40 + n) (32 + n) (s / 2 ^ 24) (omega arith) ∙ ap (λ (z : ℕ). bit_xor (shifts (40 + n) (s / 2 ^ 24 % 256)) (shifts (32 + n) z)) (shr-shr s 24 8) in
-    let e4 = peel (32 + n) (24 + n) (s / 2 ^ 32) (omega arith) ∙ ap (λ (z : ℕ). bit_xor (shifts (32 + n) (s / 2 ^ 32 % 256)) (shifts (24 + n) z)) (shr-shr s 32 8) in
-    let e5 = peel (24 + n) (16 + n) (s / 2 ^ 40) (omega arith) ∙ ap (λ (z : ℕ). bit_xor (shifts (24 + n) (s / 2 ^ 40 % 256)) (shifts (16 + n) z)) (shr-shr s 40 8) in
-    let e6 = peel (16 + n) (8 + n) (s / 2 ^ 48) (omega arith) ∙ ap (λ (z : ℕ). bit_xor (shifts (16 + n) (s / 2 ^ 48 % 256)) (shifts (8 + n) z)) (shr-shr s 48 8) in
-    let last : s / 2 ^ 56 ≡ s / 2 ^ 56 % 256 = omega arith in
-    let e7 = ap (shifts (8 + n)) last in
+-- 32 + n bits 0, by the four bytes of a number below 2^32
+pub shifts_by_fours : (n s : ℕ) → s < 2 ^ 32 → shifts (32 + n) s ≡ bit_xor (bit_xor (bit_xor (shifts (32 + n) (s % 256)) (shifts (24 + n) (s / 2 ^ 8 % 256))) (shifts (16 + n) (s / 2 ^ 16 % 256))) (shifts (8 + n) (s / 2 ^ 24 % 256))
+shifts_by_fours n s h =
+    let e0 = peel (32 + n) (24 + n) s (omega arith) in
+    let e1 = peel (24 + n) (16 + n) (s / 2 ^ 8) (omega arith) ∙ ap (λ (z : ℕ). bit_xor (shifts (24 + n) (s / 2 ^ 8 % 256)) (shifts (16 + n) z)) (shr-shr s 8 8) in
+    let e2 = peel (16 + n) (8 + n) (s / 2 ^ 16) (omega arith) ∙ ap (λ (z : ℕ). bit_xor (shifts (16 + n) (s / 2 ^ 16 % 256)) (shifts (8 + n) z)) (shr-shr s 16 8) in
+    let last : s / 2 ^ 24 ≡ s / 2 ^ 24 % 256 = omega arith in
+    let e3 = ap (shifts (8 + n)) last in
     simp xor_assoc (cc)
+
+-- 32 bits 0 and then n more, of two numbers
+pub absorb : (n t x : ℕ) → shifts n (shifts 32 (bit_xor t x)) ≡ bit_xor (shifts (32 + n) t) (shifts (32 + n) x)
+absorb n t x = sym (shifts_add 32 n (bit_xor t x)) ∙ shifts_of_xor (32 + n) t x
+
+-- four numbers in the other order
+pub four_turned : (a b c d : ℕ) → bit_xor (bit_xor (bit_xor a b) c) d ≡ bit_xor (bit_xor (bit_xor d c) b) a
+four_turned a b c d =
+    xor_comm (bit_xor (bit_xor a b) c) d
+    ∙ (ap (bit_xor d) (xor_comm (bit_xor a b) c ∙ ap (bit_xor c) (xor_comm a b))
+    ∙ (sym (xor_assoc d c (bit_xor b a)) ∙ sym (xor_assoc (bit_xor d c) b a)))
 
 -- bits in two parts
 pub low_bits-add : (m n x : ℕ) → low_bits (m + n) x ≡ low_bits m x ++ low_bits n (x / 2 ^ m)
@@ -181,11 +188,11 @@ bits_little (suc n) i xs h f =
     ∙ (ap (λ (bs : List ℕ). low_bits 8 b ++ bs) (bits_little n (suc i) xs (omega arith) f)
     ∙ ap (λ (zs : List ℕ). bits_of (take (suc n) zs)) (sym front))))
 
--- eight bytes more, as one number
-pub eight_step : (r x : ℕ) → x < 2 ^ 64 → after_bits r (low_bits 64 x) ≡ shifts 64 (bit_xor r x)
-eight_step r x h =
-    let none : x / 2 ^ 64 ≡ 0 = omega arith in
-    sym (shifts_xor 64 r x ∙ (ap (bit_xor (after_bits r (low_bits 64 x))) none ∙ xor_zero_r (after_bits r (low_bits 64 x))))
+-- four bytes more, as one number
+pub four_step : (r x : ℕ) → x < 2 ^ 32 → after_bits r (low_bits 32 x) ≡ shifts 32 (bit_xor r x)
+four_step r x h =
+    let none : x / 2 ^ 32 ≡ 0 = omega arith in
+    sym (shifts_xor 32 r x ∙ (ap (bit_xor (after_bits r (low_bits 32 x))) none ∙ xor_zero_r (after_bits r (low_bits 32 x))))
 
 -- ---- the register fits
 

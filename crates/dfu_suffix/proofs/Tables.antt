@@ -7,7 +7,7 @@ use Rattle.std.specs.List.{flat_map}
 use Rattle.std.proofs.lemmas.List.{take_more, take_all}
 use Rattle.std.proofs.lemmas.List.Sums.{fold-append}
 use Rattle.std.proofs.lemmas.List.Concat.{flat_map-append}
-use Rattle.dfu_suffix.proofs.Shifts.{bits_little, byte_step, eight_step, shifts_add, shifts_of_xor}
+use Rattle.dfu_suffix.proofs.Shifts.{absorb, bits_little, byte_step, four_step, four_turned, shifts_add, shifts_of_xor}
 use Rattle.dfu_suffix.specs.Laws.{AreBytes}
 use Rattle.byteorder.specs.Endian.{little_number}
 use Rattle.dfu_suffix.specs.Register.{after_bit, after_bits, low_bits, bits_of, register, shifts}
@@ -152,20 +152,44 @@ register-append xs ys = after-append 0xFFFF_FFFF xs ys
 
 -- ---- sixteen bytes at once
 
-eight_bits : (xs : List ℕ) (x : ℕ) → length xs ≡ 8 → AreBytes xs → x ≡ little_number 8 xs → low_bits 64 x ≡ bits_of xs
-eight_bits xs x h f e =
-    let all : take 8 xs ≡ xs = take_all 8 xs (omega arith) in
-    ap (low_bits 64) e ∙ (bits_little 8 0 xs (omega arith) f ∙ ap bits_of all)
+-- four bytes more, by the number that they make
+four_bytes : (r x : ℕ) (xs : List ℕ) → length xs ≡ 4 → AreBytes xs → x ≡ little_number 4 xs → x < 2 ^ 32 → after_bits r (bits_of xs) ≡ shifts 32 (bit_xor r x)
+four_bytes r x xs h f e small =
+    let all : take 4 xs ≡ xs = take_all 4 xs (omega arith) in
+    let bits : low_bits 32 x ≡ bits_of xs = ap (low_bits 32) e ∙ (bits_little 4 0 xs (omega arith) f ∙ ap bits_of all) in
+    sym (ap (after_bits r) bits) ∙ four_step r x small
 
--- sixteen bytes more, as two numbers
-pub sixteen_step : (r lo hi : ℕ) (xs ys : List ℕ) → length xs ≡ 8 → length ys ≡ 8 → AreBytes xs → AreBytes ys → lo ≡ little_number 8 xs → hi ≡ little_number 8 ys → lo < 2 ^ 64 → hi < 2 ^ 64 →
-    bit_xor (shifts 128 (bit_xor r lo)) (shifts 64 hi) ≡ after_bits r (bits_of (xs ++ ys))
-sixteen_step r lo hi xs ys n m f g d e p q =
-    let t = after_bits r (low_bits 64 lo) in
-    let first : t ≡ shifts 64 (bit_xor r lo) = eight_step r lo p in
-    let second : after_bits t (low_bits 64 hi) ≡ shifts 64 (bit_xor t hi) = eight_step t hi q in
-    let parted : shifts 64 (bit_xor t hi) ≡ bit_xor (shifts 64 t) (shifts 64 hi) = shifts_of_xor 64 t hi in
-    let twice : shifts 128 (bit_xor r lo) ≡ shifts 64 t = shifts_add 64 64 (bit_xor r lo) ∙ ap (shifts 64) (sym first) in
-    let whole : after_bits r (bits_of (xs ++ ys)) ≡ after_bits t (low_bits 64 hi) =
-    after-append r xs ys ∙ (ap (λ (bs : List ℕ). after_bits (after_bits r bs) (bits_of ys)) (sym (eight_bits xs lo n f d)) ∙ ap (after_bits t) (sym (eight_bits ys hi m g e))) in
-    ap (λ (z : ℕ). bit_xor z (shifts 64 hi)) twice ∙ sym (whole ∙ (second ∙ parted))
+-- four bytes and then others
+then_rest : (r t : ℕ) (xs ys : List ℕ) → after_bits r (bits_of xs) ≡ t → after_bits r (bits_of (xs ++ ys)) ≡ after_bits t (bits_of ys)
+then_rest r t xs ys e = after-append r xs ys ∙ ap (λ (z : ℕ). after_bits z (bits_of ys)) e
+
+-- the registers after four, eight, twelve and sixteen bytes, from the one before
+turned : (r a b c d t1 t2 t3 : ℕ) → t1 ≡ shifts 32 (bit_xor r a) → t2 ≡ shifts 32 (bit_xor t1 b) → t3 ≡ shifts 32 (bit_xor t2 c) →
+    shifts 32 (bit_xor t3 d) ≡ bit_xor (bit_xor (bit_xor (shifts 32 d) (shifts 64 c)) (shifts 96 b)) (shifts 128 (bit_xor r a))
+turned r a b c d t1 t2 t3 e1 e2 e3 =
+    let s4 : shifts 32 (bit_xor t3 d) ≡ bit_xor (shifts 32 t3) (shifts 32 d) = shifts_of_xor 32 t3 d in
+    let s3 : shifts 32 t3 ≡ bit_xor (shifts 64 t2) (shifts 64 c) = ap (shifts 32) e3 ∙ absorb 32 t2 c in
+    let s2 : shifts 64 t2 ≡ bit_xor (shifts 96 t1) (shifts 96 b) = ap (shifts 64) e2 ∙ absorb 64 t1 b in
+    let s1 : shifts 96 t1 ≡ shifts 128 (bit_xor r a) = ap (shifts 96) e1 ∙ sym (shifts_add 32 96 (bit_xor r a)) in
+    let whole : shifts 32 (bit_xor t3 d) ≡ bit_xor (bit_xor (bit_xor (shifts 128 (bit_xor r a)) (shifts 96 b)) (shifts 64 c)) (shifts 32 d) = cc in
+    whole ∙ four_turned (shifts 128 (bit_xor r a)) (shifts 96 b) (shifts 64 c) (shifts 32 d)
+
+-- a quarter of sixteen bytes, as a number
+pub record Quarter (x : ℕ) (xs : List ℕ) : Type 0 where
+  pub long : length xs ≡ 4
+  pub bytes : AreBytes xs
+  pub number : x ≡ little_number 4 xs
+  pub small : x < 2 ^ 32
+
+-- sixteen bytes more, as four numbers
+pub sixteen_step : (r a b c d : ℕ) (xs ys zs ws : List ℕ) → Quarter a xs → Quarter b ys → Quarter c zs → Quarter d ws →
+    bit_xor (bit_xor (bit_xor (shifts 32 d) (shifts 64 c)) (shifts 96 b)) (shifts 128 (bit_xor r a)) ≡ after_bits r (bits_of (xs ++ (ys ++ (zs ++ ws))))
+sixteen_step r a b c d xs ys zs ws p q u v =
+    let t1 = shifts 32 (bit_xor r a) in
+    let t2 = shifts 32 (bit_xor t1 b) in
+    let t3 = shifts 32 (bit_xor t2 c) in
+    let s1 = then_rest r t1 xs (ys ++ (zs ++ ws)) (four_bytes r a xs p.long p.bytes p.number p.small) in
+    let s2 = then_rest t1 t2 ys (zs ++ ws) (four_bytes t1 b ys q.long q.bytes q.number q.small) in
+    let s3 = then_rest t2 t3 zs ws (four_bytes t2 c zs u.long u.bytes u.number u.small) in
+    let s4 = four_bytes t3 d ws v.long v.bytes v.number v.small in
+    sym (s1 ∙ (s2 ∙ (s3 ∙ (s4 ∙ turned r a b c d t1 t2 t3 refl refl refl))))

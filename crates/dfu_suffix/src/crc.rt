@@ -58,7 +58,7 @@ ghost use Rattle.dfu_suffix.specs.Register.{after_bits, bits_of, low_bits, shift
 
 // What stands in a table for the lowest byte of a number.
 #[inline(always)]
-fn entry(table: &[u32; 256], number: u64) -> u32
+fn entry(table: &[u32; 256], number: u32) -> u32
     ensures { result ≡ slice_index table.now (bit_and number 255) }
 {
     table[(number & 0xff) as usize]
@@ -69,48 +69,66 @@ fn entry(table: &[u32; 256], number: u64) -> u32
 fn after_byte(register: u32, byte: u8) -> u32
     ensures { result ≡ after_bits register (low_bits 8 byte) }
 {
-    (register >> 8) ^ entry(&AFTER_8, u64::from(register) ^ u64::from(byte))
+    (register >> 8) ^ entry(&AFTER_8, register ^ u32::from(byte))
+}
+
+// What 32 bits 0 make of a number.
+#[inline(always)]
+fn after_32_zeros(number: u32) -> u32
+    ensures { result ≡ shifts 32 number }
+{
+    entry(&AFTER_32, number)
+        ^ entry(&AFTER_24, number >> 8)
+        ^ entry(&AFTER_16, number >> 16)
+        ^ entry(&AFTER_8, number >> 24)
 }
 
 // What 64 bits 0 make of a number.
 #[inline(always)]
-fn after_64_zeros(number: u64) -> u32
+fn after_64_zeros(number: u32) -> u32
     ensures { result ≡ shifts 64 number }
 {
     entry(&AFTER_64, number)
         ^ entry(&AFTER_56, number >> 8)
         ^ entry(&AFTER_48, number >> 16)
         ^ entry(&AFTER_40, number >> 24)
-        ^ entry(&AFTER_32, number >> 32)
-        ^ entry(&AFTER_24, number >> 40)
-        ^ entry(&AFTER_16, number >> 48)
-        ^ entry(&AFTER_8, number >> 56)
+}
+
+// What 96 bits 0 make of a number.
+#[inline(always)]
+fn after_96_zeros(number: u32) -> u32
+    ensures { result ≡ shifts 96 number }
+{
+    entry(&AFTER_96, number)
+        ^ entry(&AFTER_88, number >> 8)
+        ^ entry(&AFTER_80, number >> 16)
+        ^ entry(&AFTER_72, number >> 24)
 }
 
 // What 128 bits 0 make of a number.
 #[inline(always)]
-fn after_128_zeros(number: u64) -> u32
+fn after_128_zeros(number: u32) -> u32
     ensures { result ≡ shifts 128 number }
 {
     entry(&AFTER_128, number)
         ^ entry(&AFTER_120, number >> 8)
         ^ entry(&AFTER_112, number >> 16)
         ^ entry(&AFTER_104, number >> 24)
-        ^ entry(&AFTER_96, number >> 32)
-        ^ entry(&AFTER_88, number >> 40)
-        ^ entry(&AFTER_80, number >> 48)
-        ^ entry(&AFTER_72, number >> 56)
 }
 
-// The register after sixteen bytes more.
+// The register after sixteen bytes more. Only the first four bytes wait for the register.
 #[inline(always)]
 fn after_sixteen(register: u32, bytes: &[u8]) -> u32
     requires { length bytes.now ≡ 16 }
     ensures { result ≡ after_bits register (bits_of bytes.now) }
 {
-    let (first, second) = bytes.split_at(8);
-    let waiting = u64::from(register) ^ LittleEndian::read_u64(first);
-    after_128_zeros(waiting) ^ after_64_zeros(LittleEndian::read_u64(second))
+    let (first, rest) = bytes.split_at(4);
+    let (second, rest) = rest.split_at(4);
+    let (third, fourth) = rest.split_at(4);
+    after_32_zeros(LittleEndian::read_u32(fourth))
+        ^ after_64_zeros(LittleEndian::read_u32(third))
+        ^ after_96_zeros(LittleEndian::read_u32(second))
+        ^ after_128_zeros(register ^ LittleEndian::read_u32(first))
 }
 
 fn after_bytes(start: u32, bytes: &[u8]) -> u32

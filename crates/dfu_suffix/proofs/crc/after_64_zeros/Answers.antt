@@ -1,14 +1,10 @@
-use Rattle.std.proofs.Common.{◌∙◌, ◌/◌, ◌^◌, arith}
-use Rattle.dfu_suffix.specs.declared.table.bits_8.TheConstants.{AFTER_8}
-use Rattle.dfu_suffix.specs.declared.table.bits_16.TheConstants.{AFTER_16}
-use Rattle.dfu_suffix.specs.declared.table.bits_24.TheConstants.{AFTER_24}
-use Rattle.dfu_suffix.specs.declared.table.bits_32.TheConstants.{AFTER_32}
+use Rattle.std.proofs.Common.{◌≡◌, ℕ, ◌∙◌, ◌/◌, ◌^◌, ◌<◌, arith}
 use Rattle.dfu_suffix.specs.declared.table.bits_40.TheConstants.{AFTER_40}
 use Rattle.dfu_suffix.specs.declared.table.bits_48.TheConstants.{AFTER_48}
 use Rattle.dfu_suffix.specs.declared.table.bits_56.TheConstants.{AFTER_56}
 use Rattle.dfu_suffix.specs.declared.table.bits_64.TheConstants.{AFTER_64}
-use Rattle.dfu_suffix.proofs.Shifts.{shifts_by_eights}
-use Rattle.dfu_suffix.proofs.Tables.{entry_at, right_8, right_16, right_24, right_32, right_40, right_48, right_56, right_64}
+use Rattle.dfu_suffix.proofs.Shifts.{shifts_by_fours}
+use Rattle.dfu_suffix.proofs.Tables.{entry_at, right_40, right_48, right_56, right_64}
 use Rattle.dfu_suffix.proofs.crc.after_64_zeros.Goals as goal
 
 pub returns : goal.returns
@@ -18,9 +14,5 @@ returns c =
     let e1 = c.entry-2.ensures ∙ entry_at 56 AFTER_56 (s / 2 ^ 8) right_56 in
     let e2 = c.entry-3.ensures ∙ entry_at 48 AFTER_48 (s / 2 ^ 16) right_48 in
     let e3 = c.entry-4.ensures ∙ entry_at 40 AFTER_40 (s / 2 ^ 24) right_40 in
-    let e4 = c.entry-5.ensures ∙ entry_at 32 AFTER_32 (s / 2 ^ 32) right_32 in
-    let e5 = c.entry-6.ensures ∙ entry_at 24 AFTER_24 (s / 2 ^ 40) right_24 in
-    let e6 = c.entry-7.ensures ∙ entry_at 16 AFTER_16 (s / 2 ^ 48) right_16 in
-    let e7 = c.entry-8.ensures ∙ entry_at 8 AFTER_8 (s / 2 ^ 56) right_8 in
-    let joined = shifts_by_eights 0 s (omega arith) in
+    let joined = shifts_by_fours 32 s (omega arith) in
     cc

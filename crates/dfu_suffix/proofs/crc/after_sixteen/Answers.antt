@@ -1,25 +1,47 @@
-use Rattle.std.proofs.Common.{◌≡◌, ℕ, List, subst, ◌++◌, ◌∙◌, sym, ap, take, drop, bit_xor, arith}
+use Rattle.std.proofs.Common.{◌≡◌, ℕ, List, subst, ◌++◌, ◌∙◌, sym, ap, take, drop, length, bit_xor, arith}
 use Rattle.std.proofs.lemmas.List.{take-append-drop}
 use Rattle.dfu_suffix.specs.Register.{after_bits, bits_of, shifts}
 use Rattle.dfu_suffix.proofs.Bytes.{AreBytes-drop, AreBytes-take}
-use Rattle.dfu_suffix.proofs.Tables.{sixteen_step}
+use Rattle.dfu_suffix.proofs.Tables.{Quarter, sixteen_step}
 use Rattle.dfu_suffix.specs.Laws.{AreBytes}
 use Rattle.dfu_suffix.proofs.crc.after_sixteen.Goals as goal
+
+-- the two parts of a list
+parts : (n : ℕ) (xs ys zs : List ℕ) → xs ≡ take n zs → ys ≡ drop n zs → xs ++ ys ≡ zs
+parts n xs ys zs e d = ap (λ (ts : List ℕ). ts ++ ys) e ∙ (ap (λ (ts : List ℕ). take n zs ++ ts) d ∙ take-append-drop n zs)
+
+front_bytes : (n : ℕ) (xs zs : List ℕ) → xs ≡ take n zs → AreBytes zs → AreBytes xs
+front_bytes n xs zs e f = subst AreBytes (sym e) (AreBytes-take n zs f)
+
+back_bytes : (n : ℕ) (ys zs : List ℕ) → ys ≡ drop n zs → AreBytes zs → AreBytes ys
+back_bytes n ys zs d f = subst AreBytes (sym d) (AreBytes-drop zs n f)
 
 pub returns : goal.returns
 returns c =
     let bytes = c.args.bytes.now in
     let xs = c.split_at.result.0.now in
-    let ys = c.split_at.result.1.now in
-    let front : xs ≡ take 8 bytes = c.split_at.ensures.front in
-    let back : ys ≡ drop 8 bytes = c.split_at.ensures.back in
+    let r1 = c.split_at.result.1.now in
+    let ys = c.split_at-2.result.0.now in
+    let r2 = c.split_at-2.result.1.now in
+    let zs = c.split_at-3.result.0.now in
+    let ws = c.split_at-3.result.1.now in
     let each : AreBytes bytes = λ k. omega (arith, c.type_inv.bytes k) in
-    let front_bytes : AreBytes xs = subst AreBytes (sym front) (AreBytes-take 8 bytes each) in
-    let back_bytes : AreBytes ys = subst AreBytes (sym back) (AreBytes-drop bytes 8 each) in
-    let lo = c.read_u64.result in
-    let hi = c.read_u64-2.result in
-    let step = sixteen_step c.args.register lo hi xs ys (omega arith) (omega arith) front_bytes back_bytes c.read_u64.ensures c.read_u64-2.ensures (omega arith) (omega arith) in
-    let waiting : c.after_128_zeros.result ≡ shifts 128 (bit_xor c.args.register lo) = c.after_128_zeros.ensures ∙ ap (λ (z : ℕ). shifts 128 (bit_xor z lo)) c.from.ensures in
-    let joined : xs ++ ys ≡ bytes = ap (λ (zs : List ℕ). zs ++ ys) front ∙ (ap (λ (zs : List ℕ). take 8 bytes ++ zs) back ∙ take-append-drop 8 bytes) in
-    let whole : after_bits c.args.register (bits_of (xs ++ ys)) ≡ after_bits c.args.register (bits_of bytes) = ap (λ (zs : List ℕ). after_bits c.args.register (bits_of zs)) joined in
-    ap (λ (z : ℕ). bit_xor z c.after_64_zeros.result) waiting ∙ (ap (bit_xor (shifts 128 (bit_xor c.args.register lo))) c.after_64_zeros.ensures ∙ (step ∙ whole))
+    let e1 : AreBytes r1 = back_bytes 4 r1 bytes c.split_at.ensures.back each in
+    let e2 : AreBytes r2 = back_bytes 4 r2 r1 c.split_at-2.ensures.back e1 in
+    let p : Quarter c.read_u32-4.result xs = record { long = omega arith; bytes = front_bytes 4 xs bytes c.split_at.ensures.front each; number = c.read_u32-4.ensures; small = omega arith } in
+    let q : Quarter c.read_u32-3.result ys = record { long = omega arith; bytes = front_bytes 4 ys r1 c.split_at-2.ensures.front e1; number = c.read_u32-3.ensures; small = omega arith } in
+    let u : Quarter c.read_u32-2.result zs = record { long = omega arith; bytes = front_bytes 4 zs r2 c.split_at-3.ensures.front e2; number = c.read_u32-2.ensures; small = omega arith } in
+    let v : Quarter c.read_u32.result ws = record { long = omega arith; bytes = back_bytes 4 ws r2 c.split_at-3.ensures.back e2; number = c.read_u32.ensures; small = omega arith } in
+    let step = sixteen_step c.args.register c.read_u32-4.result c.read_u32-3.result c.read_u32-2.result c.read_u32.result xs ys zs ws p q u v in
+    let j2 : zs ++ ws ≡ r2 = parts 4 zs ws r2 c.split_at-3.ensures.front c.split_at-3.ensures.back in
+    let j1 : ys ++ r2 ≡ r1 = parts 4 ys r2 r1 c.split_at-2.ensures.front c.split_at-2.ensures.back in
+    let j0 : xs ++ r1 ≡ bytes = parts 4 xs r1 bytes c.split_at.ensures.front c.split_at.ensures.back in
+    let joined : xs ++ (ys ++ (zs ++ ws)) ≡ bytes = ap (λ (ts : List ℕ). xs ++ (ys ++ ts)) j2 ∙ (ap (λ (ts : List ℕ). xs ++ ts) j1 ∙ j0) in
+    let whole : after_bits c.args.register (bits_of (xs ++ (ys ++ (zs ++ ws)))) ≡ after_bits c.args.register (bits_of bytes) = ap (λ (ts : List ℕ). after_bits c.args.register (bits_of ts)) joined in
+    let f32 = c.after_32_zeros.ensures in
+    let f64 = c.after_64_zeros.ensures in
+    let f96 = c.after_96_zeros.ensures in
+    let f128 = c.after_128_zeros.ensures in
+    let turned : bit_xor (bit_xor (bit_xor c.after_32_zeros.result c.after_64_zeros.result) c.after_96_zeros.result) c.after_128_zeros.result
+    ≡ bit_xor (bit_xor (bit_xor (shifts 32 c.read_u32.result) (shifts 64 c.read_u32-2.result)) (shifts 96 c.read_u32-3.result)) (shifts 128 (bit_xor c.args.register c.read_u32-4.result)) = cc in
+    turned ∙ (step ∙ whole)
