@@ -1,4 +1,4 @@
-//! Laws of plays: each function has an empty body, and its contract is the law.
+//! Laws of plays: each function does nothing, and its contract is the law.
 
 ghost use Rattle.dfu_link.specs.CleanRun.{CleanRun};
 ghost use Rattle.dfu_link.specs.Headline.{Headline, OnlyOffered, Simulation};
@@ -44,7 +44,7 @@ pub fn bytes_show()
     ensures headline { BytesHeadline }
 {}
 
-/// The image that plays speak of is the active image of the medium's bytes.
+/// Where the medium's bytes have an active image, it is the one that plays speak of, and no other.
 pub fn image_shown()
     ensures { ImageShown }
 {
