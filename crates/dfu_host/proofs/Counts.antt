@@ -1,11 +1,21 @@
 -- The blocks of a payload as the code counts and cuts them.
-use Rattle.std.proofs.Common.{◌≡◌, ℕ, suc, ◌+◌, ◌-◌, ◌*◌, ◌/◌, ◌<◌, ◌≤◌, ◌==◌, nat_le, min, true, false, List, [], length, take, drop, slice_index_or, sym, ap, ◌∙◌, arith, inl, inr}
+use Rattle.std.proofs.Common.{◌≡◌, ℕ, suc, ◌+◌, ◌-◌, ◌*◌, ◌/◌, ◌<◌, ◌≤◌, ◌==◌, nat_le, min, true, false, List, [], length, take, drop, slice_index_or, refl, sym, ap, ◌∙◌, arith, inl, inr}
 use Rattle.std.proofs.Math.Nat.{suc-mul, lt-div-mul-add, div-mul-le_self, eq-or-lt_of_le}
 use Rattle.std.proofs.lemmas.Bool.Decides.{nat_tests}
 use Rattle.std.proofs.lemmas.Bool.{cases_lt}
 use Rattle.std.proofs.lemmas.List.{take_min, take_rest}
 use Rattle.dfu_host.specs.Blocks.{blocks}
+use Rattle.dfu_host.specs.declared.goal.Goal.{Goal}
+use Rattle.dfu_host.specs.declared.goal.Goal.TheVariants as goal
+use Rattle.dfu_host.specs.Goals.{goal_of, payload_of}
+use Rattle.dfu_host.specs.Table as table
 use Rattle.dfu_host.specs.BlockLaws.{block_is, block_starts, block_counts}
+
+-- The blocks of a session's payload are those that its task sends.
+pub pieces_are : (g : Goal) (t : ℕ) → table.blocks_of (goal_of g) t ≡ blocks (payload_of g) t
+unfolding blocks
+pieces_are (goal.Load payload) t = refl
+pieces_are (goal.Fetch bytes) t = refl
 
 module _ (p : List ℕ) (t : ℕ) where
   -- A block as a slice of what is left of the payload.

@@ -1,5 +1,5 @@
 -- One step of a host, by the phases and the words of the code.
-use Rattle.std.proofs.Common.{◌≡◌, ◌⊎◌, ℕ, zero, suc, ◌*◌, ◌-◌, ◌<◌, true, refl, arith, inl, inr}
+use Rattle.std.proofs.Common.{◌≡◌, ℕ, zero, suc, ◌-◌, List, true, refl, arith}
 use Rattle.dfu_wire.specs.declared.codes.Code.{Code}
 use Rattle.dfu_wire.specs.declared.states.State.{State}
 use Rattle.dfu_wire.specs.declared.states.State.TheVariants as state
@@ -21,27 +21,25 @@ confirmed_else start c poll state.Manifest a b d = absurd (d refl)
 confirmed_else start c poll s a b d = refl
 
 -- A restart that is one too many, and one that is taken.
-pub restarted_none : (h : HostState) (p : Phase) (restarts : ℕ) → restarts ≡ 0 → spent h (table.Over report.RestartsSpent) 0 ≡ restarted h (phase_of p) restarts
-restarted_none h p (suc restarts) e = absurd (omega (arith, e))
-restarted_none h phase.Find zero e = refl
-restarted_none h p zero e = refl
+pub restarted_none : (h : HostState) (memory : List ℕ) (p : Phase) (restarts : ℕ) → (p ≡ phase.GiveUp → ⊥) → restarts ≡ 0 → spent h (table.Over report.RestartsSpent) 0 ≡ restarted h (phase_of memory p) restarts
+restarted_none h memory p (suc restarts) on e = absurd (omega (arith, e))
+restarted_none h memory phase.GiveUp zero on e = absurd (on refl)
+restarted_none h memory phase.Find zero on e = refl
+restarted_none h memory p zero on e = refl
 
-pub restarted_some : (h : HostState) (p : Phase) (restarts : ℕ) → (restarts ≡ 0 → ⊥) → spent h table.Find (restarts - 1) ≡ restarted h (phase_of p) restarts
-restarted_some h p zero never = absurd (never refl)
-restarted_some h phase.Find (suc restarts) never = let e : suc restarts - 1 ≡ restarts = omega arith in rw e refl
-restarted_some h p (suc restarts) never = let e : suc restarts - 1 ≡ restarts = omega arith in rw e refl
+pub restarted_some : (h : HostState) (memory : List ℕ) (p : Phase) (restarts : ℕ) → (p ≡ phase.GiveUp → ⊥) → (restarts ≡ 0 → ⊥) → spent h table.Find (restarts - 1) ≡ restarted h (phase_of memory p) restarts
+restarted_some h memory p zero on never = absurd (never refl)
+restarted_some h memory phase.GiveUp (suc restarts) on never = absurd (on refl)
+restarted_some h memory phase.Find (suc restarts) on never = let e : suc restarts - 1 ≡ restarts = omega arith in rw e refl
+restarted_some h memory p (suc restarts) on never = let e : suc restarts - 1 ≡ restarts = omega arith in rw e refl
 
 -- A host that is not done is told what was heard.
-pub after_told : (h : HostState) (p : Phase) (heard : table.Heard) → ((r : Report) → p ≡ phase.Over r → ⊥) → told h (phase_of p) heard ≡ after_phase h (phase_of p) heard
-after_told h (phase.Over r) heard never = absurd (never r refl)
-after_told h p heard never = refl
+pub after_told : (h : HostState) (memory : List ℕ) (p : Phase) (heard : table.Heard) → ((r : Report) → p ≡ phase.Over r → ⊥) → (p ≡ phase.OverUploaded → ⊥) → told h (phase_of memory p) heard ≡ after_phase h (phase_of memory p) heard
+after_told h memory (phase.Over r) heard never on = absurd (never r refl)
+after_told h memory phase.OverUploaded heard never on = absurd (on refl)
+after_told h memory p heard never on = refl
 
 -- What is no restart goes by the table.
-pub told_row : (h : HostState) (p : table.Phase) (word : Heard) → (word ≡ heard.Restarted → ⊥) → spent h (table.row h.task p (heard_of word)) h.restarts ≡ told h p (heard_of word)
-told_row h p heard.Restarted never = absurd (never refl)
-told_row h p word never = refl
-
--- A phase that counts the same block, or none, is within the payload.
-pub within : (number next transfer len : ℕ) → next * transfer < len → (number ≡ next) ⊎ (number ≡ 0) → number * transfer < len
-within number next transfer len h (inl e) = rw e h
-within number next transfer len h (inr e) = let f : 0 * transfer ≡ 0 = omega arith in rw (e, f) (omega (arith, h))
+pub told_row : (h : HostState) (p : table.Phase) (part : List ℕ) (word : Heard) → (word ≡ heard.Restarted → ⊥) → spent h (table.row h.task p (heard_of part word)) h.restarts ≡ told h p (heard_of part word)
+told_row h p part heard.Restarted never = absurd (never refl)
+told_row h p part word never = refl

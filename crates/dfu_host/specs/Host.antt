@@ -51,6 +51,15 @@ after_phase h phase heard = told h phase heard
 abbrev pub after : HostState → Heard → HostState
 after h heard = after_phase h h.phase heard
 
+-- A host that its caller gives up leaves the transfer next; one that is done stays as it is.
+abbrev pub aborted_in : HostState → Phase → HostState
+aborted_in h (Over r) = h
+aborted_in h (OverUploaded kept) = h
+aborted_in h phase = record h { phase = GiveUp }
+
+abbrev pub aborted : HostState → HostState
+aborted h = aborted_in h h.phase
+
 -- What a host that is asked for its next action answers: the action of its phase, as setup and body.
 abbrev pub Act : HostState → Action → Type 0
 Act h action = Spells (deed h.task h.phase) action

@@ -7,5 +7,9 @@ pub mod Host
 pub mod Download
 pub mod Installing
 pub mod Budget
+pub mod Aborting
 pub mod WireLaws
+pub mod Uploading
+pub mod Goals
 pub mod View
+pub mod Keeping

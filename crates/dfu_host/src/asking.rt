@@ -4,18 +4,20 @@ ghost use Rattle.std.specs.Prelude.{◌≡◌, ◌≤◌, ◌*◌, ◌<◌, ◌^
 ghost use Rattle.dfu_wire.specs.Request.{IsUnnamed};
 ghost use Rattle.dfu_host.specs.Table as table;
 ghost use Rattle.dfu_host.specs.Wire.{Spells};
-ghost use Rattle.dfu_host.specs.View.{number_of, phase_of, task_of};
+ghost use Rattle.dfu_host.specs.Goals.{memory_of};
+ghost use Rattle.dfu_host.specs.View.{IsWithin, phase_of, task_of};
 
 use crate::action::Action;
 use crate::phase::Phase;
+use crate::report::Report;
 use crate::task::Task;
 use dfu_wire::Request;
 
 impl<'f> Task<'f> {
     /// The action of a phase.
     pub(crate) fn action(&self, phase: Phase) -> Action<'f>
-        requires { number_of phase * self.now.transfer < length self.now.payload.now }
-        ensures { Spells (table.deed (task_of self.now) (phase_of phase)) result }
+        requires { IsWithin self.now phase }
+        ensures { Spells (table.deed (task_of self.now) (phase_of (memory_of self.now.goal) phase)) result }
     {
         match phase {
             Phase::Find | Phase::FindAgain | Phase::Poll(_) | Phase::Manifest | Phase::Trouble => {
@@ -28,15 +30,20 @@ impl<'f> Task<'f> {
             }
             Phase::Enter => self.entering(),
             Phase::Clear => send(Request::ClrStatus, &[]),
-            Phase::Quit => send(Request::Abort, &[]),
+            Phase::Quit | Phase::GiveUp => send(Request::Abort, &[]),
             Phase::Block(number) => download(number, self.block(number)),
             Phase::Close => download(self.count(), &[]),
             Phase::WaitFind(poll_ms)
             | Phase::WaitPoll(_, poll_ms)
             | Phase::WaitManifest(poll_ms)
             | Phase::WaitLast(poll_ms) => Action::Wait(poll_ms),
-            Phase::ResetFind | Phase::Last(_) => Action::Reset,
+            Phase::Fetch(block) => {
+                let length = self.transfer;
+                send(Request::Upload { block, length }, &[])
+            }
+            Phase::ResetFind | Phase::Last(_) | Phase::LastUploaded => Action::Reset,
             Phase::Over(report) => Action::Done(report),
+            Phase::OverUploaded => Action::Done(Report::Uploaded),
         }
     }
 

@@ -1,37 +1,37 @@
 //! The rows of the phases that follow the last block, and of the one that follows a refusal.
 
-ghost use Rattle.std.specs.Prelude.{◌≡◌, true, false};
+ghost use Rattle.std.specs.Prelude.{◌≡◌, true, false, List, ℕ};
+ghost use Rattle.dfu_host.specs.Goals.{goal_of};
 ghost use Rattle.dfu_host.specs.Table as table;
-ghost use Rattle.dfu_host.specs.View.{heard_of, number_of, phase_of, task_of};
+ghost use Rattle.dfu_host.specs.View.{IsWithin, heard_of, phase_of, task_of};
 
-use crate::finding::listed;
 use crate::heard::Heard;
 use crate::phase::Phase;
 use crate::report::Report;
 use crate::task::Task;
 use dfu_wire::{Code, State, Status};
 
-/// What follows a status where something was refused: dfuERROR with a code of its own ends the
-/// session, and all else goes by the list.
-pub(crate) fn troubled(status: Status) -> Phase
-    ensures next { phase_of result ≡ table.troubled (table.Block 0) status.code status.poll_ms status.state }
-    ensures number { number_of result ≡ 0 }
-{
-    match (status.state(), status.code()) {
-        (State::Error, Code::Ok | Code::StalledPkt) => listed(status),
-        (State::Error, code) => Phase::Over(Report::Refused(code)),
-        _ => listed(status),
-    }
-}
-
 impl Task<'_> {
+    /// What follows a status where something was refused: dfuERROR with a code of its own ends
+    /// the session, and all else goes by the list.
+    pub(crate) fn troubled(&self, status: Status) -> Phase
+        ensures next { (memory : List ℕ) → phase_of memory result ≡ table.troubled (table.start_of (goal_of self.now.goal)) status.code status.poll_ms status.state }
+        ensures within { IsWithin self.now result }
+    {
+        match (status.state(), status.code()) {
+            (State::Error, Code::Ok | Code::StalledPkt) => self.listed(status),
+            (State::Error, code) => Phase::Over(Report::Refused(code)),
+            _ => self.listed(status),
+        }
+    }
+
     /// GETSTATUS, to learn whether the new image is in place.
     pub(crate) fn after_manifest(&self, heard: Heard) -> Phase
-        ensures next { phase_of result ≡ table.row (task_of self.now) table.Manifest (heard_of heard) }
-        ensures number { number_of result ≡ 0 }
+        ensures next { (memory part : List ℕ) → phase_of memory result ≡ table.row (task_of self.now) table.Manifest (heard_of part heard) }
+        ensures within { IsWithin self.now result }
     {
         match heard {
-            Heard::Told(status) => manifested(self.tolerant, status),
+            Heard::Told(status) => self.manifested(status),
             Heard::Stalled => Phase::Trouble,
             _ => Phase::Manifest,
         }
@@ -39,8 +39,8 @@ impl Task<'_> {
 
     /// A wait until the new image should be in place.
     pub(crate) fn after_wait_manifest(&self, poll_ms: u32, heard: Heard) -> Phase
-        ensures next { phase_of result ≡ table.row (task_of self.now) (table.WaitManifest poll_ms) (heard_of heard) }
-        ensures number { number_of result ≡ 0 }
+        ensures next { (memory part : List ℕ) → phase_of memory result ≡ table.row (task_of self.now) (table.WaitManifest poll_ms) (heard_of part heard) }
+        ensures within { IsWithin self.now result }
     {
         match heard {
             Heard::Waited => Phase::Manifest,
@@ -50,8 +50,8 @@ impl Task<'_> {
 
     /// The same wait, for a device that won't answer after it.
     pub(crate) fn after_wait_last(&self, poll_ms: u32, heard: Heard) -> Phase
-        ensures next { phase_of result ≡ table.row (task_of self.now) (table.WaitLast poll_ms) (heard_of heard) }
-        ensures number { number_of result ≡ 0 }
+        ensures next { (memory part : List ℕ) → phase_of memory result ≡ table.row (task_of self.now) (table.WaitLast poll_ms) (heard_of part heard) }
+        ensures within { IsWithin self.now result }
     {
         match heard {
             Heard::Waited => Phase::Last(Report::Unconfirmed),
@@ -61,11 +61,11 @@ impl Task<'_> {
 
     /// GETSTATUS, to learn why something was refused.
     pub(crate) fn after_trouble(&self, heard: Heard) -> Phase
-        ensures next { phase_of result ≡ table.row (task_of self.now) table.Trouble (heard_of heard) }
-        ensures number { number_of result ≡ 0 }
+        ensures next { (memory part : List ℕ) → phase_of memory result ≡ table.row (task_of self.now) table.Trouble (heard_of part heard) }
+        ensures within { IsWithin self.now result }
     {
         match heard {
-            Heard::Told(status) => troubled(status),
+            Heard::Told(status) => self.troubled(status),
             Heard::Stalled => Phase::FindAgain,
             _ => Phase::Trouble,
         }
@@ -73,49 +73,49 @@ impl Task<'_> {
 
     /// The last reset.
     pub(crate) fn after_last(&self, report: Report, heard: Heard) -> Phase
-        ensures next { phase_of result ≡ table.row (task_of self.now) (table.Last report) (heard_of heard) }
-        ensures number { number_of result ≡ 0 }
+        ensures next { (memory part : List ℕ) → phase_of memory result ≡ table.row (task_of self.now) (table.Last report) (heard_of part heard) }
+        ensures within { IsWithin self.now result }
     {
         match heard {
             Heard::WasReset => Phase::Over(report),
             _ => Phase::Last(report),
         }
     }
-}
 
-/// What follows a status that was asked for behind the close.
-fn manifested(tolerant: bool, status: Status) -> Phase
-    ensures next { phase_of result ≡ table.manifested (table.Block 0) tolerant status.code status.poll_ms status.state }
-    ensures number { number_of result ≡ 0 }
-{
-    if tolerant {
-        confirmed(status)
-    } else {
-        unconfirmed(status)
+    /// What follows a status that was asked for behind the close.
+    fn manifested(&self, status: Status) -> Phase
+        ensures next { (memory : List ℕ) → phase_of memory result ≡ table.manifested (table.start_of (goal_of self.now.goal)) self.now.tolerant status.code status.poll_ms status.state }
+        ensures within { IsWithin self.now result }
+    {
+        if self.tolerant {
+            self.confirmed(status)
+        } else {
+            self.unconfirmed(status)
+        }
     }
-}
 
-/// What a tolerant device's status says of the new image: dfuIDLE with OK alone is an install.
-fn confirmed(status: Status) -> Phase
-    ensures next { phase_of result ≡ table.manifested (table.Block 0) true status.code status.poll_ms status.state }
-    ensures number { number_of result ≡ 0 }
-{
-    match (status.state(), status.code()) {
-        (State::ManifestSync | State::Manifest, _) => Phase::WaitManifest(status.poll_ms()),
-        (State::DfuIdle, Code::Ok) => Phase::Last(Report::Installed),
-        (State::DfuIdle, _) => troubled(status),
-        _ => troubled(status),
+    /// What a tolerant device's status says of the new image: dfuIDLE with OK alone is an install.
+    fn confirmed(&self, status: Status) -> Phase
+        ensures next { (memory : List ℕ) → phase_of memory result ≡ table.manifested (table.start_of (goal_of self.now.goal)) true status.code status.poll_ms status.state }
+        ensures within { IsWithin self.now result }
+    {
+        match (status.state(), status.code()) {
+            (State::ManifestSync | State::Manifest, _) => Phase::WaitManifest(status.poll_ms()),
+            (State::DfuIdle, Code::Ok) => Phase::Last(Report::Installed),
+            (State::DfuIdle, _) => self.troubled(status),
+            _ => self.troubled(status),
+        }
     }
-}
 
-/// What the status of a device that isn't tolerant says of it: nothing confirms an install.
-fn unconfirmed(status: Status) -> Phase
-    ensures next { phase_of result ≡ table.manifested (table.Block 0) false status.code status.poll_ms status.state }
-    ensures number { number_of result ≡ 0 }
-{
-    match status.state() {
-        State::ManifestSync | State::Manifest => Phase::WaitLast(status.poll_ms()),
-        State::DfuIdle | State::ManifestWaitReset => Phase::Last(Report::Unconfirmed),
-        _ => troubled(status),
+    /// What the status of a device that isn't tolerant says of it: nothing confirms an install.
+    fn unconfirmed(&self, status: Status) -> Phase
+        ensures next { (memory : List ℕ) → phase_of memory result ≡ table.manifested (table.start_of (goal_of self.now.goal)) false status.code status.poll_ms status.state }
+        ensures within { IsWithin self.now result }
+    {
+        match status.state() {
+            State::ManifestSync | State::Manifest => Phase::WaitLast(status.poll_ms()),
+            State::DfuIdle | State::ManifestWaitReset => Phase::Last(Report::Unconfirmed),
+            _ => self.troubled(status),
+        }
     }
 }

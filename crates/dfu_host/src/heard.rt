@@ -1,12 +1,16 @@
 //! What is understood of what is seen.
 
-ghost use Rattle.std.specs.Prelude.{◌≡◌};
-ghost use Rattle.dfu_host.specs.Wire.{Hears, ReadsStatus, ReadsState};
-ghost use Rattle.dfu_host.specs.Table.{Task, deed};
-ghost use Rattle.dfu_host.specs.View.{heard_of, phase_of};
+ghost use Rattle.std.specs.Prelude.{◌≡◌, List, ℕ};
+ghost use Rattle.dfu_host.specs.Goals.{memory_of};
+ghost use Rattle.dfu_host.specs.Keeping.{Keeps, RefusedRoom};
+ghost use Rattle.dfu_host.specs.Table.{deed};
+ghost use Rattle.dfu_host.specs.View.{IsWithin, heard_of, part_of, phase_of, task_of};
+ghost use Rattle.dfu_host.specs.Wire.{Hears, HearsBytes, ReadsStatus, ReadsState};
+ghost use Rattle.dfu_host.specs.declared.phase.Phase.{Phase};
 
 use crate::phase::Phase;
 use crate::seen::Seen;
+use crate::task::Task;
 use dfu_wire::{State, Status};
 
 /// What is understood of what is seen of an action.
@@ -15,6 +19,10 @@ pub(crate) enum Heard {
     Acked,
     Told(Status),
     StateIs(State),
+    /// A part of an upload, of so many bytes. It is kept by now.
+    Part(usize),
+    /// A part of an upload for which there was no memory.
+    NoRoom,
     Stalled,
     Nothing,
     Waited,
@@ -22,40 +30,52 @@ pub(crate) enum Heard {
     Restarted,
 }
 
-/// What is understood of what is seen in a phase: bytes are read as the answer to the phase's
-/// request, and where they are none, it is as if nothing came.
-pub(crate) fn understood(phase: Phase, seen: Seen<'_>) -> Heard
-    ensures { (task : Task) → Hears (deed task (phase_of phase)) seen.entry (heard_of result) }
-{
-    match seen {
-        Seen::Ack => Heard::Acked,
-        Seen::Bytes(bytes) => answered(phase, bytes),
-        Seen::Stall => Heard::Stalled,
-        Seen::Nothing => Heard::Nothing,
-        Seen::Waited => Heard::Waited,
-        Seen::WasReset => Heard::WasReset,
-        Seen::Restarted => Heard::Restarted,
-    }
-}
-
-ghost use Rattle.dfu_host.specs.Wire.{HearsBytes};
-
-/// What bytes say that come in a phase.
-fn answered(phase: Phase, bytes: &[u8]) -> Heard
-    ensures { (task : Task) → HearsBytes (deed task (phase_of phase)) bytes.now (heard_of result) }
-{
-    match phase {
-        Phase::Find | Phase::FindAgain | Phase::Poll(_) | Phase::Manifest | Phase::Trouble => {
-            status_in(bytes)
+impl Task<'_> {
+    /// What is understood of what is seen in a phase: bytes are read as the answer to the phase's
+    /// request, and where they are none, it is as if nothing came. A part of an upload is kept.
+    pub(crate) fn hear(&mut self, phase: Phase, seen: Seen<'_>) -> Heard
+        requires { IsWithin self.old phase }
+        ensures task { task_of self.new ≡ task_of self.old }
+        ensures within { IsWithin self.new phase }
+        ensures hears { Hears (deed (task_of self.old) (phase_of (memory_of self.old.goal) phase)) seen.entry (heard_of (part_of seen.entry) result) }
+        ensures keeps { Keeps self.old.transfer (memory_of self.old.goal) phase (part_of seen.entry) result (memory_of self.new.goal) }
+        ensures room { RefusedRoom self.old.transfer phase (part_of seen.entry) result }
+    {
+        match seen {
+            Seen::Ack => Heard::Acked,
+            Seen::Bytes(bytes) => self.answered(phase, bytes),
+            Seen::Stall => Heard::Stalled,
+            Seen::Nothing => Heard::Nothing,
+            Seen::Waited => Heard::Waited,
+            Seen::WasReset => Heard::WasReset,
+            Seen::Restarted => Heard::Restarted,
         }
-        Phase::Ask(_) | Phase::AskLast => state_in(bytes),
-        _ => Heard::Nothing,
+    }
+
+    /// What bytes say that come in a phase.
+    fn answered(&mut self, phase: Phase, bytes: &[u8]) -> Heard
+        requires { IsWithin self.old phase }
+        ensures task { task_of self.new ≡ task_of self.old }
+        ensures within { IsWithin self.new phase }
+        ensures hears { HearsBytes (deed (task_of self.old) (phase_of (memory_of self.old.goal) phase)) bytes.now (heard_of bytes.now result) }
+        ensures keeps { Keeps self.old.transfer (memory_of self.old.goal) phase bytes.now result (memory_of self.new.goal) }
+        ensures room { RefusedRoom self.old.transfer phase bytes.now result }
+    {
+        match phase {
+            Phase::Find | Phase::FindAgain | Phase::Poll(_) | Phase::Manifest | Phase::Trouble => {
+                status_in(bytes)
+            }
+            Phase::Ask(_) | Phase::AskLast => state_in(bytes),
+            Phase::Fetch(number) => self.keep(number, bytes),
+            _ => Heard::Nothing,
+        }
     }
 }
 
 /// The answer to GETSTATUS.
 fn status_in(bytes: &[u8]) -> Heard
-    ensures { ReadsStatus bytes.now (heard_of result) }
+    ensures reads { (part : List ℕ) → ReadsStatus bytes.now (heard_of part result) }
+    ensures room { (t : ℕ) (phase : Phase) (part : List ℕ) → RefusedRoom t phase part result }
 {
     match Status::decode(bytes) {
         Ok(status) => Heard::Told(status),
@@ -65,7 +85,8 @@ fn status_in(bytes: &[u8]) -> Heard
 
 /// The answer to GETSTATE, one byte.
 fn state_in(bytes: &[u8]) -> Heard
-    ensures { ReadsState bytes.now (heard_of result) }
+    ensures reads { (part : List ℕ) → ReadsState bytes.now (heard_of part result) }
+    ensures room { (t : ℕ) (phase : Phase) (part : List ℕ) → RefusedRoom t phase part result }
 {
     match bytes {
         [byte] => match State::from_byte(*byte) {

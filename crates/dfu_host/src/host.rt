@@ -4,22 +4,24 @@ ghost use Rattle.std.specs.Prelude.{◌≡◌, ◌≤◌, ◌-◌, ◌↔◌, Is
 
 use crate::action::Action;
 use crate::fault::HostFault;
-use crate::heard::understood;
+use crate::goal::Goal;
 use crate::limits::Limits;
 use crate::phase::Phase;
-use crate::progress::Progress;
+use crate::progress::{Progress, beginning};
 use crate::seen::Seen;
 use crate::target::is_for;
 use crate::task::Task;
 use dfu_suffix::{File, Ids};
 use dfu_wire::Functional;
+use std::alloc::Global;
 use std::marker::Model;
 
 /// A host in a session (USB DFU 1.1, appendix A, seen from the host's side).
 ///
-/// It does nothing itself and takes no memory: its caller does what `next` asks for, and tells
-/// `take` what came of it, until `next` answers `Done`. Contracts see it as a `HostState`: the
-/// task, the phase, and the actions and restarts that are left.
+/// It does nothing itself: its caller does what `next` asks for, and tells `take` what came of it,
+/// until `next` answers `Done`. It takes memory for the parts of an upload alone. Contracts see it
+/// as a `HostState`: the task, the phase with what an upload keeps, and the actions and restarts
+/// that are left.
 #[derive(Drop)]
 pub struct Host<'f> {
     task: Task<'f>,
@@ -27,21 +29,22 @@ pub struct Host<'f> {
 }
 
 impl<'f> Model for Host<'f> {
-    ghost use Rattle.std.specs.Prelude.{◌*◌, ◌<◌, length};
     ghost use Rattle.dfu_host.specs.Host.{HostState};
-    ghost use Rattle.dfu_host.specs.View.{number_of, state_of};
+    ghost use Rattle.dfu_host.specs.View.{IsWithin, state_of};
 
     ghost Value = { HostState };
 
     ghost view = { λ h. state_of h.task h.progress };
 
-    ghost invariant = { λ h. number_of h.progress.phase * h.task.transfer < length h.task.payload.now };
+    ghost invariant = { λ h. IsWithin h.task h.progress.phase };
 }
 
 impl<'f> Host<'f> {
-    ghost use Rattle.dfu_host.specs.Host.{Act, HostRow, IsOver};
+    ghost use Rattle.dfu_host.specs.Host.{Act, HostRow, IsOver, aborted};
     ghost use Rattle.dfu_host.specs.Budget.{is_done, takes_left};
     ghost use Rattle.dfu_host.specs.Download.{first_fault, started};
+    ghost use Rattle.dfu_host.specs.Uploading.{TakesPart, kept_in};
+    ghost use Rattle.dfu_host.specs.Uploading as uploading;
     ghost use Rattle.dfu_host.specs.declared.fault.HostFault.{HostFault};
 
     /// A host that is to install a file on the device with this descriptor and these
@@ -77,17 +80,47 @@ impl<'f> Host<'f> {
         }
         Ok(Host {
             task: Task {
-                payload,
+                goal: Goal::Load(payload),
                 transfer: functional.transfer,
                 tolerant: functional.tolerant,
                 will_detach: functional.will_detach,
                 detach_ms: functional.detach_ms,
             },
-            progress: Progress {
-                phase: Phase::Find,
-                actions: limits.actions.max(1),
-                restarts: limits.restarts,
+            progress: beginning(limits),
+        })
+    }
+
+    /// A host that is to fetch the active image of the device with this descriptor. It takes no
+    /// memory itself, and keeps the allocator for the parts to come; the transfer size is 1 to
+    /// 65,535.
+    ///
+    /// The faults, in the order in which they are looked for:
+    ///
+    /// 1. `CannotUpload`: the descriptor has bitCanUpload 0.
+    /// 2. `BadDescriptor`: the descriptor's transfer size is 0.
+    pub fn upload(
+        functional: &Functional,
+        limits: Limits,
+        alloc: Global,
+    ) -> Result<Host<'f>, HostFault>
+        ensures refused { (fault : HostFault) → (result ≡ Err fault) ↔ (uploading.first_fault functional.now ≡ Some fault) }
+        ensures started { IfOk result (λ h. h ≡ uploading.started functional.now limits) }
+    {
+        if !functional.can_upload {
+            return Err(HostFault::CannotUpload);
+        }
+        if functional.transfer == 0 {
+            return Err(HostFault::BadDescriptor);
+        }
+        Ok(Host {
+            task: Task {
+                goal: Goal::Fetch(Vec::new(alloc)),
+                transfer: functional.transfer,
+                tolerant: functional.tolerant,
+                will_detach: functional.will_detach,
+                detach_ms: functional.detach_ms,
             },
+            progress: beginning(limits),
         })
     }
 
@@ -101,12 +134,42 @@ impl<'f> Host<'f> {
 
     /// Tells the host what came of its action. Whatever it is told, it is done after at most
     /// `actions` calls, or after one where the limits have 0; then nothing changes any more.
+    ///
+    /// A part of an upload, 1 byte or more, takes memory where what is kept has to grow. Where
+    /// that is refused, the session ends with the report NoMemory.
     pub fn take(&mut self, seen: Seen<'_>)
         ensures row { HostRow self.old seen.entry self.new }
         ensures budget { takes_left self.new ≤ takes_left self.old - 1 }
         ensures over { IsOver self.old.phase → self.new ≡ self.old }
+        ensures part { TakesPart self.old self.old.phase seen.entry self.new }
     {
-        let heard = understood(self.progress.phase, seen);
+        let phase = self.progress.phase;
+        let heard = self.task.hear(phase, seen);
         self.progress = self.progress.after(&self.task, heard);
+    }
+
+    /// Gives the session up: what the host wants next is ABORT, and whatever comes of it, the
+    /// report is Aborted. Nothing but the phase changes, and nothing where the host is done. Where
+    /// a download is given up in its last steps, the new image may be in place all the same.
+    pub fn abort(&mut self)
+        ensures { self.new ≡ aborted self.old }
+    {
+        match self.progress.phase {
+            Phase::Over(_) | Phase::OverUploaded => {}
+            _ => self.progress.phase = Phase::GiveUp,
+        }
+    }
+
+    /// What an upload keeps: the image, once the host is done with `Uploaded`. Before that, the
+    /// parts that came since the fetching last began; and nothing in a download, or after the
+    /// session went back to find the device, was given up or ended in another way.
+    pub fn uploaded(&self) -> &[u8]
+        ensures { result.now ≡ kept_in self.now.phase }
+    {
+        match self.progress.phase {
+            Phase::Fetch(0) => &[],
+            Phase::Fetch(_) | Phase::LastUploaded | Phase::OverUploaded => self.task.memory(),
+            _ => &[],
+        }
     }
 }

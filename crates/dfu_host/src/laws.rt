@@ -1,5 +1,6 @@
 //! Laws of the definitions: each function has an empty body, and its contract is the law.
 
+ghost use Rattle.dfu_host.specs.Aborting.{EndsAborted, SpendsNothing};
 ghost use Rattle.dfu_host.specs.BlockLaws.{OneCut};
 ghost use Rattle.dfu_host.specs.Budget.{DoneInTime, StaysDone};
 ghost use Rattle.dfu_host.specs.Installing.{OnlyConfirmed};
@@ -16,6 +17,13 @@ pub fn one_cut()
 pub fn done_in_time()
     ensures ends { DoneInTime }
     ensures stays { StaysDone }
+{}
+
+/// An abort spends no action, and unless the session was done, the next `take` ends it with the
+/// report Aborted, whatever is seen.
+pub fn abort_ends_the_session()
+    ensures ends { EndsAborted }
+    ensures spends { SpendsNothing }
 {}
 
 /// The bytes of a status or of a state are understood as what the device means by them, and what

@@ -1,15 +1,17 @@
 //! The host of USB device firmware upgrade (USB DFU 1.1): a machine that says which request, wait
 //! or reset comes next, and what a session's end was.
 //!
-//! It sends nothing itself. No call takes memory, and only the call that begins a session can
-//! refuse.
+//! It sends nothing itself. Only the calls that begin a session can refuse, and only `take` of an
+//! upload takes memory.
 #![tactic(auto)]
 
 mod action;
 mod asking;
 mod ending;
 mod fault;
+mod fetching;
 mod finding;
+mod goal;
 mod heard;
 mod host;
 mod laws;
@@ -26,7 +28,9 @@ mod task;
 pub use action::Action;
 pub use fault::HostFault;
 pub use host::Host;
-pub use laws::{done_in_time, installed_once_confirmed, one_cut, understood_as_meant};
+pub use laws::{
+    abort_ends_the_session, done_in_time, installed_once_confirmed, one_cut, understood_as_meant,
+};
 pub use limits::Limits;
 pub use report::Report;
 pub use seen::Seen;

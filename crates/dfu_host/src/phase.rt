@@ -42,8 +42,16 @@ pub(crate) enum Phase {
     WaitLast(u32),
     /// Something was refused: ask for the reason.
     Trouble,
+    /// Ask for the part of the image with this number, 0 to 65,534.
+    Fetch(u16),
     /// The last reset, and then the report.
     Last(Report),
+    /// The last reset, with the whole image kept.
+    LastUploaded,
+    /// The caller gave the session up: leave the transfer, and end.
+    GiveUp,
     /// The session is over.
     Over(Report),
+    /// The session is over, with the whole image kept.
+    OverUploaded,
 }

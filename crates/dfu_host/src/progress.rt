@@ -1,12 +1,15 @@
 //! How far a session has come: its phase, the budget of actions, and the count of restarts.
 
-ghost use Rattle.std.specs.Prelude.{◌≡◌, ◌⊎◌, ◌*◌, ◌<◌, length};
+ghost use Rattle.std.specs.Prelude.{◌≡◌, List, ℕ, max};
+ghost use Rattle.dfu_host.specs.Goals.{memory_of};
 ghost use Rattle.dfu_host.specs.Host as host;
+ghost use Rattle.dfu_host.specs.Keeping.{Keeps};
 ghost use Rattle.dfu_host.specs.Table as table;
-ghost use Rattle.dfu_host.specs.View.{heard_of, number_of, phase_of, state_of};
+ghost use Rattle.dfu_host.specs.View.{IsWithin, heard_of, phase_of, state_of, state_with};
 ghost use Rattle.dfu_host.specs.declared.task.Task.{Task};
 
 use crate::heard::Heard;
+use crate::limits::Limits;
 use crate::phase::Phase;
 use crate::report::Report;
 use crate::task::Task;
@@ -21,14 +24,25 @@ pub(crate) struct Progress {
     pub(crate) restarts: u16,
 }
 
+/// Where a session begins, with at least one action.
+pub(crate) fn beginning(limits: Limits) -> Progress
+    ensures { result ≡ record { phase = Phase.Find; actions = max 1 limits.actions; restarts = limits.restarts } }
+{
+    Progress {
+        phase: Phase::Find,
+        actions: limits.actions.max(1),
+        restarts: limits.restarts,
+    }
+}
+
 impl Progress {
-    /// Where the session stands after one action of which this was heard.
+    /// Where the session stands after one action of which this was heard, and is kept.
     pub(crate) fn after(self, task: &Task<'_>, heard: Heard) -> Progress
-        requires { number_of self.phase * task.now.transfer < length task.now.payload.now }
-        ensures state { state_of task.now result ≡ host.after (state_of task.now self) (heard_of heard) }
-        ensures within { number_of result.phase * task.now.transfer < length task.now.payload.now }
+        requires { IsWithin task.now self.phase }
+        ensures state { (memory part : List ℕ) → Keeps task.now.transfer memory self.phase part heard (memory_of task.now.goal) → state_of task.now result ≡ host.after (state_with memory task.now self) (heard_of part heard) }
+        ensures within { IsWithin task.now result.phase }
     {
-        if let Phase::Over(_) = self.phase {
+        if let Phase::Over(_) | Phase::OverUploaded = self.phase {
             return self;
         }
         if let Heard::Restarted = heard {
@@ -39,9 +53,12 @@ impl Progress {
 
     /// After a restart of the device.
     fn restarted(self) -> Progress
-        ensures state { (task : Task) → state_of task result ≡ host.restarted (state_of task self) (phase_of self.phase) self.restarts }
-        ensures number { number_of result.phase ≡ 0 }
+        ensures state { (task : Task) (memory old : List ℕ) → state_with memory task result ≡ host.restarted (state_with old task self) (phase_of old self.phase) self.restarts }
+        ensures within { (task : Task) → IsWithin task result.phase }
     {
+        if let Phase::GiveUp = self.phase {
+            return self.spent(Phase::Over(Report::Aborted), self.restarts);
+        }
         if self.restarts == 0 {
             self.spent(Phase::Over(Report::RestartsSpent), 0)
         } else {
@@ -51,8 +68,8 @@ impl Progress {
 
     /// After one action that leads to a phase.
     fn spent(self, next: Phase, restarts: u16) -> Progress
-        ensures state { (task : Task) → state_of task result ≡ host.spent (state_of task self) (phase_of next) restarts }
-        ensures number { (number_of result.phase ≡ number_of next) ⊎ (number_of result.phase ≡ 0) }
+        ensures state { (task : Task) (memory old : List ℕ) → state_with memory task result ≡ host.spent (state_with old task self) (phase_of memory next) restarts }
+        ensures within { (task : Task) → IsWithin task next → IsWithin task result.phase }
     {
         let actions = self.actions.saturating_sub(1);
         Progress {
@@ -65,11 +82,11 @@ impl Progress {
 
 /// The phase of a session with so many actions left: without any it gives up, unless it is over.
 fn budgeted(left: u32, phase: Phase) -> Phase
-    ensures next { phase_of result ≡ host.budgeted left (phase_of phase) }
-    ensures number { (number_of result ≡ number_of phase) ⊎ (number_of result ≡ 0) }
+    ensures next { (memory : List ℕ) → phase_of memory result ≡ host.budgeted left (phase_of memory phase) }
+    ensures within { (task : Task) → IsWithin task phase → IsWithin task result }
 {
     match phase {
-        Phase::Over(_) => phase,
+        Phase::Over(_) | Phase::OverUploaded => phase,
         _ if left == 0 => Phase::Over(Report::GaveUp),
         _ => phase,
     }

@@ -1,19 +1,22 @@
 //! The host's table.
 
-ghost use Rattle.std.specs.Prelude.{◌≡◌, ◌*◌, ◌<◌, length};
+ghost use Rattle.std.specs.Prelude.{◌≡◌, List, ℕ};
+ghost use Rattle.dfu_host.specs.Goals.{memory_of};
+ghost use Rattle.dfu_host.specs.Keeping.{Keeps};
 ghost use Rattle.dfu_host.specs.Table as table;
-ghost use Rattle.dfu_host.specs.View.{heard_of, number_of, phase_of, task_of};
+ghost use Rattle.dfu_host.specs.View.{IsWithin, heard_of, phase_of, task_of};
 
 use crate::heard::Heard;
 use crate::phase::Phase;
+use crate::report::Report;
 use crate::task::Task;
 
 impl Task<'_> {
     /// The phase that follows, by the phase and what was heard in it.
     pub(crate) fn row(&self, phase: Phase, heard: Heard) -> Phase
-        requires { number_of phase * self.now.transfer < length self.now.payload.now }
-        ensures next { phase_of result ≡ table.row (task_of self.now) (phase_of phase) (heard_of heard) }
-        ensures within { number_of result * self.now.transfer < length self.now.payload.now }
+        requires { IsWithin self.now phase }
+        ensures next { (memory part : List ℕ) → Keeps self.now.transfer memory phase part heard (memory_of self.now.goal) → phase_of (memory_of self.now.goal) result ≡ table.row (task_of self.now) (phase_of memory phase) (heard_of part heard) }
+        ensures within { IsWithin self.now result }
     {
         match phase {
             Phase::Find => self.after_find(heard),
@@ -33,8 +36,11 @@ impl Task<'_> {
             Phase::WaitManifest(poll_ms) => self.after_wait_manifest(poll_ms, heard),
             Phase::WaitLast(poll_ms) => self.after_wait_last(poll_ms, heard),
             Phase::Trouble => self.after_trouble(heard),
+            Phase::Fetch(number) => self.after_fetch(number, heard),
             Phase::Last(report) => self.after_last(report, heard),
-            Phase::Over(_) => phase,
+            Phase::LastUploaded => self.after_last_uploaded(heard),
+            Phase::GiveUp => Phase::Over(Report::Aborted),
+            Phase::Over(_) | Phase::OverUploaded => phase,
         }
     }
 }

@@ -1,10 +1,10 @@
 //! The rows of the phases that send the blocks and close the transfer.
 
-ghost use Rattle.std.specs.Prelude.{◌≡◌, ◌*◌, ◌<◌, length};
+ghost use Rattle.std.specs.Prelude.{◌≡◌, ◌*◌, ◌<◌, length, List, ℕ};
+ghost use Rattle.dfu_host.specs.Goals.{goal_of, payload_of};
 ghost use Rattle.dfu_host.specs.Table as table;
-ghost use Rattle.dfu_host.specs.View.{heard_of, number_of, phase_of, task_of};
+ghost use Rattle.dfu_host.specs.View.{IsWithin, heard_of, phase_of, task_of};
 
-use crate::ending::troubled;
 use crate::heard::Heard;
 use crate::phase::Phase;
 use crate::task::Task;
@@ -13,9 +13,9 @@ use dfu_wire::{State, Status};
 impl Task<'_> {
     /// DNLOAD of a block.
     pub(crate) fn after_block(&self, number: usize, heard: Heard) -> Phase
-        requires { number * self.now.transfer < length self.now.payload.now }
-        ensures next { phase_of result ≡ table.row (task_of self.now) (table.Block number) (heard_of heard) }
-        ensures within { number_of result * self.now.transfer < length self.now.payload.now }
+        requires { number * self.now.transfer < length (payload_of self.now.goal) }
+        ensures next { (memory part : List ℕ) → phase_of memory result ≡ table.row (task_of self.now) (table.Block number) (heard_of part heard) }
+        ensures within { IsWithin self.now result }
     {
         match heard {
             Heard::Acked => Phase::Poll(number),
@@ -26,9 +26,9 @@ impl Task<'_> {
 
     /// GETSTATE, to learn whether a block came whose answer was lost.
     pub(crate) fn after_ask(&self, number: usize, heard: Heard) -> Phase
-        requires { number * self.now.transfer < length self.now.payload.now }
-        ensures next { phase_of result ≡ table.row (task_of self.now) (table.Ask number) (heard_of heard) }
-        ensures within { number_of result * self.now.transfer < length self.now.payload.now }
+        requires { number * self.now.transfer < length (payload_of self.now.goal) }
+        ensures next { (memory part : List ℕ) → phase_of memory result ≡ table.row (task_of self.now) (table.Ask number) (heard_of part heard) }
+        ensures within { IsWithin self.now result }
     {
         match heard {
             Heard::StateIs(State::DownloadSync) => Phase::Poll(number),
@@ -41,9 +41,9 @@ impl Task<'_> {
 
     /// GETSTATUS, to learn whether a block is written.
     pub(crate) fn after_poll(&self, number: usize, heard: Heard) -> Phase
-        requires { number * self.now.transfer < length self.now.payload.now }
-        ensures next { phase_of result ≡ table.row (task_of self.now) (table.Poll number) (heard_of heard) }
-        ensures within { number_of result * self.now.transfer < length self.now.payload.now }
+        requires { number * self.now.transfer < length (payload_of self.now.goal) }
+        ensures next { (memory part : List ℕ) → phase_of memory result ≡ table.row (task_of self.now) (table.Poll number) (heard_of part heard) }
+        ensures within { IsWithin self.now result }
     {
         match heard {
             Heard::Told(status) => self.polled(number, status),
@@ -54,9 +54,9 @@ impl Task<'_> {
 
     /// What follows a status that was asked for behind a block.
     fn polled(&self, number: usize, status: Status) -> Phase
-        requires { number * self.now.transfer < length self.now.payload.now }
-        ensures next { phase_of result ≡ table.polled (table.Block 0) (length (table.pieces (task_of self.now))) number status.code status.poll_ms status.state }
-        ensures within { number_of result * self.now.transfer < length self.now.payload.now }
+        requires { number * self.now.transfer < length (payload_of self.now.goal) }
+        ensures next { (memory : List ℕ) → phase_of memory result ≡ table.polled (table.start_of (goal_of self.now.goal)) (length (table.pieces (task_of self.now))) number status.code status.poll_ms status.state }
+        ensures within { IsWithin self.now result }
     {
         match status.state() {
             State::DownloadSync | State::DownloadBusy => {
@@ -64,15 +64,15 @@ impl Task<'_> {
             }
             State::DownloadIdle if self.is_last(number) => Phase::Close,
             State::DownloadIdle => Phase::Block(number + 1),
-            _ => troubled(status),
+            _ => self.troubled(status),
         }
     }
 
     /// A wait until a block should be written.
     pub(crate) fn after_wait_poll(&self, number: usize, poll_ms: u32, heard: Heard) -> Phase
-        requires { number * self.now.transfer < length self.now.payload.now }
-        ensures next { phase_of result ≡ table.row (task_of self.now) (table.WaitPoll number poll_ms) (heard_of heard) }
-        ensures within { number_of result * self.now.transfer < length self.now.payload.now }
+        requires { number * self.now.transfer < length (payload_of self.now.goal) }
+        ensures next { (memory part : List ℕ) → phase_of memory result ≡ table.row (task_of self.now) (table.WaitPoll number poll_ms) (heard_of part heard) }
+        ensures within { IsWithin self.now result }
     {
         match heard {
             Heard::Waited => Phase::Poll(number),
@@ -82,8 +82,9 @@ impl Task<'_> {
 
     /// DNLOAD of no bytes, which says that there are no more blocks.
     pub(crate) fn after_close(&self, heard: Heard) -> Phase
-        ensures next { phase_of result ≡ table.row (task_of self.now) table.Close (heard_of heard) }
-        ensures number { number_of result ≡ 0 }
+        requires { 0 < length (payload_of self.now.goal) }
+        ensures next { (memory part : List ℕ) → phase_of memory result ≡ table.row (task_of self.now) table.Close (heard_of part heard) }
+        ensures within { IsWithin self.now result }
     {
         match heard {
             Heard::Acked => Phase::Manifest,
@@ -94,8 +95,9 @@ impl Task<'_> {
 
     /// GETSTATE, to learn whether the close came whose answer was lost.
     pub(crate) fn after_ask_last(&self, heard: Heard) -> Phase
-        ensures next { phase_of result ≡ table.row (task_of self.now) table.AskLast (heard_of heard) }
-        ensures number { number_of result ≡ 0 }
+        requires { 0 < length (payload_of self.now.goal) }
+        ensures next { (memory part : List ℕ) → phase_of memory result ≡ table.row (task_of self.now) table.AskLast (heard_of part heard) }
+        ensures within { IsWithin self.now result }
     {
         match heard {
             Heard::StateIs(State::ManifestSync) => Phase::Manifest,

@@ -1,48 +1,75 @@
-//! What a download is to do.
+//! What a session is to do.
 
 ghost use Rattle.std.specs.Prelude.{◌≡◌, ℕ, suc, ◌+◌, ◌*◌, ◌<◌, ◌^◌, ◌==◌, length, IsTrue, ◌↔◌, slice_index_or, []};
-ghost use Rattle.dfu_host.specs.Blocks.{blocks};
+ghost use Rattle.dfu_host.specs.Goals.{size_of};
 
-/// What a download is to do, and what its device's descriptor says.
-#[derive(Clone, Copy)]
+use crate::goal::Goal;
+
+/// What a session is to do, and what its device's descriptor says.
+#[derive(Drop)]
 pub(crate) struct Task<'f> {
-    /// At least one byte.
-    pub(crate) payload: &'f [u8],
+    pub(crate) goal: Goal<'f>,
     /// The most bytes of a block, at least 1.
     pub(crate) transfer: u16,
     pub(crate) tolerant: bool,
     pub(crate) will_detach: bool,
     /// In milliseconds.
     pub(crate) detach_ms: u16,
-    ghost some: { 0 < length payload.now },
+    ghost some: { 0 < size_of goal },
     ghost transfers: { 0 < transfer },
 }
 
 impl<'f> Task<'f> {
+    ghost use Rattle.dfu_host.specs.Goals.{memory_of, payload_of};
+    ghost use Rattle.dfu_host.specs.Table.{pieces};
+    ghost use Rattle.dfu_host.specs.View.{task_of};
+
+    /// The payload that is sent; an upload sends none.
+    fn payload(&self) -> &'f [u8]
+        ensures { result.now ≡ payload_of self.now.goal }
+    {
+        match &self.goal {
+            Goal::Load(payload) => payload,
+            Goal::Fetch(_) => &[],
+        }
+    }
+
+    /// The bytes in memory; a download has none.
+    pub(crate) fn memory(&self) -> &[u8]
+        ensures { result.now ≡ memory_of self.now.goal }
+    {
+        match &self.goal {
+            Goal::Load(_) => &[],
+            Goal::Fetch(bytes) => bytes.as_slice(),
+        }
+    }
+
     /// Block `number`, as a slice of the payload.
     pub(crate) fn block(&self, number: usize) -> &'f [u8]
-        requires { number * self.now.transfer < length self.now.payload.now }
-        ensures bytes { result.now ≡ slice_index_or (blocks self.now.payload.now self.now.transfer) number [] }
+        requires { number * self.now.transfer < length (payload_of self.now.goal) }
+        ensures bytes { result.now ≡ slice_index_or (pieces (task_of self.now)) number [] }
         ensures fits { length result.now < 2 ^ 16 }
     {
         let transfer = self.transfer as usize;
-        let rest = &self.payload[number * transfer..];
+        let rest = &self.payload()[number * transfer..];
         &rest[..transfer.min(rest.len())]
     }
 
     /// Whether a block is the last one.
     pub(crate) fn is_last(&self, number: usize) -> bool
-        requires { number * self.now.transfer < length self.now.payload.now }
-        ensures { result ≡ (suc number == length (blocks self.now.payload.now self.now.transfer)) }
+        requires { number * self.now.transfer < length (payload_of self.now.goal) }
+        ensures last { result ≡ (suc number == length (pieces (task_of self.now))) }
+        ensures fits { number + 1 < 2 ^ 64 }
     {
         let transfer = self.transfer as usize;
-        self.payload.len() - number * transfer <= transfer
+        self.payload().len() - number * transfer <= transfer
     }
 
     /// How many blocks there are.
     pub(crate) fn count(&self) -> usize
-        ensures { result ≡ length (blocks self.now.payload.now self.now.transfer) }
+        requires { 0 < length (payload_of self.now.goal) }
+        ensures { result ≡ length (pieces (task_of self.now)) }
     {
-        (self.payload.len() - 1) / self.transfer as usize + 1
+        (self.payload().len() - 1) / self.transfer as usize + 1
     }
 }

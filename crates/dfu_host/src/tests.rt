@@ -4,16 +4,17 @@ mod dialogue;
 mod files;
 mod phases;
 mod played;
+mod uploads;
 
 use crate::{
-    Action, Host, HostFault, Limits, Report, Seen, done_in_time, installed_once_confirmed, one_cut,
-    understood_as_meant,
+    Action, Host, HostFault, Limits, Report, Seen, abort_ends_the_session, done_in_time,
+    installed_once_confirmed, one_cut, understood_as_meant,
 };
 use dfu_suffix::read;
 use dfu_wire::{Code, Functional};
 use dialogue::{
-    AMPLE, APP_IDLE, BLOCK, BUSY, CLOSE, DETACH, DEVICE, DFU_IDLE, GET_STATUS, MANIFEST, SILENT,
-    TOLERANT, WRITTEN,
+    ABORT, AMPLE, APP_IDLE, BLOCK, BUSY, CLOSE, DETACH, DEVICE, DFU_IDLE, GET_STATUS, MANIFEST,
+    SILENT, TOLERANT, WRITTEN,
 };
 use files::{ALL_ONES, EMPTY, FOR_ZERO, NINE, zeros};
 use played::{play, told};
@@ -179,9 +180,37 @@ fn refusal_of_a_block_is_reported_with_its_code(rt: HostRuntime) -> Result<(), F
 }
 
 #[test]
+fn given_up_download_ends_aborted(rt: HostRuntime) -> Result<(), Fail> {
+    let file = read(&ALL_ONES)?;
+    let once = Limits {
+        actions: 1,
+        restarts: 0,
+    };
+    for seen in [Seen::Ack, Seen::Stall, Seen::Nothing, Seen::Restarted] {
+        let mut host = Host::download(&file, &TOLERANT, DEVICE, once)?;
+        host.abort();
+        assert_eq!(rt; host.next(), ABORT);
+        host.take(seen);
+        assert_eq!(rt; host.next(), Action::Done(Report::Aborted));
+        assert!(rt; host.uploaded().is_empty());
+        let mut host = Host::download(&file, &TOLERANT, DEVICE, AMPLE)?;
+        told(
+            &mut host,
+            &[DFU_IDLE, Seen::Ack, WRITTEN, Seen::Ack, DFU_IDLE],
+        );
+        host.abort();
+        assert_eq!(rt; host.next(), ABORT);
+        host.take(seen);
+        assert_eq!(rt; host.next(), Action::Done(Report::Aborted));
+    }
+    Ok(())
+}
+
+#[test]
 fn laws_are_functions() {
     one_cut();
     done_in_time();
     installed_once_confirmed();
     understood_as_meant();
+    abort_ends_the_session();
 }

@@ -60,6 +60,30 @@ pub(crate) const CLOSE: Action<'static> = Action::Send {
     body: &[],
 };
 
+pub(crate) const ABORT: Action<'static> = Action::Send {
+    setup: [0x21, 6, 0, 0, 0, 0, 0, 0],
+    body: &[],
+};
+
+/// UPLOAD of a part with this number, of at most so many bytes.
+pub(crate) fn fetch(number: u16, length: u16) -> Action<'static> {
+    let [number_low, number_high] = number.to_le_bytes();
+    let [length_low, length_high] = length.to_le_bytes();
+    Action::Send {
+        setup: [
+            0xa1,
+            2,
+            number_low,
+            number_high,
+            0,
+            0,
+            length_low,
+            length_high,
+        ],
+        body: &[],
+    }
+}
+
 pub(crate) const APP_IDLE: Seen<'static> = Seen::Bytes(&[0, 0, 0, 0, 0, 0]);
 
 pub(crate) const DFU_IDLE: Seen<'static> = Seen::Bytes(&[0, 0, 0, 0, 2, 0]);

@@ -1,19 +1,26 @@
-use Rattle.std.proofs.Common.{arith}
-use Rattle.dfu_host.specs.Host.{HostRow}
+use Rattle.std.proofs.Common.{◌≡◌, arith}
+use Rattle.dfu_host.specs.Host.{HostRow, after}
 use Rattle.dfu_host.specs.Budget.{row_takes, row_over}
-use Rattle.dfu_host.specs.View.{heard_of, task_of, state_of}
+use Rattle.dfu_host.specs.Goals.{memory_of}
+use Rattle.dfu_host.specs.Uploading.{TakesPart}
+use Rattle.dfu_host.specs.View.{heard_of, part_of, state_of}
+use Rattle.dfu_host.proofs.Parts.{takes_part, next_state}
 use Rattle.dfu_host.proofs.host.Host.take.Goals as goal
 
 pub returns : goal.returns
 returns c =
-    let now = state_of c.self.inside.task c.after-self-inside.result in
-    let step : HostRow c.args.self.now c.args.seen now = rw (← c.self.view_is) (record {
-      heard = heard_of c.understood-heard.result;
-      hears = c.understood-heard.ensures (task_of c.self.inside.task);
-      same = c.after-self-inside.ensures.state;
-    }) in
+    let old = c.self.inside.task in
+    let p = c.self.inside.progress in
+    let before = state_of old p in
+    let now = state_of c.hear-heard.new.self c.after-self-inside.result in
+    let part = part_of c.args.seen in
+    let word = heard_of part c.hear-heard.result in
+    let same : now ≡ after before word = next_state old c.hear-heard.new.self p c.after-self-inside.result part c.hear-heard.result c.hear-heard.ensures.task c.hear-heard.ensures.keeps c.after-self-inside.ensures.state in
+    let step : HostRow c.args.self.now c.args.seen now = rw (← c.self.view_is) (record { heard = word; hears = c.hear-heard.ensures.hears; same = same }) in
+    let taken : TakesPart c.args.self.now c.args.self.now.phase c.args.seen now = rw (← c.self.view_is) (takes_part before now (memory_of old.goal) p.phase c.args.seen c.hear-heard.result c.hear-heard.ensures.hears c.hear-heard.ensures.room same) in
     record {
       row = step;
       budget = omega (arith, row_takes c.args.self.now now c.args.seen step);
       over = row_over c.args.self.now now c.args.seen step;
+      part = taken;
     }

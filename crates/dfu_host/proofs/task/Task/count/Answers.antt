@@ -1,5 +1,12 @@
-use Rattle.dfu_host.proofs.Counts.{block_count}
+use Rattle.std.proofs.Common.{◌<◌, ap, sym, ◌∙◌, length}
+use Rattle.dfu_host.specs.Blocks.{blocks}
+use Rattle.dfu_host.proofs.Counts.{block_count, pieces_are}
 use Rattle.dfu_host.proofs.task.Task.count.Goals as goal
 
 pub returns : goal.returns
-returns c = block_count c.args.self.now.payload.now c.args.self.now.transfer c.args.self.now.transfers c.args.self.now.some
+returns c =
+    let t = c.args.self.now.transfer in
+    let h : 0 < length c.payload.result.now = rw c.payload.ensures c.requires in
+    block_count c.payload.result.now t c.args.self.now.transfers h
+    ∙ ap (λ z. length (blocks z t)) c.payload.ensures
+    ∙ ap length (sym (pieces_are c.args.self.now.goal t))

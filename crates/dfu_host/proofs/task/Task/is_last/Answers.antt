@@ -1,5 +1,12 @@
-use Rattle.dfu_host.proofs.Counts.{last_test}
+use Rattle.std.proofs.Common.{suc, ◌==◌, ◌*◌, ◌<◌, ap, sym, ◌∙◌, length}
+use Rattle.dfu_host.specs.Blocks.{blocks}
+use Rattle.dfu_host.proofs.Counts.{last_test, pieces_are}
 use Rattle.dfu_host.proofs.task.Task.is_last.Goals as goal
 
-pub returns : goal.returns
-returns c = last_test c.args.self.now.payload.now c.args.self.now.transfer c.args.number c.args.self.now.transfers c.requires
+pub returns-clause-last : goal.returns-clause-last
+returns-clause-last c =
+    let t = c.args.self.now.transfer in
+    let h : c.args.number * t < length c.payload.result.now = rw c.payload.ensures c.requires in
+    last_test c.payload.result.now t c.args.number c.args.self.now.transfers h
+    ∙ ap (λ z. suc c.args.number == length (blocks z t)) c.payload.ensures
+    ∙ ap (λ z. suc c.args.number == length z) (sym (pieces_are c.args.self.now.goal t))

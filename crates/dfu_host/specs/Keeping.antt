@@ -1,0 +1,29 @@
+-- What becomes of a part of an upload in memory.
+use Rattle.std.specs.Prelude.{◌≡◌, ℕ, IsTrue, List, ◌++◌, length}
+use Rattle.dfu_host.specs.declared.phase.Phase.{Phase}
+use Rattle.dfu_host.specs.declared.phase.Phase.TheVariants as phase
+use Rattle.dfu_host.specs.declared.heard.Heard.{Heard}
+use Rattle.dfu_host.specs.declared.heard.Heard.TheVariants as heard
+use Rattle.dfu_host.specs.Uploading.{is_kept, NeedsRoom}
+use Rattle.dfu_host.specs.View.{kept_at}
+
+-- A part as it was heard: of its length, and where it is kept it joined what was kept by then.
+pub record Joined (t k : ℕ) (memory part : List ℕ) (heard : ℕ) (memory' : List ℕ) : Type 0 where
+  pub size : length part ≡ heard
+  pub joins : IsTrue (is_kept t k heard) → memory' ≡ kept_at k memory ++ part
+
+-- The memory after this was heard in a phase. But for a part that was asked for, nothing that is kept changes.
+abbrev pub Keeps : (t : ℕ) → (memory : List ℕ) → Phase → (part : List ℕ) → Heard → (memory' : List ℕ) → Type 0
+Keeps t memory (phase.Fetch k) part (heard.Part heard) memory' = Joined t k memory part heard memory'
+Keeps t memory (phase.Fetch k) part word memory' = Unit {0}
+Keeps t memory phase part word memory' = memory' ≡ memory
+
+-- The part was asked for, and needs memory.
+abbrev pub NeedsRoomIn : (t : ℕ) → Phase → (part : List ℕ) → Type 0
+NeedsRoomIn t (phase.Fetch k) part = NeedsRoom t k (length part)
+NeedsRoomIn t phase part = ⊥
+
+-- It is heard that there was no memory for a part only where that part was asked for, and needs some.
+abbrev pub RefusedRoom : (t : ℕ) → Phase → (part : List ℕ) → Heard → Type 0
+RefusedRoom t phase part heard.NoRoom = NeedsRoomIn t phase part
+RefusedRoom t phase part word = Unit {0}

@@ -1,0 +1,222 @@
+//! Uploads played by hand.
+
+use super::dialogue::{
+    ABORT, AMPLE, APP_IDLE, BUSY, DETACH, DFU_IDLE, GET_STATUS, OLD_ERROR, TOLERANT, WRITTEN, fetch,
+};
+use super::played::told;
+use crate::Seen::{Ack, Bytes, Nothing, Restarted, Stall, Waited, WasReset};
+use crate::{Action, Host, HostFault, Limits, Report, Seen};
+use dfu_wire::Functional;
+use std::process::Abort;
+use std::test::Fail;
+
+const UPLOADED: Action<'static> = Action::Done(Report::Uploaded);
+
+const FIRST: Seen<'static> = Bytes(&[0, 1, 2, 3, 4, 5, 6, 7]);
+
+const SECOND: Seen<'static> = Bytes(&[8, 9, 10, 11, 12, 13, 14, 15]);
+
+const THIRD: Seen<'static> = Bytes(&[16, 17, 18]);
+
+const IMAGE: [u8; 19] = [
+    0, 1, 2, 3, 4, 5, 6, 7, 8, 9, 10, 11, 12, 13, 14, 15, 16, 17, 18,
+];
+
+#[test]
+fn short_first_part_is_the_image(rt: HostRuntime) -> Result<(), Fail> {
+    let mut host = Host::upload(&TOLERANT, AMPLE, rt.alloc())?;
+    let dialogue = [
+        (GET_STATUS, APP_IDLE),
+        (DETACH, Ack),
+        (Action::Reset, WasReset),
+        (GET_STATUS, DFU_IDLE),
+        (fetch(0, 8), Bytes(&[7])),
+        (Action::Reset, WasReset),
+    ];
+    for (action, seen) in dialogue {
+        assert_eq!(rt; host.next(), action);
+        host.take(seen);
+    }
+    assert_eq!(rt; host.next(), UPLOADED);
+    assert_eq!(rt; host.uploaded(), [7].as_slice());
+    host.take(Restarted);
+    host.abort();
+    assert_eq!(rt; host.next(), UPLOADED);
+    assert_eq!(rt; host.uploaded(), [7].as_slice());
+    Ok(())
+}
+
+#[test]
+fn full_parts_go_on_until_a_short_one(rt: HostRuntime) -> Result<(), Fail> {
+    let mut host = Host::upload(&TOLERANT, AMPLE, rt.alloc())?;
+    host.take(DFU_IDLE);
+    for (number, part) in [(0, FIRST), (1, SECOND), (2, THIRD)] {
+        assert_eq!(rt; host.next(), fetch(number, 8));
+        host.take(part);
+    }
+    assert_eq!(rt; host.next(), Action::Reset);
+    host.take(WasReset);
+    assert_eq!(rt; host.next(), UPLOADED);
+    assert_eq!(rt; host.uploaded(), IMAGE.as_slice());
+    Ok(())
+}
+
+#[test]
+fn empty_part_ends_an_image_of_full_parts(rt: HostRuntime) -> Result<(), Fail> {
+    let mut host = Host::upload(&TOLERANT, AMPLE, rt.alloc())?;
+    told(&mut host, &[DFU_IDLE, FIRST]);
+    assert_eq!(rt; host.uploaded(), [0, 1, 2, 3, 4, 5, 6, 7].as_slice());
+    told(&mut host, &[Bytes(&[]), WasReset]);
+    assert_eq!(rt; host.next(), UPLOADED);
+    assert_eq!(rt; host.uploaded(), [0, 1, 2, 3, 4, 5, 6, 7].as_slice());
+    Ok(())
+}
+
+/// A lost answer, a stall (of a device that was asked twice), an answer that is too long, and
+/// what doesn't fit the request: each sends the host back to find the device. Nothing is kept
+/// then, and the next image has nothing of this one.
+#[test]
+fn what_is_no_part_begins_anew(rt: HostRuntime) -> Result<(), Fail> {
+    let long = Bytes(&[0, 1, 2, 3, 4, 5, 6, 7, 8]);
+    for seen in [Nothing, Stall, long, Ack, Waited, WasReset] {
+        let mut host = Host::upload(&TOLERANT, AMPLE, rt.alloc())?;
+        told(&mut host, &[DFU_IDLE, SECOND, seen]);
+        assert_eq!(rt; host.next(), GET_STATUS);
+        assert!(rt; host.uploaded().is_empty());
+        told(&mut host, &[Bytes(&[0, 0, 0, 0, 9, 0]), Ack, DFU_IDLE]);
+        assert_eq!(rt; host.next(), fetch(0, 8));
+        assert!(rt; host.uploaded().is_empty());
+        told(&mut host, &[FIRST, THIRD, WasReset]);
+        assert_eq!(rt; host.next(), UPLOADED);
+        assert_eq!(rt;
+            host.uploaded(),
+            [0, 1, 2, 3, 4, 5, 6, 7, 16, 17, 18].as_slice()
+        );
+    }
+    Ok(())
+}
+
+#[test]
+fn restart_throws_away_what_was_kept(rt: HostRuntime) -> Result<(), Fail> {
+    let once = Limits {
+        actions: 20,
+        restarts: 1,
+    };
+    for path in [&[DFU_IDLE, FIRST] as &[Seen<'_>], &[DFU_IDLE, FIRST, THIRD]] {
+        let mut host = Host::upload(&TOLERANT, once, rt.alloc())?;
+        told(&mut host, path);
+        host.take(Restarted);
+        assert_eq!(rt; host.next(), GET_STATUS);
+        assert!(rt; host.uploaded().is_empty());
+        told(&mut host, &[DFU_IDLE, THIRD, WasReset]);
+        assert_eq!(rt; host.next(), UPLOADED);
+        assert_eq!(rt; host.uploaded(), [16, 17, 18].as_slice());
+        let mut host = Host::upload(&TOLERANT, once, rt.alloc())?;
+        told(&mut host, path);
+        told(&mut host, &[Restarted, DFU_IDLE, FIRST, Restarted]);
+        assert_eq!(rt; host.next(), Action::Done(Report::RestartsSpent));
+        assert!(rt; host.uploaded().is_empty());
+    }
+    Ok(())
+}
+
+/// Tells a host that asks by parts of one byte so many of them.
+fn tell_parts(rt: &impl Abort, host: &mut Host<'_>, parts: u16) {
+    host.take(DFU_IDLE);
+    for number in 0..parts {
+        assert_eq!(rt; host.next(), fetch(number, 1));
+        host.take(Bytes(&[5]));
+    }
+}
+
+#[test]
+fn image_has_less_than_65_535_full_parts(rt: HostRuntime) -> Result<(), Fail> {
+    let by_one = Functional {
+        transfer: 1,
+        ..TOLERANT
+    };
+    let mut host = Host::upload(&by_one, AMPLE, rt.alloc())?;
+    tell_parts(&rt, &mut host, 65_534);
+    told(&mut host, &[Bytes(&[]), WasReset]);
+    assert_eq!(rt; host.next(), UPLOADED);
+    assert_eq!(rt; host.uploaded().len(), 65_534);
+    let mut host = Host::upload(&by_one, AMPLE, rt.alloc())?;
+    tell_parts(&rt, &mut host, 65_535);
+    assert_eq!(rt; host.next(), Action::Done(Report::TooManyBlocks));
+    assert!(rt; host.uploaded().is_empty());
+    Ok(())
+}
+
+#[test]
+fn refusals_of_an_upload_come_in_their_order(rt: HostRuntime) -> Result<(), Fail> {
+    let mute = Functional {
+        can_upload: false,
+        transfer: 0,
+        ..TOLERANT
+    };
+    let narrow = Functional {
+        can_download: false,
+        transfer: 0,
+        ..TOLERANT
+    };
+    let only = Functional {
+        can_download: false,
+        ..TOLERANT
+    };
+    let refused = [
+        (mute, Some(HostFault::CannotUpload)),
+        (narrow, Some(HostFault::BadDescriptor)),
+        (only, None),
+    ];
+    for (functional, fault) in &refused {
+        assert_eq!(rt; Host::upload(functional, AMPLE, rt.alloc()).err(), *fault);
+    }
+    Ok(())
+}
+
+/// Ways to the phases in which an upload can be given up.
+const WAYS: [&[Seen<'static>]; 10] = [
+    &[],
+    &[Stall],
+    &[APP_IDLE],
+    &[APP_IDLE, Ack],
+    &[OLD_ERROR],
+    &[WRITTEN],
+    &[BUSY],
+    &[DFU_IDLE],
+    &[DFU_IDLE, FIRST],
+    &[DFU_IDLE, FIRST, THIRD],
+];
+
+#[test]
+fn given_up_upload_ends_aborted(rt: HostRuntime) -> Result<(), Fail> {
+    for way in &WAYS {
+        for seen in [Ack, FIRST, Stall, Nothing, Waited, WasReset, Restarted] {
+            let mut host = Host::upload(&TOLERANT, AMPLE, rt.alloc())?;
+            told(&mut host, way);
+            host.abort();
+            host.abort();
+            assert_eq!(rt; host.next(), ABORT);
+            assert!(rt; host.uploaded().is_empty());
+            host.take(seen);
+            assert_eq!(rt; host.next(), Action::Done(Report::Aborted));
+        }
+    }
+    Ok(())
+}
+
+/// Where an allocation is refused, the report is NoMemory, and no part is shown; else the image
+/// is fetched.
+#[test]
+fn part_is_kept_or_there_is_no_memory(rt: HostRuntime) -> Result<(), Fail> {
+    let mut host = Host::upload(&TOLERANT, AMPLE, rt.alloc())?;
+    told(&mut host, &[DFU_IDLE, FIRST, SECOND, THIRD, WasReset]);
+    match host.next() {
+        Action::Done(Report::NoMemory) => assert!(rt; host.uploaded().is_empty()),
+        action => {
+            assert_eq!(rt; action, UPLOADED);
+            assert_eq!(rt; host.uploaded(), IMAGE.as_slice());
+        }
+    }
+    Ok(())
+}
