@@ -13,17 +13,27 @@ use Rattle.dfu_host.specs.Uploading.{TakesPart}
 use Rattle.dfu_host.specs.Keeping.{Keeps, RefusedRoom}
 use Rattle.dfu_host.specs.declared.task.Task.{Task}
 use Rattle.dfu_host.specs.declared.progress.Progress.{Progress}
-use Rattle.dfu_host.specs.Goals.{memory_of}
+use Rattle.dfu_host.specs.declared.goal.Goal.{Goal}
+use Rattle.dfu_host.specs.declared.goal.Goal.TheVariants as goal
+use Rattle.dfu_host.specs.Goals.{goal_of, memory_of, IsFetch}
 use Rattle.dfu_host.specs.View.{phase_of, heard_of, part_of, task_of, state_of, state_with}
 
+fetches : (g : Goal) → IsFetch g → goal_of g ≡ table.ToFetch
+fetches (goal.Load payload) is = elim is [ ]
+fetches (goal.Fetch bytes) is = refl
+
 -- A part that was asked for is taken as it is, or there was no memory for it, and it needed some.
-pub takes_part : (h h' : HostState) (memory : List ℕ) (p : Phase) (what : Seen) (word : Heard) → Hears (table.deed h.task (phase_of memory p)) what (heard_of (part_of what) word)
-    → RefusedRoom h.task.transfer p (part_of what) word → h' ≡ after h (heard_of (part_of what) word) → TakesPart h (phase_of memory p) what h'
-takes_part h h' memory (phase.Fetch k) (seen.Bytes bytes) (heard.Part len) hears room same = inl same
-takes_part h h' memory (phase.Fetch k) (seen.Bytes bytes) heard.NoRoom hears room same = inr (same, room)
-takes_part h h' memory (phase.Fetch k) (seen.Bytes bytes) word (inl e) room same = absurd cc
-takes_part h h' memory (phase.Fetch k) (seen.Bytes bytes) word (inr e) room same = absurd cc
-takes_part h h' memory p what word hears room same = tt
+pub takes_part : (t : Task) (p : Progress) (what : Seen) (word : Heard) (h' : HostState) → Hears (table.deed (task_of t) (phase_of (memory_of t.goal) p.phase)) what (heard_of (part_of what) word)
+    → RefusedRoom t p.phase (part_of what) word → h' ≡ after (state_of t p) (heard_of (part_of what) word) → TakesPart (state_of t p) (phase_of (memory_of t.goal) p.phase) what h'
+takes_part t p what word h' hears room same = by_phase p.phase what word hears room same
+  where
+    by_phase : (phase : Phase) (what : Seen) (word : Heard) → Hears (table.deed (task_of t) (phase_of (memory_of t.goal) phase)) what (heard_of (part_of what) word)
+        → RefusedRoom t phase (part_of what) word → h' ≡ after (state_of t p) (heard_of (part_of what) word) → TakesPart (state_of t p) (phase_of (memory_of t.goal) phase) what h'
+    by_phase (phase.Fetch k) (seen.Bytes bytes) (heard.Part len) hears room same = inl same
+    by_phase (phase.Fetch k) (seen.Bytes bytes) heard.NoRoom hears room same = inr (same, fetches t.goal room.0, room.1)
+    by_phase (phase.Fetch k) (seen.Bytes bytes) word (inl e) room same = absurd cc
+    by_phase (phase.Fetch k) (seen.Bytes bytes) word (inr e) room same = absurd cc
+    by_phase phase what word hears room same = tt
 
 -- A session that goes on in the memory that this was kept in goes on from where it stood.
 pub next_state : (old new : Task) (p p' : Progress) (part : List ℕ) (word : Heard) → task_of new ≡ task_of old → Keeps old.transfer (memory_of old.goal) p.phase part word (memory_of new.goal)

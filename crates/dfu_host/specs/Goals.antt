@@ -1,5 +1,5 @@
 -- What a session of the code is for, and what it holds for that.
-use Rattle.std.specs.Prelude.{ℕ, List, [], length}
+use Rattle.std.specs.Prelude.{ℕ, List, [], length, vec_capacity}
 use Rattle.dfu_host.specs.declared.goal.Goal.{Goal}
 use Rattle.dfu_host.specs.declared.goal.Goal.TheVariants as goal
 use Rattle.dfu_host.specs.Table as table
@@ -18,6 +18,11 @@ payload_of (goal.Fetch bytes) = []
 abbrev pub memory_of : Goal → List ℕ
 memory_of (goal.Load payload) = []
 memory_of (goal.Fetch bytes) = bytes.items
+
+-- How many bytes a session holds room for.
+abbrev pub capacity_of : Goal → ℕ
+capacity_of (goal.Load payload) = 0
+capacity_of (goal.Fetch bytes) = vec_capacity bytes
 
 -- The size of what is to be done: the bytes of a payload. An image's is not known, and counts as 1.
 abbrev pub size_of : Goal → ℕ

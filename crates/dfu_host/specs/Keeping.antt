@@ -4,6 +4,8 @@ use Rattle.dfu_host.specs.declared.phase.Phase.{Phase}
 use Rattle.dfu_host.specs.declared.phase.Phase.TheVariants as phase
 use Rattle.dfu_host.specs.declared.heard.Heard.{Heard}
 use Rattle.dfu_host.specs.declared.heard.Heard.TheVariants as heard
+use Rattle.dfu_host.specs.declared.task.Task.{Task}
+use Rattle.dfu_host.specs.Goals.{IsFetch}
 use Rattle.dfu_host.specs.Uploading.{is_kept, NeedsRoom}
 use Rattle.dfu_host.specs.View.{kept_at}
 
@@ -18,12 +20,12 @@ Keeps t memory (phase.Fetch k) part (heard.Part heard) memory' = Joined t k memo
 Keeps t memory (phase.Fetch k) part word memory' = Unit {0}
 Keeps t memory phase part word memory' = memory' ≡ memory
 
--- The part was asked for, and needs memory.
-abbrev pub NeedsRoomIn : (t : ℕ) → Phase → (part : List ℕ) → Type 0
-NeedsRoomIn t (phase.Fetch k) part = NeedsRoom t k (length part)
+-- The part was asked for in an upload, and needs memory.
+abbrev pub NeedsRoomIn : Task → Phase → (part : List ℕ) → Type 0
+NeedsRoomIn t (phase.Fetch k) part = IsFetch t.goal × NeedsRoom t.transfer k (length part)
 NeedsRoomIn t phase part = ⊥
 
 -- It is heard that there was no memory for a part only where that part was asked for, and needs some.
-abbrev pub RefusedRoom : (t : ℕ) → Phase → (part : List ℕ) → Heard → Type 0
+abbrev pub RefusedRoom : Task → Phase → (part : List ℕ) → Heard → Type 0
 RefusedRoom t phase part heard.NoRoom = NeedsRoomIn t phase part
 RefusedRoom t phase part word = Unit {0}

@@ -47,9 +47,9 @@ pub record NeedsRoom (t k length : ℕ) : Type 0 where
   pub kept : IsTrue (is_kept t k length)
   pub some : 0 < length
 
--- Where a part was asked for, bytes are taken as the part, or there was no memory for them, and they needed some.
+-- Where a part was asked for, bytes are taken as the part, or there was no memory for them: that is so in uploads alone, and they needed some.
 abbrev pub TakesPart : HostState → Phase → Seen → HostState → Type 0
-TakesPart h (Fetch k kept) (seen.Bytes bytes) h' = (h' ≡ after h (Part bytes.now)) ⊎ ((h' ≡ after h NoRoom) × NeedsRoom h.task.transfer k (length bytes.now))
+TakesPart h (Fetch k kept) (seen.Bytes bytes) h' = (h' ≡ after h (Part bytes.now)) ⊎ ((h' ≡ after h NoRoom) × (h.task.goal ≡ ToFetch) × NeedsRoom h.task.transfer k (length bytes.now))
 TakesPart h phase seen h' = Unit {0}
 
 -- What an upload keeps: the parts that came since it last began, until it goes back to find the device. In all other phases nothing is kept.

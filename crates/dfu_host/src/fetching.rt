@@ -1,7 +1,7 @@
 //! The rows of the phases that fetch the image, and its parts in memory.
 
-ghost use Rattle.std.specs.Prelude.{◌≡◌, ◌⊎◌, ◌<◌, List, ℕ, length};
-ghost use Rattle.dfu_host.specs.Goals.{memory_of};
+ghost use Rattle.std.specs.Prelude.{◌≡◌, ◌⊎◌, ◌+◌, ◌<◌, List, ℕ, length};
+ghost use Rattle.dfu_host.specs.Goals.{capacity_of, memory_of};
 ghost use Rattle.dfu_host.specs.Keeping.{Joined, Keeps, RefusedRoom};
 ghost use Rattle.dfu_host.specs.Table as table;
 ghost use Rattle.dfu_host.specs.Uploading.{is_kept};
@@ -19,14 +19,16 @@ const MOST_PARTS: u16 = 65_535;
 
 impl Task<'_> {
     /// Keeps a part of the image: one that goes on joins what was kept since the fetching began.
-    /// Where there is no memory for it, that is heard in its place.
+    /// Where there is no memory for it, that is heard in its place; that comes only where the
+    /// vector's capacity did not hold it, and a growth was refused.
     pub(crate) fn keep(&mut self, number: u16, part: &[u8]) -> Heard
         requires { IsWithin self.old (Phase.Fetch number) }
         ensures task { task_of self.new ≡ task_of self.old }
         ensures within { IsWithin self.new (Phase.Fetch number) }
         ensures heard { (result ≡ Heard.Part (length part.now)) ⊎ (result ≡ Heard.NoRoom) }
         ensures keeps { Keeps self.old.transfer (memory_of self.old.goal) (Phase.Fetch number) part.now result (memory_of self.new.goal) }
-        ensures room { RefusedRoom self.old.transfer (Phase.Fetch number) part.now result }
+        ensures room { RefusedRoom self.old (Phase.Fetch number) part.now result }
+        ensures full { result ≡ Heard.NoRoom → capacity_of self.old.goal < length (kept_at number (memory_of self.old.goal)) + length part.now }
     {
         let heard = Heard::Part(part.len());
         if !self.is_kept(number, part.len()) {

@@ -7,6 +7,7 @@ ghost use Rattle.dfu_host.specs.Table.{deed};
 ghost use Rattle.dfu_host.specs.View.{IsWithin, heard_of, part_of, phase_of, task_of};
 ghost use Rattle.dfu_host.specs.Wire.{Hears, HearsBytes, ReadsStatus, ReadsState};
 ghost use Rattle.dfu_host.specs.declared.phase.Phase.{Phase};
+ghost use Rattle.dfu_host.specs.declared.task.Task.{Task};
 
 use crate::phase::Phase;
 use crate::seen::Seen;
@@ -39,7 +40,7 @@ impl Task<'_> {
         ensures within { IsWithin self.new phase }
         ensures hears { Hears (deed (task_of self.old) (phase_of (memory_of self.old.goal) phase)) seen.entry (heard_of (part_of seen.entry) result) }
         ensures keeps { Keeps self.old.transfer (memory_of self.old.goal) phase (part_of seen.entry) result (memory_of self.new.goal) }
-        ensures room { RefusedRoom self.old.transfer phase (part_of seen.entry) result }
+        ensures room { RefusedRoom self.old phase (part_of seen.entry) result }
     {
         match seen {
             Seen::Ack => Heard::Acked,
@@ -59,7 +60,7 @@ impl Task<'_> {
         ensures within { IsWithin self.new phase }
         ensures hears { HearsBytes (deed (task_of self.old) (phase_of (memory_of self.old.goal) phase)) bytes.now (heard_of bytes.now result) }
         ensures keeps { Keeps self.old.transfer (memory_of self.old.goal) phase bytes.now result (memory_of self.new.goal) }
-        ensures room { RefusedRoom self.old.transfer phase bytes.now result }
+        ensures room { RefusedRoom self.old phase bytes.now result }
     {
         match phase {
             Phase::Find | Phase::FindAgain | Phase::Poll(_) | Phase::Manifest | Phase::Trouble => {
@@ -75,7 +76,7 @@ impl Task<'_> {
 /// The answer to GETSTATUS.
 fn status_in(bytes: &[u8]) -> Heard
     ensures reads { (part : List ℕ) → ReadsStatus bytes.now (heard_of part result) }
-    ensures room { (t : ℕ) (phase : Phase) (part : List ℕ) → RefusedRoom t phase part result }
+    ensures room { (task : Task) (phase : Phase) (part : List ℕ) → RefusedRoom task phase part result }
 {
     match Status::decode(bytes) {
         Ok(status) => Heard::Told(status),
@@ -86,7 +87,7 @@ fn status_in(bytes: &[u8]) -> Heard
 /// The answer to GETSTATE, one byte.
 fn state_in(bytes: &[u8]) -> Heard
     ensures reads { (part : List ℕ) → ReadsState bytes.now (heard_of part result) }
-    ensures room { (t : ℕ) (phase : Phase) (part : List ℕ) → RefusedRoom t phase part result }
+    ensures room { (task : Task) (phase : Phase) (part : List ℕ) → RefusedRoom task phase part result }
 {
     match bytes {
         [byte] => match State::from_byte(*byte) {
