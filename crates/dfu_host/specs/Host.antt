@@ -51,12 +51,13 @@ after_phase h phase heard = told h phase heard
 abbrev pub after : HostState → Heard → HostState
 after h heard = after_phase h h.phase heard
 
--- A host that its caller gives up leaves the transfer next; one that is done stays as it is.
+-- A host in this phase that its caller gives up: it leaves the transfer next, unless it is done.
 abbrev pub aborted_in : HostState → Phase → HostState
 aborted_in h (Over r) = h
 aborted_in h (OverUploaded kept) = h
 aborted_in h phase = record h { phase = GiveUp }
 
+-- A host that its caller gives up: its phase becomes Give up and all else stays; one that is done stays as it is.
 abbrev pub aborted : HostState → HostState
 aborted h = aborted_in h h.phase
 

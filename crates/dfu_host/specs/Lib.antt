@@ -10,6 +10,7 @@ pub mod Budget
 pub mod Aborting
 pub mod WireLaws
 pub mod Uploading
+pub mod Counting
 pub mod Goals
 pub mod View
 pub mod Keeping

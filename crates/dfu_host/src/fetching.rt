@@ -18,9 +18,10 @@ use crate::task::Task;
 const MOST_PARTS: u16 = 65_535;
 
 impl Task<'_> {
-    /// Keeps a part of the image: one that goes on joins what was kept since the fetching began.
-    /// Where there is no memory for it, that is heard in its place; that comes only where the
-    /// vector's capacity did not hold it, and a growth was refused.
+    /// Keeps a part of the image: it joins what was kept since the fetching began, unless it is
+    /// too long, or the full one that is one too many. Where there is no memory for it, that is
+    /// heard in its place; that comes only where the vector had no room for it and a growth was
+    /// refused.
     pub(crate) fn keep(&mut self, number: u16, part: &[u8]) -> Heard
         requires { IsWithin self.old (Phase.Fetch number) }
         ensures task { task_of self.new ≡ task_of self.old }

@@ -3,6 +3,7 @@
 ghost use Rattle.dfu_host.specs.Aborting.{EndsAborted, SpendsNothing};
 ghost use Rattle.dfu_host.specs.BlockLaws.{OneCut};
 ghost use Rattle.dfu_host.specs.Budget.{DoneInTime, StaysDone};
+ghost use Rattle.dfu_host.specs.Counting.{StaysCounted};
 ghost use Rattle.dfu_host.specs.Installing.{OnlyConfirmed};
 ghost use Rattle.dfu_host.specs.WireLaws.{OneMeaning, StateUnderstood, StatusUnderstood};
 
@@ -38,4 +39,10 @@ pub fn understood_as_meant()
 /// close, that it stands in dfuIDLE with OK.
 pub fn installed_once_confirmed()
     ensures { OnlyConfirmed }
+{}
+
+/// Whatever is seen, an upload that fetches part k has kept k full parts, and one that ends as
+/// Uploaded keeps fewer bytes than 65,535 full parts have.
+pub fn upload_counts_its_parts()
+    ensures { StaysCounted }
 {}

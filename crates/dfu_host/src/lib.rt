@@ -30,6 +30,7 @@ pub use fault::HostFault;
 pub use host::Host;
 pub use laws::{
     abort_ends_the_session, done_in_time, installed_once_confirmed, one_cut, understood_as_meant,
+    upload_counts_its_parts,
 };
 pub use limits::Limits;
 pub use report::Report;

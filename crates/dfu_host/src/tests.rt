@@ -8,7 +8,7 @@ mod uploads;
 
 use crate::{
     Action, Host, HostFault, Limits, Report, Seen, abort_ends_the_session, done_in_time,
-    installed_once_confirmed, one_cut, understood_as_meant,
+    installed_once_confirmed, one_cut, understood_as_meant, upload_counts_its_parts,
 };
 use dfu_suffix::read;
 use dfu_wire::{Code, Functional};
@@ -213,4 +213,5 @@ fn laws_are_functions() {
     installed_once_confirmed();
     understood_as_meant();
     abort_ends_the_session();
+    upload_counts_its_parts();
 }
