@@ -1,8 +1,8 @@
 -- What becomes of a session that its caller gives up.
-use Rattle.std.proofs.Common.{◌≡◌, ℕ, zero, suc, pred, refl, sym, ap, ◌∙◌, subst}
+use Rattle.std.proofs.Common.{◌≡◌, refl, sym, ap, ◌∙◌, subst}
 use Rattle.dfu_host.specs.declared.report.Report.TheVariants as report
 use Rattle.dfu_host.specs.declared.seen.Seen.{Seen}
-use Rattle.dfu_host.specs.Table.{Task, Phase, Over, OverUploaded, GiveUp, Heard, Restarted, row}
+use Rattle.dfu_host.specs.Table.{Phase, Over, OverUploaded, GiveUp, Heard, Restarted}
 use Rattle.dfu_host.specs.Host.{HostState, IsOver, after_phase, aborted_in, aborted, HostRow}
 use Rattle.dfu_host.specs.Budget.{takes_in, takes_left}
 

@@ -1,5 +1,5 @@
 -- How much an upload keeps: so many full parts as it counts, and at the end fewer than 65,535 of them and a shorter one.
-use Rattle.std.proofs.Common.{◌≡◌, ℕ, zero, suc, pred, ◌+◌, ◌*◌, ◌<◌, ◌≤◌, nat_lt, ◌==◌, Bool, true, false, cond, List, [], ◌∷◌, ◌++◌, length, refl, sym, ap, ◌∙◌, subst, arith, length-append}
+use Rattle.std.proofs.Common.{◌≡◌, ℕ, zero, suc, pred, ◌*◌, ◌<◌, ◌≤◌, nat_lt, ◌==◌, Bool, true, false, cond, List, [], ◌∷◌, length, refl, sym, ap, ◌∙◌, subst, arith, length-append}
 use Rattle.std.proofs.Math.Nat.{suc-mul, mul-le-mul_right}
 use Rattle.std.proofs.lemmas.Bool.Decides.{nat_tests}
 use Rattle.dfu_wire.specs.declared.codes.Code.{Code}
@@ -8,8 +8,8 @@ use Rattle.dfu_wire.specs.declared.states.State.{State}
 use Rattle.dfu_wire.specs.declared.states.State.TheVariants as state
 use Rattle.dfu_host.specs.declared.report.Report.TheVariants as report
 use Rattle.dfu_host.specs.declared.seen.Seen.{Seen}
-use Rattle.dfu_host.specs.Table.{Goal, ToLoad, ToFetch, Task, Phase, Find, FindAgain, Detach, Enter, Clear, Quit, WaitFind, ResetFind, Block, Ask, Poll, WaitPoll, Close, AskLast, Manifest, WaitManifest, WaitLast, Trouble, Fetch, LastUploaded, Last, GiveUp, Over, OverUploaded, Heard, Acked, Status, StateIs, Part, NoRoom, Stalled, Waited, WasReset, Restarted, start_of, pieces, listed, troubled, polled, manifested, asked, asked_last, on_status, on_state, on_ack, on_waited, on_reset, fetched, on_part, row}
-use Rattle.dfu_host.specs.Host.{HostState, budgeted, restarted, told, after_phase, HostRow, HostRows, seen_all, sees}
+use Rattle.dfu_host.specs.Table.{Goal, ToLoad, ToFetch, Task, Phase, Find, FindAgain, Detach, Enter, Clear, Quit, WaitFind, ResetFind, Block, Ask, Poll, WaitPoll, Close, AskLast, Manifest, WaitManifest, WaitLast, Trouble, Fetch, LastUploaded, Last, GiveUp, Over, OverUploaded, Heard, Acked, Status, StateIs, Part, Stalled, Waited, WasReset, Restarted, start_of, pieces, listed, troubled, polled, manifested, asked, asked_last, on_status, on_state, on_ack, on_waited, on_reset, on_part, row}
+use Rattle.dfu_host.specs.Host.{HostState, budgeted, restarted, told, after_phase, HostRows, seen_all, sees}
 
 -- What is kept in a phase, by the transfer size t: k full parts while part k is fetched, and at the end fewer than 65,535 full parts hold.
 abbrev pub IsCounted : (t : ℕ) → Phase → Type 0
