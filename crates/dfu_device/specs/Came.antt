@@ -20,7 +20,7 @@ use Rattle.dfu_device.specs.declared.answer.Answer.TheVariants as answer
 use Rattle.dfu_device.specs.Stage.{Reply, StatusOf, Stall, Stage}
 use Rattle.dfu_device.specs.Table.{Plan, Sure, Writes, Commits, plan, time_plan}
 use Rattle.dfu_device.specs.Outcome.{Luck, Works, FailsOld, FailsNew, Outcome, outcome}
-use Rattle.dfu_device.specs.Shown.{Shown, profile_of, without_upload, profile, situation}
+use Rattle.dfu_device.specs.Shown.{Shown, profile_of, profile, situation}
 use Rattle.dfu_device.specs.Rows.{meant, asked_length, Answers, block_calls, Done, Elapses, is_served, setup_plan, Handles, handled_as}
 
 -- the medium failed only where its count of failures rose
@@ -39,7 +39,7 @@ pub record Came (p : Plan) (len : ℕ) (w : Shown) (a : Answer) (out : List ℕ)
   pub unarmed : w.slots.medium.fuse ≡ Whole → (luck ≡ Works) × (w'.slots.medium.fuse ≡ Whole)
 
 fixed_by : (w w' : Shown) → w'.config ≡ w.config → room_of w'.slots ≡ room_of w.slots → profile w' ≡ profile w
-fixed_by w w' config room = λ k. without_upload (profile_of (config k) (room k))
+fixed_by w w' config room = λ k. profile_of (config k) (room k)
 
 after_is : (reply : Reply) (w' : Shown) (image : List ℕ) (stage : Stage) → image_of w'.slots ≡ image → w'.stage ≡ stage
     → ◌≡◌ {A = Outcome} (record { reply = reply; after = record { image = image; stage = stage } }) (record { reply = reply; after = situation w' })

@@ -1,13 +1,12 @@
 -- Where a fault of the medium comes from.
-use Rattle.std.specs.Prelude.{◌⊎◌, ℕ, ◌+◌, ◌==◌, nat_lt, nat_le, max, not, List, [], length, take, drop}
+use Rattle.std.specs.Prelude.{◌⊎◌, ℕ, List, []}
 use Rattle.std.proofs.Common.{ap, inl, inr, subst}
-use Rattle.dfu_wire.specs.declared.codes.Code.TheVariants.{Write as ErrWrite, Prog as ErrProg}
 use Rattle.dfu_slots.specs.Seen.{image_of}
 use Rattle.dfu_device.specs.declared.answer.Answer.{Answer}
 use Rattle.dfu_device.specs.declared.answer.Answer.TheVariants as answer
 use Rattle.dfu_slots.specs.Medium.{Rose}
-use Rattle.dfu_device.specs.Stage.{Ack, Data, Request, Detach, Dnload, Upload, GetStatus, ClrStatus, GetState, Abort, Profile, Stage, InApp, Detaching, Idle, Unwritten, Written, Writing, Ready, Closed, Complete, Committing, Waiting, Sending, Broken}
-use Rattle.dfu_device.specs.Table.{reset_stage, next_number, Plan, Sure, Writes, Commits, plan, time_plan, further_plan, block_plan, upload_plan, is_empty}
+use Rattle.dfu_device.specs.Stage.{Stage, InApp, Detaching, Idle, Unwritten, Written, Writing, Ready, Closed, Complete, Committing, Waiting, Sending, Broken}
+use Rattle.dfu_device.specs.Table.{reset_stage, Plan, Sure, Writes, Commits, time_plan}
 use Rattle.dfu_device.specs.Shown.{Shown, profile}
 use Rattle.dfu_device.specs.Rows.{meant, asked_length, Done, is_served, setup_plan, handled_as, Cause, Transfer, Passing, BusReset, PowerOn, Row}
 use Rattle.dfu_device.specs.TakenRow.{either_way}

@@ -3,7 +3,7 @@ use Rattle.std.specs.Prelude.{ℕ, ◌+◌, Bool, true, nat_le, nat_lt, ◌&&◌
 use Rattle.dfu_slots.specs.Seen.{SlotsState, spare_of, is_begun, room_of, is_shaped}
 use Rattle.dfu_device.specs.declared.mode.Mode.{Mode}
 use Rattle.dfu_device.specs.declared.mode.Mode.TheVariants as mode
-use Rattle.dfu_device.specs.Stage.{Stage, InApp, Detaching, Idle, Unwritten, Written, Writing, Ready, Closed, Complete, Committing, Waiting, Broken}
+use Rattle.dfu_device.specs.Stage.{Stage, InApp, Detaching, Idle, Unwritten, Written, Writing, Ready, Closed, Complete, Committing, Waiting, Sending, Broken}
 use Rattle.dfu_device.specs.Setting.{Setting}
 use Rattle.dfu_device.specs.Shown.{Shown}
 
@@ -20,6 +20,7 @@ stage_of (mode.Closed written) spare block = Closed (take written spare)
 stage_of mode.Complete spare block = Complete
 stage_of (mode.Committing written passed) spare block = Committing (take written spare) passed
 stage_of mode.Waiting spare block = Waiting
+stage_of (mode.Sending place number) spare block = Sending place number
 stage_of (mode.Broken code) spare block = Broken code
 
 -- what is seen of a machine with these fields

@@ -1,6 +1,6 @@
 -- What a row does to the image.
-use Rattle.std.specs.Prelude.{◌≡◌, ◌⊎◌, ℕ, ◌+◌, ◌==◌, nat_lt, nat_le, max, Bool, true, false, not, List, [], ◌∷◌, ◌++◌, length, take, drop}
-use Rattle.std.proofs.Common.{refl, sym, ap, ◌∙◌, inl, inr, subst}
+use Rattle.std.specs.Prelude.{◌≡◌, ◌⊎◌, ℕ, Bool, true, false, List, [], ◌∷◌, length}
+use Rattle.std.proofs.Common.{sym, ap, ◌∙◌, inl, inr, subst}
 use Rattle.std.proofs.lemmas.Bool.{true≢false}
 use Rattle.dfu_wire.specs.declared.setups.Setup.{Setup}
 use Rattle.dfu_wire.specs.declared.requests.Request.{Request as Asked}
@@ -9,11 +9,11 @@ use Rattle.dfu_wire.specs.declared.codes.Code.TheVariants.{Prog as ErrProg}
 use Rattle.dfu_slots.specs.Seen.{image_of, Commit, Called}
 use Rattle.dfu_device.specs.declared.answer.Answer.{Answer}
 use Rattle.dfu_device.specs.declared.answer.Answer.TheVariants as answer
-use Rattle.dfu_device.specs.Stage.{Data, Request, Detach, Dnload, Upload, GetStatus, ClrStatus, GetState, Abort, Profile, Stage, InApp, Detaching, Idle, Unwritten, Written, Writing, Ready, Closed, Complete, Committing, Waiting, Sending, Broken}
-use Rattle.dfu_device.specs.Table.{next_number, Plan, Sure, Writes, Commits, plan, time_plan, further_plan, block_plan, upload_plan, is_empty}
+use Rattle.dfu_device.specs.Stage.{Request, GetStatus, ClrStatus, GetState, Profile, Stage, Broken}
+use Rattle.dfu_device.specs.Table.{Plan, Sure, Writes, Commits, plan, time_plan}
 use Rattle.dfu_device.specs.Shown.{Shown, profile, situation}
 use Rattle.dfu_device.specs.Rows.{meant, asked_length, Done, is_served, setup_plan, handled_as, Cause, Transfer, Passing, BusReset, PowerOn, Row}
-use Rattle.dfu_device.specs.Taken.{taken_in, taken_of}
+use Rattle.dfu_device.specs.Taken.{taken_of}
 use Rattle.dfu_device.specs.TakenRow.{either_way}
 use Rattle.dfu_device.specs.Leads.{CommitsOnly, row_leads, time_leads}
 

@@ -1,5 +1,5 @@
 -- What every row of the table is like: what it commits, and in which fault of the medium it ends.
-use Rattle.std.specs.Prelude.{◌≡◌, ◌⊎◌, ℕ, ◌+◌, ◌==◌, nat_lt, nat_le, max, Bool, true, false, not, List, [], ◌∷◌, ◌++◌, length, take, drop}
+use Rattle.std.specs.Prelude.{◌≡◌, ℕ, ◌+◌, ◌==◌, nat_lt, nat_le, max, not, List, [], length, take, drop}
 use Rattle.std.proofs.Common.{refl}
 use Rattle.dfu_wire.specs.declared.codes.Code.TheVariants.{Write as ErrWrite, Prog as ErrProg}
 use Rattle.dfu_device.specs.Stage.{Ack, Data, Request, Detach, Dnload, Upload, GetStatus, ClrStatus, GetState, Abort, Profile, Stage, InApp, Detaching, Idle, Unwritten, Written, Writing, Ready, Closed, Complete, Committing, Waiting, Sending, Broken}

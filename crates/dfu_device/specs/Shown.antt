@@ -1,5 +1,5 @@
 -- What a contract sees of a device.
-use Rattle.std.specs.Prelude.{◌≡◌, ℕ, false, List, [], length, take}
+use Rattle.std.specs.Prelude.{◌≡◌, ℕ, List, [], length, take}
 use Rattle.dfu_slots.specs.Seen.{SlotsState, image_of, spare_of, room_of}
 use Rattle.dfu_device.specs.Stage.{Profile, Stage, Unwritten, Written, Writing, Ready, Closed, Committing}
 use Rattle.dfu_device.specs.Setting.{Setting}
@@ -26,13 +26,9 @@ profile_of s room = record {
   capacity = room;
 }
 
--- the table without uploads: UPLOAD in dfuIDLE is any other request whatever bitCanUpload says, and so no row ends in dfuUPLOAD-IDLE
-abbrev pub without_upload : Profile → Profile
-without_upload c = record c { can_upload = false }
-
--- the profile by which a device goes; it does not serve uploads yet
+-- the profile by which a device goes
 abbrev pub profile : Shown → Profile
-profile w = without_upload (profile_of w.config (room_of w.slots))
+profile w = profile_of w.config (room_of w.slots)
 
 -- the active image of a device, and its state with what it keeps
 abbrev pub situation : Shown → Situation

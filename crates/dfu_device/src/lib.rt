@@ -13,6 +13,7 @@ mod machine;
 mod mode;
 mod states;
 mod time;
+mod uploads;
 
 pub use answer::Answer;
 pub use config::Config;

@@ -55,6 +55,7 @@ impl<M: Medium + Drop> Machine<M> {
             Mode::Closed { .. } | Mode::Complete => State::ManifestSync,
             Mode::Committing { .. } => State::Manifest,
             Mode::Waiting => State::ManifestWaitReset,
+            Mode::Sending { .. } => State::UploadIdle,
             Mode::Broken { .. } => State::Error,
         }
     }
@@ -105,6 +106,7 @@ impl<M: Medium + Drop> Machine<M> {
             Mode::Complete => self.in_complete(request, out),
             Mode::Committing { .. } => self.in_manifest(),
             Mode::Waiting => self.in_wait_reset(),
+            Mode::Sending { place, number } => self.in_sending(place, number, request, out),
             Mode::Broken { code } => self.in_error(code, request, out),
         }
     }

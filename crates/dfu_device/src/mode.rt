@@ -50,6 +50,11 @@ pub enum Mode {
     },
     /// dfuMANIFEST-WAIT-RESET
     Waiting,
+    /// dfuUPLOAD-IDLE: how many bytes of the image were sent
+    Sending {
+        place: u32,
+        number: u16,
+    },
     /// dfuERROR
     Broken {
         code: Code,

@@ -66,6 +66,9 @@ impl<M: Medium + Drop> Machine<M> {
                 if self.config.functional().can_download && length > 0 => {
                 self.take_block(0, 0, block, body)
             }
+            Request::Upload { block, length } if self.config.functional().can_upload => {
+                self.send(0, 0, block, length, out)
+            }
             Request::Abort => Answer::Ack,
             Request::GetStatus { length } => self.report(length, out),
             Request::GetState { length } => self.tell(length, out),

@@ -10,6 +10,7 @@ use std::test::Fail;
 mod all_setups;
 mod restart;
 mod rows;
+mod uploads;
 
 const IDS: Ids = Ids {
     device: 0x0100,
@@ -53,9 +54,13 @@ fn functional(attributes: u8) -> Functional {
 /// A device with room for 64 bytes and the image `00`.
 #[rattlefmt::skip]
 fn device(alloc: Global, functional: Functional, least: u32, busy_ms: u32, manifest_ms: u32) -> Result<Device<SimMedium>, Fail> {
-    let medium = SimMedium::new(alloc, 192)?;
     let config = Config::new(IDS, functional, least, busy_ms, manifest_ms)?;
-    match Slots::format(medium, &[0]) {
+    device_on(SimMedium::new(alloc, 192)?, config, &[0])
+}
+
+/// A device whose medium is formatted with an image.
+fn device_on(medium: SimMedium, config: Config, image: &[u8]) -> Result<Device<SimMedium>, Fail> {
+    match Slots::format(medium, image) {
         Ok(slots) => Ok(Device::start(config, slots)),
         Err((fault, _)) => Err(fault)?,
     }

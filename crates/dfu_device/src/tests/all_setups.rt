@@ -26,14 +26,22 @@ const TROUBLE: [Cause; 3] = [
     Cause::Ask(CLR_STATUS, &[]),
 ];
 
+/// The way from appIDLE to dfuUPLOAD-IDLE: the image has one byte, and one is asked for.
+const SENDING: [Cause; 3] = [
+    Cause::Ask(DETACH, &[]),
+    Cause::Reset,
+    Cause::Ask([0xa1, 2, 0, 0, 0, 0, 1, 0], &[]),
+];
+
 /// A state: the way there from appIDLE, the state after GETSTATUS where it is answered, whether
-/// GETSTATE is, the state after any other request, and the requests that are acknowledged: bRequest,
-/// wLength, the state after it.
+/// GETSTATE is, whether UPLOAD of one byte is, which goes to dfuUPLOAD-IDLE, the state after any other
+/// request, and the requests that are acknowledged: bRequest, wLength, the state after it.
 #[derive(Clone, Copy)]
 struct Station {
     way: &'static [Cause],
     state: State,
     polled: Option<State>,
+    sends: bool,
     other: State,
     acknowledged: &'static [(u8, u16, State)],
 }
@@ -73,6 +81,9 @@ fn expected(station: &Station, asked: Asked) -> (Answer, usize, State) {
         if kind == 0xa1 && request == 5 {
             return (Answer::Bytes, (length as usize).min(1), station.state);
         }
+    }
+    if station.sends && kind == 0xa1 && request == 2 && length == 1 {
+        return (Answer::Bytes, 1, State::UploadIdle);
     }
     if kind == 0x21 {
         for &(number, len, next) in station.acknowledged {
@@ -168,7 +179,7 @@ fn check_all(rt: &impl Abort, device: &mut Device<SimMedium>, station: &Station)
 /// The station after so many steps of a download.
 #[rattlefmt::skip]
 fn after(steps: usize, state: State, polled: Option<State>, other: State, acknowledged: &'static [(u8, u16, State)]) -> Station {
-    Station { way: &DOWNLOAD[..steps.min(9)], state, polled, other, acknowledged }
+    Station { way: &DOWNLOAD[..steps.min(9)], state, polled, sends: state == State::DfuIdle, other, acknowledged }
 }
 
 #[rattlefmt::skip]
@@ -220,7 +231,16 @@ fn every_setup_is_answered_at_the_end(rt: HostRuntime) -> Result<(), Fail> {
     let mut waiting = device(rt.alloc(), functional(0x03), 1, 5, 10)?;
     check_all(&rt, &mut waiting, &after(9, State::ManifestWaitReset, None, State::ManifestWaitReset, &[]));
     let mut broken = device(rt.alloc(), functional(0x07), 1, 5, 10)?;
-    let trouble = Station { way: &TROUBLE, state: State::Error, polled: Some(State::Error), other: State::Error, acknowledged: &[(4, 0, State::DfuIdle)] };
+    let trouble = Station { way: &TROUBLE, state: State::Error, polled: Some(State::Error), sends: false, other: State::Error, acknowledged: &[(4, 0, State::DfuIdle)] };
     check_all(&rt, &mut broken, &trouble);
+    Ok(())
+}
+
+#[rattlefmt::skip]
+#[test]
+fn every_setup_is_answered_during_an_upload(rt: HostRuntime) -> Result<(), Fail> {
+    let mut device = device(rt.alloc(), functional(0x06), 1, 5, 10)?;
+    let sending = Station { way: &SENDING, state: State::UploadIdle, polled: Some(State::UploadIdle), sends: false, other: State::Error, acknowledged: &[(6, 0, State::DfuIdle)] };
+    check_all(&rt, &mut device, &sending);
     Ok(())
 }

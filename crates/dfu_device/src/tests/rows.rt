@@ -1,7 +1,7 @@
 use super::restart::restarted;
 use super::{
-    ABORT, BLOCK, CLOSE, CLR_STATUS, DETACH, FIRST, GET_STATE, GET_STATUS, IDS, SECOND, UPLOAD,
-    ask, device, functional, play, reset, send, wait,
+    ABORT, BLOCK, CLOSE, CLR_STATUS, DETACH, FIRST, GET_STATE, GET_STATUS, IDS, SECOND, ask,
+    device, functional, play, reset, send, wait,
 };
 use crate::{Answer, Config, ConfigFault};
 use dfu_wire::{Code, Functional, State};
@@ -70,8 +70,6 @@ fn a_device_that_is_not_tolerant_waits_for_a_reset(rt: HostRuntime) -> Result<()
     play(&rt, &mut device, &[
         ask(DETACH, Answer::Ack, &[], State::AppDetach),
         reset(State::DfuIdle),
-        ask(UPLOAD, Answer::Stall, &[], State::Error),
-        ask(CLR_STATUS, Answer::Ack, &[], State::DfuIdle),
         send(FIRST, &BLOCK, Answer::Ack, State::DownloadSync),
         ask(GET_STATUS, Answer::Bytes, &[0, 0, 0, 0, 5, 0], State::DownloadIdle),
         ask(CLOSE, Answer::Ack, &[], State::ManifestSync),

@@ -1,0 +1,9 @@
+-- The next bytes of an image.
+use Rattle.std.proofs.Common.{◌≡◌, ℕ, ◌+◌, ◌-◌, min, List, take, drop, length, slice_range, ap, ◌∙◌, arith}
+use Rattle.std.proofs.lemmas.List.{take_min, length-drop}
+
+-- so many bytes from a place on, but for those past the end
+pub next_bytes : (i : List ℕ) (place n len : ℕ) → n ≡ min len (length i - place) → slice_range i place (place + n) ≡ take len (drop place i)
+next_bytes i place n len is =
+    let e : (place + n) - place ≡ min len (length (drop place i)) = omega (arith, is, length-drop place i) in
+    ap (λ (k : ℕ). take k (drop place i)) e ∙ take_min len (drop place i)

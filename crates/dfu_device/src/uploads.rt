@@ -1,0 +1,92 @@
+//! How a device sends its active image to the host, a piece for each UPLOAD (USB DFU 1.1, section 6.2).
+
+ghost use Rattle.std.specs.Prelude.{◌≡◌, ◌≤◌, ◌<◌, ◌+◌, ◌^◌, ℕ, List, [], length, take, drop};
+ghost use Rattle.dfu_slots.specs.Seen.{image_of};
+ghost use Rattle.dfu_device.specs.Stage.{Sending};
+ghost use Rattle.dfu_device.specs.Table.{upload_plan};
+ghost use Rattle.dfu_device.specs.Shown.{profile};
+ghost use Rattle.dfu_device.specs.Rows.{Done, Serves};
+ghost use Rattle.dfu_device.specs.View.{shown};
+
+use crate::Answer;
+use crate::machine::Machine;
+use crate::mode::Mode;
+use arrayvec::ArrayVec;
+use dfu_slots::Medium;
+use dfu_wire::{Code, Request};
+
+impl<M: Medium + Drop> Machine<M> {
+    /// dfuUPLOAD-IDLE
+    pub fn in_sending(
+        &mut self,
+        place: u32,
+        number: u16,
+        request: Request,
+        out: &mut ArrayVec<u8, 4096>,
+    ) -> Answer
+        requires mode { self.old.mode ≡ Mode.Sending place number }
+        requires out { out.old.items ≡ [] }
+        ensures row { (body : List ℕ) → Serves request body (record (shown self.old) { stage = Sending place number }) result out.new.items (shown self.new) }
+    {
+        match request {
+            Request::Upload { block, length } => self.send(place, number, block, length, out),
+            Request::Abort => {
+                self.mode = Mode::Idle;
+                Answer::Ack
+            }
+            Request::GetStatus { length } => self.report(length, out),
+            Request::GetState { length } => self.tell(length, out),
+            _ => self.fault(Code::StalledPkt),
+        }
+    }
+
+    /// Answers with the next `len` bytes of the image, from `place` on, if that length and the number
+    /// are right. Where fewer are left they are the last ones, and the upload is over.
+    pub fn send(
+        &mut self,
+        place: u32,
+        expected: u16,
+        number: u16,
+        len: u16,
+        out: &mut ArrayVec<u8, 4096>,
+    ) -> Answer
+        requires out { out.old.items ≡ [] }
+        ensures row { Done (upload_plan (profile (shown self.old)) (image_of self.old.slots) place expected number len) 0 (shown self.old) result out.new.items (shown self.new) }
+    {
+        if len == 0 || len > self.config.transfer() {
+            return self.fault(Code::StalledPkt);
+        }
+        if number != expected {
+            return self.fault(Code::Address);
+        }
+        let count = self.read_piece(place, len, out);
+        self.mode = if count < len {
+            Mode::Idle
+        } else {
+            Mode::Sending {
+                place: place + len as u32,
+                number: expected.wrapping_add(1),
+            }
+        };
+        Answer::Bytes
+    }
+
+    /// Reads the next bytes of the image, at most `len` from `place` on, and answers how many there are.
+    fn read_piece(&self, place: u32, len: u16, out: &mut ArrayVec<u8, 4096>) -> u16
+        requires len { len ≤ 4096 }
+        requires out { out.old.items ≡ [] }
+        ensures bytes { out.new.items ≡ take len (drop place (image_of self.now.slots)) }
+        ensures count { result ≡ length out.new.items }
+        ensures fits { 0 < result → place + result ≤ 2 ^ 24 }
+    {
+        let rest = self.slots.active_len().saturating_sub(place);
+        let count = rest.min(len as u32) as u16;
+        if count > 0 {
+            let mut buffer = [0; 4096];
+            let piece = &mut buffer[..count as usize];
+            self.slots.read_active(place, piece);
+            let _ = out.try_extend_from_slice(piece);
+        }
+        count
+    }
+}
