@@ -1,67 +1,90 @@
--- What a row does to the image.
-use Rattle.std.specs.Prelude.{◌≡◌, ◌⊎◌, ℕ, Bool, true, false, List, [], ◌∷◌, length}
+-- What a row does to the slot store, and so to the image.
+use Rattle.std.specs.Prelude.{◌≡◌, ◌⊎◌, ℕ, Bool, true, false, List, [], ◌∷◌, ◌++◌, length}
 use Rattle.std.proofs.Common.{sym, ap, ◌∙◌, inl, inr, subst}
 use Rattle.std.proofs.lemmas.Bool.{true≢false}
 use Rattle.dfu_wire.specs.declared.setups.Setup.{Setup}
 use Rattle.dfu_wire.specs.declared.requests.Request.{Request as Asked}
 use Rattle.dfu_wire.specs.declared.codes.Code.{Code}
-use Rattle.dfu_wire.specs.declared.codes.Code.TheVariants.{Prog as ErrProg}
+use Rattle.dfu_wire.specs.declared.codes.Code.TheVariants.{Write as ErrWrite, Prog as ErrProg}
 use Rattle.dfu_slots.specs.Seen.{image_of, Commit, Called}
 use Rattle.dfu_device.specs.declared.answer.Answer.{Answer}
 use Rattle.dfu_device.specs.declared.answer.Answer.TheVariants as answer
 use Rattle.dfu_device.specs.Stage.{Request, GetStatus, ClrStatus, GetState, Profile, Stage, Broken}
 use Rattle.dfu_device.specs.Table.{Plan, Sure, Writes, Commits, plan, time_plan}
 use Rattle.dfu_device.specs.Shown.{Shown, profile, situation}
-use Rattle.dfu_device.specs.Rows.{meant, asked_length, Done, is_served, setup_plan, handled_as, Cause, Transfer, Passing, BusReset, PowerOn, Row}
+use Rattle.dfu_device.specs.Rows.{block_calls, meant, asked_length, Done, is_served, setup_plan, handled_as, Cause, Transfer, Passing, BusReset, PowerOn, Row}
 use Rattle.dfu_device.specs.Taken.{taken_of}
 use Rattle.dfu_device.specs.TakenRow.{either_way}
-use Rattle.dfu_device.specs.Leads.{CommitsOnly, row_leads, time_leads}
+use Rattle.dfu_device.specs.Leads.{CallsFor, row_leads, time_leads}
 
 -- The image.
 
--- the image became the bytes taken, by a commit of them and no other call; where that failed the code is errPROG
+-- the last block taken was written behind those before it: the image stays, and where that failed the code is errWRITE
+pub record WroteOn (w w' : Shown) : Type 0 where
+  pub before : List ℕ
+  pub block : List ℕ
+  pub all : before ++ block ≡ taken_of (situation w)
+  pub ok : Bool
+  pub calls : Called w.slots (block_calls before block) ok w'.slots
+  pub image : image_of w'.slots ≡ image_of w.slots
+  pub failed : ok ≡ false → w'.stage ≡ Broken ErrWrite
+
+-- the bytes taken were committed and are the image; where that failed the code is errPROG, and the image is the old one or the bytes taken
 pub record PutInPlace (w w' : Shown) : Type 0 where
   pub ok : Bool
   pub calls : Called w.slots (Commit (length (taken_of (situation w))) ∷ []) ok w'.slots
-  pub image : image_of w'.slots ≡ taken_of (situation w)
-  pub failed : ok ≡ false → w'.stage ≡ Broken ErrProg
+  pub image : ok ≡ true → image_of w'.slots ≡ taken_of (situation w)
+  pub failed : ok ≡ false → (w'.stage ≡ Broken ErrProg) × ((image_of w'.slots ≡ image_of w.slots) ⊎ (image_of w'.slots ≡ taken_of (situation w)))
 
--- the image stays as it was, or became the bytes taken
+-- nothing of the slot store was called, so that the image stays; or the last block taken was written; or the bytes taken were committed
 abbrev pub KeepsImage : Shown → Shown → Type 0
-KeepsImage w w' = (image_of w'.slots ≡ image_of w.slots) ⊎ PutInPlace w w'
+KeepsImage w w' = (w'.slots ≡ w.slots) ⊎ WroteOn w w' ⊎ PutInPlace w w'
 
-done_keeps : (p : Plan) (len : ℕ) (w : Shown) (a : Answer) (out : List ℕ) (w' : Shown) → CommitsOnly (taken_of (situation w)) p → Done p len w a out w' → KeepsImage w w'
-done_keeps (Sure reply stage) len w a out w' only (says, is) = inl (ap (λ (z : Shown). image_of z.slots) is)
-done_keeps (Writes before block reply stage bad) len w a out w' only (inl (says, h)) = inl h.image
-done_keeps (Writes before block reply stage bad) len w a out w' only (inr (says, h)) = inl h.image
-done_keeps (Commits taken reply stage bad) len w a out w' only (inl (says, h)) = inr (record {
+done_keeps : (p : Plan) (len : ℕ) (w : Shown) (a : Answer) (out : List ℕ) (w' : Shown) → CallsFor (taken_of (situation w)) p → Done p len w a out w' → KeepsImage w w'
+done_keeps (Sure reply stage) len w a out w' only (says, is) = inl (ap (λ (z : Shown). z.slots) is)
+done_keeps (Writes before block reply stage bad) len w a out w' only (inl (says, h)) = inr (inl (record {
+  before = before;
+  block = block;
+  all = only;
+  ok = true;
+  calls = h.calls;
+  image = h.image;
+  failed = λ e. absurd (true≢false e);
+}))
+done_keeps (Writes before block reply stage bad) len w a out w' only (inr (says, h)) = inr (inl (record {
+  before = before;
+  block = block;
+  all = only;
+  ok = false;
+  calls = h.calls;
+  image = h.image;
+  failed = λ e. h.stage_is;
+}))
+done_keeps (Commits taken reply stage bad) len w a out w' only (inl (says, h)) = inr (inr (record {
   ok = true;
   calls = subst (λ (x : List ℕ). Called w.slots (Commit (length x) ∷ []) true w'.slots) only h.calls;
-  image = h.image ∙ only;
+  image = λ e. h.image ∙ only;
   failed = λ e. absurd (true≢false e);
-})
-done_keeps (Commits taken reply stage bad) len w a out w' only (inr (says, h)) = elim (h.image) [
-  | inl old ↦ inl old
-  | inr new ↦ inr (record {
-    ok = false;
-    calls = subst (λ (x : List ℕ). Called w.slots (Commit (length x) ∷ []) false w'.slots) only h.calls;
-    image = new ∙ only;
-    failed = λ e. h.stage_is;
-  })
-]
+}))
+done_keeps (Commits taken reply stage bad) len w a out w' only (inr (says, h)) = inr (inr (record {
+  ok = false;
+  calls = subst (λ (x : List ℕ). Called w.slots (Commit (length x) ∷ []) false w'.slots) only h.calls;
+  image = λ e. absurd (true≢false (sym e));
+  failed = λ e. (h.stage_is, subst (λ (x : List ℕ). (image_of w'.slots ≡ image_of w.slots) ⊎ (image_of w'.slots ≡ x)) only h.image);
+}))
 
-setup_commits : (w : Shown) (p : Setup) (q : Asked) (body : List ℕ) → CommitsOnly (taken_of (situation w)) (setup_plan w p q body)
-setup_commits w p q body = either_way (CommitsOnly (taken_of (situation w))) (is_served p q body) _ _ (row_leads (profile w) (image_of w.slots) w.stage (meant q body)).0 tt
+setup_calls : (w : Shown) (p : Setup) (q : Asked) (body : List ℕ) → CallsFor (taken_of (situation w)) (setup_plan w p q body)
+setup_calls w p q body = either_way (CallsFor (taken_of (situation w))) (is_served p q body) _ _ (row_leads (profile w) (image_of w.slots) w.stage (meant q body)).0 tt
 
--- a row changes the image only by a commit, and then to the bytes taken
+-- each row calls the slot store for the bytes taken or not at all, and changes the image only by a commit of them
 abbrev pub RowKeeps : Type 0
 RowKeeps = (w : Shown) (cause : Cause) (a : Answer) (out : List ℕ) (w' : Shown) → Row w cause a out w' → KeepsImage w w'
 
 pub image_kept : RowKeeps
-image_kept w (Transfer setup body) a out w' (handled_as p q reads asks done) = done_keeps (setup_plan w p q body) (asked_length q) w a out w' (setup_commits w p q body) done
+image_kept w (Transfer setup body) a out w' (handled_as p q reads asks done) = done_keeps (setup_plan w p q body) (asked_length q) w a out w' (setup_calls w p q body) done
 image_kept w (Passing ms) a out w' (is, none, row) = done_keeps (time_plan (profile w) w.stage ms) 0 w answer.Ack [] w' (time_leads (profile w) (image_of w.slots) w.stage ms).0 row
-image_kept w BusReset a out w' (is, none, same) = inl (ap (λ (z : Shown). image_of z.slots) same)
-image_kept w PowerOn a out w' (is, none, same) = inl (ap (λ (z : Shown). image_of z.slots) same)
+image_kept w BusReset a out w' (is, none, same) = inl (ap (λ (z : Shown). z.slots) same)
+image_kept w PowerOn a out w' (is, none, same) = inl (ap (λ (z : Shown). z.slots) same)
 
 -- Plans that call nothing.
 
