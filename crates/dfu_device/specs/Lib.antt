@@ -10,6 +10,10 @@ pub mod Came
 pub mod Taken
 pub mod TakenRow
 pub mod TakenHistory
+pub mod Sent
+pub mod SentRow
+pub mod SentHistory
+pub mod Uploaded
 pub mod Told
 pub mod Leads
 pub mod Kept

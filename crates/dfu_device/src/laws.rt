@@ -2,6 +2,8 @@
 
 ghost use Rattle.dfu_device.specs.Came.{PlanCame, RowOf, AskedCame, NotServed, TimeCame, StatusWhole};
 ghost use Rattle.dfu_device.specs.TakenHistory.{AskedTook, TimeTook, RowTakes, StepTakes, HistoryTakes, StartTakes};
+ghost use Rattle.dfu_device.specs.SentHistory.{RowSends, StepSends, HistorySends};
+ghost use Rattle.dfu_device.specs.Uploaded.{UploadEnds, UploadGives};
 ghost use Rattle.dfu_device.specs.Told.{StatusTold, StateTold};
 ghost use Rattle.dfu_device.specs.Kept.{RowKeeps, ErrorKeeps};
 ghost use Rattle.dfu_device.specs.Faults.{FaultsHaveCause};
@@ -29,14 +31,25 @@ pub fn rows_take()
     ensures from_start { StartTakes }
 {}
 
+/// The bytes sent: a row sends the bytes with which it answers an UPLOAD, and a device has sent what
+/// its history says. At the end of an upload the pieces, joined, are the active image.
+pub fn rows_send()
+    ensures row { RowSends }
+    ensures step { StepSends }
+    ensures history { HistorySends }
+    ensures ends { UploadEnds }
+    ensures gives { UploadGives }
+{}
+
 /// A status or a state that was answered is that of the state entered.
 pub fn rows_tell()
     ensures status { StatusTold }
     ensures state { StateTold }
 {}
 
-/// A row changes the image only by a commit, and to the bytes taken; in dfuERROR it stays. errWRITE
-/// and errPROG come only where the medium failed.
+/// A row calls nothing of the slot store, or writes the last block taken, or commits the bytes taken;
+/// the image changes by such a commit alone, and in dfuERROR it stays. errWRITE and errPROG come only
+/// where the medium failed.
 pub fn rows_keep()
     ensures image { RowKeeps }
     ensures error { ErrorKeeps }

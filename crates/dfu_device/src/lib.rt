@@ -19,7 +19,7 @@ pub use answer::Answer;
 pub use config::Config;
 pub use device::Device;
 pub use fault::ConfigFault;
-pub use laws::{rows_come_to_outcomes, rows_keep, rows_take, rows_tell};
+pub use laws::{rows_come_to_outcomes, rows_keep, rows_send, rows_take, rows_tell};
 
 #[cfg(test)]
 mod tests;
