@@ -40,8 +40,9 @@ impl<M: Medium + Drop> Machine<M> {
         }
     }
 
-    /// Answers with the next `len` bytes of the image, from `place` on, if that length and the number
-    /// are right. Where fewer are left they are the last ones, and the upload is over.
+    /// Answers with the next `len` bytes of the image, from `place` on. Where fewer are left they are the
+    /// last ones, and the upload is over. The faults, in their order: errSTALLEDPKT where `len` is 0 or
+    /// over the transfer size, errADDRESS where the number is not the expected one.
     pub fn send(
         &mut self,
         place: u32,

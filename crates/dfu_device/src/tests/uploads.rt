@@ -2,10 +2,12 @@ use super::{
     ABORT, BLOCK, CLOSE, CLR_STATUS, DETACH, FIRST, GET_STATE, GET_STATUS, IDS, Row, UPLOAD, ask,
     device, device_on, functional, play, reset, send,
 };
-use crate::{Answer, Config};
+use crate::{Answer, Config, Device};
 use arrayvec::ArrayVec;
 use dfu_slots::SimMedium;
 use dfu_wire::{Functional, State};
+use std::alloc::Global;
+use std::process::Abort;
 use std::test::Fail;
 
 const IMAGE: [u8; 20] = [
@@ -58,13 +60,20 @@ fn an_image_is_sent_in_pieces(rt: HostRuntime) -> Result<(), Fail> {
     Ok(())
 }
 
+/// A device in dfuIDLE, without busy and manifestation times, with the image of 20 bytes.
+#[rattlefmt::skip]
+fn idle(rt: &impl Abort, alloc: Global) -> Result<Device<SimMedium>, Fail> {
+    let config = Config::new(IDS, functional(0x07), 1, 0, 0)?;
+    let mut device = device_on(SimMedium::new(alloc, 192)?, config, &IMAGE)?;
+    play(rt, &mut device, &[ask(DETACH, Answer::Ack, &[], State::AppDetach), reset(State::DfuIdle)]);
+    Ok(device)
+}
+
+/// In dfuIDLE: the length is looked at before the number.
 #[rattlefmt::skip]
 #[test]
-fn an_upload_that_is_not_right_is_a_fault(rt: HostRuntime) -> Result<(), Fail> {
-    let config = Config::new(IDS, functional(0x07), 1, 0, 0)?;
-    let mut device = device_on(SimMedium::new(rt.alloc(), 192)?, config, &IMAGE)?;
-    play(&rt, &mut device, &[ask(DETACH, Answer::Ack, &[], State::AppDetach), reset(State::DfuIdle)]);
-    // in dfuIDLE: the length is looked at before the number
+fn an_upload_does_not_begin_wrongly(rt: HostRuntime) -> Result<(), Fail> {
+    let mut device = idle(&rt, rt.alloc())?;
     for (setup, status) in [
         (upload(0, 0), &STALLED_PKT),
         (upload(1, 0), &STALLED_PKT),
@@ -81,7 +90,14 @@ fn an_upload_that_is_not_right_is_a_fault(rt: HostRuntime) -> Result<(), Fail> {
             ask(CLR_STATUS, Answer::Ack, &[], State::DfuIdle),
         ]);
     }
-    // in dfuUPLOAD-IDLE, where number 1 is due; another request is a fault too
+    Ok(())
+}
+
+/// In dfuUPLOAD-IDLE, where number 1 is due; another request is a fault too.
+#[rattlefmt::skip]
+#[test]
+fn an_upload_does_not_go_on_wrongly(rt: HostRuntime) -> Result<(), Fail> {
+    let mut device = idle(&rt, rt.alloc())?;
     for (setup, status) in [
         (upload(1, 0), &STALLED_PKT),
         (upload(0, 9), &STALLED_PKT),
@@ -99,6 +115,13 @@ fn an_upload_that_is_not_right_is_a_fault(rt: HostRuntime) -> Result<(), Fail> {
             ask(CLR_STATUS, Answer::Ack, &[], State::DfuIdle),
         ]);
     }
+    Ok(())
+}
+
+#[rattlefmt::skip]
+#[test]
+fn an_upload_and_a_download_do_not_mix(rt: HostRuntime) -> Result<(), Fail> {
+    let mut device = idle(&rt, rt.alloc())?;
     play(&rt, &mut device, &[
         ask(upload(0, 8), Answer::Bytes, &[10, 11, 12, 13, 14, 15, 16, 17], State::UploadIdle),
         // these two do not go by the table
@@ -107,7 +130,6 @@ fn an_upload_that_is_not_right_is_a_fault(rt: HostRuntime) -> Result<(), Fail> {
         send(FIRST, &BLOCK, Answer::Stall, State::Error),
         broken(&STALLED_PKT),
         ask(CLR_STATUS, Answer::Ack, &[], State::DfuIdle),
-        // and where a download is under way
         send(FIRST, &BLOCK, Answer::Ack, State::DownloadSync),
         ask(GET_STATUS, Answer::Bytes, &[0, 0, 0, 0, 5, 0], State::DownloadIdle),
         ask(upload(0, 8), Answer::Stall, &[], State::Error),
