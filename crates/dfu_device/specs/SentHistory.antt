@@ -43,20 +43,20 @@ off_by : (b : Bool) → (b ≡ true → ⊥) → b ≡ false
 off_by true never = absurd (never refl)
 off_by false never = refl
 
--- What a setup that goes by the table asks for: an UPLOAD, or something else.
+-- What a setup that goes by the table asks for: an UPLOAD, or something else, which sends nothing whatever is answered.
 pub data Kind (q : Asked) (setup : List ℕ) : Type 0 where
-  is_one : (number size : ℕ) → q ≡ asked.Upload number size → is_upload setup ≡ true → Kind q setup
-  is_none : is_upload setup ≡ false → ((body : List ℕ) (reply : Reply) → sent_by (meant q body) reply ≡ []) → Kind q setup
+  upload_asked : (number size : ℕ) → q ≡ asked.Upload number size → is_upload setup ≡ true → Kind q setup
+  other_asked : is_upload setup ≡ false → ((body : List ℕ) (reply : Reply) → sent_by (meant q body) reply ≡ []) → Kind q setup
 
 pub kind_of : (p : Setup) (q : Asked) (setup body : List ℕ) → IsSetup p setup → Asks p q → is_served p q body ≡ true → Kind q setup
-kind_of p (asked.Detach timeout) setup body reads asks on = is_none (upload_as p setup 0x21 0 reads asks.0.kind asks.0.request) (λ b reply. refl)
-kind_of p (asked.Dnload block len) setup body reads asks on = is_none (upload_as p setup 0x21 1 reads asks.0.kind asks.0.request) (λ b reply. refl)
-kind_of p (asked.Upload block len) setup body reads asks on = is_one block len refl (upload_as p setup 0xa1 2 reads asks.0.kind asks.0.request)
-kind_of p (asked.GetStatus len) setup body reads asks on = is_none (upload_as p setup 0xa1 3 reads asks.0.kind asks.0.request) (λ b reply. refl)
-kind_of p asked.ClrStatus setup body reads asks on = is_none (upload_as p setup 0x21 4 reads asks.0.kind asks.0.request) (λ b reply. refl)
-kind_of p (asked.GetState len) setup body reads asks on = is_none (upload_as p setup 0xa1 5 reads asks.0.kind asks.0.request) (λ b reply. refl)
-kind_of p asked.Abort setup body reads asks on = is_none (upload_as p setup 0x21 6 reads asks.0.kind asks.0.request) (λ b reply. refl)
-kind_of p asked.OtherClass setup body reads asks on = is_none (off_by (is_upload setup) (no_upload p setup reads asks)) (λ b reply. refl)
+kind_of p (asked.Detach timeout) setup body reads asks on = other_asked (upload_as p setup 0x21 0 reads asks.0.kind asks.0.request) (λ b reply. refl)
+kind_of p (asked.Dnload block len) setup body reads asks on = other_asked (upload_as p setup 0x21 1 reads asks.0.kind asks.0.request) (λ b reply. refl)
+kind_of p (asked.Upload block len) setup body reads asks on = upload_asked block len refl (upload_as p setup 0xa1 2 reads asks.0.kind asks.0.request)
+kind_of p (asked.GetStatus len) setup body reads asks on = other_asked (upload_as p setup 0xa1 3 reads asks.0.kind asks.0.request) (λ b reply. refl)
+kind_of p asked.ClrStatus setup body reads asks on = other_asked (upload_as p setup 0x21 4 reads asks.0.kind asks.0.request) (λ b reply. refl)
+kind_of p (asked.GetState len) setup body reads asks on = other_asked (upload_as p setup 0xa1 5 reads asks.0.kind asks.0.request) (λ b reply. refl)
+kind_of p asked.Abort setup body reads asks on = other_asked (upload_as p setup 0x21 6 reads asks.0.kind asks.0.request) (λ b reply. refl)
+kind_of p asked.OtherClass setup body reads asks on = other_asked (off_by (is_upload setup) (no_upload p setup reads asks)) (λ b reply. refl)
 kind_of p asked.NotDfu setup body reads asks on = absurd (false≢true on)
 
 -- A row of any cause, with its piece.
@@ -95,8 +95,8 @@ upload_piece number size i st setup body a out o on says (inr (bytes, data_is, r
 
 came_sends : (q : Asked) (setup body : List ℕ) (w w' : Shown) (a : Answer) (out : List ℕ) → Kind q setup → (x : Came (plan (profile w) (image_of w.slots) w.stage (meant q body)) (asked_length q) w a out w')
     → sent_by (meant q body) x.reply ≡ piece (Transfer setup body) a out
-came_sends q setup body w w' a out (is_none off none) x = none body x.reply ∙ sym (no_piece setup body a out off)
-came_sends q setup body w w' a out (is_one number size is on) x = asked_upload q is x
+came_sends q setup body w w' a out (other_asked off none) x = none body x.reply ∙ sym (no_piece setup body a out off)
+came_sends q setup body w w' a out (upload_asked number size is on) x = asked_upload q is x
   where
     asked_upload : (q : Asked) → q ≡ asked.Upload number size → (x : Came (plan (profile w) (image_of w.slots) w.stage (meant q body)) (asked_length q) w a out w') → sent_by (meant q body) x.reply ≡ piece (Transfer setup body) a out
     asked_upload q is = subst (λ (y : Asked). (x : Came (plan (profile w) (image_of w.slots) w.stage (meant y body)) (asked_length y) w a out w') → sent_by (meant y body) x.reply ≡ piece (Transfer setup body) a out) (sym is)

@@ -18,7 +18,7 @@ use Rattle.dfu_device.specs.Told.{is_stall}
 use Rattle.dfu_device.specs.Taken.{Step, IsRow, IsHistory}
 use Rattle.dfu_device.specs.Sent.{sent_of, is_upload, Sent, EndsUpload}
 use Rattle.dfu_device.specs.SentRow.{Uploads}
-use Rattle.dfu_device.specs.SentHistory.{Kind, is_one, is_none, kind_of, uploads_of, by_cases, history_sends}
+use Rattle.dfu_device.specs.SentHistory.{Kind, upload_asked, other_asked, kind_of, uploads_of, by_cases, history_sends}
 
 -- bytes are no stall
 no_stall : (a : Answer) → a ≡ answer.Bytes → a ≡ answer.Stall → ⊥
@@ -40,8 +40,8 @@ asked_ends number size q w w' body out a is bytes idle x =
 
 served_ends : (p : Setup) (q : Asked) (setup body : List ℕ) (w : Shown) (a : Answer) (out : List ℕ) (w' : Shown) → is_upload setup ≡ true → a ≡ answer.Bytes → w'.stage ≡ Idle → Kind q setup
     → Came (plan (profile w) (image_of w.slots) w.stage (meant q body)) (asked_length q) w a out w' → sent_of (situation w) ++ out ≡ image_of w'.slots
-served_ends p q setup body w a out w' on bytes idle (is_none off none) x = absurd (false≢true (sym off ∙ on))
-served_ends p q setup body w a out w' on bytes idle (is_one number size is one) x = asked_ends number size q w w' body out a is bytes idle x
+served_ends p q setup body w a out w' on bytes idle (other_asked off none) x = absurd (false≢true (sym off ∙ on))
+served_ends p q setup body w a out w' on bytes idle (upload_asked number size is one) x = asked_ends number size q w w' body out a is bytes idle x
 
 row_ends : (setup body : List ℕ) (w : Shown) (a : Answer) (out : List ℕ) (w' : Shown) → Handles setup body w a out w' → is_upload setup ≡ true → a ≡ answer.Bytes → w'.stage ≡ Idle
     → sent_of (situation w) ++ out ≡ image_of w'.slots
