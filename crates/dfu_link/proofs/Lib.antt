@@ -16,3 +16,8 @@ pub mod Clean
 pub mod Saying
 pub mod Replies
 pub mod Projected
+pub mod Acts
+pub mod Events
+pub mod Steady
+pub mod Config
+pub mod Chains

@@ -18,7 +18,7 @@ use Rattle.dfu_link.proofs.Taking.{shown, restart_taken, restart_plain, stop_fac
 use Rattle.dfu_link.proofs.Saying.{step_live}
 use Rattle.dfu_link.proofs.Acting.{Simulated, go_simulated}
 
-module _ (c : Profile) (sized : 0 < c.transfer) (offers : List (List ℕ)) where
+module _ (c : Profile) (offers : List (List ℕ)) where
   -- time alone
   time_steps : (i : List ℕ) (ms : ℕ) (stage : Stage) (live : Live) (up : List ℕ) → IsSound offers stage →
       let s = (outcome i (time_plan c stage ms) Works).after in
@@ -90,26 +90,37 @@ abbrev offers_by : Event → List (List ℕ) → List (List ℕ)
 offers_by (Offer payload actions again) offers = payload ∷ offers
 offers_by event offers = offers
 
-module _ (c : Profile) (sized : 0 < c.transfer) where
-  some_blocks : (p : List ℕ) → 0 < length p → 0 < length (blocks p c.transfer)
-  some_blocks p h = block_counts p c.transfer 0 sized (omega (arith, h))
+-- what an event has to know of the transfer size: an offer, and an action of the host
+abbrev pub Sizes : Profile → Session → Event → Type 0
+Sizes c Nobody (Offer payload actions again) = 0 < c.transfer
+Sizes c (Hosted h) (Go fate) = 0 < c.transfer
+Sizes c session event = Unit {0}
 
-  simulated : (offers : List (List ℕ)) (s : Situation) (session : Session) (up : List ℕ) (event : Event) (l k : Luck) (room : Bool) → IsAllowed session event → IsSound offers s.stage → IsLiveOffer offers session → SessionFact c s session
+pub all_sized : (c : Profile) (session : Session) (event : Event) → 0 < c.transfer → Sizes c session event
+all_sized c Nobody (Offer payload actions again) h = h
+all_sized c (Hosted host) (Go fate) h = h
+all_sized c session event h = tt
+
+module _ (c : Profile) where
+  some_blocks : (p : List ℕ) → 0 < c.transfer → 0 < length p → 0 < length (blocks p c.transfer)
+  some_blocks p sized h = block_counts p c.transfer 0 sized (omega (arith, h))
+
+  simulated : (offers : List (List ℕ)) (s : Situation) (session : Session) (up : List ℕ) (event : Event) (l k : Luck) (room : Bool) → Sizes c session event → IsAllowed session event → IsSound offers s.stage → IsLiveOffer offers session → SessionFact c s session
       → let w : Link = record { device = s; session = session } in Simulated c offers w up (kind_of event) (played c w event l k room) (offers_by event offers)
-  simulated offers s Nobody up (Offer payload actions again) l k room a q o f =
-      record { step = offered; sound = more_sound c sized offers payload s.stage q; offer = inl refl; fact = record { task_is = goes_by c (ToLoad payload); on = tt; some = some_blocks payload a; fact = tt }; done = λ e. cc }
-  simulated offers s (Hosted h) up (Offer payload actions again) l k room a q o f = elim a [ ]
-  simulated offers s Nobody up (UploadIt actions again) l k room a q o f = record { step = uploads; sound = q; offer = tt; fact = record { task_is = goes_by c ToFetch; on = tt; some = tt; fact = tt }; done = λ e. cc }
-  simulated offers s (Hosted h) up (UploadIt actions again) l k room a q o f = elim a [ ]
-  simulated offers s Nobody up AbortIt l k room a q o f = elim a [ ]
-  simulated offers s (Hosted h) up AbortIt l k room a q o f = record { step = aborts; sound = q; offer = o; fact = record { task_is = f.task_is; on = tt; some = f.some; fact = stop_fact c offers h.task.goal s }; done = λ e. cc }
-  simulated offers s Nobody up (Go fate) l k room a q o f = elim a [ ]
-  simulated offers s (Hosted h) up (Go fate) l k room a q o f = go_simulated c sized offers s h up fate l k room q o f
-  simulated offers s session up (Time ms) l k room a q o f =
-      let t = time_steps c sized offers s.image ms s.stage (live_of session) up q in
-      record { step = t.0; sound = t.1; offer = o; fact = time_fact c sized offers s ms session f; done = λ e. cc }
-  simulated offers s session up ResetBus l k room a q o f = restart_simulated c sized offers s (reset_stage s.stage) session up (nothing_pends c sized offers s.stage) (nothing_closed c sized offers s.stage) o f
-  simulated offers s session up Cut l k room a q o f = restart_simulated c sized offers s InApp session up refl tt o f
+  simulated offers s Nobody up (Offer payload actions again) l k room z a q o f =
+      record { step = offered; sound = more_sound c offers payload s.stage q; offer = inl refl; fact = record { task_is = goes_by c (ToLoad payload); on = tt; some = some_blocks payload z a; fact = tt }; done = λ e. cc }
+  simulated offers s (Hosted h) up (Offer payload actions again) l k room z a q o f = elim a [ ]
+  simulated offers s Nobody up (UploadIt actions again) l k room z a q o f = record { step = uploads; sound = q; offer = tt; fact = record { task_is = goes_by c ToFetch; on = tt; some = tt; fact = tt }; done = λ e. cc }
+  simulated offers s (Hosted h) up (UploadIt actions again) l k room z a q o f = elim a [ ]
+  simulated offers s Nobody up AbortIt l k room z a q o f = elim a [ ]
+  simulated offers s (Hosted h) up AbortIt l k room z a q o f = record { step = aborts; sound = q; offer = o; fact = record { task_is = f.task_is; on = tt; some = f.some; fact = stop_fact c offers h.task.goal s }; done = λ e. cc }
+  simulated offers s Nobody up (Go fate) l k room z a q o f = elim a [ ]
+  simulated offers s (Hosted h) up (Go fate) l k room z a q o f = go_simulated c z offers s h up fate l k room q o f
+  simulated offers s session up (Time ms) l k room z a q o f =
+      let t = time_steps c offers s.image ms s.stage (live_of session) up q in
+      record { step = t.0; sound = t.1; offer = o; fact = time_fact c offers s ms session f; done = λ e. cc }
+  simulated offers s session up ResetBus l k room z a q o f = restart_simulated c offers s (reset_stage s.stage) session up (nothing_pends c offers s.stage) (nothing_closed c offers s.stage) o f
+  simulated offers s session up Cut l k room z a q o f = restart_simulated c offers s InApp session up refl tt o f
 
   -- a machine that agrees is the one that is shown
   is_shown : (w : Link) (up : List ℕ) (m : Machine) → Agrees w up m → shown m.offers w.device.image (pending_of w.device.stage) (live_of w.session) up ≡ m
@@ -125,13 +136,17 @@ module _ (c : Profile) (sized : 0 < c.transfer) where
         installed = λ e. (s.done e, step_live s.step e);
       }
 
-  pub follows : (w w' : Link) (up : List ℕ) (m : Machine) (event : Event) (answer : Answered) → SessionFact c w.device w.session → Agrees w up m → Play c w event w' answer → Follows c m event w' (given answer.gave up) answer.report
-  follows w w' up m event answer f a p =
+  pub follows_sized : (w w' : Link) (up : List ℕ) (m : Machine) (event : Event) (answer : Answered) → Sizes c w.session event → SessionFact c w.device w.session → Agrees w up m → Play c w event w' answer → Follows c m event w' (given answer.gave up) answer.report
+  follows_sized w w' up m event answer z f a p =
       let r : Played = played c w event p.first p.second p.room in
-      let s = simulated m.offers w.device w.session up event p.first p.second p.room p.allowed a.sound a.offered f in
+      let s = simulated m.offers w.device w.session up event p.first p.second p.room z p.allowed a.sound a.offered f in
       let e = shown_follows w up m.offers (offers_by event m.offers) event r s in
       subst (λ (q : Played). Follows c m event q.link (given q.answer.gave up) q.answer.report) p.same
       (subst (λ (n : Machine). Follows c n event r.link (given r.answer.gave up) r.answer.report) (is_shown w up m a) e)
+
+module _ (c : Profile) (sized : 0 < c.transfer) where
+  pub follows : (w w' : Link) (up : List ℕ) (m : Machine) (event : Event) (answer : Answered) → SessionFact c w.device w.session → Agrees w up m → Play c w event w' answer → Follows c m event w' (given answer.gave up) answer.report
+  follows w w' up m event answer f a p = follows_sized c w w' up m event answer (all_sized c w.session event sized) f a p
 
   pub follows_all : {w w' : Link} {up up' : List ℕ} {events : List Event} {reports : List Report} (m : Machine) → SessionFact c w.device w.session → Agrees w up m → Plays c w up events reports w' up' → FollowsAll c m events reports w' up'
   follows_all m f a ends = record { after = m; legal = stops; agrees = a; fact = f }

@@ -7,3 +7,10 @@ pub mod CleanRun
 pub mod Bytes
 pub mod Understood
 pub mod FactProps
+pub mod Comes
+pub mod Running
+pub mod Standing
+pub mod Following
+pub mod Acting
+pub mod Sure
+pub mod FollowingRun

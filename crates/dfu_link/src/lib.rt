@@ -1,11 +1,22 @@
 //! The link of a host and a device of USB device firmware upgrade (USB DFU 1.1): what each event
 //! makes of both, and the laws that hold whatever events come.
-//!
-//! There is no code of the link yet: these are definitions, and laws about them.
 #![tactic(auto)]
 
+mod event;
+mod fate;
+mod fault;
 mod laws;
+mod offering;
+mod play;
+mod running;
+mod sending;
+mod world;
 
+pub use event::Event;
+pub use fate::Fate;
+pub use fault::{LinkFault, OfferFault};
 pub use laws::{
     bytes_show, clean_run, headline, image_shown, only_offered, simulation, understood,
 };
+pub use running::{Stop, run};
+pub use world::World;

@@ -1,0 +1,173 @@
+-- Each event, put together: a play with its bytes, or a refusal.
+use Rattle.std.proofs.Common.{◌≡◌, ◌↔◌, ℕ, ◌+◌, ◌<◌, ◌==◌, not, cond, is_some, Bool, true, false, List, length, Option, Some, None, Result, Ok, Err, refl, sym, ap, ◌∙◌, subst, arith}
+use Rattle.std.proofs.lemmas.Bool.Decides.{nat_tests}
+use Rattle.dfu_slots.specs.Medium.{Fuse}
+use Rattle.dfu_slots.specs.Medium.Fuse.{Whole}
+use Rattle.dfu_suffix.specs.Grammar.{Content, IsFile}
+use Rattle.dfu_device.specs.Setting.{Setting}
+use Rattle.dfu_device.specs.Shown.{Shown}
+use Rattle.dfu_device.specs.Rows.{Elapses}
+use Rattle.dfu_wire.specs.declared.functionals.Functional.{Functional}
+use Rattle.dfu_suffix.specs.declared.ids.Ids.{Ids}
+use Rattle.dfu_host.specs.Download.{is_for, first_fault, started}
+use Rattle.dfu_host.specs.declared.fault.HostFault.{HostFault}
+use Rattle.dfu_host.specs.declared.limits.Limits.{Limits}
+use Rattle.dfu_host.specs.declared.report.Report.{Report}
+use Rattle.dfu_host.specs.Host.{HostState}
+use Rattle.dfu_host.specs.Table.{deed}
+use Rattle.dfu_link.specs.declared.fate.Fate.{Fate as GivenFate}
+use Rattle.dfu_link.specs.declared.fate.Fate.TheVariants as fate
+use Rattle.dfu_link.specs.declared.fault.LinkFault.TheVariants as fault
+use Rattle.dfu_link.specs.declared.fault.OfferFault.{OfferFault}
+use Rattle.dfu_link.specs.declared.fault.OfferFault.TheVariants as offer_fault
+use Rattle.dfu_link.specs.Play.{Fate, Offer, Go, Time, ResetBus, Session, Nobody, Hosted, silent, told, took, settled, IsAllowed}
+use Rattle.dfu_link.specs.Bytes.{Harm, fuse_of, armed, bus_was_reset, Acts, after_fate}
+use Rattle.dfu_link.specs.Comes.{Offers, Goes, Passes, Resets, unharmed, fate_of, IsOffered, IsBadOffer, refuses, happens, HasCome}
+use Rattle.dfu_link.specs.Standing.{session_of, bench_of}
+use Rattle.dfu_link.specs.Acting.{HasActed, ended, HasBegun}
+use Rattle.dfu_link.proofs.Acts.{acts_whole}
+
+-- a medium that is not armed is armed with nothing
+unarmed_is : (w : Shown) → w.slots.medium.fuse ≡ Whole → armed w Whole ≡ w
+unarmed_is w e = λ i. record w { slots = record { medium = record w.slots.medium { fuse = sym e i } } }
+
+-- the fates of this code harm no write and cut no power
+mild_fuse : (f : GivenFate) → fuse_of (fate_of f) unharmed ≡ Whole
+mild_fuse fate.Pass = refl
+mild_fuse fate.LostOut = refl
+mild_fuse fate.LostBack = refl
+mild_fuse fate.Twice = refl
+mild_fuse fate.TwiceLostBack = refl
+mild_fuse (fate.Slip ms) = refl
+
+mild_after : (f : GivenFate) (w : Shown) → after_fate (fate_of f) w ≡ armed w Whole
+mild_after fate.Pass w = refl
+mild_after fate.LostOut w = refl
+mild_after fate.LostBack w = refl
+mild_after fate.Twice w = refl
+mild_after fate.TwiceLostBack w = refl
+mild_after (fate.Slip ms) w = refl
+
+time_allowed : (s : Session) (ms : ℕ) → IsAllowed s (Time ms)
+time_allowed Nobody ms = tt
+time_allowed (Hosted h) ms = tt
+
+reset_allowed : (s : Session) → IsAllowed s ResetBus
+reset_allowed Nobody = tt
+reset_allowed (Hosted h) = tt
+
+-- time that passes
+pub time_comes : (ms : ℕ) (w w' : Shown) (host : Option HostState) → w.slots.medium.fuse ≡ Whole → Elapses ms w w' → HasCome (bench_of w host) (Passes ms) (bench_of w' host) (Ok None)
+time_comes ms w w' host e row = record {
+  answer = Ok silent;
+  comes = happens {event = Time ms} refl (record { allowed = time_allowed (session_of host) ms; unarmed = e; happens = (row, refl, refl) });
+  told = refl;
+}
+
+-- a reset of the bus, not by the host
+pub reset_comes : (w w' : Shown) (host host' : Option HostState) (report : Option Report) → w.slots.medium.fuse ≡ Whole → w' ≡ bus_was_reset w → session_of host' ≡ (told (session_of host)).session
+    → report ≡ (told (session_of host)).answer.report → HasCome (bench_of w host) Resets (bench_of w' host') (Ok report)
+reset_comes w w' host host' report e device session says = record {
+  answer = Ok (told (session_of host)).answer;
+  comes = happens {event = ResetBus} tt (record { allowed = reset_allowed (session_of host); unarmed = e; happens = ((λ i. record { device = device i; session = session i }), refl) });
+  told = ap Ok says;
+}
+
+-- the host's next action
+pub go_comes : (f : GivenFate) (w w' : Shown) (h h' : HostState) (host' : Option HostState) (report : Option Report) → w.slots.medium.fuse ≡ Whole → HasActed h (fate_of f) w w' h'
+    → session_of host' ≡ (ended (Hosted h')).session → report ≡ (ended (Hosted h')).answer.report → HasCome (bench_of w (Some h)) (Goes (fate_of f) unharmed) (bench_of w' host') (Ok report)
+go_comes f w w' h h' host' report e acted session says = record {
+  answer = Ok (took h acted.heard).answer;
+  comes = happens {event = Go (fate_of f)} refl (record {
+    allowed = tt;
+    unarmed = e;
+    happens = record {
+      host = h;
+      live = refl;
+      last = w';
+      heard = acted.heard;
+      acts = subst (λ (x : Shown). Acts (deed h.task h.phase) (fate_of f) x w' acted.heard) (sym (ap (λ (x : Fuse). armed w x) (mild_fuse f) ∙ unarmed_is w e)) acted.acts;
+      device = sym (mild_after f w' ∙ unarmed_is w' (acts_whole (deed h.task h.phase) (fate_of f) w w' acted.heard e acted.acts));
+      session = session ∙ ap (λ (x : HostState). (settled x x.phase).session) acted.same;
+      answered = refl;
+    };
+  });
+  told = ap Ok (says ∙ ap (λ (x : HostState). (settled x x.phase).answer.report) acted.same);
+}
+
+-- an action where no session is live
+pub go_refused : (f : Fate) (harm : Harm) (w : Shown) → HasCome (bench_of w None) (Goes f harm) (bench_of w None) (Err fault.NoHost)
+go_refused f harm w = record { answer = Err fault.NoHost; comes = refuses refl; told = refl }
+
+-- the first of these faults is none, so it is none of them
+not_first : (t : Bool) (fault : HostFault) (rest : Option HostFault) → cond t (Some fault) rest ≡ None → (t ≡ false) × (rest ≡ None)
+not_first true fault rest e = absurd cc
+not_first false fault rest e = (refl, e)
+
+-- a file that is taken has bytes of payload, and the device takes blocks of some bytes
+pub has_bytes : (content : Content) (s : Setting) {file : List ℕ} → IsOffered s file content.payload → 0 < length content.payload
+has_bytes content s offered =
+    let a = not_first (length content.payload == 0) _ _ offered.taken in
+    grind (arith, nat_tests)
+
+pub has_transfer : {s : Setting} {file payload : List ℕ} → IsOffered s file payload → 0 < s.functional.transfer
+has_transfer {s = s} {payload = payload} offered =
+    let a = not_first (length payload == 0) _ _ offered.taken in
+    let b = not_first (not (is_for offered.ids s.ids)) _ _ a.1 in
+    let d = not_first (not s.functional.can_download) _ _ b.1 in
+    let z = not_first (s.functional.transfer == 0) _ _ d.1 in
+    let e : (s.functional.transfer == 0) ≡ false = z.0 in
+    grind (arith, nat_tests)
+
+-- an offer while a session is live
+pub offer_busy : (file : List ℕ) (limits : Limits) (w : Shown) (host : Option HostState) → is_some host ≡ true → HasCome (bench_of w host) (Offers file limits) (bench_of w host) (Err fault.HostBusy)
+offer_busy file limits w (Some h) e = record { answer = Err fault.HostBusy; comes = refuses tt; told = refl }
+offer_busy file limits w None e = absurd cc
+
+-- an offer of a file that is not taken
+pub offer_refused : (file : List ℕ) (limits : Limits) (w : Shown) (host : Option HostState) (why : OfferFault) → is_some host ≡ false → IsBadOffer w.config file why → HasCome (bench_of w host) (Offers file limits) (bench_of w host) (Err (fault.BadOffer why))
+offer_refused file limits w None why e bad = record { answer = Err (fault.BadOffer why); comes = refuses (refl, bad); told = refl }
+offer_refused file limits w (Some h) why e bad = absurd cc
+
+-- an offer with which a session begins
+pub offer_comes : (file : List ℕ) (limits : Limits) (w : Shown) (host : Option HostState) (h : HostState) → is_some host ≡ false → w.slots.medium.fuse ≡ Whole → HasBegun w.config file limits h
+    → HasCome (bench_of w host) (Offers file limits) (bench_of w (Some h)) (Ok None)
+offer_comes file limits w None h n e begun = record {
+  answer = Ok silent;
+  comes = happens {event = Offer begun.content.payload limits.actions limits.restarts} (begun.offered, refl, refl) (record {
+    allowed = has_bytes begun.content w.config begun.offered;
+    unarmed = e;
+    happens = ((λ i. record { device = w; session = Hosted (begun.host i) }), refl);
+  });
+  told = refl;
+}
+offer_comes file limits w (Some h) k n e begun = absurd cc
+
+-- what was found of a file
+abbrev Found : List ℕ → Content → Type 0
+Found file content = (extra : List ℕ) × IsFile content.payload content.ids content.dfu extra file × (content.suffix ≡ 16 + length extra)
+
+-- a file that is read but not taken
+pub offer_bad : (s : Setting) (file : List ℕ) (content : Content) (f : Functional) (ids : Ids) (why : HostFault) → f ≡ s.functional → ids ≡ s.ids → Found file content
+    → first_fault content f ids ≡ Some why → IsBadOffer s file (offer_fault.Host why)
+offer_bad s file content f ids why e k found h = (
+  content,
+  record { extra = found.0; reads = found.1; suffix = found.2 },
+  subst (λ (x : Functional). first_fault content x s.ids ≡ Some why) e (subst (λ (y : Ids). first_fault content f y ≡ Some why) k h),
+)
+
+none_of : (o : Option HostFault) (h : HostState) → ((why : HostFault) → (◌≡◌ {A = Result HostState HostFault} (Ok h) (Err why)) ↔ (o ≡ Some why)) → o ≡ None
+none_of None h f = refl
+none_of (Some why) h f = let e : ◌≡◌ {A = Result HostState HostFault} (Ok h) (Err why) = (f why).1 refl in absurd cc
+
+-- a file that is read and taken
+pub offer_begins : (s : Setting) (file : List ℕ) (limits : Limits) (content : Content) (f : Functional) (ids : Ids) (h : HostState) → f ≡ s.functional → ids ≡ s.ids → Found file content
+    → ((why : HostFault) → (◌≡◌ {A = Result HostState HostFault} (Ok h) (Err why)) ↔ (first_fault content f ids ≡ Some why)) → h ≡ started content f limits → HasBegun s file limits h
+offer_begins s file limits content f ids h e k found none is =
+    let taken : first_fault content s.functional s.ids ≡ None =
+    subst (λ (x : Functional). first_fault content x s.ids ≡ None) e (subst (λ (y : Ids). first_fault content f y ≡ None) k (none_of (first_fault content f ids) h none)) in
+    record {
+      content = content;
+      offered = record { ids = content.ids; dfu = content.dfu; extra = found.0; reads = found.1; taken = taken };
+      host = is ∙ ap (λ (x : Functional). started content x limits) e;
+    }

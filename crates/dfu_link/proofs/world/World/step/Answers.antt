@@ -1,0 +1,11 @@
+use Rattle.dfu_link.proofs.Steady.{come_steady, come_follow, come_sure}
+use Rattle.dfu_link.proofs.world.World.step.Goals as goal
+
+pub invariant_of-self : goal.invariant_of-self
+invariant_of-self g c = come_steady c.self.invariant c.play.ensures
+
+pub returns-clause-legal : goal.returns-clause-legal
+returns-clause-legal g c = rw (← c.self.view_is) (come_follow c.self.invariant c.play.ensures)
+
+pub returns-clause-sure : goal.returns-clause-sure
+returns-clause-sure g c = rw (← c.self.view_is) (come_sure c.play.ensures)

@@ -1,0 +1,54 @@
+-- What the link's small functions do, each as its part of a play.
+use Rattle.std.specs.Prelude.{◌≡◌, ℕ, List, Option, Some, None}
+use Rattle.dfu_suffix.specs.Grammar.{Content}
+use Rattle.dfu_wire.specs.declared.requests.Request.{Request as Asked}
+use Rattle.dfu_device.specs.declared.answer.Answer.{Answer}
+use Rattle.dfu_device.specs.Setting.{Setting}
+use Rattle.dfu_device.specs.Shown.{Shown}
+use Rattle.dfu_host.specs.declared.limits.Limits.{Limits}
+use Rattle.dfu_host.specs.declared.report.Report.{Report}
+use Rattle.dfu_host.specs.declared.report.Report.TheVariants.{Uploaded}
+use Rattle.dfu_host.specs.Download.{started}
+use Rattle.dfu_host.specs.Host.{HostState, after}
+use Rattle.dfu_host.specs.Table.{Phase, Over, OverUploaded, Deed, Send, deed, Heard, Nothing}
+use Rattle.dfu_link.specs.Play.{Fate, Session, Nobody, Hosted, silent, Took, settled}
+use Rattle.dfu_link.specs.Bytes.{HearsAnswer, Sends, Acts}
+use Rattle.dfu_link.specs.Comes.{IsOffered}
+
+-- What is heard of an answer that came, or of none.
+abbrev pub HearsBack : Deed → Option Answer → List ℕ → Heard → Type 0
+HearsBack d None out heard = heard ≡ Nothing
+HearsBack d (Some a) out heard = HearsAnswer d a out heard
+
+-- A request went by its fate with this answer, or none, to come back: whatever it asks for, and whatever is heard of the answer.
+pub record HasSent (setup body : List ℕ) (fate : Fate) (w : Shown) (a : Option Answer) (out : List ℕ) (w' : Shown) : Type 0 where
+  pub sends : (q : Asked) (heard : Heard) → HearsBack (Send q body) a out heard → Sends q setup body fate w w' heard
+
+-- A host took what it heard of an answer, or of none.
+pub record HasHeard (h : HostState) (a : Option Answer) (out : List ℕ) (h' : HostState) : Type 0 where
+  pub heard : Heard
+  pub hears : HearsBack (deed h.task h.phase) a out heard
+  pub same : h' ≡ after h heard
+
+-- A host's action went by its fate, and the host took what it heard.
+pub record HasActed (h : HostState) (fate : Fate) (w w' : Shown) (h' : HostState) : Type 0 where
+  pub heard : Heard
+  pub acts : Acts (deed h.task h.phase) fate w w' heard
+  pub same : h' ≡ after h heard
+
+-- The report of a host that is done.
+abbrev pub report_of : Phase → Option Report
+report_of (Over report) = Some report
+report_of (OverUploaded kept) = Some Uploaded
+report_of phase = None
+
+-- A session goes on, or is over with its report.
+abbrev pub ended : Session → Took
+ended Nobody = record { session = Nobody; answer = silent }
+ended (Hosted h) = settled h h.phase
+
+-- A session begins with a file that is offered.
+pub record HasBegun (s : Setting) (file : List ℕ) (limits : Limits) (h : HostState) : Type 0 where
+  pub content : Content
+  pub offered : IsOffered s file content.payload
+  pub host : h ≡ started content s.functional limits

@@ -1,0 +1,105 @@
+-- What comes to a link, and what it answers.
+use Rattle.std.specs.Prelude.{◌≡◌, ℕ, ◌+◌, List, [], length, Option, Some, None, Result, Ok, Err}
+use Rattle.dfu_suffix.specs.declared.ids.Ids.{Ids}
+use Rattle.dfu_suffix.specs.Grammar.{Content, IsFile, First}
+use Rattle.dfu_host.specs.declared.limits.Limits.{Limits}
+use Rattle.dfu_host.specs.declared.report.Report.{Report}
+use Rattle.dfu_host.specs.Download.{first_fault}
+use Rattle.dfu_device.specs.Setting.{Setting}
+use Rattle.dfu_link.specs.declared.fate.Fate.{Fate as GivenFate}
+use Rattle.dfu_link.specs.declared.fate.Fate.TheVariants as fate
+use Rattle.dfu_link.specs.declared.event.Event.{Event as GivenEvent}
+use Rattle.dfu_link.specs.declared.event.Event.TheVariants as event
+use Rattle.dfu_link.specs.declared.fault.LinkFault.{LinkFault}
+use Rattle.dfu_link.specs.declared.fault.LinkFault.TheVariants as link_fault
+use Rattle.dfu_link.specs.declared.fault.OfferFault.{OfferFault}
+use Rattle.dfu_link.specs.declared.fault.OfferFault.TheVariants as offer_fault
+use Rattle.dfu_link.specs.Play.{Fate, Pass, LostOut, LostBack, Twice, TwiceLostBack, Slip, Event, Offer, Go, Time, ResetBus, Session, Nobody, Hosted, Answered}
+use Rattle.dfu_link.specs.Bytes.{Harm, Bench, BytePlay}
+
+-- An event, as its caller gives it.
+pub data Happening : Type 0 where
+  Offers : (file : List ℕ) → Limits → Happening
+  Goes : Fate → Harm → Happening
+  Passes : (ms : ℕ) → Happening
+  Resets : Happening
+
+-- No write is harmed.
+abbrev pub unharmed : Harm
+unharmed = record { writes = 0; tear = [] }
+
+-- The fate that a caller names.
+abbrev pub fate_of : GivenFate → Fate
+fate_of fate.Pass = Pass
+fate_of fate.LostOut = LostOut
+fate_of fate.LostBack = LostBack
+fate_of fate.Twice = Twice
+fate_of fate.TwiceLostBack = TwiceLostBack
+fate_of (fate.Slip ms) = Slip ms
+
+-- What happens, of the event that a caller names.
+abbrev pub happening : GivenEvent → Happening
+happening (event.Offer file limits) = Offers file.now limits
+happening (event.Go f) = Goes (fate_of f) unharmed
+happening (event.Time ms) = Passes ms
+happening event.Reset = Resets
+
+-- How a write is harmed in what happens.
+abbrev pub harm_of : Happening → Harm
+harm_of (Goes f harm) = harm
+harm_of h = unharmed
+
+-- The bytes are a file with this payload that a device of these settings takes: a file of the grammar, and no fault of a download.
+pub record IsOffered (s : Setting) (file payload : List ℕ) : Type 0 where
+  pub ids : Ids
+  pub dfu : ℕ
+  pub extra : List ℕ
+  pub reads : IsFile payload ids dfu extra file
+  pub taken : first_fault (record { payload = payload; ids = ids; dfu = dfu; suffix = 16 + length extra }) s.functional s.ids ≡ None
+
+-- What the bytes say, as a file of the grammar with these contents.
+pub record SaysContent (file : List ℕ) (content : Content) : Type 0 where
+  pub extra : List ℕ
+  pub reads : IsFile content.payload content.ids content.dfu extra file
+  pub suffix : content.suffix ≡ 16 + length extra
+
+-- Why an offer is refused: the first fault of the bytes, or the first fault of the download that they would be.
+abbrev pub IsBadOffer : Setting → List ℕ → OfferFault → Type 0
+IsBadOffer s file (offer_fault.Suffix fault) = First fault file
+IsBadOffer s file (offer_fault.Host fault) = (content : Content) × SaysContent file content × (first_fault content s.functional s.ids ≡ Some fault)
+
+-- What happens, as an event of a device of these settings: an offer is that of the file's payload.
+abbrev pub Means : Setting → Happening → Event → Type 0
+Means s (Offers file limits) (Offer payload actions restarts) = IsOffered s file payload × (actions ≡ limits.actions) × (restarts ≡ limits.restarts)
+Means s (Goes f harm) (Go g) = g ≡ f
+Means s (Passes ms) (Time n) = n ≡ ms
+Means s Resets ResetBus = Unit {0}
+Means s h e = ⊥
+
+-- A session is live.
+abbrev pub IsLive : Session → Type 0
+IsLive Nobody = ⊥
+IsLive (Hosted h) = Unit {0}
+
+-- When an event is refused: an offer while a session is live, an action while none is, and an offer of a file that is not taken while none is.
+abbrev pub IsRefused : Bench → Happening → LinkFault → Type 0
+IsRefused b (Offers file limits) link_fault.HostBusy = IsLive b.session
+IsRefused b (Offers file limits) (link_fault.BadOffer fault) = (b.session ≡ Nobody) × IsBadOffer b.device.config file fault
+IsRefused b (Goes f harm) link_fault.NoHost = b.session ≡ Nobody
+IsRefused b h fault = ⊥
+
+-- What comes of an event: it is refused and nothing changes, or it is a play with its bytes.
+pub data Comes (b : Bench) (h : Happening) : Bench → Result Answered LinkFault → Type 0 where
+  refuses : {fault : LinkFault} → IsRefused b h fault → Comes b h b (Err fault)
+  happens : {event : Event} {b' : Bench} {answer : Answered} → Means b.device.config h event → BytePlay b event (harm_of h) b' answer → Comes b h b' (Ok answer)
+
+-- What a caller is told of it: the report.
+abbrev pub shown_as : Result Answered LinkFault → Result (Option Report) LinkFault
+shown_as (Ok answer) = Ok answer.report
+shown_as (Err fault) = Err fault
+
+-- An event came, and its caller was told of it.
+pub record HasCome (b : Bench) (h : Happening) (b' : Bench) (result : Result (Option Report) LinkFault) : Type 0 where
+  pub answer : Result Answered LinkFault
+  pub comes : Comes b h b' answer
+  pub told : result ≡ shown_as answer

@@ -1,0 +1,28 @@
+-- That an event of a link is a step of the session machine.
+use Rattle.std.specs.Prelude.{◌≡◌, Option, Some, Result, Ok, Err}
+use Rattle.dfu_wire.specs.declared.states.State.TheVariants.{AppIdle}
+use Rattle.dfu_device.specs.Stage.{state_of}
+use Rattle.dfu_device.specs.Shown.{profile}
+use Rattle.dfu_host.specs.declared.report.Report.{Report}
+use Rattle.dfu_host.specs.declared.report.Report.TheVariants.{Installed}
+use Rattle.dfu_link.specs.declared.fault.LinkFault.{LinkFault}
+use Rattle.dfu_link.specs.Session.{Machine, Loading, Step}
+use Rattle.dfu_link.specs.Play.{Event, kind_of}
+use Rattle.dfu_link.specs.Agreement.{Agrees}
+use Rattle.dfu_link.specs.Bytes.{Bench, link_of}
+use Rattle.dfu_link.specs.Comes.{Happening, Means}
+
+-- The session machine follows what happened: it makes one legal step with the report, and agrees again; and where Installed is reported, the device
+-- is in appIDLE and the payload of the session that was live is the active image.
+pub record IsFollowed (b : Bench) (h : Happening) (b' : Bench) (report : Option Report) (m : Machine) : Type 0 where
+  pub event : Event
+  pub means : Means b.device.config h event
+  pub after : Machine
+  pub step : Step (profile b.device).tolerant (profile b.device).transfer (kind_of event) m report after
+  pub agrees : Agrees (link_of b') after.up after
+  pub installed : report ≡ Some Installed → (state_of b'.device.stage ≡ AppIdle) × (m.live ≡ Loading (link_of b').device.image)
+
+-- Each session machine that agrees follows what happened; what was refused changed nothing.
+abbrev pub AllFollow : Bench → Happening → Bench → Result (Option Report) LinkFault → Type 0
+AllFollow b h b' (Ok report) = (m : Machine) → Agrees (link_of b) m.up m → IsFollowed b h b' report m
+AllFollow b h b' (Err fault) = b' ≡ b

@@ -1,0 +1,32 @@
+-- That a run of a link is a legal run of the session machine.
+use Rattle.std.specs.Prelude.{List, [], ◌∷◌, take, map, Result, Ok, Err}
+use Rattle.std.specs.declared.vec.Vec.{Vec}
+use Rattle.std.specs.declared.alloc.Global.{Global}
+use Rattle.dfu_device.specs.Setting.{Setting}
+use Rattle.dfu_device.specs.Shown.{profile}
+use Rattle.dfu_host.specs.declared.report.Report.{Report}
+use Rattle.dfu_link.specs.declared.running.Stop.{Stop}
+use Rattle.dfu_link.specs.Session.{Machine, Legal}
+use Rattle.dfu_link.specs.Play.{Event, kind_of}
+use Rattle.dfu_link.specs.Agreement.{Agrees}
+use Rattle.dfu_link.specs.Bytes.{Bench, link_of}
+use Rattle.dfu_link.specs.Comes.{Happening, Means}
+
+-- What happens, one after the other, as events of a device of these settings.
+abbrev pub AreMeant : Setting → List Happening → List Event → Type 0
+AreMeant s [] [] = Unit {0}
+AreMeant s (h ∷ hs) (event ∷ events) = Means s h event × AreMeant s hs events
+AreMeant s hs events = ⊥
+
+-- The session machine follows all that happens: it makes a legal run that says the reports in order, and agrees again.
+pub record IsFollowedRun (b : Bench) (hs : List Happening) (reports : List Report) (b' : Bench) (m : Machine) : Type 0 where
+  pub events : List Event
+  pub meant : AreMeant b.device.config hs events
+  pub after : Machine
+  pub legal : Legal (profile b.device).tolerant (profile b.device).transfer m (map kind_of events) reports after
+  pub agrees : Agrees (link_of b') after.up after
+
+-- Each session machine that agrees follows a run, or what of it came before it stopped.
+abbrev pub AllFollowRun : Bench → List Happening → Bench → Result (Vec Report Global) Stop → Type 0
+AllFollowRun b hs b' (Ok reports) = (m : Machine) → Agrees (link_of b) m.up m → IsFollowedRun b hs reports.items b' m
+AllFollowRun b hs b' (Err stop) = (m : Machine) → Agrees (link_of b) m.up m → IsFollowedRun b (take stop.at hs) stop.reports.items b' m

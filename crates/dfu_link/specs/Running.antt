@@ -1,0 +1,40 @@
+-- A run: events that come to a link one after the other.
+use Rattle.std.specs.Prelude.{◌≡◌, ℕ, List, [], ◌∷◌, ◌++◌, take, drop, map, Option, Result, Ok, Err}
+use Rattle.std.specs.declared.vec.Vec.{Vec}
+use Rattle.std.specs.declared.alloc.Global.{Global}
+use Rattle.dfu_host.specs.declared.report.Report.{Report}
+use Rattle.dfu_link.specs.declared.event.Event.{Event as GivenEvent}
+use Rattle.dfu_link.specs.declared.fault.LinkFault.{LinkFault}
+use Rattle.dfu_link.specs.declared.fault.LinkFault.TheVariants.{NoMemory}
+use Rattle.dfu_link.specs.declared.running.Stop.{Stop}
+use Rattle.dfu_link.specs.Session.{said}
+use Rattle.dfu_link.specs.Bytes.{Bench}
+use Rattle.dfu_link.specs.Comes.{Happening, happening, HasCome, IsRefused}
+
+-- What happens comes to a link one after the other, none of it is refused, and these are the reports in their order.
+pub data Runs : Bench → List Happening → List Report → Bench → Type 0 where
+  rests : {b : Bench} → Runs b [] [] b
+  comes : {b mid b' : Bench} {h : Happening} {hs : List Happening} {report : Option Report} {reports : List Report}
+      → HasCome b h mid (Ok report) → Runs mid hs reports b' → Runs b (h ∷ hs) (said report ++ reports) b'
+
+-- What happens, of the events that a caller names.
+abbrev pub happenings : List GivenEvent → List Happening
+happenings events = map happening events
+
+-- Why a run stops before what happens next: that is refused as this fault, or there is no memory for a report.
+abbrev pub IsStop : Bench → Happening → LinkFault → Type 0
+IsStop b next NoMemory = Unit {0}
+IsStop b next fault = IsRefused b next fault
+
+-- A run stopped at this place: what happens before it came, and what is next did not.
+pub record StopsAt (b : Bench) (hs : List Happening) (fault : LinkFault) (at : ℕ) (reports : List Report) (b' : Bench) : Type 0 where
+  pub next : Happening
+  pub more : List Happening
+  pub here : drop at hs ≡ next ∷ more
+  pub before : Runs b (take at hs) reports b'
+  pub why : IsStop b' next fault
+
+-- What a run answers: the reports of all that happens, or where it stopped.
+abbrev pub HasRun : Bench → List Happening → Bench → Result (Vec Report Global) Stop → Type 0
+HasRun b hs b' (Ok reports) = Runs b hs reports.items b'
+HasRun b hs b' (Err stop) = StopsAt b hs stop.fault stop.at stop.reports.items b'

@@ -1,0 +1,40 @@
+-- What happens where nothing is cut and nothing fails.
+use Rattle.std.specs.Prelude.{◌≡◌, Bool, Option, Result, Ok, Err}
+use Rattle.dfu_slots.specs.Seen.{room_of}
+use Rattle.dfu_device.specs.Outcome.{Works}
+use Rattle.dfu_device.specs.Shown.{Shown, profile}
+use Rattle.dfu_host.specs.declared.report.Report.{Report}
+use Rattle.dfu_link.specs.declared.fault.LinkFault.{LinkFault}
+use Rattle.dfu_link.specs.Play.{CutIn, Fail, Event, Go, Answered, played}
+use Rattle.dfu_link.specs.Bytes.{Bench, link_of}
+use Rattle.dfu_link.specs.Comes.{Happening, Means}
+
+-- A device that stays what it is set up as, with the same room for images.
+pub record IsSame (w w' : Shown) : Type 0 where
+  pub config : w'.config ≡ w.config
+  pub room : room_of w'.slots ≡ room_of w.slots
+
+-- Nothing is cut and nothing fails in the event.
+abbrev pub IsHarmless : Event → Type 0
+IsHarmless (Go CutIn) = ⊥
+IsHarmless (Go Fail) = ⊥
+IsHarmless event = Unit {0}
+
+-- The link is the one that the table of fates gives where the medium works, and so is the report.
+pub record IsAsPlayed (b : Bench) (event : Event) (b' : Bench) (report : Option Report) : Type 0 where
+  pub room : Bool
+  pub answer : Answered
+  pub same : played (profile b.device) (link_of b) event Works Works room ≡ record { link = link_of b'; answer = answer }
+  pub told : report ≡ answer.report
+
+-- What happened is an event of the device, which stays what it is set up as; where the event does no harm, all goes as the table of fates says of a medium that works.
+pub record IsSure (b : Bench) (h : Happening) (b' : Bench) (report : Option Report) : Type 0 where
+  pub event : Event
+  pub means : Means b.device.config h event
+  pub kept : IsSame b.device b'.device
+  pub works : IsHarmless event → IsAsPlayed b event b' report
+
+-- So it is of each event that is not refused.
+abbrev pub AllSure : Bench → Happening → Bench → Result (Option Report) LinkFault → Type 0
+AllSure b h b' (Ok report) = IsSure b h b' report
+AllSure b h b' (Err fault) = Unit {0}

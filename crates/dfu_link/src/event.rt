@@ -1,0 +1,18 @@
+//! What happens to a link.
+
+use crate::fate::Fate;
+use dfu_host::Limits;
+
+/// What happens to a link.
+#[derive(Clone, Copy, Debug, PartialEq, Eq)]
+pub enum Event<'f> {
+    /// A whole DFU file (USB DFU 1.1, appendix B) is offered to the device; the session that
+    /// begins may last for so long.
+    Offer { file: &'f [u8], limits: Limits },
+    /// The host takes its next action.
+    Go(Fate),
+    /// So many milliseconds pass between the host's actions.
+    Time(u32),
+    /// The bus is reset, not by the host.
+    Reset,
+}
