@@ -105,9 +105,10 @@ not_first true fault rest e = absurd cc
 not_first false fault rest e = (refl, e)
 
 -- a file that is taken has bytes of payload, and the device takes blocks of some bytes
-pub has_bytes : (content : Content) (s : Setting) {file : List ℕ} → IsOffered s file content.payload → 0 < length content.payload
-has_bytes content s offered =
-    let a = not_first (length content.payload == 0) _ _ offered.taken in
+pub bytes_of : {s : Setting} {file payload : List ℕ} → IsOffered s file payload → 0 < length payload
+bytes_of {payload = payload} offered =
+    let a = not_first (length payload == 0) _ _ offered.taken in
+    let e : (length payload == 0) ≡ false = a.0 in
     grind (arith, nat_tests)
 
 pub has_transfer : {s : Setting} {file payload : List ℕ} → IsOffered s file payload → 0 < s.functional.transfer
@@ -118,6 +119,17 @@ has_transfer {s = s} {payload = payload} offered =
     let z = not_first (s.functional.transfer == 0) _ _ d.1 in
     let e : (s.functional.transfer == 0) ≡ false = z.0 in
     grind (arith, nat_tests)
+
+pub can_download : {s : Setting} {file payload : List ℕ} → IsOffered s file payload → s.functional.can_download ≡ true
+can_download {s = s} {payload = payload} offered =
+    let a = not_first (length payload == 0) _ _ offered.taken in
+    let b = not_first (not (is_for offered.ids s.ids)) _ _ a.1 in
+    let d = not_first (not s.functional.can_download) _ _ b.1 in
+    is_true s.functional.can_download d.0
+  where
+    is_true : (t : Bool) → not t ≡ false → t ≡ true
+    is_true true e = refl
+    is_true false e = absurd cc
 
 -- an offer while a session is live
 pub offer_busy : (file : List ℕ) (limits : Limits) (w : Shown) (host : Option HostState) → is_some host ≡ true → HasCome (bench_of w host) (Offers file limits) (bench_of w host) (Err fault.HostBusy)
@@ -135,7 +147,7 @@ pub offer_comes : (file : List ℕ) (limits : Limits) (w : Shown) (host : Option
 offer_comes file limits w None h n e begun = record {
   answer = Ok silent;
   comes = happens {event = Offer begun.content.payload limits.actions limits.restarts} (begun.offered, refl, refl) (record {
-    allowed = has_bytes begun.content w.config begun.offered;
+    allowed = bytes_of begun.offered;
     unarmed = e;
     happens = ((λ i. record { device = w; session = Hosted (begun.host i) }), refl);
   });

@@ -21,3 +21,4 @@ pub mod Events
 pub mod Steady
 pub mod Config
 pub mod Chains
+pub mod CleanRuns

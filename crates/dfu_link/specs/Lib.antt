@@ -14,3 +14,4 @@ pub mod Following
 pub mod Acting
 pub mod Sure
 pub mod FollowingRun
+pub mod CleanInstall

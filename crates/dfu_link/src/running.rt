@@ -4,6 +4,7 @@ ghost use Rattle.std.specs.Prelude.{◌≡◌, ◌++◌, ◌<◌, vec_len, vec_c
 ghost use Rattle.dfu_link.specs.Session.{said};
 ghost use Rattle.dfu_link.specs.Running.{happenings, HasRun};
 ghost use Rattle.dfu_link.specs.FollowingRun.{AllFollowRun};
+ghost use Rattle.dfu_link.specs.CleanInstall.{RunsCleanly};
 
 use crate::event::Event;
 use crate::fault::LinkFault;
@@ -45,6 +46,7 @@ pub fn run<'f, M: Faulty + Drop>(
 ) -> Result<Vec<Report>, Stop>
     ensures runs { HasRun world.old (happenings events.now) world.new result }
     ensures legal { AllFollowRun world.old (happenings events.now) world.new result }
+    ensures clean { RunsCleanly world.old (happenings events.now) world.new result }
 {
     let mut reports = Vec::new(alloc);
     for i in 0..events.len() {
