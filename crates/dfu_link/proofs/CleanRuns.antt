@@ -1,7 +1,7 @@
 -- The clean run of a link, along a chain of steps.
-use Rattle.std.proofs.Common.{◌≡◌, ℕ, zero, suc, ◌-◌, ◌<◌, ◌≤◌, Bool, true, List, [], ◌∷◌, ◌++◌, length, take, drop, replicate, Option, Some, None, refl, sym, ap, ◌∙◌, subst, arith}
-use Rattle.std.proofs.lemmas.List.{take-replicate, length-replicate}
-use Rattle.dfu_suffix.proofs.LawProofs.{one_reading}
+use Rattle.std.proofs.Common.{◌≡◌, ℕ, zero, suc, ◌-◌, ◌<◌, ◌≤◌, Bool, true, List, [], ◌∷◌, ◌++◌, take, drop, replicate, Option, Some, None, refl, sym, ap, ◌∙◌, subst, arith}
+use Rattle.std.proofs.lemmas.List.{take-replicate}
+use Rattle.dfu_suffix.proofs.LawProofs.{never_both, one_reading}
 use Rattle.dfu_device.specs.Stage.{Profile}
 use Rattle.dfu_device.specs.Outcome.{Works}
 use Rattle.dfu_device.specs.Shown.{profile}
@@ -10,15 +10,20 @@ use Rattle.dfu_host.specs.declared.report.Report.{Report}
 use Rattle.dfu_host.specs.declared.report.Report.TheVariants.{Installed}
 use Rattle.dfu_host.specs.Table.{ToLoad}
 use Rattle.dfu_link.specs.Session.{said}
-use Rattle.dfu_link.specs.Play.{Fate, Pass, Event, Offer, Go, Link, Answered, silent, opened, Played, played}
+use Rattle.dfu_link.specs.Play.{Fate, Pass, Event, Offer, Go, Link, Answered, silent, opened, Session, Nobody, Played, gone, played}
 use Rattle.dfu_link.specs.Bytes.{Bench, link_of}
 use Rattle.dfu_link.specs.CleanRun.{PassesTo, Quietly, here, there, resting, InstalledAfter}
-use Rattle.dfu_link.specs.Comes.{Happening, Offers, Goes, unharmed, Means, IsOffered}
+use Rattle.dfu_link.specs.Comes.{Happening, Offers, Goes, unharmed, Means, IsOffered, IsLive}
 use Rattle.dfu_link.specs.Sure.{IsHarmless, IsAsPlayed}
 use Rattle.dfu_link.specs.CleanInstall.{clean_passes, CanInstall, offer_and_passes, InstallsCleanly}
 use Rattle.dfu_link.proofs.Clean.{clean_run}
 use Rattle.dfu_link.proofs.Events.{has_transfer, can_download, bytes_of}
 use Rattle.dfu_link.specs.declared.fault.LinkFault.{LinkFault}
+use Rattle.dfu_link.specs.declared.fault.LinkFault.TheVariants as fault
+use Rattle.dfu_link.specs.declared.fault.OfferFault.TheVariants as offer_fault
+use Rattle.dfu_suffix.specs.declared.ids.Ids.{Ids}
+use Rattle.dfu_host.specs.Download.{first_fault}
+use Rattle.dfu_link.specs.Running.{IsStop}
 use Rattle.dfu_link.proofs.Chains.{Stepped, Stopped, Chain, no_more, one_more, same_profile}
 
 abbrev pass : Happening
@@ -95,10 +100,16 @@ last_pass {b = b} {c = c} {before = before} (suc n) (one_more {mid = mid} {repor
     let rest = last_pass n more (same_profile b.device mid.device s.sure.kept ∙ e) (subst (λ (z : Link). Quietly c z n before) (sym t.link) q) f in
     record { says = ap (λ (r : Option Report). said r ++ later) t.told ∙ rest.says; link = rest.link }
 
--- The whole run.
-pub clean_chain : {b b' : Bench} {reports : List Report} (file : List ℕ) (limits : Limits) (payload : List ℕ) (count : ℕ) → CanInstall b file limits payload → count ≤ clean_passes b.device.config payload
-    → Chain b (offer_and_passes file limits count) reports b' → InstallsCleanly b payload count reports b'
-clean_chain {b = b} {b' = b'} file limits payload count can most (one_more {mid = mid} {report = report} {reports = later} s more) =
+-- The offer: the passes of a clean run are left.
+record HasBegun (b : Bench) (payload : List ℕ) (mid : Bench) (report : Option Report) : Type 0 where
+  before : Link
+  quiet : Quietly (profile b.device) (link_of mid) (clean_passes b.device.config payload - 1) before
+  last : PassesTo (profile b.device) before (resting payload) (record { report = Some Installed; gave = None })
+  fixed : profile mid.device ≡ profile b.device
+  told : report ≡ None
+
+has_begun : (b mid : Bench) (report : Option Report) (file : List ℕ) (limits : Limits) (payload : List ℕ) → CanInstall b file limits payload → Stepped b (Offers file limits) mid report → HasBegun b payload mid report
+has_begun b mid report file limits payload can s =
     let c : Profile = profile b.device in
     let n : ℕ = clean_passes b.device.config payload in
     let image : List ℕ = (link_of b).device.image in
@@ -108,28 +119,91 @@ clean_chain {b = b} {b' = b'} file limits payload count can most (one_more {mid 
     let lead : LeadsTo mid report start silent =
     leads_to b mid report (Offer o.payload limits.actions limits.restarts) c start silent refl o.as_played
     (λ room. λ i. record { link = record { device = record { image = image; stage = can.rests i }; session = opened c (ToLoad (same i)) limits.actions limits.restarts }; answer = silent }) in
-    let long : 0 < length payload = bytes_of can.offered in
     let run : InstalledAfter c start n payload =
-    clean_run c image payload limits.actions limits.restarts can.tolerant (can_download can.offered) (has_transfer can.offered) long can.least can.room can.enough Works true in
-    let q : Quietly c (link_of mid) (n - 1) run.before = subst (λ (z : Link). Quietly c z (n - 1) run.before) (sym lead.link) run.quiet in
-    let e : profile mid.device ≡ c = same_profile b.device mid.device s.sure.kept in
-    let some : suc (n - 1) ≡ n = omega arith in
-    let ends : count ≡ n → WasLast b' later (resting payload) Installed = λ k.
-    last_pass (n - 1) (subst (λ (z : ℕ). Chain mid (replicate z pass) later b') (k ∙ sym some) more) e q run.last in
+    clean_run c image payload limits.actions limits.restarts can.tolerant (can_download can.offered) (has_transfer can.offered) (bytes_of can.offered) can.least can.room can.enough Works true in
     record {
-      early = λ less. ap (λ (r : Option Report). said r ++ later) lead.told ∙ (quiet_passes count (n - 1) (omega (arith, less)) more e q).none;
-      reported = λ k. ap (λ (r : Option Report). said r ++ later) lead.told ∙ (ends k).says;
+      before = run.before;
+      quiet = subst (λ (z : Link). Quietly c z (n - 1) run.before) (sym lead.link) run.quiet;
+      last = run.last;
+      fixed = same_profile b.device mid.device s.sure.kept;
+      told = lead.told;
+    }
+
+-- The whole run.
+clean_chain : {b b' : Bench} {reports : List Report} (file : List ℕ) (limits : Limits) (payload : List ℕ) (count : ℕ) → CanInstall b file limits payload → count ≤ clean_passes b.device.config payload
+    → Chain b (offer_and_passes file limits count) reports b' → InstallsCleanly b payload count reports b'
+clean_chain {b = b} {b' = b'} file limits payload count can most (one_more {mid = mid} {report = report} {reports = later} s more) =
+    let n : ℕ = clean_passes b.device.config payload in
+    let x = has_begun b mid report file limits payload can s in
+    let some : suc (n - 1) ≡ n = omega arith in
+    let ends : count ≡ n → WasLast b' later (resting payload) Installed =
+    λ k. last_pass (n - 1) (subst (λ (z : ℕ). Chain mid (replicate z pass) later b') (k ∙ sym some) more) x.fixed x.quiet x.last in
+    record {
+      early = λ less. ap (λ (r : Option Report). said r ++ later) x.told ∙ (quiet_passes count (n - 1) (omega (arith, less)) more x.fixed x.quiet).none;
+      reported = λ k. ap (λ (r : Option Report). said r ++ later) x.told ∙ (ends k).says;
       installed = λ k. (ends k).link;
     }
 
--- A clean run that stops has reported nothing.
-pub clean_stop : {b b' : Bench} {reports : List Report} (file : List ℕ) (limits : Limits) (payload : List ℕ) (count at : ℕ) → CanInstall b file limits payload → count ≤ clean_passes b.device.config payload
-    → at < length (offer_and_passes file limits count) → Chain b (take at (offer_and_passes file limits count)) reports b' → reports ≡ []
-clean_stop file limits payload count zero can most within no_more = refl
-clean_stop {b = b} {b' = b'} {reports = reports} file limits payload count (suc k) can most within chain =
-    let less : k < count = omega (arith, within, length-replicate count pass) in
-    let cut : take k (replicate count pass) ≡ replicate k pass = take-replicate k count pass (omega (arith, less)) in
-    (clean_chain file limits payload k can (omega (arith, less, most)) (subst (λ (hs : List Happening). Chain b (Offers file limits ∷ hs) reports b') cut chain)).early (omega (arith, less, most))
+-- Where it stops.
+
+-- with no session passes lead nowhere
+nobody_stays : {c : Profile} {w end : Link} {n : ℕ} → Quietly c w n end → w.session ≡ Nobody → end.session ≡ Nobody
+nobody_stays here e = e
+nobody_stays {c = c} {w = w} (there {mid = mid} p q) e =
+    let none : (gone c w w.session Pass Works Works true).link.session ≡ Nobody = subst (λ (s : Session). (gone c w s Pass Works Works true).link.session ≡ Nobody) (sym e) e in
+    nobody_stays q (sym (ap (λ (x : Played). x.link.session) (p Works true)) ∙ none)
+
+nobody_installs : (c : Profile) (w end : Link) → PassesTo c w end (record { report = Some Installed; gave = None }) → w.session ≡ Nobody → ⊥
+nobody_installs c w end p e =
+    let none : (gone c w w.session Pass Works Works true).answer.report ≡ None = subst (λ (s : Session). (gone c w s Pass Works Works true).answer.report ≡ None) (sym e) refl in
+    let some : (gone c w w.session Pass Works Works true).answer.report ≡ Some Installed = ap (λ (x : Played). x.answer.report) (p Works true) in
+    absurd cc
+
+-- the offer is not refused
+offer_stands : (b : Bench) (file : List ℕ) (limits : Limits) (payload : List ℕ) → CanInstall b file limits payload → (why : LinkFault) → IsStop b (Offers file limits) why → why ≡ fault.NoMemory
+offer_stands b file limits payload can fault.NoMemory h = refl
+offer_stands b file limits payload can fault.HostBusy h = absurd (subst IsLive can.free h)
+offer_stands b file limits payload can fault.NoHost h = elim h [ ]
+offer_stands b file limits payload can (fault.BadOffer (offer_fault.Suffix f)) h = absurd (never_both file f (payload, can.offered.ids, can.offered.dfu, can.offered.extra, can.offered.reads) h.1)
+offer_stands b file limits payload can (fault.BadOffer (offer_fault.Host f)) (none, (content, says, first)) =
+    let same = one_reading file payload content.payload _ _ _ _ _ _ can.offered.reads says.reads in
+    let taken : first_fault content b.device.config.functional b.device.config.ids ≡ None =
+    subst (λ (p : List ℕ). first_fault (record { payload = p; ids = content.ids; dfu = content.dfu; suffix = content.suffix }) b.device.config.functional b.device.config.ids ≡ None) same.0
+    (subst (λ (i : Ids). first_fault (record { payload = payload; ids = i; dfu = content.dfu; suffix = content.suffix }) b.device.config.functional b.device.config.ids ≡ None) same.1 can.offered.taken) in
+    absurd cc
+
+-- nor is a pass, while a session is live
+pass_stands : (b : Bench) → (b.session ≡ Nobody → ⊥) → (why : LinkFault) → IsStop b pass why → why ≡ fault.NoMemory
+pass_stands b live fault.NoMemory h = refl
+pass_stands b live fault.NoHost h = absurd (live h)
+pass_stands b live why h = elim h [ ]
+
+-- each of so many passes is one
+next_pass : (count k : ℕ) {next : Happening} {more : List Happening} → drop k (replicate count pass) ≡ next ∷ more → (k < count) × (next ≡ pass)
+next_pass zero zero e = absurd cc
+next_pass zero (suc k) e = absurd cc
+next_pass (suc count) zero e = (omega arith, cc)
+next_pass (suc count) (suc k) e = let x = next_pass count k e in (omega (arith, x.0), x.1)
+
+record StopsCleanly (why : LinkFault) (reports : List Report) : Type 0 where
+  pub fault : why ≡ fault.NoMemory
+  pub none : reports ≡ []
+
+clean_stop : {b b' : Bench} {next : Happening} {more : List Happening} {why : LinkFault} {reports : List Report} (file : List ℕ) (limits : Limits) (payload : List ℕ) (count at : ℕ) → CanInstall b file limits payload
+    → count ≤ clean_passes b.device.config payload → drop at (offer_and_passes file limits count) ≡ next ∷ more → Chain b (take at (offer_and_passes file limits count)) reports b' → IsStop b' next why → StopsCleanly why reports
+clean_stop {b = b} {next = next} {why = why} file limits payload count zero can most next_is no_more stop =
+    let same : next ≡ Offers file limits = cc in
+    record { fault = offer_stands b file limits payload can why (subst (λ (h : Happening). IsStop b h why) same stop); none = refl }
+clean_stop {b = b} {b' = b'} {why = why} file limits payload count (suc k) can most next_is (one_more {mid = mid} {report = report} {reports = later} s more) stop =
+    let n : ℕ = clean_passes b.device.config payload in
+    let y = next_pass count k next_is in
+    let x = has_begun b mid report file limits payload can s in
+    let cut : take k (replicate count pass) ≡ replicate k pass = take-replicate k count pass (omega (arith, y.0)) in
+    let q = quiet_passes k (n - 1) (omega (arith, y.0, most)) (subst (λ (hs : List Happening). Chain mid hs later b') cut more) x.fixed x.quiet in
+    record {
+      fault = pass_stands b' (λ e. nobody_installs (profile b.device) x.before (resting payload) x.last (nobody_stays q.rest e)) why (subst (λ (h : Happening). IsStop b' h why) y.1 stop);
+      none = ap (λ (r : Option Report). said r ++ later) x.told ∙ q.none;
+    }
 
 -- As `run` says it.
 
@@ -137,13 +211,10 @@ pub ran_clean : {b b' : Bench} {hs : List Happening} {reports : List Report} (fi
     → hs ≡ offer_and_passes file limits count → count ≤ clean_passes b.device.config payload → InstallsCleanly b payload count reports b'
 ran_clean {b = b} {b' = b'} {reports = reports} file limits payload count chain can is most = clean_chain file limits payload count can most (subst (λ (x : List Happening). Chain b x reports b') is chain)
 
-pub stopped_clean : {b b' : Bench} {hs : List Happening} {why : LinkFault} {at : ℕ} {reports : List Report} (file : List ℕ) (limits : Limits) (payload : List ℕ) (count : ℕ) → Stopped b hs why at reports b' → CanInstall b file limits payload
-    → hs ≡ offer_and_passes file limits count → count ≤ clean_passes b.device.config payload → reports ≡ []
-stopped_clean {b = b} {b' = b'} {hs = hs} {at = at} {reports = reports} file limits payload count s can is most =
-    clean_stop file limits payload count at can most (subst (λ (x : List Happening). at < length x) is (within hs at s.runs.here)) (subst (λ (x : List Happening). Chain b (take at x) reports b') is s.chain)
-  where
-    within : (xs : List Happening) (n : ℕ) {next : Happening} {more : List Happening} → drop n xs ≡ next ∷ more → n < length xs
-    within [] zero e = absurd cc
-    within [] (suc n) e = absurd cc
-    within (x ∷ xs) zero e = omega arith
-    within (x ∷ xs) (suc n) e = omega (arith, within xs n e)
+pub stopped_clean : {b b' : Bench} {hs : List Happening} {why : LinkFault} {at : ℕ} {reports : List Report} (file : List ℕ) (limits : Limits) (payload : List ℕ) (count : ℕ) → Stopped b hs why at reports b'
+    → CanInstall b file limits payload → hs ≡ offer_and_passes file limits count → count ≤ clean_passes b.device.config payload → (why ≡ fault.NoMemory) × (reports ≡ [])
+stopped_clean {b = b} {b' = b'} {at = at} {reports = reports} file limits payload count s can is most =
+    let x =
+    clean_stop file limits payload count at can most (subst (λ (hs : List Happening). drop at hs ≡ s.runs.next ∷ s.runs.more) is s.runs.here)
+    (subst (λ (hs : List Happening). Chain b (take at hs) reports b') is s.chain) s.runs.why in
+    (x.fault, x.none)

@@ -10,6 +10,7 @@ use Rattle.dfu_host.specs.declared.report.Report.{Report}
 use Rattle.dfu_host.specs.declared.report.Report.TheVariants.{Installed}
 use Rattle.dfu_host.specs.Blocks.{blocks}
 use Rattle.dfu_host.specs.Clean.{clean}
+use Rattle.dfu_link.specs.declared.fault.LinkFault.TheVariants.{NoMemory}
 use Rattle.dfu_link.specs.declared.running.Stop.{Stop}
 use Rattle.dfu_link.specs.Play.{Pass, Nobody}
 use Rattle.dfu_link.specs.Bytes.{Bench, link_of}
@@ -41,10 +42,10 @@ pub record InstallsCleanly (b : Bench) (payload : List ℕ) (count : ℕ) (repor
   pub reported : count ≡ clean_passes b.device.config payload → reports ≡ Installed ∷ []
   pub installed : count ≡ clean_passes b.device.config payload → link_of b' ≡ resting payload
 
--- What a clean run answers; where it stops nothing is reported.
+-- What a clean run answers; it stops only where there is no memory for a report, and nothing is reported then.
 abbrev pub EndsCleanly : Bench → List ℕ → ℕ → Bench → Result (Vec Report Global) Stop → Type 0
 EndsCleanly b payload count b' (Ok reports) = InstallsCleanly b payload count reports.items b'
-EndsCleanly b payload count b' (Err stop) = stop.reports.items ≡ []
+EndsCleanly b payload count b' (Err stop) = (stop.fault ≡ NoMemory) × (stop.reports.items ≡ [])
 
 -- Each run that is an offer and at most the passes of a clean run.
 abbrev pub RunsCleanly : Bench → List Happening → Bench → Result (Vec Report Global) Stop → Type 0
