@@ -20,3 +20,6 @@ pub use laws::{
 };
 pub use running::{Stop, run};
 pub use world::World;
+
+#[cfg(test)]
+mod tests;

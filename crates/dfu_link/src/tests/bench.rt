@@ -1,0 +1,155 @@
+//! Links to a device on a medium in memory, and the turns that are played on them.
+
+use crate::{Event, Fate, World};
+use dfu_device::{Config, Device};
+use dfu_host::{Limits, Report};
+use dfu_slots::{SimMedium, Slots};
+use dfu_suffix::Ids;
+use dfu_wire::{Code, Functional, State};
+use std::alloc::Global;
+use std::process::Abort;
+use std::test::Fail;
+
+/// Payload ffffffff, for every device.
+pub(crate) const W: [u8; 20] = [
+    0xff, 0xff, 0xff, 0xff, 0xff, 0xff, 0xff, 0xff, 0xff, 0xff, 0x00, 0x01, 0x55, 0x46, 0x44, 0x10,
+    0x71, 0xc8, 0x51, 0x0c,
+];
+
+/// Payload ffffffff, for a device with the identifiers 0.
+pub(crate) const FOR_ZERO: [u8; 20] = [
+    0xff, 0xff, 0xff, 0xff, 0x00, 0x00, 0x00, 0x00, 0x00, 0x00, 0x00, 0x01, 0x55, 0x46, 0x44, 0x10,
+    0x37, 0xbd, 0x06, 0x3c,
+];
+
+/// Actions enough, and no restart.
+pub(crate) const AMPLE: Limits = Limits {
+    actions: 1_000_000,
+    restarts: 0,
+};
+
+/// What a device is set up with: bmAttributes, wTransferSize, the fewest bytes of an image, its two
+/// times, and how many bytes of an image it has room for.
+#[derive(Clone, Copy)]
+pub(crate) struct Setup {
+    pub(crate) attributes: u8,
+    pub(crate) transfer: u16,
+    pub(crate) least: u32,
+    pub(crate) busy_ms: u32,
+    pub(crate) manifest_ms: u32,
+    pub(crate) capacity: u32,
+}
+
+/// A tolerant device that takes 5 ms for a block and 10 ms for an image.
+pub(crate) const USUAL: Setup = Setup {
+    attributes: 0x07,
+    transfer: 8,
+    least: 1,
+    busy_ms: 5,
+    manifest_ms: 10,
+    capacity: 64,
+};
+
+/// A link to a device with the image `00`.
+pub(crate) fn world<'f>(alloc: Global, setup: Setup) -> Result<World<'f, SimMedium>, Fail> {
+    let ids = Ids {
+        device: 0x0100,
+        product: 0x0001,
+        vendor: 0x1209,
+    };
+    let functional = Functional {
+        can_download: setup.attributes & 1 != 0,
+        can_upload: setup.attributes & 2 != 0,
+        tolerant: setup.attributes & 4 != 0,
+        will_detach: setup.attributes & 8 != 0,
+        detach_ms: 255,
+        transfer: setup.transfer,
+        version: 0x0110,
+    };
+    let config = Config::new(
+        ids,
+        functional,
+        setup.least,
+        setup.busy_ms,
+        setup.manifest_ms,
+    )?;
+    let medium = SimMedium::new(alloc, 2 * (32 + setup.capacity))?;
+    match Slots::format(medium, &[0]) {
+        Ok(slots) => Ok(World::new(Device::start(config, slots))),
+        Err((fault, _)) => Err(fault)?,
+    }
+}
+
+/// An event that comes so many times.
+#[derive(Clone, Copy)]
+pub(crate) struct Turn<'f> {
+    pub(crate) event: Event<'f>,
+    pub(crate) times: usize,
+}
+
+pub(crate) fn offer(file: &[u8]) -> Turn<'_> {
+    Turn {
+        event: Event::Offer {
+            file,
+            limits: AMPLE,
+        },
+        times: 1,
+    }
+}
+
+pub(crate) fn go(fate: Fate) -> Turn<'static> {
+    Turn {
+        event: Event::Go(fate),
+        times: 1,
+    }
+}
+
+pub(crate) fn pass(times: usize) -> Turn<'static> {
+    Turn {
+        event: Event::Go(Fate::Pass),
+        times,
+    }
+}
+
+/// Plays the turns. Nothing is refused, and nothing is reported before the last event, of which
+/// `last` is.
+pub(crate) fn play<'f>(
+    rt: &impl Abort,
+    world: &mut World<'f, SimMedium>,
+    turns: &[Turn<'f>],
+    last: Option<Report>,
+) {
+    for (number, turn) in turns.iter().enumerate() {
+        for time in 1..turn.times + 1 {
+            let ends = number + 1 == turns.len() && time == turn.times;
+            let due = if ends { last } else { None };
+            match world.step(turn.event) {
+                Ok(report) => assert_eq!(rt;
+                    report,
+                    due,
+                    "the report at time {time} of turn {number}"
+                ),
+                Err(fault) => panic!(rt; "turn {number} is refused: {fault}"),
+            }
+        }
+    }
+}
+
+/// The device stands in this state, with this code and this image of at most 8 bytes.
+pub(crate) fn stands(
+    rt: &impl Abort,
+    world: &World<'_, SimMedium>,
+    state: State,
+    code: Code,
+    image: &[u8],
+) {
+    let device = world.device();
+    assert_eq!(rt; device.state(), state);
+    assert_eq!(rt; device.code(), code);
+    let slots = device.slots();
+    assert_eq!(rt; slots.active_len() as usize, image.len());
+    let mut found = [0; 8];
+    let found = &mut found[..image.len().min(8)];
+    slots.read_active(0, found);
+    assert_eq!(rt; &*found, image);
+}

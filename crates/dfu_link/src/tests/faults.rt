@@ -1,0 +1,47 @@
+//! Which events are refused, and as what.
+
+use super::bench::{AMPLE, FOR_ZERO, USUAL, W, offer, pass, play, world};
+use crate::{Event, Fate, LinkFault, OfferFault, World};
+use dfu_host::{HostFault, Report};
+use dfu_slots::SimMedium;
+use dfu_suffix::SuffixFault;
+use std::process::Abort;
+use std::test::Fail;
+
+/// The event is refused as this fault.
+fn refused(
+    rt: &impl Abort,
+    world: &mut World<'static, SimMedium>,
+    event: Event<'static>,
+    fault: LinkFault,
+) {
+    match world.step(event) {
+        Ok(_) => panic!(rt; "it is not refused: {fault}"),
+        Err(found) => assert_eq!(rt; found, fault),
+    }
+}
+
+fn offered(file: &'static [u8]) -> Event<'static> {
+    Event::Offer {
+        file,
+        limits: AMPLE,
+    }
+}
+
+#[test]
+fn refused_events_change_nothing(rt: HostRuntime) -> Result<(), Fail> {
+    let mut world = world(rt.alloc(), USUAL)?;
+    let wrong = LinkFault::BadOffer(OfferFault::Host(HostFault::WrongTarget));
+    let short = LinkFault::BadOffer(OfferFault::Suffix(SuffixFault::TooShort));
+    let cut = LinkFault::BadOffer(OfferFault::Suffix(SuffixFault::NoSignature));
+    refused(&rt, &mut world, Event::Go(Fate::Pass), LinkFault::NoHost);
+    refused(&rt, &mut world, offered(&FOR_ZERO), wrong);
+    refused(&rt, &mut world, offered(&W[..15]), short);
+    refused(&rt, &mut world, offered(&W[..19]), cut);
+    play(&rt, &mut world, &[offer(&W), pass(7)], None);
+    refused(&rt, &mut world, offered(&W), LinkFault::HostBusy);
+    refused(&rt, &mut world, offered(&FOR_ZERO), LinkFault::HostBusy);
+    play(&rt, &mut world, &[pass(6)], Some(Report::Installed));
+    refused(&rt, &mut world, Event::Go(Fate::LostOut), LinkFault::NoHost);
+    Ok(())
+}

@@ -1,0 +1,67 @@
+//! Lists of events.
+
+use super::bench::{AMPLE, Setup, USUAL, W, offer, pass, play, world};
+use crate::{Event, Fate, LinkFault, run};
+use dfu_host::Report;
+use dfu_suffix::Crc;
+use std::alloc::{AllocError, Global};
+use std::test::Fail;
+
+const PASS: Event<'static> = Event::Go(Fate::Pass);
+
+#[test]
+fn a_run_stops_at_the_first_refusal(rt: HostRuntime) -> Result<(), Fail> {
+    let mut world = world(rt.alloc(), USUAL)?;
+    let mut events = vec![in rt.alloc(); PASS; 15]?;
+    events[0] = Event::Offer {
+        file: &W,
+        limits: AMPLE,
+    };
+    match run(&mut world, rt.alloc(), &events) {
+        Ok(_) => panic!(rt; "the fifteenth event is refused"),
+        Err(stop) => {
+            assert_eq!(rt; stop.fault, LinkFault::NoHost);
+            assert_eq!(rt; stop.at, 14);
+            assert_eq!(rt; stop.reports.as_slice(), [Report::Installed].as_slice());
+        }
+    }
+    events.truncate(14);
+    match run(&mut world, rt.alloc(), &events) {
+        Ok(reports) => assert_eq!(rt; reports.as_slice(), [Report::Installed].as_slice()),
+        Err(stop) => panic!(rt; "stopped at {}", stop.at),
+    }
+    Ok(())
+}
+
+/// A file of so many zeros, for every device.
+fn zeros(alloc: Global, len: usize) -> Result<Vec<u8>, AllocError> {
+    let mut bytes = vec![in alloc; 0u8; len]?;
+    bytes.extend_from_slice(&[
+        0xff, 0xff, 0xff, 0xff, 0xff, 0xff, 0x00, 0x01, 0x55, 0x46, 0x44, 0x10,
+    ])?;
+    let mut crc = Crc::new();
+    crc.update(&bytes);
+    bytes.extend_from_slice(&crc.value().to_le_bytes())?;
+    Ok(bytes)
+}
+
+#[test]
+fn block_numbers_wrap(rt: HostRuntime) -> Result<(), Fail> {
+    let bytes = zeros(rt.alloc(), 65_537)?;
+    let by_one = Setup {
+        transfer: 1,
+        busy_ms: 0,
+        manifest_ms: 0,
+        capacity: 65_537,
+        ..USUAL
+    };
+    let mut world = world(rt.alloc(), by_one)?;
+    play(
+        &rt,
+        &mut world,
+        &[offer(&bytes), pass(131_081)],
+        Some(Report::Installed),
+    );
+    assert_eq!(rt; world.device().slots().active_len(), 65_537);
+    Ok(())
+}
