@@ -29,7 +29,7 @@ pub(crate) const AMPLE: Limits = Limits {
 };
 
 /// What a device is set up with: bmAttributes, wTransferSize, the fewest bytes of an image, its two
-/// times, and how many bytes of an image it has room for.
+/// times, and how many bytes of an image it has room for, at most 2^24.
 #[derive(Clone, Copy)]
 pub(crate) struct Setup {
     pub(crate) attributes: u8,
@@ -49,6 +49,14 @@ pub(crate) const USUAL: Setup = Setup {
     manifest_ms: 10,
     capacity: 64,
 };
+
+/// How many bytes a medium has whose slots have room for so many: up to 2^24, else none.
+fn medium_len(capacity: u32) -> u32 {
+    if capacity > 0x100_0000 {
+        return 0;
+    }
+    2 * (32 + capacity)
+}
 
 /// A link to a device with the image `00`.
 pub(crate) fn world<'f>(alloc: Global, setup: Setup) -> Result<World<'f, SimMedium>, Fail> {
@@ -73,7 +81,7 @@ pub(crate) fn world<'f>(alloc: Global, setup: Setup) -> Result<World<'f, SimMedi
         setup.busy_ms,
         setup.manifest_ms,
     )?;
-    let medium = SimMedium::new(alloc, 2 * (32 + setup.capacity))?;
+    let medium = SimMedium::new(alloc, medium_len(setup.capacity))?;
     match Slots::format(medium, &[0]) {
         Ok(slots) => Ok(World::new(Device::start(config, slots))),
         Err((fault, _)) => Err(fault)?,
@@ -120,8 +128,8 @@ pub(crate) fn play<'f>(
     last: Option<Report>,
 ) {
     for (number, turn) in turns.iter().enumerate() {
-        for time in 1..turn.times + 1 {
-            let ends = number + 1 == turns.len() && time == turn.times;
+        for time in 0..turn.times {
+            let ends = turns.len() - number == 1 && turn.times - time == 1;
             let due = if ends { last } else { None };
             match world.step(turn.event) {
                 Ok(report) => assert_eq!(rt;
