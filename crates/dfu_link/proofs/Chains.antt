@@ -1,5 +1,5 @@
 -- A run step by step, with what each step ensures.
-use Rattle.std.proofs.Common.{◌≡◌, ℕ, zero, suc, ◌+◌, ◌<◌, ◌≤◌, List, [], ◌∷◌, ◌++◌, length, take, drop, map, get_or, Option, Result, Ok, Err, refl, sym, ap, ◌∙◌, subst, arith, append_assoc}
+use Rattle.std.proofs.Common.{◌≡◌, ◌⊎◌, inl, inr, ℕ, zero, suc, ◌+◌, ◌<◌, ◌≤◌, List, [], ◌∷◌, ◌++◌, length, take, drop, map, get_or, Option, Result, Ok, Err, refl, sym, ap, ◌∙◌, subst, arith, append_assoc}
 use Rattle.std.proofs.lemmas.List.{take_all, length-map}
 use Rattle.dfu_device.specs.Stage.{Profile}
 use Rattle.dfu_device.specs.Setting.{Setting}
@@ -8,9 +8,11 @@ use Rattle.dfu_host.specs.declared.report.Report.{Report}
 use Rattle.dfu_link.specs.declared.event.Event.{Event as GivenEvent}
 use Rattle.dfu_link.specs.declared.fault.LinkFault.{LinkFault}
 use Rattle.dfu_link.specs.declared.fault.LinkFault.TheVariants as fault
-use Rattle.dfu_link.specs.Session.{Machine, Legal, stops, and_then, said}
-use Rattle.dfu_link.specs.Play.{kind_of, Answered}
+use Rattle.dfu_link.specs.Session.{Machine, IsOneOf, Kind, Legal, stops, and_then, said}
+use Rattle.dfu_link.specs.Play.{Event, kind_of, Link, Answered}
 use Rattle.dfu_link.specs.Agreement.{Agrees}
+use Rattle.dfu_link.specs.Headline.{offers_after}
+use Rattle.dfu_link.proofs.Saying.{only_offered}
 use Rattle.dfu_link.specs.Bytes.{Bench, link_of}
 use Rattle.dfu_link.specs.Comes.{Happening, happening, IsRefused, Comes, refuses, happens, shown_as, HasCome}
 use Rattle.dfu_link.specs.Following.{IsFollowed}
@@ -48,20 +50,34 @@ chain_runs (one_more s more) = comes s.play (chain_runs more)
 pub same_profile : (w w' : Shown) → IsSame w w' → profile w' ≡ profile w
 same_profile w w' same = λ k. without_upload (profile_of (same.config k) (same.room k))
 
+-- the active image after a legal run
+active_after : (w w' : Link) (c : Profile) (m after : Machine) (kinds : List Kind) (reports : List Report) → Agrees w m.up m → Agrees w' after.up after → Legal c.tolerant c.transfer m kinds reports after
+    → (w'.device.image ≡ w.device.image) ⊎ IsOneOf w'.device.image (offers_after kinds m.offers)
+active_after w w' c m after kinds reports a d legal = elim ((only_offered c.tolerant c.transfer m after kinds reports legal).1) [
+  | inl same ↦ inl (sym d.cur ∙ (same ∙ a.cur))
+  | inr one ↦ inr (subst (λ (x : List ℕ). IsOneOf x (offers_after kinds m.offers)) d.cur one)
+]
+
+follows_run : {b b' : Bench} {hs : List Happening} {reports : List Report} (m : Machine) (events : List Event) (after : Machine) → Agrees (link_of b) m.up m → AreMeant b.device.config hs events
+    → Legal (profile b.device).tolerant (profile b.device).transfer m (map kind_of events) reports after → Agrees (link_of b') after.up after → IsFollowedRun b hs reports b' m
+follows_run {b = b} {b' = b'} {reports = reports} m events after a meant legal d = record {
+  events = events;
+  meant = meant;
+  after = after;
+  legal = legal;
+  agrees = d;
+  active = active_after (link_of b) (link_of b') (profile b.device) m after (map kind_of events) reports a d legal;
+}
+
 -- a chain is a legal run
 pub chain_follows : {b b' : Bench} {hs : List Happening} {reports : List Report} → Chain b hs reports b' → (m : Machine) → Agrees (link_of b) m.up m → IsFollowedRun b hs reports b' m
-chain_follows no_more m agrees = record { events = []; meant = tt; after = m; legal = stops; agrees = agrees }
+chain_follows no_more m agrees = follows_run m [] m agrees tt stops agrees
 chain_follows {b = b} (one_more {mid = mid} {hs = hs} {reports = reports} s more) m agrees =
     let f = s.legal m agrees in
     let rest = chain_follows more f.after f.agrees in
     let e : profile mid.device ≡ profile b.device = same_profile b.device mid.device s.sure.kept in
-    record {
-      events = f.event ∷ rest.events;
-      meant = (f.means, subst (λ (x : Setting). AreMeant x hs rest.events) s.sure.kept.config rest.meant);
-      after = rest.after;
-      legal = and_then f.step (subst (λ (c : Profile). Legal c.tolerant c.transfer f.after (map kind_of rest.events) reports rest.after) e rest.legal);
-      agrees = rest.agrees;
-    }
+    follows_run m (f.event ∷ rest.events) rest.after agrees (f.means, subst (λ (x : Setting). AreMeant x hs rest.events) s.sure.kept.config rest.meant)
+    (and_then f.step (subst (λ (c : Profile). Legal c.tolerant c.transfer f.after (map kind_of rest.events) reports rest.after) e rest.legal)) rest.agrees
 
 -- The list of what happens, along a loop.
 

@@ -1,14 +1,15 @@
 -- That a run of a link is a legal run of the session machine.
-use Rattle.std.specs.Prelude.{List, [], ◌∷◌, take, map, Result, Ok, Err}
+use Rattle.std.specs.Prelude.{◌≡◌, ◌⊎◌, List, [], ◌∷◌, take, map, Result, Ok, Err}
 use Rattle.std.specs.declared.vec.Vec.{Vec}
 use Rattle.std.specs.declared.alloc.Global.{Global}
 use Rattle.dfu_device.specs.Setting.{Setting}
 use Rattle.dfu_device.specs.Shown.{profile}
 use Rattle.dfu_host.specs.declared.report.Report.{Report}
 use Rattle.dfu_link.specs.declared.running.Stop.{Stop}
-use Rattle.dfu_link.specs.Session.{Machine, Legal}
+use Rattle.dfu_link.specs.Session.{Machine, IsOneOf, Legal}
 use Rattle.dfu_link.specs.Play.{Event, kind_of}
 use Rattle.dfu_link.specs.Agreement.{Agrees}
+use Rattle.dfu_link.specs.Headline.{offers_after}
 use Rattle.dfu_link.specs.Bytes.{Bench, link_of}
 use Rattle.dfu_link.specs.Comes.{Happening, Means}
 
@@ -18,13 +19,15 @@ AreMeant s [] [] = Unit {0}
 AreMeant s (h ∷ hs) (event ∷ events) = Means s h event × AreMeant s hs events
 AreMeant s hs events = ⊥
 
--- The session machine follows all that happens: it makes a legal run that says the reports in order, and agrees again.
+-- The session machine follows all that happens: it makes a legal run that says the reports in order, and agrees again. So the active image is the one
+-- before it, or a whole payload that was offered so far.
 pub record IsFollowedRun (b : Bench) (hs : List Happening) (reports : List Report) (b' : Bench) (m : Machine) : Type 0 where
   pub events : List Event
   pub meant : AreMeant b.device.config hs events
   pub after : Machine
   pub legal : Legal (profile b.device).tolerant (profile b.device).transfer m (map kind_of events) reports after
   pub agrees : Agrees (link_of b') after.up after
+  pub active : ((link_of b').device.image ≡ (link_of b).device.image) ⊎ IsOneOf (link_of b').device.image (offers_after (map kind_of events) m.offers)
 
 -- Each session machine that agrees follows a run, or what of it came before it stopped.
 abbrev pub AllFollowRun : Bench → List Happening → Bench → Result (Vec Report Global) Stop → Type 0
