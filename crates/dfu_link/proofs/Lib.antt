@@ -22,3 +22,11 @@ pub mod Steady
 pub mod Config
 pub mod Chains
 pub mod CleanRuns
+pub mod WordLaws
+pub mod LineLaws
+pub mod WriteLaws
+pub mod HexLaws
+pub mod GatherLaws
+pub mod MoveLaws
+pub mod FallLaws
+pub mod WholeLaws

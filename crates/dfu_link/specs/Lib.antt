@@ -15,3 +15,15 @@ pub mod Acting
 pub mod Sure
 pub mod FollowingRun
 pub mod CleanInstall
+pub mod Words
+pub mod Said
+pub mod Keywords
+pub mod Lines
+pub mod Writing
+pub mod Texts
+pub mod Gathering
+pub mod ScriptRun
+pub mod Stands
+pub mod Falls
+pub mod Moving
+pub mod Forming

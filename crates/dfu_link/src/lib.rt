@@ -9,6 +9,7 @@ mod laws;
 mod offering;
 mod play;
 mod running;
+mod scripting;
 mod sending;
 mod world;
 
@@ -19,6 +20,7 @@ pub use laws::{
     bytes_show, clean_run, headline, image_shown, only_offered, simulation, understood,
 };
 pub use running::{Stop, run};
+pub use scripting::{ScriptFault, script};
 pub use world::World;
 
 #[cfg(test)]

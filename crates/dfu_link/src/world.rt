@@ -75,6 +75,8 @@ impl<'f, M: Faulty + Drop> World<'f, M> {
     pub fn into_device(self) -> Result<Device<M>, World<'f, M>>
         ensures ok { IfOk result (λ device. (self.entry.session ≡ Nobody) × (device ≡ self.entry.device)) }
         ensures err { IfErr result (λ world. IsLive self.entry.session × (world ≡ self.entry)) }
+        // The medium of the device isn't armed.
+        ensures unarmed { IfOk result (λ device. device.slots.medium.fuse ≡ Whole) }
     {
         match self.host {
             None => Ok(self.device),

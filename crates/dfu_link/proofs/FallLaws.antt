@@ -1,0 +1,76 @@
+-- Lines that fall after others were done.
+use Rattle.std.proofs.Common.{◌≡◌, ℕ, ◌+◌, List, [], ◌∷◌, ◌++◌, length, Option, Some, None, refl, sym, ap, ◌∙◌, subst, append_assoc, arith, length-append}
+use Rattle.std.specs.Io.KnownBytes.{Appends}
+use Rattle.dfu_link.specs.Writing.{Broke}
+use Rattle.dfu_link.specs.Texts.{image_line, show_line}
+use Rattle.dfu_link.specs.Lines.{line_of}
+use Rattle.dfu_link.specs.ScriptRun.{Stand, Point, events_of}
+use Rattle.std.specs.Prelude.{Result, Ok, Err, OnErr, IfErr}
+use Rattle.dfu_link.specs.Play.{Nobody}
+use Rattle.dfu_link.specs.Said.{Deed, Offer, Go, Time, Reset, Setting, Does, Show, Sets}
+use Rattle.dfu_link.specs.Falls.{HasBroken, BreaksIn, in_events, in_show, IsSetting, IsOffer, LineFalls, NextFalls, RunFalls, SettingFalls}
+use Rattle.dfu_link.specs.Moving.{Moves, Prepared, FindsNoRoom}
+use Rattle.dfu_link.specs.declared.scripting.fault.ScriptFault.{ScriptFault}
+use Rattle.dfu_link.specs.declared.scripting.fault.ScriptFault.TheVariants.{BadLine, LateConfig, NoMemory, Write}
+use Rattle.dfu_link.proofs.WriteLaws.{appends_more}
+use Rattle.dfu_link.proofs.MoveLaws.{moves_none, runs_more}
+
+-- The next line falls.
+pub falls_next : (p q : Point) (k k1 : ℕ) (lines lines1 : List (List ℕ)) (old mid new : Option (List ℕ)) (f : ScriptFault) → Moves p k lines old q k1 lines1 mid → NextFalls q k1 lines1 mid new f → RunFalls p k lines old new f
+falls_next p q k k1 lines lines1 old mid new f m falls =
+    record { done = m.done; rest = lines1; split = m.split; shown = m.shown; end = q; runs = m.runs; mid = mid; told = m.told; falls = subst (λ (n : ℕ). NextFalls q n lines1 mid new f) m.count falls }
+
+-- The first line falls.
+pub falls_first : (p : Point) (k : ℕ) (line : List ℕ) (lines : List (List ℕ)) (old new : Option (List ℕ)) (f : ScriptFault) → LineFalls p k line old new f → RunFalls p k (line ∷ lines) old new f
+falls_first p k line lines old new f falls = falls_next p p k k (line ∷ lines) (line ∷ lines) old old new f (moves_none p k (line ∷ lines) old) falls
+
+-- Lines were done, and those after them fall.
+pub falls_after : (p q : Point) (k k1 : ℕ) (lines lines1 : List (List ℕ)) (old mid new : Option (List ℕ)) (f : ScriptFault) → Moves p k lines old q k1 lines1 mid → RunFalls q k1 lines1 mid new f → RunFalls p k lines old new f
+falls_after p q k k1 lines lines1 old mid new f m r = record {
+  done = m.done ++ r.done;
+  rest = r.rest;
+  split = m.split ∙ (ap (λ (ls : List (List ℕ)). m.done ++ ls) r.split ∙ sym (append_assoc m.done r.done r.rest));
+  shown = m.shown ++ r.shown;
+  end = r.end;
+  runs = runs_more p q r.end m.done r.done m.shown r.shown m.runs r.runs;
+  mid = r.mid;
+  told = appends_more old mid r.mid m.shown r.shown m.told r.told;
+  falls = subst (λ (n : ℕ). NextFalls r.end n r.rest r.mid new f) (omega (arith, m.count, length-append m.done r.done)) r.falls;
+}
+
+-- The next of the lines that set is none of the language.
+pub setting_falls : (s t : Stand) (k k1 : ℕ) (lines lines1 lines2 : List (List ℕ)) (line : List ℕ) (n : ℕ) → Prepared s k lines t k1 lines1 → lines1 ≡ line ∷ lines2 → n ≡ k1 → line_of line ≡ None → SettingFalls s k lines (BadLine n)
+setting_falls s t k k1 lines lines1 lines2 line n p e is none = record {
+  done = p.done;
+  line = line;
+  rest = lines2;
+  split = p.split ∙ ap (λ (ls : List (List ℕ)). p.done ++ ls) e;
+  stand = t;
+  prepares = p.prepares;
+  none = none;
+  fault_is = ap (λ (x : ℕ). BadLine x) (is ∙ p.count);
+}
+
+-- The writer fails among the events of a line.
+pub line_breaks : (r : Result Unit ScriptFault) (p : Point) (k : ℕ) (line : List ℕ) (old new : Option (List ℕ)) (d : Deed) → line_of line ≡ Some (Does d) → OnErr r (HasBroken p.at (events_of p.limits d) old new) → IfErr r (λ f. f ≡ Write) → IfErr r (λ f. LineFalls p k line old new f)
+line_breaks (Ok x) p k line old new d e broken is = tt
+line_breaks (Err f) p k line old new d e broken is = subst (λ (g : ScriptFault). LineFalls p k line old new g) (sym is) (in_events e broken)
+
+-- The first line is none of the language.
+pub bad_line_falls : (p : Point) (k : ℕ) (line : List ℕ) (lines : List (List ℕ)) (old : Option (List ℕ)) → line_of line ≡ None → RunFalls p k (line ∷ lines) old old (BadLine k)
+bad_line_falls p k line lines old none = falls_first p k line lines old old (BadLine k) (refl, none, refl)
+
+-- The first line sets something about the device.
+pub late_config_falls : (p : Point) (k : ℕ) (line : List ℕ) (lines : List (List ℕ)) (old : Option (List ℕ)) (s : Setting) → line_of line ≡ Some (Sets s) → RunFalls p k (line ∷ lines) old old (LateConfig k)
+late_config_falls p k line lines old s e = falls_first p k line lines old old (LateConfig k) (refl, record { setting = s; says = e }, refl)
+
+-- There is no memory for the file that the first line offers.
+pub offer_falls : (p : Point) (k : ℕ) (line : List ℕ) (lines : List (List ℕ)) (old : Option (List ℕ)) (d : Deed) (f : ScriptFault) → line_of line ≡ Some (Does d) → p.at.session ≡ Nobody → FindsNoRoom d f → RunFalls p k (line ∷ lines) old old f
+offer_falls p k line lines old (Offer file) f e free is = subst (λ (g : ScriptFault). RunFalls p k (line ∷ lines) old old g) (sym is) (falls_first p k line lines old old NoMemory (record { file = file; says = e }, free, refl))
+offer_falls p k line lines old (Go fate times) f e free is = absurd is
+offer_falls p k line lines old (Time ms) f e free is = absurd is
+offer_falls p k line lines old Reset f e free is = absurd is
+
+-- The writer fails in the first line.
+pub write_falls : (p : Point) (k : ℕ) (line : List ℕ) (lines : List (List ℕ)) (old new : Option (List ℕ)) (f : ScriptFault) → BreaksIn p line old new → f ≡ Write → RunFalls p k (line ∷ lines) old new f
+write_falls p k line lines old new f breaks is = subst (λ (g : ScriptFault). RunFalls p k (line ∷ lines) old new g) (sym is) (falls_first p k line lines old new Write breaks)

@@ -1,0 +1,68 @@
+-- What a loop over `write` has put out.
+use Rattle.std.proofs.Common.{◌≡◌, ◌⊎◌, ℕ, ◌+◌, ◌<◌, ◌≤◌, List, [], ◌∷◌, ◌++◌, length, take, drop, Option, Some, None, inl, inr, refl, sym, ap, ◌∙◌, subst, arith}
+use Rattle.std.proofs.lemmas.List.{append_assoc, take-append-drop, take_at, append-nil}
+use Rattle.std.specs.Io.KnownBytes.{Appends, Keeps}
+use Rattle.std.specs.Prelude.{Result, Ok, Err, OnErr, OnOk, IfOk}
+use Rattle.dfu_link.specs.Writing.{Broke}
+
+-- a front of the text is out, and the rest is left
+abbrev pub Progress : Option (List ℕ) → Option (List ℕ) → List ℕ → List ℕ → Type 0
+Progress old new text rest = (front : List ℕ) × (text ≡ front ++ rest) × Appends old new front
+
+pub appends_none : (old : Option (List ℕ)) → Appends old old []
+appends_none None = tt
+appends_none (Some xs) = sym (append-nil xs)
+
+pub appends_more : (old mid new : Option (List ℕ)) (xs ys : List ℕ) → Appends old mid xs → Appends mid new ys → Appends old new (xs ++ ys)
+appends_more None mid new xs ys h k = tt
+appends_more (Some a) None new xs ys h k = absurd h
+appends_more (Some a) (Some b) None xs ys h k = absurd k
+appends_more (Some a) (Some b) (Some c) xs ys h k = k ∙ (ap (λ (zs : List ℕ). zs ++ ys) h ∙ append_assoc a xs ys)
+
+pub appends_kept : (old mid new : Option (List ℕ)) (xs : List ℕ) → Appends old mid xs → Keeps mid new → Appends old new xs
+appends_kept None mid new xs h k = tt
+appends_kept (Some a) None new xs h k = absurd h
+appends_kept (Some a) (Some b) None xs h k = absurd k
+appends_kept (Some a) (Some b) (Some c) xs h k = k ∙ h
+
+pub progress_more : (old mid new : Option (List ℕ)) (text rest : List ℕ) (n : ℕ) → Progress old mid text rest → Appends mid new (take n rest) → Progress old new text (drop n rest)
+progress_more old mid new text rest n p k =
+    (p.0 ++ take n rest, p.1 ∙ (ap (λ (zs : List ℕ). p.0 ++ zs) (sym (take-append-drop n rest)) ∙ sym (append_assoc p.0 (take n rest) (drop n rest))), appends_more old mid new p.0 (take n rest) p.2 k)
+
+pub progress_done : (old new : Option (List ℕ)) (text rest : List ℕ) → Progress old new text rest → length rest ≡ 0 → Appends old new text
+progress_done old new text [] p e = subst (λ (zs : List ℕ). Appends old new zs) (sym (p.1 ∙ append-nil p.0)) p.2
+progress_done old new text (x ∷ rest) p e = absurd (omega (arith, e))
+
+pub progress_fault : (old mid new : Option (List ℕ)) (text rest : List ℕ) → Progress old mid text rest → Keeps mid new → Broke old new text
+progress_fault old mid new text rest p k = record { front = p.0; rest = rest; whole = p.1; told = appends_kept old mid new p.0 p.2 k }
+
+pub keeps_none : (mid new : Option (List ℕ)) → Appends mid new [] → Keeps mid new
+keeps_none None new k = tt
+keeps_none (Some a) None k = k
+keeps_none (Some a) (Some b) k = k ∙ append-nil a
+
+-- a text that broke, and would have gone on
+pub broke_before : (old new : Option (List ℕ)) (xs ys : List ℕ) → Broke old new xs → Broke old new (xs ++ ys)
+broke_before old new xs ys b =
+    record { front = b.front; rest = b.rest ++ ys; whole = ap (λ (zs : List ℕ). zs ++ ys) b.whole ∙ append_assoc b.front b.rest ys; told = b.told }
+
+-- a text that broke after another was out
+pub broke_after : (old mid new : Option (List ℕ)) (xs ys : List ℕ) → Appends old mid xs → Broke mid new ys → Broke old new (xs ++ ys)
+broke_after old mid new xs ys h b =
+    record { front = xs ++ b.front; rest = b.rest; whole = ap (λ (zs : List ℕ). xs ++ zs) b.whole ∙ sym (append_assoc xs b.front b.rest); told = appends_more old mid new xs b.front h b.told }
+
+pub on_err : {A E : Type 0} (r : Result A E) (P : Type 0) → P → OnErr r P
+on_err (Ok x) P h = tt
+on_err (Err e) P h = h
+
+pub on_err_map : {A E : Type 0} (r : Result A E) (P Q : Type 0) → (P → Q) → OnErr r P → OnErr r Q
+on_err_map (Ok x) P Q f h = tt
+on_err_map (Err e) P Q f h = f h
+
+pub on_ok_map : {A E : Type 0} (r : Result A E) (P Q : Type 0) → (P → Q) → OnOk r P → OnOk r Q
+on_ok_map (Ok x) P Q f h = f h
+on_ok_map (Err e) P Q f h = tt
+
+pub if_ok_map : {A E : Type 0} (r : Result A E) (P Q : A → Type 0) → ((x : A) → P x → Q x) → IfOk r P → IfOk r Q
+if_ok_map (Ok x) P Q f h = f x h
+if_ok_map (Err e) P Q f h = tt

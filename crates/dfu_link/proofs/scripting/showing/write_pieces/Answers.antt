@@ -1,0 +1,27 @@
+use Rattle.std.proofs.Common.{rules, ◌≡◌, ◌≤◌, ◌+◌, length, arith}
+use Rattle.std.specs.Io.KnownBytes.{Appends}
+use Rattle.hex.specs.Hex.{encode_lower}
+use Rattle.dfu_slots.specs.Seen.{image_of}
+use Rattle.dfu_link.specs.Writing.{Broke}
+use Rattle.dfu_link.proofs.WriteLaws.{on_err, appends_none}
+use Rattle.dfu_link.proofs.HexLaws.{pieces_none, pieces_more, pieces_broke, pieces_all}
+use Rattle.dfu_link.proofs.scripting.showing.write_pieces.Goals as goal
+
+pub loop-at-init : goal.loop-at-init
+loop-at-init g c = record { within = omega arith; told = pieces_none (g.W.Write.contents c.args.writer.now) }
+
+pub returns-in_err-write_piece-clause-err : goal.returns-in_err-write_piece-clause-err
+returns-in_err-write_piece-clause-err g c =
+    let old = g.W.Write.contents c.args.writer.now in
+    let mid = g.W.Write.contents c.loop-at.writer in
+    let new = g.W.Write.contents c.write_piece.new.writer in
+    let image = image_of c.args.slots.now in
+    on_err c.from_residual.result (Broke old new (encode_lower image)) (pieces_broke image c.loop-at.at c.min-len.result old mid new c.loop-at.invariant.told c.in_err-write_piece.ensures.err)
+
+pub loop-at-preserved : goal.loop-at-preserved
+loop-at-preserved g c =
+    let old = g.W.Write.contents c.args.writer.now in
+    let mid = g.W.Write.contents c.loop-at.writer in
+    let new = g.W.Write.contents c.write_piece.new.writer in
+    let image = image_of c.args.slots.now in
+    record { within = omega arith; told = pieces_more image c.loop-at.at c.min-len.result old mid new c.loop-at.invariant.told c.in_ok-write_piece.ensures.ok }

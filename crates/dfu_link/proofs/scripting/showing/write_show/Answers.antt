@@ -1,0 +1,25 @@
+use Rattle.std.proofs.Common.{◌≡◌, ◌∙◌, sym, ap, ◌∷◌, [], ◌++◌, List, ℕ, length, subst, arith}
+use Rattle.std.specs.Prelude.{codes}
+use Rattle.std.specs.Io.KnownBytes.{Appends}
+use Rattle.hex.specs.Hex.{encode_lower}
+use Rattle.dfu_slots.specs.Seen.{image_of}
+use Rattle.dfu_link.specs.Writing.{Broke}
+use Rattle.dfu_link.specs.Texts.{hex_text, image_line, state_text, show_line}
+use Rattle.dfu_link.proofs.WriteLaws.{broke_before, broke_after, on_err, on_err_map, on_ok_map}
+use Rattle.dfu_link.proofs.HexLaws.{text_some}
+use Rattle.dfu_link.proofs.scripting.showing.write_show.Goals as goal
+
+pub returns-in_err-write_state-clause-err : goal.returns-in_err-write_state-clause-err
+returns-in_err-write_state-clause-err g c =
+    let old = g.W.Write.contents c.args.writer.now in
+    let new = g.W.Write.contents c.write_state.new.writer in
+    let d = c.args.device.now in
+    on_err c.from_residual.result (Broke old new (show_line d)) (broke_before old new (state_text d) (image_line d) c.in_err-write_state.ensures.err)
+
+pub returns-clause-err : goal.returns-clause-err
+returns-clause-err g c =
+    let old = g.W.Write.contents c.args.writer.now in
+    let mid = g.W.Write.contents c.write_state.new.writer in
+    let new = g.W.Write.contents c.write_image.new.writer in
+    let d = c.args.device.now in
+    on_err_map c.write_image.result (Broke mid new (image_line d)) (Broke old new (show_line d)) (λ h. broke_after old mid new (state_text d) (image_line d) c.in_ok-write_state.ensures.ok h) c.write_image.ensures.err

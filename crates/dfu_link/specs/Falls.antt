@@ -1,0 +1,114 @@
+-- How a script ends with a fault, and what is out then.
+use Rattle.std.specs.Prelude.{◌≡◌, ℕ, ◌+◌, ◌<◌, List, [], ◌∷◌, ◌++◌, length, Option, Some, None}
+use Rattle.std.specs.Io.KnownBytes.{Appends}
+use Rattle.dfu_device.specs.declared.fault.ConfigFault.{ConfigFault}
+use Rattle.dfu_device.specs.Setting.{FirstFault}
+use Rattle.dfu_device.specs.Shown.{Shown}
+use Rattle.dfu_link.specs.Play.{Nobody}
+use Rattle.dfu_link.specs.Bytes.{Bench}
+use Rattle.dfu_link.specs.Comes.{Happening}
+use Rattle.dfu_link.specs.Writing.{Broke}
+use Rattle.dfu_link.specs.Texts.{image_line, show_line}
+use Rattle.dfu_link.specs.Words.{lines_of}
+use Rattle.dfu_link.specs.Said.{Setting, Deed, Offer, Said, Blank, Sets, LimitsTo, Does, Show}
+use Rattle.dfu_link.specs.Lines.{line_of}
+use Rattle.dfu_link.specs.ScriptRun.{Stand, beginning, Prepares, Starts, at_rest, AllCome, Point, point, events_of, LinesRun}
+use Rattle.dfu_link.specs.declared.scripting.fault.ScriptFault.{ScriptFault}
+use Rattle.dfu_link.specs.declared.scripting.fault.ScriptFault.TheVariants.{BadLine, LateConfig, BadConfig, TooLarge, NoMemory, Read, Write}
+
+-- The writer failed among events: some were played, and a front of their text is out.
+pub record HasBroken (b : Bench) (events : List Happening) (old new : Option (List ℕ)) : Type 0 where
+  pub played : List Happening
+  pub left : List Happening
+  pub split : events ≡ played ++ left
+  pub after : Bench
+  pub out : List ℕ
+  pub plays : AllCome b played out after
+  pub broke : Broke old new out
+
+-- The writer failed in a line: among its events, or in the line of `show`.
+pub data BreaksIn (p : Point) (line : List ℕ) (old new : Option (List ℕ)) : Type 0 where
+  in_events : {deed : Deed} → line_of line ≡ Some (Does deed) → HasBroken p.at (events_of p.limits deed) old new → BreaksIn p line old new
+  in_show : line_of line ≡ Some Show → Broke old new (show_line p.at.device) → BreaksIn p line old new
+
+-- A line sets something about the device.
+pub record IsSetting (line : List ℕ) : Type 0 where
+  pub setting : Setting
+  pub says : line_of line ≡ Some (Sets setting)
+
+-- A line offers a file.
+pub record IsOffer (line : List ℕ) : Type 0 where
+  pub file : List ℕ
+  pub says : line_of line ≡ Some (Does (Offer file))
+
+-- How line k falls once the device is started: it is none of the language, or a configuration line, or a file that is offered finds no memory, and then nothing
+-- of it is out; or the writer fails in it.
+abbrev pub LineFalls : Point → ℕ → List ℕ → Option (List ℕ) → Option (List ℕ) → ScriptFault → Type 0
+LineFalls p k line old new (BadLine n) = (n ≡ k) × (line_of line ≡ None) × (new ≡ old)
+LineFalls p k line old new (LateConfig n) = (n ≡ k) × IsSetting line × (new ≡ old)
+LineFalls p k line old new NoMemory = IsOffer line × (p.at.session ≡ Nobody) × (new ≡ old)
+LineFalls p k line old new Write = BreaksIn p line old new
+LineFalls p k line old new fault = ⊥
+
+-- What falls where these lines are left, the first of them line k: that line, or where none is left the line of the image, when the writer fails.
+abbrev pub NextFalls : Point → ℕ → List (List ℕ) → Option (List ℕ) → Option (List ℕ) → ScriptFault → Type 0
+NextFalls p k [] old new fault = (fault ≡ Write) × Broke old new (image_line p.at.device)
+NextFalls p k (line ∷ lines) old new fault = LineFalls p k line old new fault
+
+-- Lines fall, the first of them line k: some run, and what they print is out; then the next falls.
+pub record RunFalls (p : Point) (k : ℕ) (lines : List (List ℕ)) (old new : Option (List ℕ)) (fault : ScriptFault) : Type 0 where
+  pub done : List (List ℕ)
+  pub rest : List (List ℕ)
+  pub split : lines ≡ done ++ rest
+  pub shown : List ℕ
+  pub end : Point
+  pub runs : LinesRun p done shown end
+  pub mid : Option (List ℕ)
+  pub told : Appends old mid shown
+  pub falls : NextFalls end (k + length done) rest mid new fault
+
+-- Lines that set fall, the first of them line k: some set, and the next is none of the language.
+pub record SettingFalls (s : Stand) (k : ℕ) (lines : List (List ℕ)) (fault : ScriptFault) : Type 0 where
+  pub done : List (List ℕ)
+  pub line : List ℕ
+  pub rest : List (List ℕ)
+  pub split : lines ≡ done ++ line ∷ rest
+  pub stand : Stand
+  pub prepares : Prepares s done stand
+  pub none : line_of line ≡ None
+  pub fault_is : fault ≡ BadLine (k + length done)
+
+-- An event line or `show` is read.
+abbrev pub HasToAct : Option Said → Type 0
+HasToAct (Some (Does deed)) = Unit {0}
+HasToAct (Some Show) = Unit {0}
+HasToAct said = ⊥
+
+-- The device has to start before the next line, or where none is left.
+abbrev pub IsReady : List (List ℕ) → Type 0
+IsReady [] = Unit {0}
+IsReady (line ∷ lines) = HasToAct (line_of line)
+
+-- No device can be set up like this, or the image has more bytes than there is room for.
+pub data CannotStart (s : Stand) : Type 0 where
+  refused : (fault : ConfigFault) → FirstFault fault s.device → CannotStart s
+  too_large : s.capacity < length s.image → CannotStart s
+
+-- Why a device does not start: BadConfig where it cannot, or there is no memory.
+abbrev pub StartFalls : Stand → ScriptFault → Type 0
+StartFalls s BadConfig = CannotStart s
+StartFalls s NoMemory = Unit {0}
+StartFalls s fault = ⊥
+
+-- A script ends with a fault. The text is over 16,777,216 bytes, the reader failed, or there was no memory for the text or the device, and nothing is out;
+-- a line that sets is none of the language, or no device can be set up like this, and nothing is out; or the device starts, and among the lines after it one falls.
+pub data Falls (text : List ℕ) (old new : Option (List ℕ)) : ScriptFault → Type 0 where
+  too_long : 16777216 < length text → new ≡ old → Falls text old new TooLarge
+  unread : new ≡ old → Falls text old new Read
+  no_memory : new ≡ old → Falls text old new NoMemory
+  in_setting : {fault : ScriptFault} → SettingFalls beginning 1 (lines_of text) fault → new ≡ old → Falls text old new fault
+  at_start : {before : List (List ℕ)} (after : List (List ℕ)) {stand : Stand} →
+      lines_of text ≡ before ++ after → Prepares beginning before stand → IsReady after → CannotStart stand → new ≡ old → Falls text old new BadConfig
+  in_run : {before : List (List ℕ)} (after : List (List ℕ)) {stand : Stand} {first : Shown} {fault : ScriptFault} →
+      lines_of text ≡ before ++ after → Prepares beginning before stand → Starts stand first →
+      RunFalls (point stand.limits (at_rest first)) (1 + length before) after old new fault → Falls text old new fault

@@ -1,0 +1,33 @@
+-- The words that a line or a fate begins with.
+use Rattle.std.specs.Prelude.{ℕ, List, Option, Some, None, codes, if◌then◌else◌}
+use Rattle.std.specs.Str.{bytes_eq}
+use Rattle.dfu_link.specs.declared.scripting.keywords.Keyword.{Keyword}
+use Rattle.dfu_link.specs.declared.scripting.keywords.Keyword.TheVariants as key
+use Rattle.dfu_link.specs.declared.scripting.keywords.FateKeyword.{FateKeyword}
+use Rattle.dfu_link.specs.declared.scripting.keywords.FateKeyword.TheVariants as fate
+
+-- The first word of a line that isn't a comment.
+unfoldable pub keyword_of : List ℕ → Option Keyword
+keyword_of w =
+    if bytes_eq w (codes "ids") then Some key.Ids
+    else if bytes_eq w (codes "device") then Some key.Device
+    else if bytes_eq w (codes "capacity") then Some key.Capacity
+    else if bytes_eq w (codes "image") then Some key.Image
+    else if bytes_eq w (codes "limits") then Some key.Limits
+    else if bytes_eq w (codes "offer") then Some key.Offer
+    else if bytes_eq w (codes "go") then Some key.Go
+    else if bytes_eq w (codes "time") then Some key.Time
+    else if bytes_eq w (codes "reset") then Some key.Reset
+    else if bytes_eq w (codes "show") then Some key.Show
+    else None
+
+-- The word of a fate, after `go`.
+unfoldable pub fate_keyword_of : List ℕ → Option FateKeyword
+fate_keyword_of w =
+    if bytes_eq w (codes "pass") then Some fate.Pass
+    else if bytes_eq w (codes "lostout") then Some fate.LostOut
+    else if bytes_eq w (codes "lostback") then Some fate.LostBack
+    else if bytes_eq w (codes "twice") then Some fate.Twice
+    else if bytes_eq w (codes "twicelostback") then Some fate.TwiceLostBack
+    else if bytes_eq w (codes "slip") then Some fate.Slip
+    else None

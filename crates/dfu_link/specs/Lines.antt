@@ -1,0 +1,143 @@
+-- The grammar of a line: its fields, its forms, and what each form says.
+use Rattle.std.specs.Prelude.{ℕ, Bool, false, length, ◌==◌, List, [], ◌∷◌, Option, Some, None, nat_le, if◌then◌else◌}
+use Rattle.dfu_link.specs.Words.{◌>>=◌, guard, bytes_of, number_of, quad_of, pair_of, first, ends, words_of}
+use Rattle.dfu_link.specs.Play.{Pass, LostOut, LostBack, Twice, TwiceLostBack, Slip}
+use Rattle.dfu_link.specs.Said.{Said, Blank, Sets, LimitsTo, Does, Show, TheIds, TheDevice, TheCapacity, TheImage, Offer, Go, Time, Reset, functional_of}
+use Rattle.dfu_link.specs.Keywords.{keyword_of, fate_keyword_of}
+use Rattle.dfu_link.specs.declared.scripting.keywords.Keyword.{Keyword}
+use Rattle.dfu_link.specs.declared.scripting.keywords.Keyword.TheVariants as key
+use Rattle.dfu_link.specs.declared.scripting.keywords.FateKeyword.{FateKeyword}
+use Rattle.dfu_link.specs.declared.scripting.keywords.FateKeyword.TheVariants as fate
+
+-- A field: a value, and the words after it.
+abbrev pub Field : Type 0 → Type 0
+Field A = Option (A × List (List ℕ))
+
+-- The first word as this reads it, and the words after it.
+abbrev pub field : {A : Type 0} → (List ℕ → Option A) → List (List ℕ) → Field A
+field read words = first words >>= λ w. read w.0 >>= λ x. Some (x, w.1)
+
+-- A number.
+unfoldable pub number_at : List (List ℕ) → Field ℕ
+number_at words = field number_of words
+
+-- A number that is at most this one.
+unfoldable pub small_at : ℕ → List (List ℕ) → Field ℕ
+small_at most words = number_at words >>= λ n. guard (nat_le n.0 most) n
+
+-- Hexadecimal text.
+unfoldable pub hex_at : List (List ℕ) → Field (List ℕ)
+hex_at words = field bytes_of words
+
+-- Four hexadecimal digits.
+unfoldable pub quad_at : List (List ℕ) → Field ℕ
+quad_at words = field quad_of words
+
+-- Two hexadecimal digits, 00 to 0f.
+unfoldable pub attributes_at : List (List ℕ) → Field ℕ
+attributes_at words = field pair_of words >>= λ n. guard (nat_le n.0 15) n
+
+-- After `ids`: the vendor, the product and the device.
+unfoldable pub ids_of : List (List ℕ) → Option Said
+ids_of words = do
+  vendor ← quad_at words
+  product ← quad_at vendor.1
+  device ← quad_at product.1
+  ends (Sets (TheIds (record { device = device.0; product = product.0; vendor = vendor.0 }))) device.1
+
+-- After `device`: the attributes, the detach timeout, the transfer size, the fewest bytes of an image, and two times.
+unfoldable pub device_of : List (List ℕ) → Option Said
+device_of words = do
+  attributes ← attributes_at words
+  detach ← small_at 65535 attributes.1
+  transfer ← small_at 65535 detach.1
+  least ← number_at transfer.1
+  busy ← number_at least.1
+  manifest ← number_at busy.1
+  ends (Sets (TheDevice (functional_of attributes.0 detach.0 transfer.0) least.0 busy.0 manifest.0)) manifest.1
+
+-- After `capacity`: a number from 1 to 1,048,576.
+unfoldable pub capacity_of : List (List ℕ) → Option Said
+capacity_of words = do
+  n ← small_at 1048576 words
+  if nat_le 1 n.0 then ends (Sets (TheCapacity n.0)) n.1 else None
+
+-- After `image`: the bytes.
+unfoldable pub image_of : List (List ℕ) → Option Said
+image_of words = do
+  image ← hex_at words
+  ends (Sets (TheImage image.0)) image.1
+
+-- After `limits`: the actions, and the restarts.
+unfoldable pub limits_of : List (List ℕ) → Option Said
+limits_of words = do
+  actions ← number_at words
+  restarts ← small_at 65535 actions.1
+  ends (LimitsTo actions.0 restarts.0) restarts.1
+
+-- After `offer`: the bytes of the file.
+unfoldable pub offer_of : List (List ℕ) → Option Said
+offer_of words = do
+  file ← hex_at words
+  ends (Does (Offer file.0)) file.1
+
+-- After `time`: the milliseconds.
+unfoldable pub time_of : List (List ℕ) → Option Said
+time_of words = do
+  ms ← number_at words
+  ends (Does (Time ms.0)) ms.1
+
+-- After `go pass`: how often, 1 to 1,000,000 times.
+unfoldable pub pass_of : List (List ℕ) → Option Said
+pass_of words = do
+  times ← small_at 1000000 words
+  if nat_le 1 times.0 then ends (Does (Go Pass times.0)) times.1 else None
+
+-- After `go slip`: the milliseconds.
+unfoldable pub slip_of : List (List ℕ) → Option Said
+slip_of words = do
+  ms ← number_at words
+  ends (Does (Go (Slip ms.0) 1)) ms.1
+
+-- After the word of a fate.
+abbrev pub by_fate : FateKeyword → List (List ℕ) → Option Said
+by_fate fate.Pass words = pass_of words
+by_fate fate.LostOut words = ends (Does (Go LostOut 1)) words
+by_fate fate.LostBack words = ends (Does (Go LostBack 1)) words
+by_fate fate.Twice words = ends (Does (Go Twice 1)) words
+by_fate fate.TwiceLostBack words = ends (Does (Go TwiceLostBack 1)) words
+by_fate fate.Slip words = slip_of words
+
+-- After `go`: a fate.
+unfoldable pub go_of : List (List ℕ) → Option Said
+go_of words = do
+  word ← first words
+  k ← fate_keyword_of word.0
+  by_fate k word.1
+
+-- After the first word of a line.
+abbrev pub by_keyword : Keyword → List (List ℕ) → Option Said
+by_keyword key.Ids words = ids_of words
+by_keyword key.Device words = device_of words
+by_keyword key.Capacity words = capacity_of words
+by_keyword key.Image words = image_of words
+by_keyword key.Limits words = limits_of words
+by_keyword key.Offer words = offer_of words
+by_keyword key.Go words = go_of words
+by_keyword key.Time words = time_of words
+by_keyword key.Reset words = ends (Does Reset) words
+by_keyword key.Show words = ends Show words
+
+-- A line is a comment where its first word begins with `#`.
+abbrev pub is_comment : List ℕ → Bool
+is_comment [] = false
+is_comment (byte ∷ bytes) = byte == 35
+
+-- What the words of a line say: nothing where there are none, or where they are a comment.
+abbrev pub says : List (List ℕ) → Option Said
+says [] = Some Blank
+says (word ∷ words) = if is_comment word then Some Blank else (keyword_of word >>= λ k. by_keyword k words)
+
+-- What a line says, if it is one of the language: a line over 65,536 bytes is none.
+unfoldable pub line_of : List ℕ → Option Said
+line_of line = if nat_le (length line) 65536 then says (words_of line) else None

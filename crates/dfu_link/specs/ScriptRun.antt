@@ -1,0 +1,127 @@
+-- What a script does, and what it prints.
+use Rattle.std.specs.Prelude.{◌≡◌, ℕ, ◌+◌, ◌*◌, ◌≤◌, List, [], ◌∷◌, ◌++◌, length, Option, Some, None, Result, replicate}
+use Rattle.std.specs.Io.KnownBytes.{Appends}
+use Rattle.dfu_host.specs.declared.limits.Limits.{Limits}
+use Rattle.dfu_slots.specs.Medium.{MediumState, AllWrites}
+use Rattle.dfu_slots.specs.Medium.Fuse.{Whole}
+use Rattle.dfu_slots.specs.Seen.{image_of, format_series}
+use Rattle.dfu_device.specs.Stage.{InApp}
+use Rattle.dfu_device.specs.Setting.{IsAllowed, of_this_version}
+use Rattle.dfu_device.specs.Setting.{Setting as DeviceSetting}
+use Rattle.dfu_device.specs.Shown.{Shown}
+use Rattle.dfu_link.specs.Play.{Nobody, Answered}
+use Rattle.dfu_link.specs.Bytes.{Bench}
+use Rattle.dfu_link.specs.Comes.{Happening, Offers, Goes, Passes, Resets, unharmed, Comes, shown_as}
+use Rattle.dfu_link.specs.declared.fault.LinkFault.{LinkFault}
+use Rattle.dfu_link.specs.Texts.{answer_line, image_line, show_line}
+use Rattle.dfu_link.specs.Words.{lines_of}
+use Rattle.dfu_link.specs.Said.{Setting, TheIds, TheDevice, TheCapacity, TheImage, Deed, Offer, Go, Time, Reset, Said, Blank, Sets, LimitsTo, Does, Show, functional_of}
+use Rattle.dfu_link.specs.Lines.{line_of}
+
+-- What is set before the first event line or `show`: the device, how many bytes an image may have, the image at first, and the limits of sessions.
+pub record Stand : Type 0 where
+  pub device : DeviceSetting
+  pub capacity : ℕ
+  pub image : List ℕ
+  pub limits : Limits
+
+-- What holds where no line sets anything else.
+abbrev pub beginning : Stand
+beginning = record {
+  device = record { ids = record { device = 0x0100; product = 0x0001; vendor = 0x1209 }; functional = functional_of 7 255 8; least = 1; busy_ms = 5; manifest_ms = 10 };
+  capacity = 64;
+  image = 0 ∷ [];
+  limits = record { actions = 1000000; restarts = 0 };
+}
+
+-- What a configuration line sets takes the place of what stood there.
+abbrev pub set : Stand → Setting → Stand
+set s (TheIds ids) = record s { device = record s.device { ids = ids } }
+set s (TheDevice functional least busy manifest) = record s { device = record s.device { functional = functional; least = least; busy_ms = busy; manifest_ms = manifest } }
+set s (TheCapacity n) = record s { capacity = n }
+set s (TheImage bytes) = record s { image = bytes }
+
+-- What a line before the first event line or `show` sets.
+abbrev pub prepared : Stand → Said → Option Stand
+prepared s Blank = Some s
+prepared s (Sets x) = Some (set s x)
+prepared s (LimitsTo actions restarts) = Some (record s { limits = record { actions = actions; restarts = restarts } })
+prepared s said = None
+
+-- Lines that set, one after the other.
+pub data Prepares : Stand → List (List ℕ) → Stand → Type 0 where
+  nothing : {s : Stand} → Prepares s [] s
+  then_prepares : {s t t' : Stand} {lines : List (List ℕ)} (line : List ℕ) {said : Said} →
+      Prepares s lines t → line_of line ≡ Some said → prepared t said ≡ Some t' → Prepares s (lines ++ line ∷ []) t'
+
+-- A blank medium of two slots with room for images of so many bytes. It is not armed.
+abbrev pub blank : ℕ → MediumState
+blank capacity = record { bytes = replicate (2 * (32 + capacity)) 255; failures = 0; fuse = Whole }
+
+-- The device starts: it is allowed, the image fits, and it stands in appIDLE on a blank medium that was formatted with the image.
+pub record Starts (s : Stand) (d : Shown) : Type 0 where
+  pub config : d.config ≡ record s.device { functional = of_this_version s.device.functional }
+  pub allowed : IsAllowed d.config
+  pub fits : length s.image ≤ s.capacity
+  pub formatted : AllWrites (blank s.capacity) (format_series (blank s.capacity) s.image) d.slots.medium
+  pub image : image_of d.slots ≡ s.image
+  pub stage : d.stage ≡ InApp
+
+-- A device with no session.
+abbrev pub at_rest : Shown → Bench
+at_rest d = record { device = d; session = Nobody }
+
+-- Events one after the other, with what they print.
+pub data AllCome : Bench → List Happening → List ℕ → Bench → Type 0 where
+  none_comes : {b : Bench} → AllCome b [] [] b
+  then_comes : {b c c' : Bench} {events : List Happening} {event : Happening} {out : List ℕ} {answer : Result Answered LinkFault} →
+      AllCome b events out c → Comes c event c' answer → AllCome b (events ++ event ∷ []) (out ++ answer_line (shown_as answer)) c'
+
+-- Where a script is once the device is started: the limits of the next session, and the link.
+pub record Point : Type 0 where
+  pub limits : Limits
+  pub at : Bench
+
+-- These limits, and this link.
+abbrev pub point : Limits → Bench → Point
+point limits at = record { limits = limits; at = at }
+
+-- The events of an event line.
+abbrev pub events_of : Limits → Deed → List Happening
+events_of limits (Offer file) = Offers file limits ∷ []
+events_of limits (Go fate times) = replicate times (Goes fate unharmed)
+events_of limits (Time ms) = Passes ms ∷ []
+events_of limits Reset = Resets ∷ []
+
+-- What a line does once the device is started, and what it prints. A configuration line has no place there.
+pub data Acts : Point → Said → List ℕ → Point → Type 0 where
+  skips : {p : Point} → Acts p Blank [] p
+  limits_to : {p : Point} {actions restarts : ℕ} → Acts p (LimitsTo actions restarts) [] (record p { limits = record { actions = actions; restarts = restarts } })
+  plays : {p : Point} {deed : Deed} {b : Bench} {out : List ℕ} → AllCome p.at (events_of p.limits deed) out b → Acts p (Does deed) out (record p { at = b })
+  shows : {p : Point} → Acts p Show (show_line p.at.device) p
+
+-- Lines one after the other, with what they print.
+pub data LinesRun : Point → List (List ℕ) → List ℕ → Point → Type 0 where
+  stays : {p : Point} → LinesRun p [] [] p
+  then_runs : {p q q' : Point} {lines : List (List ℕ)} (line : List ℕ) {said : Said} {out more : List ℕ} →
+      LinesRun p lines out q → line_of line ≡ Some said → Acts q said more q' → LinesRun p (lines ++ line ∷ []) (out ++ more) q'
+
+-- A whole script: lines that set, the device started, lines that act, and last the line of the image.
+pub record IsRun (text out : List ℕ) : Type 0 where
+  pub before : List (List ℕ)
+  pub after : List (List ℕ)
+  pub split : lines_of text ≡ before ++ after
+  pub stand : Stand
+  pub prepares : Prepares beginning before stand
+  pub first : Shown
+  pub starts : Starts stand first
+  pub shown : List ℕ
+  pub end : Point
+  pub runs : LinesRun (point stand.limits (at_rest first)) after shown end
+  pub out_is : out ≡ shown ++ image_line end.at.device
+
+-- A run of the text was written.
+pub record WroteRun (text : List ℕ) (old new : Option (List ℕ)) : Type 0 where
+  pub out : List ℕ
+  pub run : IsRun text out
+  pub told : Appends old new out

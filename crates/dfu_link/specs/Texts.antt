@@ -1,0 +1,86 @@
+-- The lines that a script prints.
+use Rattle.std.specs.Prelude.{ℕ, List, [], ◌∷◌, ◌++◌, Option, Some, None, Result, Ok, Err, codes}
+use Rattle.hex.specs.Hex.{encode_lower}
+use Rattle.dfu_wire.specs.State.{state_name}
+use Rattle.dfu_wire.specs.Code.{code_name}
+use Rattle.dfu_suffix.specs.declared.fault.SuffixFault.{SuffixFault}
+use Rattle.dfu_suffix.specs.declared.fault.SuffixFault.TheVariants as suffix
+use Rattle.dfu_host.specs.declared.fault.HostFault.{HostFault}
+use Rattle.dfu_host.specs.declared.fault.HostFault.TheVariants as host
+use Rattle.dfu_host.specs.declared.report.Report.{Report}
+use Rattle.dfu_host.specs.declared.report.Report.TheVariants as report
+use Rattle.dfu_slots.specs.Seen.{image_of}
+use Rattle.dfu_device.specs.Stage.{state_of, code_of}
+use Rattle.dfu_device.specs.Shown.{Shown}
+use Rattle.dfu_link.specs.declared.fault.OfferFault.{OfferFault}
+use Rattle.dfu_link.specs.declared.fault.OfferFault.TheVariants as offer
+use Rattle.dfu_link.specs.declared.fault.LinkFault.{LinkFault}
+use Rattle.dfu_link.specs.declared.fault.LinkFault.TheVariants as link
+
+-- Bytes as they are printed: two digits each in lower case, and `-` for no bytes.
+abbrev pub hex_text : List ℕ → List ℕ
+hex_text [] = codes "-"
+hex_text (byte ∷ bytes) = encode_lower (byte ∷ bytes)
+
+-- The name of a fault of a file.
+abbrev pub suffix_fault_name : SuffixFault → List ℕ
+suffix_fault_name suffix.TooShort = codes "TooShort"
+suffix_fault_name suffix.NoSignature = codes "NoSignature"
+suffix_fault_name suffix.BadLength = codes "BadLength"
+suffix_fault_name suffix.DfuSe = codes "DfuSe"
+suffix_fault_name suffix.BadCrc = codes "BadCrc"
+suffix_fault_name suffix.AlreadySuffixed = codes "AlreadySuffixed"
+suffix_fault_name suffix.TooLarge = codes "TooLarge"
+suffix_fault_name suffix.NoMemory = codes "NoMemory"
+suffix_fault_name suffix.Read = codes "Read"
+suffix_fault_name suffix.Write = codes "Write"
+
+-- The name of a fault of a session.
+abbrev pub host_fault_name : HostFault → List ℕ
+host_fault_name host.EmptyPayload = codes "EmptyPayload"
+host_fault_name host.WrongTarget = codes "WrongTarget"
+host_fault_name host.CannotDownload = codes "CannotDownload"
+host_fault_name host.CannotUpload = codes "CannotUpload"
+host_fault_name host.BadDescriptor = codes "BadDescriptor"
+
+-- The name of a fault of an offer.
+abbrev pub offer_fault_name : OfferFault → List ℕ
+offer_fault_name (offer.Suffix fault) = suffix_fault_name fault
+offer_fault_name (offer.Host fault) = host_fault_name fault
+
+-- The line of a report.
+abbrev pub report_line : Report → List ℕ
+report_line report.Installed = codes "report installed\n"
+report_line report.Unconfirmed = codes "report unconfirmed\n"
+report_line report.Aborted = codes "report aborted\n"
+report_line report.GaveUp = codes "report gave-up\n"
+report_line (report.Refused code) = codes "report refused " ++ code_name code ++ 10 ∷ []
+report_line report.RestartsSpent = codes "report restarts-spent\n"
+report_line report.Uploaded = codes "report uploaded\n"
+report_line report.TooManyBlocks = codes "report too-many-blocks\n"
+report_line report.NoMemory = codes "report no-memory\n"
+
+-- The line of a refused event.
+abbrev pub refusal_line : LinkFault → List ℕ
+refusal_line link.HostBusy = codes "refused HostBusy\n"
+refusal_line link.NoHost = codes "refused NoHost\n"
+refusal_line (link.BadOffer fault) = codes "refused BadOffer " ++ offer_fault_name fault ++ 10 ∷ []
+refusal_line link.NoMemory = codes "refused NoMemory\n"
+
+-- What is printed of an event: the line of its refusal or of its report, or nothing.
+abbrev pub answer_line : Result (Option Report) LinkFault → List ℕ
+answer_line (Ok None) = []
+answer_line (Ok (Some r)) = report_line r
+answer_line (Err fault) = refusal_line fault
+
+-- The line of the device's image.
+abbrev pub image_line : Shown → List ℕ
+image_line device = codes "image " ++ (hex_text (image_of device.slots) ++ 10 ∷ [])
+
+-- What `show` prints before the image: the device's state and its status code.
+abbrev pub state_text : Shown → List ℕ
+state_text device = (codes "state " ++ state_name (state_of device.stage) ++ codes " status ") ++ (code_name (code_of device.stage) ++ codes " ")
+
+-- The line of `show`.
+abbrev pub show_line : Shown → List ℕ
+show_line device = state_text device ++ image_line device

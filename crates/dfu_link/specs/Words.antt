@@ -1,0 +1,85 @@
+-- Lines of a text, words of a line, numbers and hexadecimal text.
+use Rattle.std.specs.Prelude.{◌≡◌, ℕ, ◌+◌, ◌-◌, ◌*◌, ◌==◌, ◌&&◌, nat_le, Bool, true, false, not, if◌then◌else◌, List, [], ◌∷◌, length, slice_index, filter, codes, Option, Some, None, Result, Ok, Err}
+use Rattle.std.specs.List.{slice_split, onto_first}
+use Rattle.std.specs.Str.{bytes_eq}
+use Rattle.std.specs.Char.{is_ascii_digit}
+use Rattle.std.specs.Int.{w16, from_be_bytes}
+use Rattle.hex.specs.Hex.{decode_of, decode_sized}
+
+-- One step of reading after another: nothing is read where the first reads nothing.
+infixl 10 ◌>>=◌
+abbrev pub ◌>>=◌ : {A B : Type 0} → Option A → (A → Option B) → Option B
+None >>= f = None
+(Some x) >>= f = f x
+
+-- This value, where the test holds.
+abbrev pub guard : {A : Type 0} → Bool → A → Option A
+guard true x = Some x
+guard false x = None
+
+-- What the code read, seen for what it means, is what is to be read, and it read nothing exactly where there is nothing.
+abbrev pub Reads : {X Y : Type 0} → (X → Y) → Option X → Option Y → Type 0
+Reads view None read = read ≡ None
+Reads view (Some x) read = read ≡ Some (view x)
+
+-- A byte ends a line where it is 0Ah.
+abbrev pub is_newline : ℕ → Bool
+is_newline byte = byte == 10
+
+-- The lines of a text: each ends at a byte 0Ah, which the last may lack.
+abbrev pub lines_of : List ℕ → List (List ℕ)
+lines_of [] = []
+lines_of (byte ∷ bytes) = if is_newline byte then [] ∷ lines_of bytes else onto_first byte (lines_of bytes)
+
+-- A byte parts words where it is 20h.
+abbrev pub is_space : ℕ → Bool
+is_space byte = byte == 32
+
+-- Any other byte belongs to a word.
+abbrev pub is_no_space : ℕ → Bool
+is_no_space byte = not (byte == 32)
+
+-- A word has at least one byte.
+abbrev pub is_word : List ℕ → Bool
+is_word [] = false
+is_word (byte ∷ bytes) = true
+
+-- The words of a line: the pieces between its spaces that have a byte.
+unfoldable pub words_of : List ℕ → List (List ℕ)
+words_of line = filter is_word (slice_split is_space line)
+
+-- The first word, and the words after it.
+abbrev pub first : List (List ℕ) → Option (List ℕ × List (List ℕ))
+first [] = None
+first (word ∷ words) = Some (word, words)
+
+-- This, where no further word is left.
+abbrev pub ends : {A : Type 0} → A → List (List ℕ) → Option A
+ends x [] = Some x
+ends x (word ∷ words) = None
+
+-- The number that decimal digits make after those that make n.
+abbrev pub digits_value : ℕ → List ℕ → Option ℕ
+digits_value n [] = Some n
+digits_value n (digit ∷ digits) = if is_ascii_digit digit then digits_value (n * 10 + (digit - 48)) digits else None
+
+-- A number: 1 to 10 decimal digits, at most 4,294,967,295.
+unfoldable pub number_of : List ℕ → Option ℕ
+number_of word = if nat_le 1 (length word) && nat_le (length word) 10 then (digits_value 0 word >>= λ n. guard (nat_le n 4294967295) n) else None
+
+-- What there is without an error.
+abbrev pub ok_of : {A E : Type 0} → Result A E → Option A
+ok_of (Ok x) = Some x
+ok_of (Err e) = None
+
+-- Hexadecimal text: two digits of either case for each byte, or `-` for no bytes.
+abbrev pub bytes_of : List ℕ → Option (List ℕ)
+bytes_of word = if bytes_eq word (codes "-") then Some [] else ok_of (decode_of word)
+
+-- Four hexadecimal digits, the highest first.
+abbrev pub quad_of : List ℕ → Option ℕ
+quad_of word = ok_of (decode_sized word 2) >>= λ bytes. Some (from_be_bytes w16 bytes)
+
+-- Two hexadecimal digits, the higher first.
+abbrev pub pair_of : List ℕ → Option ℕ
+pair_of word = ok_of (decode_sized word 1) >>= λ bytes. Some (slice_index bytes 0)

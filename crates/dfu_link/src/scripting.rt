@@ -1,0 +1,27 @@
+//! Scripts: a text of lines that sets up a device, plays events on the link, and prints what comes
+//! of them.
+
+mod fault;
+mod fields;
+mod following;
+mod gather;
+mod hex_text;
+mod keywords;
+mod line;
+mod line_forms;
+mod lines;
+mod output;
+mod playing;
+mod reading;
+mod saying;
+mod setup;
+mod showing;
+mod starting;
+mod whole;
+mod words;
+
+pub use fault::ScriptFault;
+pub use whole::script;
+
+#[cfg(test)]
+mod tests;

@@ -1,0 +1,80 @@
+// The words that a line or a fate begins with.
+
+ghost use Rattle.std.specs.Prelude.{◌≡◌};
+ghost use Rattle.dfu_link.specs.Keywords.{keyword_of, fate_keyword_of};
+
+// The first word of a line.
+#[derive(Clone, Copy, Debug, PartialEq, Eq)]
+pub(crate) enum Keyword {
+    Ids,
+    Device,
+    Capacity,
+    Image,
+    Limits,
+    Offer,
+    Go,
+    Time,
+    Reset,
+    Show,
+}
+
+// The word after `go`.
+#[derive(Clone, Copy, Debug, PartialEq, Eq)]
+pub(crate) enum FateKeyword {
+    Pass,
+    LostOut,
+    LostBack,
+    Twice,
+    TwiceLostBack,
+    Slip,
+}
+
+#[tactic(auto, unfolding(crate::specs::Keywords::keyword_of))]
+pub(crate) fn read_keyword(word: &[u8]) -> Option<Keyword>
+    ensures { result ≡ keyword_of word.now }
+{
+    if word == b"ids".as_slice() {
+        Some(Keyword::Ids)
+    } else if word == b"device".as_slice() {
+        Some(Keyword::Device)
+    } else if word == b"capacity".as_slice() {
+        Some(Keyword::Capacity)
+    } else if word == b"image".as_slice() {
+        Some(Keyword::Image)
+    } else if word == b"limits".as_slice() {
+        Some(Keyword::Limits)
+    } else if word == b"offer".as_slice() {
+        Some(Keyword::Offer)
+    } else if word == b"go".as_slice() {
+        Some(Keyword::Go)
+    } else if word == b"time".as_slice() {
+        Some(Keyword::Time)
+    } else if word == b"reset".as_slice() {
+        Some(Keyword::Reset)
+    } else if word == b"show".as_slice() {
+        Some(Keyword::Show)
+    } else {
+        None
+    }
+}
+
+#[tactic(auto, unfolding(crate::specs::Keywords::fate_keyword_of))]
+pub(crate) fn read_fate(word: &[u8]) -> Option<FateKeyword>
+    ensures { result ≡ fate_keyword_of word.now }
+{
+    if word == b"pass".as_slice() {
+        Some(FateKeyword::Pass)
+    } else if word == b"lostout".as_slice() {
+        Some(FateKeyword::LostOut)
+    } else if word == b"lostback".as_slice() {
+        Some(FateKeyword::LostBack)
+    } else if word == b"twice".as_slice() {
+        Some(FateKeyword::Twice)
+    } else if word == b"twicelostback".as_slice() {
+        Some(FateKeyword::TwiceLostBack)
+    } else if word == b"slip".as_slice() {
+        Some(FateKeyword::Slip)
+    } else {
+        None
+    }
+}

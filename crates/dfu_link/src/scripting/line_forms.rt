@@ -1,0 +1,173 @@
+// What stands after the first word of a line.
+
+ghost use Rattle.std.specs.Prelude.{◌≡◌, Some, None};
+ghost use Rattle.dfu_link.specs.Words.{Reads, words_of, ends};
+ghost use Rattle.dfu_link.specs.Comes.{fate_of};
+ghost use Rattle.dfu_link.specs.Said.{said_of, Go, Does, functional_of};
+ghost use Rattle.dfu_link.specs.Lines.{small_at, ids_of, device_of, capacity_of, image_of, limits_of, offer_of, time_of, pass_of, slip_of, by_fate, go_of};
+
+use crate::fate::Fate;
+use crate::scripting::fields::{
+    attributes_at, ended, hex_at, number_at, quad_at, short_at, small_at,
+};
+use crate::scripting::keywords::{FateKeyword, read_fate};
+use crate::scripting::line::{Deed, Line, Room, Setting};
+use crate::scripting::words::word_at;
+use dfu_suffix::Ids;
+use dfu_wire::Functional;
+
+// `ids VVVV PPPP DDDD`.
+#[tactic(auto, unfolding(crate::specs::Lines::ids_of))]
+pub(crate) fn ids(line: &[u8]) -> Option<Line<'_>>
+    ensures { Reads said_of result (ids_of (words_of line.now)) }
+{
+    let (vendor, rest) = quad_at(line)?;
+    let (product, rest) = quad_at(rest)?;
+    let (device, rest) = quad_at(rest)?;
+    let ids = Ids {
+        device,
+        product,
+        vendor,
+    };
+    ended(Line::Set(Setting::Ids(ids)), rest)
+}
+
+// The functional descriptor with these attributes (USB DFU 1.1, section 4.1.3).
+fn functional(attributes: u8, detach_ms: u16, transfer: u16) -> Functional
+    ensures { result ≡ functional_of attributes detach_ms transfer }
+{
+    Functional {
+        can_download: attributes % 2 == 1,
+        can_upload: attributes / 2 % 2 == 1,
+        tolerant: attributes / 4 % 2 == 1,
+        will_detach: attributes / 8 % 2 == 1,
+        detach_ms,
+        transfer,
+        version: 0x0110,
+    }
+}
+
+// `device FF DETACH TRANSFER LEAST BUSY MANIFEST`.
+#[tactic(auto, unfolding(crate::specs::Lines::device_of))]
+pub(crate) fn device(line: &[u8]) -> Option<Line<'_>>
+    ensures { Reads said_of result (device_of (words_of line.now)) }
+{
+    let (attributes, rest) = attributes_at(line)?;
+    let (detach_ms, rest) = short_at(rest)?;
+    let (transfer, rest) = short_at(rest)?;
+    let (least, rest) = number_at(rest)?;
+    let (busy_ms, rest) = number_at(rest)?;
+    let (manifest_ms, rest) = number_at(rest)?;
+    let functional = functional(attributes, detach_ms, transfer);
+    let said = Line::Set(Setting::Device {
+        functional,
+        least,
+        busy_ms,
+        manifest_ms,
+    });
+    ended(said, rest)
+}
+
+// `capacity N`.
+#[tactic(auto, unfolding(crate::specs::Lines::capacity_of), using(std::proofs::lemmas::Bool::Decides::nat_tests))]
+pub(crate) fn capacity(line: &[u8]) -> Option<Line<'_>>
+    ensures { Reads said_of result (capacity_of (words_of line.now)) }
+{
+    let (n, rest) = small_at(line, 1_048_576)?;
+    if n >= 1 {
+        ended(Line::Set(Setting::Capacity(Room { bytes: n })), rest)
+    } else {
+        None
+    }
+}
+
+// `image HEX`.
+#[tactic(auto, unfolding(crate::specs::Lines::image_of))]
+pub(crate) fn image(line: &[u8]) -> Option<Line<'_>>
+    ensures { Reads said_of result (image_of (words_of line.now)) }
+{
+    let (image, rest) = hex_at(line)?;
+    ended(Line::Set(Setting::Image(image)), rest)
+}
+
+// `limits A R`.
+#[tactic(auto, unfolding(crate::specs::Lines::limits_of))]
+pub(crate) fn limits(line: &[u8]) -> Option<Line<'_>>
+    ensures { Reads said_of result (limits_of (words_of line.now)) }
+{
+    let (actions, rest) = number_at(line)?;
+    let (restarts, rest) = short_at(rest)?;
+    ended(Line::Limits { actions, restarts }, rest)
+}
+
+// `offer HEX`.
+#[tactic(auto, unfolding(crate::specs::Lines::offer_of))]
+pub(crate) fn offer(line: &[u8]) -> Option<Line<'_>>
+    ensures { Reads said_of result (offer_of (words_of line.now)) }
+{
+    let (file, rest) = hex_at(line)?;
+    ended(Line::Do(Deed::Offer(file)), rest)
+}
+
+// `time MS`.
+#[tactic(auto, unfolding(crate::specs::Lines::time_of))]
+pub(crate) fn time(line: &[u8]) -> Option<Line<'_>>
+    ensures { Reads said_of result (time_of (words_of line.now)) }
+{
+    let (ms, rest) = number_at(line)?;
+    ended(Line::Do(Deed::Time(ms)), rest)
+}
+
+// `go pass N`.
+#[tactic(auto, unfolding(crate::specs::Lines::pass_of), using(std::proofs::lemmas::Bool::Decides::nat_tests))]
+fn pass(line: &[u8]) -> Option<Line<'_>>
+    ensures { Reads said_of result (pass_of (words_of line.now)) }
+{
+    let (times, rest) = small_at(line, 1_000_000)?;
+    if times >= 1 {
+        let fate = Fate::Pass;
+        ended(Line::Do(Deed::Go { fate, times }), rest)
+    } else {
+        None
+    }
+}
+
+// One action.
+fn once(fate: Fate, rest: &[u8]) -> Option<Line<'_>>
+    ensures { Reads said_of result (ends (Does (Go (fate_of fate) 1)) (words_of rest.now)) }
+{
+    ended(Line::Do(Deed::Go { fate, times: 1 }), rest)
+}
+
+// `go slip MS`.
+#[tactic(auto, unfolding(crate::specs::Lines::slip_of))]
+fn slip(line: &[u8]) -> Option<Line<'_>>
+    ensures { Reads said_of result (slip_of (words_of line.now)) }
+{
+    let (ms, rest) = number_at(line)?;
+    once(Fate::Slip(ms), rest)
+}
+
+// The fate of an action, by its word.
+fn by_fate(keyword: FateKeyword, rest: &[u8]) -> Option<Line<'_>>
+    ensures { Reads said_of result (by_fate keyword (words_of rest.now)) }
+{
+    match keyword {
+        FateKeyword::Pass => pass(rest),
+        FateKeyword::LostOut => once(Fate::LostOut, rest),
+        FateKeyword::LostBack => once(Fate::LostBack, rest),
+        FateKeyword::Twice => once(Fate::Twice, rest),
+        FateKeyword::TwiceLostBack => once(Fate::TwiceLostBack, rest),
+        FateKeyword::Slip => slip(rest),
+    }
+}
+
+// `go` with a fate.
+#[tactic(auto, unfolding(crate::specs::Lines::go_of))]
+pub(crate) fn go(line: &[u8]) -> Option<Line<'_>>
+    ensures { Reads said_of result (go_of (words_of line.now)) }
+{
+    let (word, rest) = word_at(line)?;
+    let keyword = read_fate(word)?;
+    by_fate(keyword, rest)
+}

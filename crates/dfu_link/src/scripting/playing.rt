@@ -1,0 +1,90 @@
+// The events of an event line, played.
+
+ghost use Rattle.std.specs.Prelude.{◌≡◌, OnOk, OnErr, IfOk, IfErr, replicate};
+ghost use Rattle.dfu_link.specs.Comes.{happening, IsLive};
+ghost use Rattle.dfu_link.specs.Said.{Deed, deed_of};
+ghost use Rattle.dfu_link.specs.ScriptRun.{events_of};
+ghost use Rattle.dfu_link.specs.Falls.{HasBroken};
+ghost use Rattle.dfu_link.specs.Moving.{HasPlayed, file_bytes, FindsNoRoom};
+
+use crate::event::Event;
+use crate::fault::LinkFault;
+use crate::scripting::fault::ScriptFault;
+use crate::scripting::line::Deed;
+use crate::scripting::saying::say;
+use crate::scripting::starting::bytes_of;
+use crate::world::World;
+use dfu_host::Limits;
+use dfu_slots::Faulty;
+use std::alloc::Global;
+use std::io::Write;
+
+// Lets the same event come so many times, and writes what is printed of each.
+fn play<'f, M: Faulty + Drop, W: Write>(
+    world: &mut World<'f, M>,
+    event: Event<'f>,
+    times: u32,
+    writer: &mut W,
+) -> Result<(), ScriptFault>
+    ensures ok { OnOk result (HasPlayed world.old (replicate times (happening event.entry)) (W.contents writer.old) world.new (W.contents writer.new)) }
+    ensures err { OnErr result (HasBroken world.old (replicate times (happening event.entry)) (W.contents writer.old) (W.contents writer.new)) }
+    ensures fault { IfErr result (λ f. f ≡ ScriptFault.Write) }
+{
+    for i in 0..times {
+        let answer = world.step(event);
+        say(writer, answer)?;
+    }
+    Ok(())
+}
+
+// The file that is offered. Other events have none.
+pub(crate) fn file_of(alloc: Global, deed: Deed<'_>) -> Result<Vec<u8>, ScriptFault>
+    ensures ok { IfOk result (λ v. v.items ≡ file_bytes (deed_of deed.entry)) }
+    ensures fault { IfErr result (λ f. FindsNoRoom (deed_of deed.entry) f) }
+{
+    match deed {
+        Deed::Offer(text) => bytes_of(alloc, text),
+        Deed::Go { fate, times } => Ok(Vec::new(alloc)),
+        Deed::Time(ms) => Ok(Vec::new(alloc)),
+        Deed::Reset => Ok(Vec::new(alloc)),
+    }
+}
+
+// AllCome the events of a line, and writes what is printed of them.
+pub(crate) fn play_deed<'f, M: Faulty + Drop, W: Write>(
+    world: &mut World<'f, M>,
+    deed: Deed<'_>,
+    file: &'f [u8],
+    limits: Limits,
+    writer: &mut W,
+) -> Result<(), ScriptFault>
+    requires { file.now ≡ file_bytes (deed_of deed) }
+    ensures ok { OnOk result (HasPlayed world.old (events_of limits (deed_of deed.entry)) (W.contents writer.old) world.new (W.contents writer.new)) }
+    ensures err { OnErr result (HasBroken world.old (events_of limits (deed_of deed.entry)) (W.contents writer.old) (W.contents writer.new)) }
+    ensures fault { IfErr result (λ f. f ≡ ScriptFault.Write) }
+{
+    match deed {
+        Deed::Offer(_) => play(world, Event::Offer { file, limits }, 1, writer),
+        Deed::Go { fate, times } => play(world, Event::Go(fate), times, writer),
+        Deed::Time(ms) => play(world, Event::Time(ms), 1, writer),
+        Deed::Reset => play(world, Event::Reset, 1, writer),
+    }
+}
+
+// The same while a session is live: an offer is refused whatever its file is.
+pub(crate) fn play_live<'f, M: Faulty + Drop, W: Write>(
+    world: &mut World<'f, M>,
+    deed: Deed<'_>,
+    limits: Limits,
+    writer: &mut W,
+) -> Result<(), ScriptFault>
+    requires { IsLive world.old.session }
+    ensures ok { OnOk result (HasPlayed world.old (events_of limits (deed_of deed.entry)) (W.contents writer.old) world.new (W.contents writer.new)) }
+    ensures err { OnErr result (HasBroken world.old (events_of limits (deed_of deed.entry)) (W.contents writer.old) (W.contents writer.new)) }
+    ensures fault { IfErr result (λ f. f ≡ ScriptFault.Write) }
+{
+    match deed {
+        Deed::Offer(_) => say(writer, Err(LinkFault::HostBusy)),
+        _ => play_deed(world, deed, &[], limits, writer),
+    }
+}

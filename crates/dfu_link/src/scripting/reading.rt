@@ -1,0 +1,67 @@
+// What a line says, read.
+
+ghost use Rattle.std.specs.Prelude.{◌≡◌};
+ghost use Rattle.dfu_link.specs.Words.{Reads, words_of};
+ghost use Rattle.dfu_link.specs.Said.{said_of};
+ghost use Rattle.dfu_link.specs.Lines.{is_comment, says, by_keyword, line_of};
+
+use crate::scripting::fields::ended;
+use crate::scripting::keywords::{Keyword, read_keyword};
+use crate::scripting::line::{Deed, Line};
+use crate::scripting::line_forms::{capacity, device, go, ids, image, limits, offer, time};
+use crate::scripting::words::word_at;
+
+/// The most bytes of a line, without its 0Ah.
+const MAX_LINE: usize = 65_536;
+
+fn by_keyword(keyword: Keyword, rest: &[u8]) -> Option<Line<'_>>
+    ensures { Reads said_of result (by_keyword keyword (words_of rest.now)) }
+{
+    match keyword {
+        Keyword::Ids => ids(rest),
+        Keyword::Device => device(rest),
+        Keyword::Capacity => capacity(rest),
+        Keyword::Image => image(rest),
+        Keyword::Limits => limits(rest),
+        Keyword::Offer => offer(rest),
+        Keyword::Go => go(rest),
+        Keyword::Time => time(rest),
+        Keyword::Reset => ended(Line::Do(Deed::Reset), rest),
+        Keyword::Show => ended(Line::Show, rest),
+    }
+}
+
+fn is_comment(word: &[u8]) -> bool
+    ensures { result ≡ is_comment word.now }
+{
+    match word {
+        [b'#', ..] => true,
+        _ => false,
+    }
+}
+
+fn words_say(line: &[u8]) -> Option<Line<'_>>
+    ensures { Reads said_of result (says (words_of line.now)) }
+{
+    match word_at(line) {
+        None => Some(Line::Blank),
+        Some((word, rest)) => {
+            if is_comment(word) {
+                return Some(Line::Blank);
+            }
+            let keyword = read_keyword(word)?;
+            by_keyword(keyword, rest)
+        }
+    }
+}
+
+// What a line says, or nothing where it is none of the language. A line over 65,536 bytes is none.
+#[tactic(auto, unfolding(crate::specs::Lines::line_of))]
+pub(crate) fn parse(line: &[u8]) -> Option<Line<'_>>
+    ensures { Reads said_of result (line_of line.now) }
+{
+    if line.len() > MAX_LINE {
+        return None;
+    }
+    words_say(line)
+}

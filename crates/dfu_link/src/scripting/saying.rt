@@ -1,0 +1,100 @@
+// The lines of reports and of refused events.
+
+ghost use Rattle.std.specs.Prelude.{◌≡◌, OnOk, OnErr, IfErr};
+ghost use Rattle.std.specs.Io.KnownBytes.{Appends};
+ghost use Rattle.dfu_link.specs.Writing.{Broke};
+ghost use Rattle.dfu_link.specs.Texts.{suffix_fault_name, host_fault_name, offer_fault_name, report_line, refusal_line, answer_line};
+
+use crate::fault::{LinkFault, OfferFault};
+use crate::scripting::fault::ScriptFault;
+use crate::scripting::output::{write_out, write_three};
+use dfu_host::{HostFault, Report};
+use dfu_suffix::SuffixFault;
+use std::io::Write;
+
+fn suffix_fault_name(fault: SuffixFault) -> &'static str
+    ensures { result.now ≡ suffix_fault_name fault }
+{
+    match fault {
+        SuffixFault::TooShort => "TooShort",
+        SuffixFault::NoSignature => "NoSignature",
+        SuffixFault::BadLength => "BadLength",
+        SuffixFault::DfuSe => "DfuSe",
+        SuffixFault::BadCrc => "BadCrc",
+        SuffixFault::AlreadySuffixed => "AlreadySuffixed",
+        SuffixFault::TooLarge => "TooLarge",
+        SuffixFault::NoMemory => "NoMemory",
+        SuffixFault::Read => "Read",
+        SuffixFault::Write => "Write",
+    }
+}
+
+fn host_fault_name(fault: HostFault) -> &'static str
+    ensures { result.now ≡ host_fault_name fault }
+{
+    match fault {
+        HostFault::EmptyPayload => "EmptyPayload",
+        HostFault::WrongTarget => "WrongTarget",
+        HostFault::CannotDownload => "CannotDownload",
+        HostFault::CannotUpload => "CannotUpload",
+        HostFault::BadDescriptor => "BadDescriptor",
+    }
+}
+
+fn offer_fault_name(fault: OfferFault) -> &'static str
+    ensures { result.now ≡ offer_fault_name fault }
+{
+    match fault {
+        OfferFault::Suffix(fault) => suffix_fault_name(fault),
+        OfferFault::Host(fault) => host_fault_name(fault),
+    }
+}
+
+fn say_report<W: Write>(writer: &mut W, report: Report) -> Result<(), ScriptFault>
+    ensures ok { OnOk result (Appends (W.contents writer.old) (W.contents writer.new) (report_line report)) }
+    ensures err { OnErr result (Broke (W.contents writer.old) (W.contents writer.new) (report_line report)) }
+    ensures fault { IfErr result (λ f. f ≡ ScriptFault.Write) }
+{
+    match report {
+        Report::Installed => write_out(writer, b"report installed\n"),
+        Report::Unconfirmed => write_out(writer, b"report unconfirmed\n"),
+        Report::Aborted => write_out(writer, b"report aborted\n"),
+        Report::GaveUp => write_out(writer, b"report gave-up\n"),
+        Report::Refused(code) => write_three(writer, "report refused ", code.name(), "\n"),
+        Report::RestartsSpent => write_out(writer, b"report restarts-spent\n"),
+        Report::Uploaded => write_out(writer, b"report uploaded\n"),
+        Report::TooManyBlocks => write_out(writer, b"report too-many-blocks\n"),
+        Report::NoMemory => write_out(writer, b"report no-memory\n"),
+    }
+}
+
+fn say_refusal<W: Write>(writer: &mut W, fault: LinkFault) -> Result<(), ScriptFault>
+    ensures ok { OnOk result (Appends (W.contents writer.old) (W.contents writer.new) (refusal_line fault)) }
+    ensures err { OnErr result (Broke (W.contents writer.old) (W.contents writer.new) (refusal_line fault)) }
+    ensures fault { IfErr result (λ f. f ≡ ScriptFault.Write) }
+{
+    match fault {
+        LinkFault::HostBusy => write_out(writer, b"refused HostBusy\n"),
+        LinkFault::NoHost => write_out(writer, b"refused NoHost\n"),
+        LinkFault::BadOffer(fault) => {
+            write_three(writer, "refused BadOffer ", offer_fault_name(fault), "\n")
+        }
+        LinkFault::NoMemory => write_out(writer, b"refused NoMemory\n"),
+    }
+}
+
+// Writes what is printed of an event.
+pub(crate) fn say<W: Write>(
+    writer: &mut W,
+    answer: Result<Option<Report>, LinkFault>,
+) -> Result<(), ScriptFault>
+    ensures ok { OnOk result (Appends (W.contents writer.old) (W.contents writer.new) (answer_line answer)) }
+    ensures err { OnErr result (Broke (W.contents writer.old) (W.contents writer.new) (answer_line answer)) }
+    ensures fault { IfErr result (λ f. f ≡ ScriptFault.Write) }
+{
+    match answer {
+        Ok(None) => write_out(writer, &[]),
+        Ok(Some(report)) => say_report(writer, report),
+        Err(fault) => say_refusal(writer, fault),
+    }
+}

@@ -1,0 +1,89 @@
+// What is set before the first event line or `show`.
+
+ghost use Rattle.std.specs.Prelude.{◌≡◌};
+ghost use Rattle.dfu_link.specs.Said.{setting_of, functional_of};
+ghost use Rattle.dfu_link.specs.ScriptRun.{set, beginning};
+ghost use Rattle.dfu_link.specs.Stands.{stand_of};
+
+use crate::scripting::hex_text::HexText;
+use crate::scripting::line::{Room, Setting};
+use dfu_host::Limits;
+use dfu_suffix::Ids;
+use dfu_wire::Functional;
+
+// What is set: what `Config::new` takes, how many bytes an image may have, the image at first (the
+// byte 00 where there is none), and the limits of sessions.
+#[derive(Clone, Copy)]
+pub(crate) struct Setup<'t> {
+    pub ids: Ids,
+    pub functional: Functional,
+    pub least: u32,
+    pub busy_ms: u32,
+    pub manifest_ms: u32,
+    pub room: Room,
+    pub image: Option<HexText<'t>>,
+    pub limits: Limits,
+}
+
+// What holds where no line sets anything else.
+pub(crate) fn beginning<'t>() -> Setup<'t>
+    ensures { stand_of result ≡ beginning }
+{
+    Setup {
+        ids: Ids {
+            device: 0x0100,
+            product: 0x0001,
+            vendor: 0x1209,
+        },
+        functional: Functional {
+            can_download: true,
+            can_upload: true,
+            tolerant: true,
+            will_detach: false,
+            detach_ms: 255,
+            transfer: 8,
+            version: 0x0110,
+        },
+        least: 1,
+        busy_ms: 5,
+        manifest_ms: 10,
+        room: Room { bytes: 64 },
+        image: None,
+        limits: Limits {
+            actions: 1_000_000,
+            restarts: 0,
+        },
+    }
+}
+
+// Does what a configuration line says.
+pub(crate) fn set<'t>(setup: &mut Setup<'t>, setting: Setting<'t>)
+    ensures { stand_of setup.new ≡ set (stand_of setup.old) (setting_of setting.entry) }
+{
+    match setting {
+        Setting::Ids(ids) => setup.ids = ids,
+        Setting::Device {
+            functional,
+            least,
+            busy_ms,
+            manifest_ms,
+        } => {
+            *setup = Setup {
+                functional,
+                least,
+                busy_ms,
+                manifest_ms,
+                ..*setup
+            };
+        }
+        Setting::Capacity(room) => setup.room = room,
+        Setting::Image(text) => setup.image = Some(text),
+    }
+}
+
+// Sets the limits of sessions.
+pub(crate) fn set_limits(setup: &mut Setup<'_>, limits: Limits)
+    ensures { stand_of setup.new ≡ record (stand_of setup.old) { limits = limits } }
+{
+    setup.limits = limits;
+}

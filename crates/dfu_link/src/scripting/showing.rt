@@ -1,0 +1,110 @@
+// The lines of a device: its image, and `show`.
+
+ghost use Rattle.std.specs.Prelude.{◌≡◌, ◌+◌, ◌≤◌, ◌++◌, ◌∷◌, [], length, take, slice_range, OnOk, OnErr, IfErr};
+ghost use Rattle.std.specs.Io.KnownBytes.{Appends};
+ghost use Rattle.hex.specs.Hex.{encode_lower};
+ghost use Rattle.dfu_slots.specs.Seen.{image_of};
+ghost use Rattle.dfu_link.specs.Writing.{Broke};
+ghost use Rattle.dfu_link.specs.Texts.{hex_text, image_line, state_text, show_line};
+
+use crate::scripting::fault::ScriptFault;
+use crate::scripting::output::{write_out, write_three, write_two};
+use dfu_device::Device;
+use dfu_slots::{Medium, Slots};
+use std::io::Write;
+
+// How many bytes of an image are printed at once.
+const PIECE: u32 = 256;
+
+// Writes the bytes of the image from `at` on, so many as fit in a piece of `len` bytes.
+fn write_piece<M: Medium, W: Write>(
+    writer: &mut W,
+    slots: &Slots<M>,
+    at: u32,
+    len: u32,
+) -> Result<(), ScriptFault>
+    requires piece { len ≤ 256 }
+    requires within { at + len ≤ length (image_of slots.now) }
+    ensures ok { OnOk result (Appends (W.contents writer.old) (W.contents writer.new) (encode_lower (slice_range (image_of slots.now) at (at + len)))) }
+    ensures err { OnErr result (Broke (W.contents writer.old) (W.contents writer.new) (encode_lower (slice_range (image_of slots.now) at (at + len)))) }
+    ensures fault { IfErr result (λ f. f ≡ ScriptFault.Write) }
+{
+    let len = len as usize;
+    let mut bytes = [0; 256];
+    let mut digits = [0; 512];
+    slots.read_active(at, &mut bytes[..len]);
+    let Ok(()) = hex::encode_to_slice(&bytes[..len], &mut digits[..2 * len]) else {
+        unreachable!()
+    };
+    write_out(writer, &digits[..2 * len])
+}
+
+// Writes an image as hexadecimal text, piece by piece.
+fn write_pieces<M: Medium, W: Write>(writer: &mut W, slots: &Slots<M>) -> Result<(), ScriptFault>
+    ensures ok { OnOk result (Appends (W.contents writer.old) (W.contents writer.new) (encode_lower (image_of slots.now))) }
+    ensures err { OnErr result (Broke (W.contents writer.old) (W.contents writer.new) (encode_lower (image_of slots.now))) }
+    ensures fault { IfErr result (λ f. f ≡ ScriptFault.Write) }
+{
+    let all = slots.active_len();
+    let mut at = 0;
+    while at < all {
+        let len = PIECE.min(all - at);
+        write_piece(writer, slots, at, len)?;
+        at += len;
+    }
+    Ok(())
+}
+
+// Writes the image of a slot store, and ends the line.
+fn write_hex<M: Medium, W: Write>(writer: &mut W, slots: &Slots<M>) -> Result<(), ScriptFault>
+    ensures ok { OnOk result (Appends (W.contents writer.old) (W.contents writer.new) (hex_text (image_of slots.now) ++ 10 ∷ [])) }
+    ensures err { OnErr result (Broke (W.contents writer.old) (W.contents writer.new) (hex_text (image_of slots.now) ++ 10 ∷ [])) }
+    ensures fault { IfErr result (λ f. f ≡ ScriptFault.Write) }
+{
+    if slots.active_len() == 0 {
+        return write_two(writer, "-", "\n");
+    }
+    write_pieces(writer, slots)?;
+    write_out(writer, b"\n")
+}
+
+// Writes the line of the device's image.
+pub(crate) fn write_image<M: Medium + Drop, W: Write>(
+    writer: &mut W,
+    device: &Device<M>,
+) -> Result<(), ScriptFault>
+    ensures ok { OnOk result (Appends (W.contents writer.old) (W.contents writer.new) (image_line device.now)) }
+    ensures err { OnErr result (Broke (W.contents writer.old) (W.contents writer.new) (image_line device.now)) }
+    ensures fault { IfErr result (λ f. f ≡ ScriptFault.Write) }
+{
+    write_out(writer, b"image ")?;
+    write_hex(writer, device.slots())
+}
+
+// Writes the device's state and its status code.
+fn write_state<M: Medium + Drop, W: Write>(
+    writer: &mut W,
+    device: &Device<M>,
+) -> Result<(), ScriptFault>
+    ensures ok { OnOk result (Appends (W.contents writer.old) (W.contents writer.new) (state_text device.now)) }
+    ensures err { OnErr result (Broke (W.contents writer.old) (W.contents writer.new) (state_text device.now)) }
+    ensures fault { IfErr result (λ f. f ≡ ScriptFault.Write) }
+{
+    let state = device.state();
+    let code = device.code();
+    write_three(writer, "state ", state.name(), " status ")?;
+    write_two(writer, code.name(), " ")
+}
+
+// Writes the line of `show`.
+pub(crate) fn write_show<M: Medium + Drop, W: Write>(
+    writer: &mut W,
+    device: &Device<M>,
+) -> Result<(), ScriptFault>
+    ensures ok { OnOk result (Appends (W.contents writer.old) (W.contents writer.new) (show_line device.now)) }
+    ensures err { OnErr result (Broke (W.contents writer.old) (W.contents writer.new) (show_line device.now)) }
+    ensures fault { IfErr result (λ f. f ≡ ScriptFault.Write) }
+{
+    write_state(writer, device)?;
+    write_image(writer, device)
+}

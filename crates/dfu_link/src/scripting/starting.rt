@@ -1,0 +1,86 @@
+// The start of the device.
+
+ghost use Rattle.std.specs.Prelude.{◌≡◌, ◌<◌, ◌≤◌, length, IfOk, IfErr};
+ghost use Rattle.dfu_slots.specs.Medium.{AllWrites};
+ghost use Rattle.dfu_slots.specs.Seen.{image_of, format_series};
+ghost use Rattle.dfu_link.specs.Said.{hex_bytes};
+ghost use Rattle.dfu_link.specs.ScriptRun.{blank, Starts};
+ghost use Rattle.dfu_link.specs.Falls.{StartFalls};
+ghost use Rattle.dfu_link.specs.Moving.{IsUnarmed};
+ghost use Rattle.dfu_link.specs.Stands.{stand_of, image_bytes};
+ghost use Rattle.dfu_link.specs.Forming.{Formed, FormFalls};
+
+use crate::scripting::fault::ScriptFault;
+use crate::scripting::hex_text::HexText;
+use crate::scripting::line::Room;
+use crate::scripting::setup::Setup;
+use dfu_device::{Config, Device};
+use dfu_slots::{FormatFault, SimMedium, Slots};
+use std::alloc::Global;
+
+// The bytes of a hexadecimal text.
+pub(crate) fn bytes_of(alloc: Global, text: HexText<'_>) -> Result<Vec<u8>, ScriptFault>
+    ensures ok { IfOk result (λ v. v.items ≡ hex_bytes text.entry) }
+    ensures fault { IfErr result (λ f. f ≡ ScriptFault.NoMemory) }
+{
+    if text.text == b"-".as_slice() {
+        return Ok(Vec::new(alloc));
+    }
+    match hex::decode(alloc, text.text) {
+        Ok(bytes) => Ok(bytes),
+        Err(_) => Err(ScriptFault::NoMemory),
+    }
+}
+
+// The image at first.
+fn first_image(alloc: Global, text: Option<HexText<'_>>) -> Result<Vec<u8>, ScriptFault>
+    ensures ok { IfOk result (λ v. v.items ≡ image_bytes text.entry) }
+    ensures fault { IfErr result (λ f. f ≡ ScriptFault.NoMemory) }
+{
+    match text {
+        Some(text) => bytes_of(alloc, text),
+        None => match Vec::from_slice(alloc, &[0]) {
+            Ok(image) => Ok(image),
+            Err(_) => Err(ScriptFault::NoMemory),
+        },
+    }
+}
+
+// A medium in memory, formatted with the image.
+fn form(alloc: Global, room: Room, image: &[u8]) -> Result<Slots<SimMedium>, ScriptFault>
+    ensures ok { IfOk result (λ slots. Formed room.bytes image.now slots) }
+    ensures fault { IfErr result (λ f. FormFalls room.bytes image.now f) }
+{
+    let Ok(medium) = SimMedium::new(alloc, 2 * (32 + room.bytes)) else {
+        return Err(ScriptFault::NoMemory);
+    };
+    match Slots::format(medium, image) {
+        Ok(slots) => Ok(slots),
+        Err((fault, spoilt)) => match fault {
+            FormatFault::TooLarge => Err(ScriptFault::BadConfig),
+            FormatFault::WrongSize => unreachable!(),
+            FormatFault::Failed => unreachable!(),
+        },
+    }
+}
+
+// Starts the device, in appIDLE on a formatted medium in memory.
+pub(crate) fn start(alloc: Global, setup: &Setup<'_>) -> Result<Device<SimMedium>, ScriptFault>
+    ensures ok { IfOk result (λ d. Starts (stand_of setup.now) d) }
+    ensures unarmed { IfOk result (λ d. IsUnarmed d) }
+    ensures fault { IfErr result (λ f. StartFalls (stand_of setup.now) f) }
+{
+    let config = Config::new(
+        setup.ids,
+        setup.functional,
+        setup.least,
+        setup.busy_ms,
+        setup.manifest_ms,
+    );
+    let Ok(config) = config else {
+        return Err(ScriptFault::BadConfig);
+    };
+    let image = first_image(alloc, setup.image)?;
+    let slots = form(alloc, setup.room, &image)?;
+    Ok(Device::start(config, slots))
+}

@@ -1,0 +1,109 @@
+//! Scripts from the first byte of their text to the last of their output.
+
+mod limits;
+mod rows;
+mod streams;
+
+use crate::{ScriptFault, script};
+use rows::text_of;
+use std::test::Fail;
+
+const INSTALLED: &str = "report installed\nimage ffffffff\n";
+
+// Downloads to devices of several kinds.
+#[rattlefmt::skip]
+#[test]
+fn scripts_install(rt: HostRuntime) -> Result<(), Fail> {
+    let rows = [
+        ("", "image 00\n"),
+        ("offer W / go pass 13", INSTALLED),
+        ("offer W / go pass 12", "image ffffffff\n"),
+        ("device 07 255 8 1 0 0 / offer W / go pass 9", INSTALLED),
+        ("device 07 255 8 1 0 0 / offer W / go pass 8", "image ffffffff\n"),
+        ("device 0f 255 8 1 5 10 / offer W / go pass 13", INSTALLED),
+        ("device 03 255 8 1 5 10 / offer W / go pass 12", "report unconfirmed\nimage ffffffff\n"),
+        ("capacity 3 / offer W / go pass 6", "report refused errADDRESS\nimage 00\n"),
+        ("device 07 255 8 5 5 10 / offer W / go pass 10", "report refused errNOTDONE\nimage 00\n"),
+        ("limits 9 0 / offer W / go pass 9 / limits 100 0 / offer N / go pass 3 / show / go pass 13", "report gave-up\nstate dfuIDLE status OK image ffffffff\nreport installed\nimage 313233343536373839\n"),
+    ];
+    for (row, out) in rows {
+        let text = text_of(rt.alloc(), row)?;
+        let mut seen = Vec::new(rt.alloc());
+        assert_eq!(rt; script(rt.alloc(), text.as_slice(), &mut seen), Ok(()), "of {row}");
+        assert_eq!(rt; seen.as_slice(), out.as_bytes(), "of {row}");
+    }
+    Ok(())
+}
+
+// Losses, doublings, waits and resets.
+#[rattlefmt::skip]
+#[test]
+fn scripts_go_on_after_losses(rt: HostRuntime) -> Result<(), Fail> {
+    let rows = [
+        ("offer W / go pass 4 / go lostback / go pass 9", INSTALLED),
+        ("offer W / go pass 4 / go lostout / go pass 10", INSTALLED),
+        ("offer W / go pass 4 / go twicelostback / go pass 13", INSTALLED),
+        ("offer W / go pass 4 / go twice / show / go pass 12", "state dfuERROR status errSTALLEDPKT image 00\nreport installed\nimage ffffffff\n"),
+        ("offer W / go pass 9 / go lostback / go pass 4 / show / go pass 9", "state dfuIDLE status OK image 00\nreport installed\nimage ffffffff\n"),
+        ("offer W / go pass 6 / go slip 4 / go pass 13", INSTALLED),
+        ("offer W / go pass 2 / time 255 / go pass 14", INSTALLED),
+        ("limits 100 1 / offer W / go pass 7 / reset / go pass 13", INSTALLED),
+        ("offer W / go pass 7 / reset", "report restarts-spent\nimage 00\n"),
+        ("device 07 0 8 1 5 10 / offer W / go pass 2 / time 1 / show", "state appIDLE status OK image 00\nimage 00\n"),
+        ("device 07 65535 8 1 5 10 / offer W / go pass 2 / time 65534 / show / time 4294967295 / show", "state appDETACH status OK image 00\nstate appIDLE status OK image 00\nimage 00\n"),
+    ];
+    for (row, out) in rows {
+        let text = text_of(rt.alloc(), row)?;
+        let mut seen = Vec::new(rt.alloc());
+        assert_eq!(rt; script(rt.alloc(), text.as_slice(), &mut seen), Ok(()), "of {row}");
+        assert_eq!(rt; seen.as_slice(), out.as_bytes(), "of {row}");
+    }
+    Ok(())
+}
+
+// A refused event prints a line, and the script goes on.
+#[rattlefmt::skip]
+#[test]
+fn scripts_go_on_after_refusals(rt: HostRuntime) -> Result<(), Fail> {
+    let rows = [
+        ("offer Z / go pass 1 / offer W / offer W", "refused BadOffer WrongTarget\nrefused NoHost\nrefused HostBusy\nimage 00\n"),
+        ("offer E", "refused BadOffer EmptyPayload\nimage 00\n"),
+        ("offer -", "refused BadOffer TooShort\nimage 00\n"),
+        ("device 06 255 8 1 5 10 / offer W", "refused BadOffer CannotDownload\nimage 00\n"),
+        ("go pass 3", "refused NoHost\nrefused NoHost\nrefused NoHost\nimage 00\n"),
+        ("offer W / offer -", "refused HostBusy\nimage 00\n"),
+        ("time 7 / reset", "image 00\n"),
+    ];
+    for (row, out) in rows {
+        let text = text_of(rt.alloc(), row)?;
+        let mut seen = Vec::new(rt.alloc());
+        assert_eq!(rt; script(rt.alloc(), text.as_slice(), &mut seen), Ok(()), "of {row}");
+        assert_eq!(rt; seen.as_slice(), out.as_bytes(), "of {row}");
+    }
+    Ok(())
+}
+
+// Faults come at their line, after the text of the lines before.
+#[rattlefmt::skip]
+#[test]
+fn scripts_fall_at_a_line(rt: HostRuntime) -> Result<(), Fail> {
+    let rows = [
+        ("show / capacity 8", "state appIDLE status OK image 00\n", ScriptFault::LateConfig(2)),
+        ("show / bogus", "state appIDLE status OK image 00\n", ScriptFault::BadLine(2)),
+        ("# a / / time 1 / image 00", "", ScriptFault::LateConfig(4)),
+        ("offer W / go pass 13 / offer W / ids 0000 0000 0000", "report installed\n", ScriptFault::LateConfig(4)),
+        ("show / ids 0000 0000 000", "state appIDLE status OK image 00\n", ScriptFault::BadLine(2)),
+        ("device 07 255 0 1 5 10", "", ScriptFault::BadConfig),
+        ("device 07 255 4097 1 5 10 / show / bogus", "", ScriptFault::BadConfig),
+        ("device 07 255 0 1 5 10 / go pass", "", ScriptFault::BadLine(2)),
+        ("capacity 1 / image 0001", "", ScriptFault::BadConfig),
+        ("capacity 1 / image 0001 / image - / bogus", "", ScriptFault::BadLine(4)),
+    ];
+    for (row, out, fault) in rows {
+        let text = text_of(rt.alloc(), row)?;
+        let mut seen = Vec::new(rt.alloc());
+        assert_eq!(rt; script(rt.alloc(), text.as_slice(), &mut seen), Err(fault), "of {row}");
+        assert_eq!(rt; seen.as_slice(), out.as_bytes(), "of {row}");
+    }
+    Ok(())
+}

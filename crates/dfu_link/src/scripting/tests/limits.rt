@@ -1,0 +1,143 @@
+// Words, numbers and lines at the ends of their ranges.
+
+use crate::{ScriptFault, script};
+use std::test::Fail;
+
+// Lines that are understood, alone in a script.
+#[test]
+fn lines_of_the_language(rt: HostRuntime) -> Result<(), Fail> {
+    let lines = [
+        "",
+        "   ",
+        "#",
+        "  # show  ",
+        "#show",
+        "  ids   1209 0001 0100  ",
+        "ids ffff FFFF aAbB",
+        "device 0F 65535 4096 16777216 16777215 16777215",
+        "capacity 1",
+        "capacity 1048576",
+        "capacity 0000000064",
+        "limits 0 0",
+        "limits 4294967295 65535",
+        "time 0",
+        "time 4294967295",
+        "time 0000000001",
+        "reset",
+    ];
+    for line in lines {
+        let mut seen = Vec::new(rt.alloc());
+        assert_eq!(rt;
+            script(rt.alloc(), line.as_bytes(), &mut seen),
+            Ok(()),
+            "of {line}"
+        );
+        assert_eq!(rt; seen.as_slice(), &b"image 00\n"[..], "of {line}");
+    }
+    Ok(())
+}
+
+// Lines that are not.
+#[test]
+fn lines_of_no_language(rt: HostRuntime) -> Result<(), Fail> {
+    let lines = [
+        "bogus",
+        "Show",
+        "show now",
+        "show\t",
+        "\tshow",
+        "reset\r",
+        "ids 1209 0001",
+        "ids 1209 0001 010",
+        "ids 1209 0001 0100 0",
+        "ids 1209 0001 010g",
+        "device 10 255 8 1 5 10",
+        "device 7 255 8 1 5 10",
+        "device 07 65536 8 1 5 10",
+        "device 07 255 65536 1 5 10",
+        "device 07 255 8 1 5",
+        "capacity 0",
+        "capacity 1048577",
+        "capacity",
+        "image f",
+        "image 0g",
+        "image --",
+        "image",
+        "limits 1",
+        "limits 1 65536",
+        "limits 4294967296 0",
+        "offer",
+        "offer - -",
+        "time 00000000001",
+        "time 4294967296",
+        "time -1",
+        "time 1,000",
+        "go",
+        "go home",
+        "go pass",
+        "go pass 0",
+        "go pass 1000001",
+        "go lostout 1",
+        "go slip",
+        "reset 1",
+    ];
+    for line in lines {
+        let mut seen = Vec::new(rt.alloc());
+        assert_eq!(rt;
+            script(rt.alloc(), line.as_bytes(), &mut seen),
+            Err(ScriptFault::BadLine(1)),
+            "of {line}"
+        );
+        assert_eq!(rt; seen.as_slice(), &b""[..], "of {line}");
+    }
+    Ok(())
+}
+
+// A line has up to 65,536 bytes, also where it says nothing.
+#[test]
+fn long_lines(rt: HostRuntime) -> Result<(), Fail> {
+    for first in [b' ', b'#'] {
+        let mut text = Vec::new(rt.alloc());
+        text.push(first)?;
+        text.resize(65_536, b' ')?;
+        text.push(b'\n')?;
+        let mut seen = Vec::new(rt.alloc());
+        assert_eq!(rt; script(rt.alloc(), text.as_slice(), &mut seen), Ok(()));
+        assert_eq!(rt; seen.as_slice(), &b"image 00\n"[..]);
+
+        text.push(first)?;
+        text.resize(131_074, b' ')?;
+        let mut seen = Vec::new(rt.alloc());
+        assert_eq!(rt;
+            script(rt.alloc(), text.as_slice(), &mut seen),
+            Err(ScriptFault::BadLine(2))
+        );
+        assert_eq!(rt; seen.as_slice(), &b""[..]);
+    }
+    Ok(())
+}
+
+// An image is printed whole, whatever its length.
+#[test]
+fn images_of_each_length(rt: HostRuntime) -> Result<(), Fail> {
+    for bytes in [0usize, 1, 255, 256, 257, 512, 700] {
+        let mut digits = Vec::new(rt.alloc());
+        for place in 0..bytes {
+            digits.extend_from_slice(if place % 2 == 0 { b"a5" } else { b"1f" })?;
+        }
+        if bytes == 0 {
+            digits.push(b'-')?;
+        }
+        let mut text = Vec::new(rt.alloc());
+        text.extend_from_slice(b"capacity 700\nimage ")?;
+        text.extend_from_slice(&digits)?;
+        let mut out = Vec::new(rt.alloc());
+        out.extend_from_slice(b"image ")?;
+        out.extend_from_slice(&digits)?;
+        out.push(b'\n')?;
+        let mut seen = Vec::new(rt.alloc());
+        assert_eq!(rt; script(rt.alloc(), text.as_slice(), &mut seen), Ok(()));
+        assert_eq!(rt; seen.as_slice(), out.as_slice(), "{bytes} bytes");
+    }
+    Ok(())
+}

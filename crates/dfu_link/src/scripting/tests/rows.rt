@@ -1,0 +1,31 @@
+// The text of a row.
+
+use std::alloc::{AllocError, Global};
+
+// Payload FFFFFFFFh, identifiers FFFFh.
+const FOUR_ONES: &[u8] = b"ffffffffffffffffffff00015546441071c8510c";
+
+// The same payload, identifiers 0000h.
+const NO_IDS: &[u8] = b"ffffffff00000000000000015546441037bd063c";
+
+// No payload.
+const EMPTY: &[u8] = b"ffffffffffff000155464410e1f17b88";
+
+// Payload '123456789', vendor 1209h, product 0001h, device 0100h.
+const DIGITS: &[u8] = b"313233343536373839000101000912000155464410621c70fe";
+
+// In a row `/` ends a line, and W, Z, E and N are the digits of these files.
+pub fn text_of(alloc: Global, row: &str) -> Result<Vec<u8>, AllocError> {
+    let mut text = Vec::new(alloc);
+    for byte in row.as_bytes() {
+        match byte {
+            b'/' => text.push(b'\n')?,
+            b'W' => text.extend_from_slice(FOUR_ONES)?,
+            b'Z' => text.extend_from_slice(NO_IDS)?,
+            b'E' => text.extend_from_slice(EMPTY)?,
+            b'N' => text.extend_from_slice(DIGITS)?,
+            byte => text.push(*byte)?,
+        }
+    }
+    Ok(text)
+}

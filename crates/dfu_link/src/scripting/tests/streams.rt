@@ -1,0 +1,89 @@
+// Readers and writers that cut what they give and take, or fail.
+
+use super::rows::text_of;
+use crate::{ScriptFault, script};
+use std::io::{self, ErrorKind, Read, Write};
+use std::test::Fail;
+
+// Gives so many line ends, at most `step` at a call, and then fails or is at its end.
+#[derive(Drop)]
+struct Blank {
+    left: usize,
+    fails: bool,
+}
+
+impl Read for Blank {
+    fn read(&mut self, buf: &mut [u8]) -> io::Result<usize> {
+        if self.left == 0 && self.fails {
+            return Err(io::Error::from(ErrorKind::Interrupted));
+        }
+        let given = self.left.min(buf.len());
+        buf[..given].fill(b'\n');
+        self.left -= given;
+        Ok(given)
+    }
+}
+
+// Takes so many bytes, and then fails.
+#[derive(Drop)]
+struct Narrow {
+    taken: Vec<u8>,
+    left: usize,
+}
+
+impl Write for Narrow {
+    fn write(&mut self, buf: &[u8]) -> io::Result<usize> {
+        if self.left == 0 {
+            return Err(io::Error::from(ErrorKind::Interrupted));
+        }
+        let most = buf.len().min(3).min(self.left);
+        self.taken.extend_from_slice(&buf[..most])?;
+        self.left -= most;
+        Ok(most)
+    }
+
+    fn flush(&mut self) -> io::Result<()> {
+        Ok(())
+    }
+}
+
+#[test]
+fn texts_have_a_limit(rt: HostRuntime) -> Result<(), Fail> {
+    let rows = [
+        (16_777_216, false, Ok(()), "image 00\n"),
+        (16_777_217, false, Err(ScriptFault::TooLarge), ""),
+        (16_777_217, true, Err(ScriptFault::TooLarge), ""),
+        (16_777_216, true, Err(ScriptFault::Read), ""),
+        (0, true, Err(ScriptFault::Read), ""),
+    ];
+    for (left, fails, result, out) in rows {
+        let mut seen = Vec::new(rt.alloc());
+        assert_eq!(rt;
+            script(rt.alloc(), Blank { left, fails }, &mut seen),
+            result
+        );
+        assert_eq!(rt; seen.as_slice(), out.as_bytes());
+    }
+    Ok(())
+}
+
+// Wherever the writer fails, a front of the text is out.
+#[test]
+fn writers_fail_anywhere(rt: HostRuntime) -> Result<(), Fail> {
+    let text = text_of(
+        rt.alloc(),
+        "show / go pass 2 / offer W / offer W / go pass 13 / show",
+    )?;
+    let mut whole = Vec::new(rt.alloc());
+    assert_eq!(rt; script(rt.alloc(), text.as_slice(), &mut whole), Ok(()));
+    for left in 0..whole.len() {
+        let taken = Vec::new(rt.alloc());
+        let mut narrow = Narrow { taken, left };
+        assert_eq!(rt;
+            script(rt.alloc(), text.as_slice(), &mut narrow),
+            Err(ScriptFault::Write)
+        );
+        assert_eq!(rt; narrow.taken.as_slice(), &whole[..left]);
+    }
+    Ok(())
+}

@@ -1,0 +1,110 @@
+// Words of a line, numbers and hexadecimal text.
+
+ghost use Rattle.std.specs.Prelude.{◌≡◌, ◌↔◌, ◌+◌, ◌*◌, Some, None, IsTrue, is_some};
+ghost use Rattle.std.specs.List.{position, AllPass};
+ghost use Rattle.hex.specs.Hex.{is_hex_digit};
+ghost use Rattle.dfu_link.specs.Words.{Reads, is_space, is_no_space, words_of, first, number_of, bytes_of, quad_of, pair_of};
+ghost use Rattle.dfu_link.specs.Said.{hex_bytes};
+
+use crate::scripting::hex_text::HexText;
+
+// Where the first space is.
+fn space_at(line: &[u8]) -> Option<usize>
+    ensures { result ≡ position is_space line.now }
+{
+    line.iter().position(|byte| *byte == b' ')
+}
+
+// Where the first byte is that isn't a space.
+fn start_at(line: &[u8]) -> Option<usize>
+    ensures { result ≡ position is_no_space line.now }
+{
+    line.iter().position(|byte| *byte != b' ')
+}
+
+// The first word, and the line after it. Nothing where there is no word.
+pub(crate) fn word_at(line: &[u8]) -> Option<(&[u8], &[u8])>
+    ensures { Reads (λ x. (x.0.now, words_of x.1.now)) result (first (words_of line.now)) }
+{
+    let start = start_at(line)?;
+    let (_, line) = line.split_at(start);
+    match space_at(line) {
+        Some(end) => Some(line.split_at(end)),
+        None => Some((line, &[])),
+    }
+}
+
+// A number of 1 to 10 decimal digits, at most 4,294,967,295.
+pub(crate) fn number(word: &[u8]) -> Option<u32>
+    ensures { Reads (λ n. n) result (number_of word.now) }
+{
+    if word.is_empty() || word.len() > 10 {
+        return None;
+    }
+    let mut n = 0u64;
+    for digit in word {
+        if !digit.is_ascii_digit() {
+            return None;
+        }
+        n = n * 10 + u64::from(*digit - b'0');
+    }
+    match u32::try_from(n) {
+        Ok(n) => Some(n),
+        Err(_) => None,
+    }
+}
+
+#[tactic(auto, using(std::proofs::lemmas::Bool::Decides::nat_tests))]
+fn is_digit(byte: u8) -> bool
+    ensures { result ≡ is_hex_digit byte }
+{
+    matches!(byte, b'A'..=b'F' | b'a'..=b'f' | b'0'..=b'9')
+}
+
+fn are_digits(word: &[u8]) -> bool
+    ensures { IsTrue result ↔ AllPass is_hex_digit word.now }
+{
+    word.iter().all(|byte| is_digit(*byte))
+}
+
+fn is_hex_text(word: &[u8]) -> bool
+    ensures { result ≡ is_some (bytes_of word.now) }
+{
+    if word == b"-".as_slice() {
+        return true;
+    }
+    word.len() % 2 == 0 && are_digits(word)
+}
+
+// An even number of hexadecimal digits of either case, or `-` for no bytes.
+pub(crate) fn hex_text(word: &[u8]) -> Option<HexText<'_>>
+    ensures { Reads hex_bytes result (bytes_of word.now) }
+{
+    if is_hex_text(word) {
+        Some(HexText { text: word })
+    } else {
+        None
+    }
+}
+
+// Four hexadecimal digits.
+pub(crate) fn quad(word: &[u8]) -> Option<u16>
+    ensures { Reads (λ n. n) result (quad_of word.now) }
+{
+    let mut bytes = [0; 2];
+    match hex::decode_to_slice(word, &mut bytes) {
+        Ok(()) => Some(u16::from_be_bytes(bytes)),
+        Err(_) => None,
+    }
+}
+
+// Two hexadecimal digits.
+pub(crate) fn pair(word: &[u8]) -> Option<u8>
+    ensures { Reads (λ n. n) result (pair_of word.now) }
+{
+    let mut bytes = [0; 1];
+    match hex::decode_to_slice(word, &mut bytes) {
+        Ok(()) => Some(bytes[0]),
+        Err(_) => None,
+    }
+}
