@@ -3,7 +3,7 @@ use Rattle.std.proofs.Common.{◌≡◌, ◌⊎◌, inl, inr, ℕ, zero, suc, �
 use Rattle.std.proofs.lemmas.List.{take_all, length-map}
 use Rattle.dfu_device.specs.Stage.{Profile}
 use Rattle.dfu_device.specs.Setting.{Setting}
-use Rattle.dfu_device.specs.Shown.{Shown, profile_of, without_upload, profile}
+use Rattle.dfu_device.specs.Shown.{Shown, profile_of, profile}
 use Rattle.dfu_host.specs.declared.report.Report.{Report}
 use Rattle.dfu_link.specs.declared.event.Event.{Event as GivenEvent}
 use Rattle.dfu_link.specs.declared.fault.LinkFault.{LinkFault}
@@ -48,7 +48,7 @@ chain_runs (one_more s more) = comes s.play (chain_runs more)
 
 -- the profile stays
 pub same_profile : (w w' : Shown) → IsSame w w' → profile w' ≡ profile w
-same_profile w w' same = λ k. without_upload (profile_of (same.config k) (same.room k))
+same_profile w w' same = λ k. profile_of (same.config k) (same.room k)
 
 -- the active image after a legal run
 active_after : (w w' : Link) (c : Profile) (m after : Machine) (kinds : List Kind) (reports : List Report) → Agrees w m.up m → Agrees w' after.up after → Legal c.tolerant c.transfer m kinds reports after
