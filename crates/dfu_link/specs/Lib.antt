@@ -6,7 +6,6 @@ pub mod Headline
 pub mod CleanRun
 pub mod Bytes
 pub mod Understood
-pub mod FactProps
 pub mod Comes
 pub mod Running
 pub mod Standing

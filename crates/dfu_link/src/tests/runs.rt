@@ -1,11 +1,36 @@
 //! Lists of events.
 
+ghost use Rattle.std.specs.Prelude.{◌≡◌, ℕ, List, IsTrue};
+ghost use Rattle.dfu_host.specs.declared.limits.Limits.{Limits};
+ghost use Rattle.dfu_link.specs.Bytes.{link_of};
+ghost use Rattle.dfu_link.specs.CleanRun.{resting};
+ghost use Rattle.dfu_link.specs.Running.{happenings};
+ghost use Rattle.dfu_link.specs.CleanInstall.{CanInstall, clean_passes, offer_and_passes};
+
 use super::bench::{AMPLE, Setup, USUAL, W, offer, pass, play, world};
-use crate::{Event, Fate, LinkFault, run};
+use crate::{Event, Fate, LinkFault, World, run};
 use dfu_host::Report;
+use dfu_slots::Faulty;
 use dfu_suffix::Crc;
 use std::alloc::{AllocError, Global};
 use std::test::Fail;
+
+/// An offer and the passes of a clean download. Where all of it came, the payload is the active
+/// image of a device in appIDLE, and that was reported.
+fn installs<'f, M: Faulty + Drop>(
+    world: &mut World<'f, M>,
+    alloc: Global,
+    events: &[Event<'f>],
+) -> bool
+    ensures { (file payload : List ℕ) (limits : Limits) → CanInstall world.old file limits payload
+        → happenings events.now ≡ offer_and_passes file limits (clean_passes world.old.device.config payload)
+        → IsTrue result → link_of world.new ≡ resting payload }
+{
+    match run(world, alloc, events) {
+        Ok(_) => true,
+        Err(_) => false,
+    }
+}
 
 const PASS: Event<'static> = Event::Go(Fate::Pass);
 
@@ -30,6 +55,7 @@ fn a_run_stops_at_the_first_refusal(rt: HostRuntime) -> Result<(), Fail> {
         Ok(reports) => assert_eq!(rt; reports.as_slice(), [Report::Installed].as_slice()),
         Err(stop) => panic!(rt; "stopped at {}", stop.at),
     }
+    assert!(rt; installs(&mut world, rt.alloc(), &events));
     Ok(())
 }
 
