@@ -8,7 +8,7 @@ use Rattle.dfu_host.specs.Table.{Goal, ToLoad, ToFetch}
 use Rattle.dfu_link.specs.declared.fault.LinkFault.{LinkFault}
 use Rattle.dfu_link.specs.Session.{Machine}
 use Rattle.dfu_link.specs.Play.{Pass, CutIn, Fail, Event, Offer, Go, Time, ResetBus, Session, Nobody, Hosted, Link, Answered, given, IsAllowed}
-use Rattle.dfu_link.specs.Agreement.{pending_of, live_of, IsSound, IsGoalOffer, IsLiveOffer, Agrees}
+use Rattle.dfu_link.specs.Agreement.{pending_of, live_of, IsSound, IsGoalOffer, IsLiveOffer, Agrees, NothingClosed, SomeAgrees, FreshAgrees}
 use Rattle.dfu_link.specs.Fact.{SessionFact}
 use Rattle.dfu_link.specs.Headline.{Follows}
 use Rattle.dfu_link.specs.Bytes.{Harm, Bench, link_of, Happens, BytePlay}
@@ -55,6 +55,24 @@ machine_of w = record { cur = w.device.image; offers = closed_in w.device.stage 
 
 machine_agrees : (w : Link) → Agrees w [] (machine_of w)
 machine_agrees w = record { cur = refl; pending = refl; live = refl; up_is = refl; sound = closed_sound w.device.stage (payload_in w.session ∷ []); offered = live_offered w.session (closed_in w.device.stage) }
+
+pub some_agrees : SomeAgrees
+some_agrees w = (machine_of w, machine_agrees w)
+
+open_sound : (stage : Stage) → NothingClosed stage → IsSound [] stage
+open_sound (Closed taken) h = elim h [ ]
+open_sound (Committing taken passed) h = elim h [ ]
+open_sound stage h = tt
+
+pub fresh_agrees : FreshAgrees
+fresh_agrees w none still = record {
+  cur = refl;
+  pending = refl;
+  live = ap (λ (s : Session). live_of s) (sym none);
+  up_is = refl;
+  sound = open_sound w.device.stage still;
+  offered = subst (λ (s : Session). IsLiveOffer [] s) (sym none) tt;
+}
 
 -- The transfer size, where it is needed.
 

@@ -1,5 +1,5 @@
 -- What a link shows of the session machine.
-use Rattle.std.specs.Prelude.{◌≡◌, ℕ, List, ◌++◌, Option, Some, None}
+use Rattle.std.specs.Prelude.{◌≡◌, ℕ, List, [], ◌++◌, Option, Some, None}
 use Rattle.dfu_device.specs.Stage.{Stage, Unwritten, Written, Writing, Ready, Closed, Committing}
 use Rattle.dfu_host.specs.Table.{Goal, ToLoad, ToFetch}
 use Rattle.dfu_link.specs.Session.{IsOneOf, Machine, Live, NoOne, Loading, Fetching}
@@ -50,3 +50,21 @@ pub record Agrees (w : Link) (up : List ℕ) (m : Machine) : Type 0 where
   pub up_is : m.up ≡ up
   pub sound : IsSound m.offers w.device.stage
   pub offered : IsLiveOffer m.offers w.session
+
+-- No bytes are closed, which a host asked to be put in place.
+abbrev pub NothingClosed : Stage → Type 0
+NothingClosed (Closed taken) = ⊥
+NothingClosed (Committing taken passed) = ⊥
+NothingClosed stage = Unit {0}
+
+-- The session machine of a link with no session, before anything is offered.
+abbrev pub fresh : Link → Machine
+fresh w = record { cur = w.device.image; offers = []; pending = pending_of w.device.stage; live = NoOne; up = [] }
+
+-- Some session machine agrees with each link.
+abbrev pub SomeAgrees : Type 0
+SomeAgrees = (w : Link) → (m : Machine) × Agrees w m.up m
+
+-- Where no session is live and no bytes are closed, one agrees to which nothing was offered.
+abbrev pub FreshAgrees : Type 0
+FreshAgrees = (w : Link) → w.session ≡ Nobody → NothingClosed w.device.stage → Agrees w [] (fresh w)

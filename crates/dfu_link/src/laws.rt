@@ -1,5 +1,6 @@
 //! Laws of plays: each function does nothing, and its contract is the law.
 
+ghost use Rattle.dfu_link.specs.Agreement.{SomeAgrees, FreshAgrees};
 ghost use Rattle.dfu_link.specs.CleanRun.{CleanRun};
 ghost use Rattle.dfu_link.specs.Headline.{Headline, OnlyOffered, Simulation};
 ghost use Rattle.dfu_link.specs.Understood.{ImageShown, BytesHeadline, BytesShow, Understood};
@@ -29,6 +30,13 @@ pub fn clean_run()
 /// far.
 pub fn only_offered()
     ensures { OnlyOffered }
+{}
+
+/// Agreement is no empty word: some session machine agrees with each link, and where no session is
+/// live and no bytes are closed, one to which nothing was offered.
+pub fn machine_agrees()
+    ensures some { SomeAgrees }
+    ensures fresh { FreshAgrees }
 {}
 
 /// What goes over the wire is understood: what a device answers to a request of a host, in bytes,

@@ -17,7 +17,8 @@ pub use event::Event;
 pub use fate::Fate;
 pub use fault::{LinkFault, OfferFault};
 pub use laws::{
-    bytes_show, clean_run, headline, image_shown, only_offered, simulation, understood,
+    bytes_show, clean_run, headline, image_shown, machine_agrees, only_offered, simulation,
+    understood,
 };
 pub use running::{Stop, run};
 pub use scripting::{ScriptFault, script};
