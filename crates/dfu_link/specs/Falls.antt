@@ -1,5 +1,5 @@
 -- How a script ends with a fault, and what is out then.
-use Rattle.std.specs.Prelude.{◌≡◌, ℕ, ◌+◌, ◌<◌, List, [], ◌∷◌, ◌++◌, length, Option, Some, None}
+use Rattle.std.specs.Prelude.{◌≡◌, ℕ, ◌+◌, ◌<◌, ◌≤◌, List, [], ◌∷◌, ◌++◌, length, Option, Some, None}
 use Rattle.std.specs.Io.KnownBytes.{Appends}
 use Rattle.dfu_device.specs.declared.fault.ConfigFault.{ConfigFault}
 use Rattle.dfu_device.specs.Setting.{FirstFault}
@@ -10,9 +10,9 @@ use Rattle.dfu_link.specs.Comes.{Happening}
 use Rattle.dfu_link.specs.Writing.{Broke}
 use Rattle.dfu_link.specs.Texts.{image_line, show_line}
 use Rattle.dfu_link.specs.Words.{lines_of}
-use Rattle.dfu_link.specs.Said.{Setting, Deed, Offer, Said, Blank, Sets, LimitsTo, Does, Show}
+use Rattle.dfu_link.specs.Said.{Setting, Deed, Offer, Sets, Does, Show}
 use Rattle.dfu_link.specs.Lines.{line_of}
-use Rattle.dfu_link.specs.ScriptRun.{Stand, beginning, Prepares, Starts, at_rest, AllCome, Point, point, events_of, LinesRun}
+use Rattle.dfu_link.specs.ScriptRun.{Stand, beginning, Prepares, Starts, at_rest, AllCome, Point, point, events_of, LinesRun, SetsUp}
 use Rattle.dfu_link.specs.declared.scripting.fault.ScriptFault.{ScriptFault}
 use Rattle.dfu_link.specs.declared.scripting.fault.ScriptFault.TheVariants.{BadLine, LateConfig, BadConfig, TooLarge, NoMemory, Read, Write}
 
@@ -78,17 +78,6 @@ pub record SettingFalls (s : Stand) (k : ℕ) (lines : List (List ℕ)) (fault :
   pub none : line_of line ≡ None
   pub fault_is : fault ≡ BadLine (k + length done)
 
--- An event line or `show` is read.
-abbrev pub HasToAct : Option Said → Type 0
-HasToAct (Some (Does deed)) = Unit {0}
-HasToAct (Some Show) = Unit {0}
-HasToAct said = ⊥
-
--- The device has to start before the next line, or where none is left.
-abbrev pub IsReady : List (List ℕ) → Type 0
-IsReady [] = Unit {0}
-IsReady (line ∷ lines) = HasToAct (line_of line)
-
 -- No device can be set up like this, or the image has more bytes than there is room for.
 pub data CannotStart (s : Stand) : Type 0 where
   refused : (fault : ConfigFault) → FirstFault fault s.device → CannotStart s
@@ -101,14 +90,12 @@ StartFalls s NoMemory = Unit {0}
 StartFalls s fault = ⊥
 
 -- A script ends with a fault. The text is over 16,777,216 bytes, the reader failed, or there was no memory for the text or the device, and nothing is out;
--- a line that sets is none of the language, or no device can be set up like this, and nothing is out; or the device starts, and among the lines after it one falls.
+-- a line that sets is none of the language, or no device can be set up like this, and nothing is out; or the device starts, and of the lines after it one falls.
 pub data Falls (text : List ℕ) (old new : Option (List ℕ)) : ScriptFault → Type 0 where
   too_long : 16777216 < length text → new ≡ old → Falls text old new TooLarge
   unread : new ≡ old → Falls text old new Read
   no_memory : new ≡ old → Falls text old new NoMemory
-  in_setting : {fault : ScriptFault} → SettingFalls beginning 1 (lines_of text) fault → new ≡ old → Falls text old new fault
-  at_start : {before : List (List ℕ)} (after : List (List ℕ)) {stand : Stand} →
-      lines_of text ≡ before ++ after → Prepares beginning before stand → IsReady after → CannotStart stand → new ≡ old → Falls text old new BadConfig
-  in_run : {before : List (List ℕ)} (after : List (List ℕ)) {stand : Stand} {first : Shown} {fault : ScriptFault} →
-      lines_of text ≡ before ++ after → Prepares beginning before stand → Starts stand first →
-      RunFalls (point stand.limits (at_rest first)) (1 + length before) after old new fault → Falls text old new fault
+  in_setting : {fault : ScriptFault} → length text ≤ 16777216 → SettingFalls beginning 1 (lines_of text) fault → new ≡ old → Falls text old new fault
+  at_start : {stand : Stand} {after : List (List ℕ)} → SetsUp text stand after → CannotStart stand → new ≡ old → Falls text old new BadConfig
+  in_run : {stand : Stand} {after : List (List ℕ)} {first : Shown} {fault : ScriptFault} (sets_up : SetsUp text stand after) → Starts stand first
+      → RunFalls (point stand.limits (at_rest first)) (1 + length sets_up.before) after old new fault → Falls text old new fault

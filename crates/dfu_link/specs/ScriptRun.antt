@@ -54,6 +54,17 @@ pub data Prepares : Stand → List (List ℕ) → Stand → Type 0 where
   then_prepares : {s t t' : Stand} {lines : List (List ℕ)} (line : List ℕ) {said : Said} →
       Prepares s lines t → line_of line ≡ Some said → prepared t said ≡ Some t' → Prepares s (lines ++ line ∷ []) t'
 
+-- An event line or `show` is read.
+abbrev pub HasToAct : Option Said → Type 0
+HasToAct (Some (Does deed)) = Unit {0}
+HasToAct (Some Show) = Unit {0}
+HasToAct said = ⊥
+
+-- The device has to start before the next line, or where none is left.
+abbrev pub IsReady : List (List ℕ) → Type 0
+IsReady [] = Unit {0}
+IsReady (line ∷ lines) = HasToAct (line_of line)
+
 -- A blank medium of two slots with room for images of so many bytes. It is not armed.
 abbrev pub blank : ℕ → MediumState
 blank capacity = record { bytes = replicate (2 * (32 + capacity)) 255; failures = 0; fuse = Whole }
@@ -106,13 +117,19 @@ pub data LinesRun : Point → List (List ℕ) → List ℕ → Point → Type 0 
   then_runs : {p q q' : Point} {lines : List (List ℕ)} (line : List ℕ) {said : Said} {out more : List ℕ} →
       LinesRun p lines out q → line_of line ≡ Some said → Acts q said more q' → LinesRun p (lines ++ line ∷ []) (out ++ more) q'
 
+-- The text is set up like this, and these lines are left: it has at most 16,777,216 bytes, the lines before set, and now the device has to start.
+pub record SetsUp (text : List ℕ) (stand : Stand) (after : List (List ℕ)) : Type 0 where
+  pub small : length text ≤ 16777216
+  pub before : List (List ℕ)
+  pub split : lines_of text ≡ before ++ after
+  pub prepares : Prepares beginning before stand
+  pub ready : IsReady after
+
 -- A whole script: lines that set, the device started, lines that act, and last the line of the image.
 pub record IsRun (text out : List ℕ) : Type 0 where
-  pub before : List (List ℕ)
-  pub after : List (List ℕ)
-  pub split : lines_of text ≡ before ++ after
   pub stand : Stand
-  pub prepares : Prepares beginning before stand
+  pub after : List (List ℕ)
+  pub sets_up : SetsUp text stand after
   pub first : Shown
   pub starts : Starts stand first
   pub shown : List ℕ

@@ -1,5 +1,5 @@
-//! Scripts: a text of lines that sets up a device, plays events on the link, and prints what comes
-//! of them.
+//! Scripts: a text of lines that sets up a device, lets events come to the link of that device and a
+//! host, and writes what comes of them.
 
 mod fault;
 mod fields;

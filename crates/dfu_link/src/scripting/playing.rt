@@ -50,7 +50,7 @@ pub(crate) fn file_of(alloc: Global, deed: Deed<'_>) -> Result<Vec<u8>, ScriptFa
     }
 }
 
-// AllCome the events of a line, and writes what is printed of them.
+// Plays the events of a line, and writes what is printed of them.
 pub(crate) fn play_deed<'f, M: Faulty + Drop, W: Write>(
     world: &mut World<'f, M>,
     deed: Deed<'_>,

@@ -2,8 +2,8 @@
 
 ghost use Rattle.std.specs.Prelude.{◌≡◌, ◌+◌, ◌≤◌, length, OnOk, IfOk, IfErr, IfSome};
 ghost use Rattle.dfu_link.specs.Words.{lines_of};
-ghost use Rattle.dfu_link.specs.ScriptRun.{WroteRun};
-ghost use Rattle.dfu_link.specs.Falls.{SettingFalls, IsReady, Falls};
+ghost use Rattle.dfu_link.specs.ScriptRun.{IsReady, WroteRun};
+ghost use Rattle.dfu_link.specs.Falls.{SettingFalls, Falls};
 ghost use Rattle.dfu_link.specs.Moving.{Prepared, with_first, number_of_first};
 ghost use Rattle.dfu_link.specs.Stands.{stand_of};
 
@@ -43,7 +43,7 @@ fn configure<'t>(
     Ok(None)
 }
 
-// LinesRun a text.
+// Runs a text.
 fn run_text<W: Write>(alloc: Global, text: &[u8], writer: &mut W) -> Result<(), ScriptFault>
     requires { length text.now ≤ 16777216 }
     ensures ok { OnOk result (WroteRun text.now (W.contents writer.old) (W.contents writer.new)) }
@@ -59,7 +59,7 @@ fn run_text<W: Write>(alloc: Global, text: &[u8], writer: &mut W) -> Result<(), 
     run_on(alloc, device, first, &mut lines, setup.limits, writer)
 }
 
-/// LinesRun a script: reads the whole text, and then does its lines one after the other. Configuration
+/// Runs a script: reads the whole text, and then does its lines one after the other. Configuration
 /// lines set up a device, event lines let events come to a link of that device and a host, and what
 /// is printed of them is written; last comes the line of the device's image.
 ///
@@ -73,7 +73,9 @@ pub fn script<R: Read + Drop, W: Write>(
     reader: R,
     writer: &mut W,
 ) -> Result<(), ScriptFault>
+    // What was written is a run of what was read.
     ensures ok { IfSome (R.remaining reader) (λ text. OnOk result (WroteRun text (W.contents writer.old) (W.contents writer.new))) }
+    // Which fault comes when, and what is out then.
     ensures fault { IfSome (R.remaining reader) (λ text. IfErr result (λ f. Falls text (W.contents writer.old) (W.contents writer.new) f)) }
 {
     let text = gather(alloc, reader)?;
