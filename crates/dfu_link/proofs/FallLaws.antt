@@ -1,14 +1,11 @@
 -- Lines that fall after others were done.
-use Rattle.std.proofs.Common.{◌≡◌, ℕ, ◌+◌, List, [], ◌∷◌, ◌++◌, length, Option, Some, None, refl, sym, ap, ◌∙◌, subst, append_assoc, arith, length-append}
-use Rattle.std.specs.Io.KnownBytes.{Appends}
-use Rattle.dfu_link.specs.Writing.{Broke}
-use Rattle.dfu_link.specs.Texts.{image_line, show_line}
+use Rattle.std.proofs.Common.{◌≡◌, ℕ, List, ◌∷◌, ◌++◌, Option, Some, None, refl, sym, ap, ◌∙◌, subst, append_assoc, arith, length-append}
 use Rattle.dfu_link.specs.Lines.{line_of}
 use Rattle.dfu_link.specs.ScriptRun.{Stand, Point, events_of}
 use Rattle.std.specs.Prelude.{Result, Ok, Err, OnErr, IfErr}
 use Rattle.dfu_link.specs.Play.{Nobody}
-use Rattle.dfu_link.specs.Said.{Deed, Offer, Go, Time, Reset, Setting, Does, Show, Sets}
-use Rattle.dfu_link.specs.Falls.{HasBroken, BreaksIn, in_events, in_show, IsSetting, IsOffer, LineFalls, NextFalls, RunFalls, SettingFalls}
+use Rattle.dfu_link.specs.Said.{Deed, Offer, Go, Time, Reset, Setting, Does, Sets}
+use Rattle.dfu_link.specs.Falls.{HasBroken, BreaksIn, in_events, LineFalls, NextFalls, RunFalls, SettingFalls}
 use Rattle.dfu_link.specs.Moving.{Moves, Prepared, FindsNoRoom}
 use Rattle.dfu_link.specs.declared.scripting.fault.ScriptFault.{ScriptFault}
 use Rattle.dfu_link.specs.declared.scripting.fault.ScriptFault.TheVariants.{BadLine, LateConfig, NoMemory, Write}

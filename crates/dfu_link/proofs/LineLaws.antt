@@ -1,5 +1,5 @@
 -- Lines of a text.
-use Rattle.std.proofs.Common.{◌≡◌, ℕ, zero, suc, ◌+◌, ◌-◌, ◌<◌, ◌≤◌, List, [], ◌∷◌, ◌++◌, length, get_or, take, drop, cond, Option, Some, None, refl, sym, ap, ◌∙◌, arith, true, false, Bool}
+use Rattle.std.proofs.Common.{◌≡◌, ℕ, zero, suc, ◌<◌, List, [], ◌∷◌, length, get_or, take, drop, cond, Some, None, ap, ◌∙◌, arith, true, false, Bool}
 use Rattle.std.specs.List.{position, onto_first}
 use Rattle.std.proofs.lemmas.List.Quantifiers.{position-Some}
 use Rattle.dfu_link.specs.Words.{lines_of, is_newline}

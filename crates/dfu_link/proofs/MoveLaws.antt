@@ -1,8 +1,8 @@
 -- Events, lines and runs put together.
-use Rattle.std.proofs.Common.{◌≡◌, ℕ, zero, suc, ◌+◌, List, [], ◌∷◌, ◌++◌, length, Option, Some, None, refl, sym, ap, ◌∙◌, subst, add-one, append_assoc, arith, ◌<◌, length-append}
+use Rattle.std.proofs.Common.{◌≡◌, ℕ, zero, suc, ◌+◌, List, [], ◌∷◌, ◌++◌, Option, Some, None, refl, sym, ap, ◌∙◌, subst, add-one, append_assoc, arith, ◌<◌, length-append}
 use Rattle.std.proofs.lemmas.List.{append-nil}
 use Rattle.std.specs.Borrow.{Bor}
-use Rattle.std.specs.Prelude.{replicate, Result, Ok, Err, MatchOption}
+use Rattle.std.specs.Prelude.{replicate, Result, Err, MatchOption}
 use Rattle.std.specs.Io.KnownBytes.{Appends}
 use Rattle.dfu_host.specs.declared.limits.Limits.{Limits}
 use Rattle.dfu_host.specs.declared.report.Report.{Report}
@@ -18,7 +18,7 @@ use Rattle.dfu_link.specs.Writing.{Broke}
 use Rattle.dfu_link.specs.Texts.{answer_line, image_line, show_line}
 use Rattle.dfu_link.specs.Said.{Said, Blank, LimitsTo, Does, Show, Deed}
 use Rattle.dfu_link.specs.Lines.{line_of}
-use Rattle.dfu_link.specs.ScriptRun.{Stand, Prepares, nothing, then_prepares, prepared, at_rest, AllCome, none_comes, then_comes, Point, point, events_of, Acts, skips, limits_to, plays, shows, LinesRun, stays, then_runs}
+use Rattle.dfu_link.specs.ScriptRun.{Stand, nothing, then_prepares, prepared, at_rest, AllCome, none_comes, then_comes, Point, point, events_of, skips, limits_to, plays, shows, LinesRun, stays, then_runs}
 use Rattle.dfu_link.specs.Falls.{HasBroken}
 use Rattle.dfu_link.specs.Moving.{HasPlayed, Steps, Moves, Ends, IsUnarmed, Follows, Prepared, with_first, number_of_first}
 use Rattle.dfu_link.proofs.WriteLaws.{appends_none, appends_more, broke_after}

@@ -1,12 +1,12 @@
 -- Whole scripts, put together of their parts.
-use Rattle.std.proofs.Common.{◌≡◌, ℕ, ◌+◌, ◌≤◌, ◌++◌, List, length, Option, Some, None, refl, sym, ap, ◌∙◌, subst}
+use Rattle.std.proofs.Common.{◌≡◌, ℕ, ◌≤◌, ◌++◌, List, length, Option, Some, None, refl, subst}
 use Rattle.std.specs.Prelude.{Result, Ok, Err, IfErr, IfSome}
 use Rattle.dfu_device.specs.Shown.{Shown}
 use Rattle.dfu_link.specs.Words.{lines_of}
 use Rattle.dfu_link.specs.Texts.{image_line}
 use Rattle.dfu_link.specs.Gathering.{Gathers}
-use Rattle.dfu_link.specs.ScriptRun.{Stand, beginning, Prepares, Starts, at_rest, point, IsReady, SetsUp, IsRun, WroteRun}
-use Rattle.dfu_link.specs.Falls.{RunFalls, SettingFalls, CannotStart, StartFalls, Falls, too_long, unread, no_memory, in_setting, at_start, in_run}
+use Rattle.dfu_link.specs.ScriptRun.{Stand, beginning, Prepares, Starts, at_rest, point, IsReady, SetsUp, WroteRun}
+use Rattle.dfu_link.specs.Falls.{RunFalls, SettingFalls, StartFalls, Falls, too_long, unread, no_memory, in_setting, at_start, in_run}
 use Rattle.dfu_link.specs.Moving.{Ends, Prepared}
 use Rattle.dfu_link.specs.declared.scripting.fault.ScriptFault.{ScriptFault}
 use Rattle.dfu_link.specs.declared.scripting.fault.ScriptFault.TheVariants.{BadLine, LateConfig, BadConfig, TooLarge, NoMemory, Read, Write}

@@ -1,6 +1,6 @@
 -- Words and numbers.
-use Rattle.std.proofs.Common.{◌≡◌, ℕ, zero, suc, ◌+◌, ◌-◌, ◌*◌, ◌^◌, ◌<◌, ◌≤◌, List, [], ◌∷◌, ◌++◌, length, get_or, take, drop, nat_lt, nat_le, ◌&&◌, cond, Option, Some, None, refl, sym, ap, add-one, add-zero, drop-cons, length-drop, subst, ◌∙◌, arith, true, false, not, Bool, filter}
-use Rattle.std.proofs.lemmas.List.Splits.{slice_split-cons_yes, slice_split-cons_no, slice_split_first, slice_split_none}
+use Rattle.std.proofs.Common.{◌≡◌, ℕ, zero, suc, ◌+◌, ◌-◌, ◌*◌, ◌<◌, ◌≤◌, List, [], ◌∷◌, length, get_or, take, drop, nat_lt, nat_le, ◌&&◌, cond, Option, Some, None, refl, sym, ap, add-one, add-zero, drop-cons, length-drop, ◌∙◌, arith, true, false, Bool, filter}
+use Rattle.std.proofs.lemmas.List.Splits.{slice_split-cons_yes, slice_split_first, slice_split_none}
 use Rattle.std.proofs.lemmas.List.Quantifiers.{position-Some}
 use Rattle.std.proofs.lemmas.List.Sums.{fails_before_first, passes_at_first}
 use Rattle.std.proofs.lemmas.Option.{cond_some}
@@ -8,7 +8,7 @@ use Rattle.std.proofs.lemmas.Bool.{not-false, not_from_true, ltb-false, le-leb, 
 use Rattle.std.specs.Char.{is_ascii_digit}
 use Rattle.std.proofs.lemmas.List.{drop_all, get_or-drop}
 use Rattle.std.proofs.lemmas.List.Elements.{All-from_get_or}
-use Rattle.std.specs.List.{slice_split, position, position_or_len, All}
+use Rattle.std.specs.List.{slice_split, position, position_or_len}
 use Rattle.std.specs.Prelude.{codes, IsTrue, ◌↔◌, is_some, Result, Ok, Err, ◌%◌}
 use Rattle.std.specs.List.{AllPass}
 use Rattle.std.specs.Str.{bytes_eq}

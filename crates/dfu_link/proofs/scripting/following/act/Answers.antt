@@ -1,11 +1,11 @@
-use Rattle.std.proofs.Common.{◌≡◌, ◌∙◌, ◌+◌, ap, sym, subst, refl, rules, Some, List, ℕ, ◌∷◌}
+use Rattle.std.proofs.Common.{◌≡◌, ◌∙◌, ◌+◌, ap, subst, refl, Some, ◌∷◌}
 use Rattle.std.proofs.lemmas.Result.{err_from_is_err_and}
 use Rattle.dfu_link.specs.Bytes.{Bench}
 use Rattle.dfu_link.specs.Words.{lines_of}
 use Rattle.dfu_link.specs.Said.{said_of, deed_of, setting_of}
 use Rattle.dfu_link.specs.ScriptRun.{point, at_rest, events_of}
-use Rattle.dfu_link.specs.Falls.{HasBroken, RunFalls, in_events, in_show}
-use Rattle.dfu_link.specs.Moving.{HasPlayed, Moves, Follows}
+use Rattle.dfu_link.specs.Falls.{HasBroken, in_events, in_show}
+use Rattle.dfu_link.specs.Moving.{HasPlayed}
 use Rattle.dfu_link.specs.declared.scripting.line.Line.{Line}
 use Rattle.dfu_link.proofs.MoveLaws.{step_blank, step_limits, step_plays, step_shows, move_one, follows_after, rest_starts}
 use Rattle.dfu_link.proofs.FallLaws.{bad_line_falls, late_config_falls, offer_falls, write_falls, falls_after}

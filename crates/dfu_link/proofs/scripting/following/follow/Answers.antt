@@ -1,11 +1,11 @@
-use Rattle.std.proofs.Common.{arith, ◌≡◌, ◌∙◌, ◌+◌, ap, sym, subst, Some, List, ℕ, []}
+use Rattle.std.proofs.Common.{arith, ◌∙◌, ◌+◌, ap, subst, List, ℕ, []}
 use Rattle.dfu_link.specs.Bytes.{Bench}
 use Rattle.dfu_device.specs.Shown.{Shown}
 use Rattle.std.specs.Io.KnownBytes.{Appends}
 use Rattle.dfu_link.specs.Words.{lines_of}
 use Rattle.dfu_link.specs.Texts.{image_line}
 use Rattle.dfu_link.specs.ScriptRun.{point}
-use Rattle.dfu_link.specs.Moving.{Steps, Moves, Ends}
+use Rattle.dfu_link.specs.Moving.{Steps, Moves}
 use Rattle.dfu_link.proofs.MoveLaws.{moves_none, moves_then, ends_now}
 use Rattle.dfu_link.proofs.scripting.following.follow.Goals as goal
 

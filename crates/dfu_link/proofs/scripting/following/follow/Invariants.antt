@@ -1,4 +1,4 @@
-use Rattle.std.proofs.Common.{length, ◌≤◌, ◌+◌, List, ℕ}
+use Rattle.std.proofs.Common.{length, ◌≤◌, ◌+◌}
 use Rattle.dfu_link.specs.Words.{lines_of}
 use Rattle.dfu_link.specs.ScriptRun.{point}
 use Rattle.dfu_link.specs.Moving.{Moves}

@@ -1,4 +1,4 @@
-use Rattle.std.proofs.Common.{◌≡◌, ◌∙◌, ap, Some, List, ℕ}
+use Rattle.std.proofs.Common.{◌∙◌, ap, Some}
 use Rattle.std.specs.Io.KnownBytes.{Appends}
 use Rattle.dfu_link.specs.Said.{said_of, deed_of}
 use Rattle.dfu_link.specs.Texts.{show_line}

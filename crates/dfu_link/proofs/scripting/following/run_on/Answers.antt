@@ -1,4 +1,4 @@
-use Rattle.std.proofs.Common.{◌≡◌, ◌∙◌, ◌+◌, ap, sym, subst, rules, Some, None, List, ℕ, ◌∷◌, [], Option}
+use Rattle.std.proofs.Common.{◌≡◌, ◌+◌, subst, List, ℕ, ◌∷◌, [], Option}
 use Rattle.std.proofs.lemmas.Result.{err_from_is_err_and}
 use Rattle.std.specs.Borrow.{Bor}
 use Rattle.std.specs.Io.KnownBytes.{Appends}

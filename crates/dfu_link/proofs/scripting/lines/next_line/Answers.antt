@@ -1,4 +1,4 @@
-use Rattle.std.proofs.Common.{sym, ◌∙◌, ap, ◌≡◌, ◌+◌, ◌<◌, length, List, ℕ, ◌∷◌, [], Some, None, drop, take, refl, rules, subst, arith, length-drop}
+use Rattle.std.proofs.Common.{sym, ◌∙◌, ap, ◌≡◌, ◌<◌, length, List, ℕ, ◌∷◌, Some, drop, refl, subst, arith, length-drop}
 use Rattle.std.specs.List.{position}
 use Rattle.dfu_link.specs.Words.{lines_of, is_newline}
 use Rattle.dfu_link.proofs.LineLaws.{line_ended, line_last}

@@ -1,4 +1,4 @@
-use Rattle.std.proofs.Common.{◌≡◌, ℕ, List, [], take, drop, subst, ap, arith, ◌∙◌, sym}
+use Rattle.std.proofs.Common.{◌≡◌, ℕ, List, take, drop, subst, arith, sym}
 use Rattle.std.specs.Io.KnownBytes.{Appends}
 use Rattle.dfu_link.proofs.WriteLaws.{progress_more, progress_fault, keeps_none, Progress}
 use Rattle.dfu_link.proofs.scripting.output.write_out.Goals as goal

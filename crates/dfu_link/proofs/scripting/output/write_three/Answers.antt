@@ -1,4 +1,4 @@
-use Rattle.std.proofs.Common.{◌≡◌, ◌++◌, List, ℕ, subst}
+use Rattle.std.proofs.Common.{◌++◌, List, ℕ, subst}
 use Rattle.dfu_link.specs.Writing.{Broke}
 use Rattle.dfu_link.proofs.WriteLaws.{broke_before, broke_after, on_err, on_err_map}
 use Rattle.dfu_link.proofs.scripting.output.write_three.Goals as goal

@@ -1,4 +1,4 @@
-use Rattle.std.proofs.Common.{◌≡◌, ◌++◌, ◌+◌, ◌∷◌, [], List, ℕ, sym, subst}
+use Rattle.std.proofs.Common.{◌++◌, ◌∷◌, [], List, sym, subst}
 use Rattle.std.specs.Prelude.{replicate}
 use Rattle.dfu_link.specs.Comes.{happening, Happening}
 use Rattle.dfu_link.specs.Texts.{answer_line}

@@ -1,4 +1,4 @@
-use Rattle.std.proofs.Common.{sym, subst, ◌∷◌, [], Err}
+use Rattle.std.proofs.Common.{sym, subst, Err}
 use Rattle.std.specs.Io.KnownBytes.{Appends}
 use Rattle.dfu_link.specs.Said.{hex_bytes, deed_of}
 use Rattle.dfu_link.specs.Writing.{Broke}

@@ -1,10 +1,9 @@
-use Rattle.std.proofs.Common.{rules, ◌≡◌, ◌≤◌, ◌+◌, length, arith}
-use Rattle.std.specs.Io.KnownBytes.{Appends}
+use Rattle.std.proofs.Common.{arith}
 use Rattle.hex.specs.Hex.{encode_lower}
 use Rattle.dfu_slots.specs.Seen.{image_of}
 use Rattle.dfu_link.specs.Writing.{Broke}
-use Rattle.dfu_link.proofs.WriteLaws.{on_err, appends_none}
-use Rattle.dfu_link.proofs.HexLaws.{pieces_none, pieces_more, pieces_broke, pieces_all}
+use Rattle.dfu_link.proofs.WriteLaws.{on_err}
+use Rattle.dfu_link.proofs.HexLaws.{pieces_none, pieces_more, pieces_broke}
 use Rattle.dfu_link.proofs.scripting.showing.write_pieces.Goals as goal
 
 pub loop-at-init : goal.loop-at-init

@@ -1,12 +1,6 @@
-use Rattle.std.proofs.Common.{◌≡◌, ◌∙◌, sym, ap, ◌∷◌, [], ◌++◌, List, ℕ, length, subst, arith}
-use Rattle.std.specs.Prelude.{codes}
-use Rattle.std.specs.Io.KnownBytes.{Appends}
-use Rattle.hex.specs.Hex.{encode_lower}
-use Rattle.dfu_slots.specs.Seen.{image_of}
 use Rattle.dfu_link.specs.Writing.{Broke}
-use Rattle.dfu_link.specs.Texts.{hex_text, image_line, state_text, show_line}
-use Rattle.dfu_link.proofs.WriteLaws.{broke_before, broke_after, on_err, on_err_map, on_ok_map}
-use Rattle.dfu_link.proofs.HexLaws.{text_some}
+use Rattle.dfu_link.specs.Texts.{image_line, state_text, show_line}
+use Rattle.dfu_link.proofs.WriteLaws.{broke_before, broke_after, on_err, on_err_map}
 use Rattle.dfu_link.proofs.scripting.showing.write_show.Goals as goal
 
 pub returns-in_err-write_state-clause-err : goal.returns-in_err-write_state-clause-err

@@ -1,13 +1,11 @@
-use Rattle.std.proofs.Common.{◌≡◌, ◌≤◌, ◌+◌, ◌*◌, ℕ, ap, subst, length, arith, refl}
-use Rattle.std.specs.Prelude.{replicate}
-use Rattle.dfu_slots.specs.Medium.{MediumState, Fuse, AllWrites}
+use Rattle.std.proofs.Common.{◌≡◌, ◌≤◌, ◌+◌, ◌*◌, ℕ, ap, subst, arith, refl}
+use Rattle.dfu_slots.specs.Medium.{MediumState, AllWrites}
 use Rattle.dfu_slots.specs.Medium.Fuse.{Whole}
 use Rattle.dfu_slots.specs.Seen.{format_series}
 use Rattle.dfu_slots.specs.Image.{capacity_of}
 use Rattle.dfu_slots.specs.Changes.{CanFormat}
 use Rattle.dfu_slots.specs.Unarmed.{broken_whole, all_whole}
 use Rattle.dfu_link.specs.ScriptRun.{blank}
-use Rattle.dfu_link.specs.Forming.{Formed}
 use Rattle.dfu_link.proofs.scripting.starting.form.Goals as goal
 use Rattle.std.proofs.Math.ListN.{length-replicate}
 

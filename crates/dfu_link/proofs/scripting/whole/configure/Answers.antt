@@ -1,4 +1,4 @@
-use Rattle.std.proofs.Common.{◌≡◌, ◌∙◌, ℕ, ◌+◌, ap, sym, refl, Some}
+use Rattle.std.proofs.Common.{◌∙◌, ℕ, ◌+◌, ap, sym, refl, Some}
 use Rattle.dfu_link.specs.Words.{lines_of}
 use Rattle.dfu_link.specs.Said.{said_of, setting_of, Blank, Sets, LimitsTo}
 use Rattle.dfu_link.specs.ScriptRun.{Stand}

@@ -1,11 +1,9 @@
-use Rattle.std.proofs.Common.{◌≡◌, ◌+◌, rules, List, ℕ}
 use Rattle.std.proofs.lemmas.Result.{err_from_is_err_and}
 use Rattle.dfu_link.specs.Words.{lines_of}
 use Rattle.dfu_link.specs.ScriptRun.{at_rest, point, WroteRun}
 use Rattle.dfu_link.specs.Falls.{RunFalls, Falls}
 use Rattle.dfu_link.specs.Moving.{Ends, with_first, number_of_first}
 use Rattle.dfu_link.specs.Stands.{stand_of}
-use Rattle.dfu_link.specs.declared.scripting.fault.ScriptFault.{ScriptFault}
 use Rattle.dfu_link.proofs.WriteLaws.{on_ok_map}
 use Rattle.dfu_link.proofs.WholeLaws.{if_err_map, setting_ends, start_ends, run_ends, run_falls}
 use Rattle.dfu_link.proofs.scripting.whole.run_text.Goals as goal

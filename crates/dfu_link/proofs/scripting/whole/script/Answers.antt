@@ -1,4 +1,3 @@
-use Rattle.std.proofs.Common.{rules}
 use Rattle.std.proofs.lemmas.Result.{err_from_is_err_and}
 use Rattle.dfu_link.proofs.WholeLaws.{gather_ends}
 use Rattle.dfu_link.proofs.scripting.whole.script.Goals as goal

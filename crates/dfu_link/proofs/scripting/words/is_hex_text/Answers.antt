@@ -1,4 +1,4 @@
-use Rattle.std.proofs.Common.{sym, ◌∙◌, rules, ◌≡◌, false, List, ℕ, ap}
+use Rattle.std.proofs.Common.{sym, ◌∙◌, ◌≡◌, false, List, ℕ, ap}
 use Rattle.std.specs.Prelude.{codes}
 use Rattle.std.specs.Str.{bytes_eq}
 use Rattle.dfu_link.proofs.WordLaws.{hex_same}

@@ -1,6 +1,6 @@
-use Rattle.std.proofs.Common.{sym, ◌∙◌, ap, ◌≡◌, ◌≤◌, length, drop, Some, None, arith, rules}
+use Rattle.std.proofs.Common.{sym, ◌∙◌, ap, ◌≡◌, ◌≤◌, length, Some, arith, rules}
 use Rattle.std.proofs.lemmas.List.{drop_all}
-use Rattle.dfu_link.specs.Words.{number_of, digits_value}
+use Rattle.dfu_link.specs.Words.{digits_value}
 use Rattle.dfu_link.proofs.WordLaws.{number_none, number_short, number_long, number_small, number_large, digit_bad}
 use Rattle.dfu_link.proofs.scripting.words.number.Goals as goal
 use Rattle.dfu_link.proofs.scripting.words.number.Goals.{then-is_empty-via-then-is_empty, then-is_empty-via-else-is_empty+then-word-gt10}

@@ -1,6 +1,6 @@
-use Rattle.std.proofs.Common.{sym, ◌∙◌, ap, ◌≡◌, Option, Some, None, List, ℕ, drop, take, rules, subst}
+use Rattle.std.proofs.Common.{sym, ◌∙◌, ap, ◌≡◌, Some, None, drop}
 use Rattle.std.specs.List.{position}
-use Rattle.dfu_link.specs.Words.{Reads, words_of, first, is_space, is_no_space}
+use Rattle.dfu_link.specs.Words.{is_space, is_no_space}
 use Rattle.dfu_link.proofs.WordLaws.{no_word, word_then, word_alone}
 use Rattle.dfu_link.proofs.scripting.words.word_at.Goals as goal
 
