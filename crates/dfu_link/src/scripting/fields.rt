@@ -1,7 +1,7 @@
 // Fields of a line: each is the first word that is left, read, with what is left of the line after
 // it.
 
-ghost use Rattle.std.specs.Prelude.{◌≡◌, ◌≤◌, Some, None, IfSome};
+ghost use Rattle.std.specs.Prelude.{◌≤◌, Some, None, IfSome};
 ghost use Rattle.dfu_link.specs.Words.{Reads, words_of, ends};
 ghost use Rattle.dfu_link.specs.Said.{hex_bytes, said_of};
 ghost use Rattle.dfu_link.specs.Lines.{number_at, small_at, hex_at, quad_at, attributes_at};

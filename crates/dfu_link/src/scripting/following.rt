@@ -1,6 +1,6 @@
 // The lines of a script once the device is started.
 
-ghost use Rattle.std.specs.Prelude.{◌≡◌, ◌+◌, ◌≤◌, ◌∷◌, length, OnOk, IfOk, IfErr};
+ghost use Rattle.std.specs.Prelude.{◌+◌, ◌≤◌, ◌∷◌, length, OnOk, IfOk, IfErr};
 ghost use Rattle.dfu_link.specs.Words.{lines_of};
 ghost use Rattle.dfu_link.specs.Comes.{IsLive};
 ghost use Rattle.dfu_link.specs.ScriptRun.{at_rest, point};

@@ -1,6 +1,6 @@
 // What stands after the first word of a line.
 
-ghost use Rattle.std.specs.Prelude.{◌≡◌, Some, None};
+ghost use Rattle.std.specs.Prelude.{◌≡◌, None};
 ghost use Rattle.dfu_link.specs.Words.{Reads, words_of, ends};
 ghost use Rattle.dfu_link.specs.Comes.{fate_of};
 ghost use Rattle.dfu_link.specs.Said.{said_of, Go, Does, functional_of};

@@ -1,7 +1,7 @@
 // What is set before the first event line or `show`.
 
 ghost use Rattle.std.specs.Prelude.{◌≡◌};
-ghost use Rattle.dfu_link.specs.Said.{setting_of, functional_of};
+ghost use Rattle.dfu_link.specs.Said.{setting_of};
 ghost use Rattle.dfu_link.specs.ScriptRun.{set, beginning};
 ghost use Rattle.dfu_link.specs.Stands.{stand_of};
 

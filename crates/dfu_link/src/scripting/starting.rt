@@ -1,10 +1,8 @@
 // The start of the device.
 
-ghost use Rattle.std.specs.Prelude.{◌≡◌, ◌<◌, ◌≤◌, length, IfOk, IfErr};
-ghost use Rattle.dfu_slots.specs.Medium.{AllWrites};
-ghost use Rattle.dfu_slots.specs.Seen.{image_of, format_series};
+ghost use Rattle.std.specs.Prelude.{◌≡◌, ◌<◌, IfOk, IfErr};
 ghost use Rattle.dfu_link.specs.Said.{hex_bytes};
-ghost use Rattle.dfu_link.specs.ScriptRun.{blank, Starts};
+ghost use Rattle.dfu_link.specs.ScriptRun.{Starts};
 ghost use Rattle.dfu_link.specs.Falls.{StartFalls};
 ghost use Rattle.dfu_link.specs.Moving.{IsUnarmed};
 ghost use Rattle.dfu_link.specs.Stands.{stand_of, image_bytes};

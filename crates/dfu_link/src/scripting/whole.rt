@@ -1,6 +1,6 @@
 // Whole scripts.
 
-ghost use Rattle.std.specs.Prelude.{◌≡◌, ◌+◌, ◌≤◌, length, OnOk, IfOk, IfErr, IfSome};
+ghost use Rattle.std.specs.Prelude.{◌+◌, ◌≤◌, length, OnOk, IfOk, IfErr, IfSome};
 ghost use Rattle.dfu_link.specs.Words.{lines_of};
 ghost use Rattle.dfu_link.specs.ScriptRun.{IsReady, WroteRun};
 ghost use Rattle.dfu_link.specs.Falls.{SettingFalls, Falls};
