@@ -1,7 +1,7 @@
 -- The clean run of a link, along a chain of steps.
 use Rattle.std.proofs.Common.{◌≡◌, ℕ, zero, suc, ◌-◌, ◌<◌, ◌≤◌, Bool, true, List, [], ◌∷◌, ◌++◌, take, drop, replicate, Option, Some, None, refl, sym, ap, ◌∙◌, subst, arith}
 use Rattle.std.proofs.lemmas.List.{take-replicate}
-use Rattle.dfu_suffix.proofs.LawProofs.{never_both, one_reading}
+use Rattle.dfu_suffix.proofs.LawProofs.{one_reading}
 use Rattle.dfu_device.specs.Stage.{Profile}
 use Rattle.dfu_device.specs.Outcome.{Works}
 use Rattle.dfu_device.specs.Shown.{profile}
@@ -20,10 +20,8 @@ use Rattle.dfu_link.proofs.Clean.{clean_run}
 use Rattle.dfu_link.proofs.Events.{has_transfer, can_download, bytes_of}
 use Rattle.dfu_link.specs.declared.fault.LinkFault.{LinkFault}
 use Rattle.dfu_link.specs.declared.fault.LinkFault.TheVariants as fault
-use Rattle.dfu_link.specs.declared.fault.OfferFault.TheVariants as offer_fault
-use Rattle.dfu_suffix.specs.declared.ids.Ids.{Ids}
-use Rattle.dfu_host.specs.Download.{first_fault}
 use Rattle.dfu_link.specs.Running.{IsStop}
+use Rattle.dfu_link.proofs.Refusals.{offered_not_bad}
 use Rattle.dfu_link.proofs.Chains.{Stepped, Stopped, Chain, no_more, one_more, same_profile}
 
 abbrev pass : Happening
@@ -164,13 +162,7 @@ offer_stands : (b : Bench) (file : List ℕ) (limits : Limits) (payload : List �
 offer_stands b file limits payload can fault.NoMemory h = refl
 offer_stands b file limits payload can fault.HostBusy h = absurd (subst IsLive can.free h)
 offer_stands b file limits payload can fault.NoHost h = elim h [ ]
-offer_stands b file limits payload can (fault.BadOffer (offer_fault.Suffix f)) h = absurd (never_both file f (payload, can.offered.ids, can.offered.dfu, can.offered.extra, can.offered.reads) h.1)
-offer_stands b file limits payload can (fault.BadOffer (offer_fault.Host f)) (none, (content, says, first)) =
-    let same = one_reading file payload content.payload _ _ _ _ _ _ can.offered.reads says.reads in
-    let taken : first_fault content b.device.config.functional b.device.config.ids ≡ None =
-    subst (λ (p : List ℕ). first_fault (record { payload = p; ids = content.ids; dfu = content.dfu; suffix = content.suffix }) b.device.config.functional b.device.config.ids ≡ None) same.0
-    (subst (λ (i : Ids). first_fault (record { payload = payload; ids = i; dfu = content.dfu; suffix = content.suffix }) b.device.config.functional b.device.config.ids ≡ None) same.1 can.offered.taken) in
-    absurd cc
+offer_stands b file limits payload can (fault.BadOffer f) h = absurd (offered_not_bad b.device.config file payload f can.offered h.1)
 
 -- nor is a pass, while a session is live
 pass_stands : (b : Bench) → (b.session ≡ Nobody → ⊥) → (why : LinkFault) → IsStop b pass why → why ≡ fault.NoMemory

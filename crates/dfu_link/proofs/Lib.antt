@@ -30,3 +30,4 @@ pub mod GatherLaws
 pub mod MoveLaws
 pub mod FallLaws
 pub mod WholeLaws
+pub mod Refusals

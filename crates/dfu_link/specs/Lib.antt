@@ -8,6 +8,7 @@ pub mod Bytes
 pub mod Understood
 pub mod Comes
 pub mod Running
+pub mod OneAnswer
 pub mod Standing
 pub mod Following
 pub mod Acting

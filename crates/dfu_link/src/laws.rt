@@ -3,6 +3,7 @@
 ghost use Rattle.dfu_link.specs.Agreement.{SomeAgrees, FreshAgrees};
 ghost use Rattle.dfu_link.specs.CleanRun.{CleanRun};
 ghost use Rattle.dfu_link.specs.Headline.{Headline, OnlyOffered, Simulation};
+ghost use Rattle.dfu_link.specs.OneAnswer.{OneEvent, OneRefusal, RefusedIsNoPlay};
 ghost use Rattle.dfu_link.specs.Understood.{ImageShown, BytesHeadline, BytesShow, Understood};
 
 use dfu_slots::shown_image_is_active;
@@ -50,6 +51,13 @@ pub fn understood()
 pub fn bytes_show()
     ensures plays { BytesShow }
     ensures headline { BytesHeadline }
+{}
+
+/// What comes of an event is one thing: it is refused as one fault, or it is a play of one event.
+pub fn one_answer()
+    ensures fault { OneRefusal }
+    ensures no_play { RefusedIsNoPlay }
+    ensures event { OneEvent }
 {}
 
 /// Where the medium's bytes have an active image, it is the one that plays speak of, and no other.

@@ -1,5 +1,7 @@
 //! The link of a host and a device of USB device firmware upgrade (USB DFU 1.1): what each event
 //! makes of both, and the laws that hold whatever events come.
+//!
+//! A `World` takes one event, `run` a list of them. No call but `run` takes memory.
 #![tactic(auto)]
 
 mod event;
@@ -17,8 +19,8 @@ pub use event::Event;
 pub use fate::Fate;
 pub use fault::{LinkFault, OfferFault};
 pub use laws::{
-    bytes_show, clean_run, headline, image_shown, machine_agrees, only_offered, simulation,
-    understood,
+    bytes_show, clean_run, headline, image_shown, machine_agrees, one_answer, only_offered,
+    simulation, understood,
 };
 pub use running::{Stop, run};
 pub use scripting::{ScriptFault, script};

@@ -1,0 +1,19 @@
+-- That an event has one answer, as statements.
+use Rattle.std.specs.Prelude.{◌≡◌}
+use Rattle.dfu_device.specs.Setting.{Setting}
+use Rattle.dfu_link.specs.declared.fault.LinkFault.{LinkFault}
+use Rattle.dfu_link.specs.Play.{Event, IsAllowed}
+use Rattle.dfu_link.specs.Bytes.{Bench}
+use Rattle.dfu_link.specs.Comes.{Happening, Means, IsRefused}
+
+-- An event that is refused is refused as one fault.
+abbrev pub OneRefusal : Type 0
+OneRefusal = (b : Bench) (h : Happening) (fault other : LinkFault) → IsRefused b h fault → IsRefused b h other → fault ≡ other
+
+-- And it is no play.
+abbrev pub RefusedIsNoPlay : Type 0
+RefusedIsNoPlay = (b : Bench) (h : Happening) (fault : LinkFault) (event : Event) → IsRefused b h fault → Means b.device.config h event → IsAllowed b.session event → ⊥
+
+-- What happens means one event: a file that is offered has one payload.
+abbrev pub OneEvent : Type 0
+OneEvent = (s : Setting) (h : Happening) (event other : Event) → Means s h event → Means s h other → event ≡ other
