@@ -45,3 +45,19 @@ fn refused_events_change_nothing(rt: HostRuntime) -> Result<(), Fail> {
     refused(&rt, &mut world, Event::Go(Fate::LostOut), LinkFault::NoHost);
     Ok(())
 }
+
+#[rattlefmt::skip]
+#[test]
+fn faults_have_their_texts(rt: HostRuntime) -> Result<(), Fail> {
+    let rows = [
+        (LinkFault::HostBusy, "a session is live already"),
+        (LinkFault::NoHost, "no session is live"),
+        (LinkFault::BadOffer(OfferFault::Suffix(SuffixFault::NoSignature)), "the file is refused: the file has no DFU signature"),
+        (LinkFault::BadOffer(OfferFault::Host(HostFault::CannotDownload)), "the file is refused: the device takes no downloads"),
+        (LinkFault::NoMemory, "out of memory"),
+    ];
+    for (fault, text) in rows {
+        assert_eq!(rt; format!(in rt.alloc(); "{fault}")?.as_str(), text);
+    }
+    Ok(())
+}
