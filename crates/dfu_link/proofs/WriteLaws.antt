@@ -1,5 +1,5 @@
 -- What a loop over `write` has put out.
-use Rattle.std.proofs.Common.{◌≡◌, ℕ, List, [], ◌∷◌, ◌++◌, length, take, drop, Option, Some, None, sym, ap, ◌∙◌, subst, arith}
+use Rattle.std.proofs.Common.{◌≡◌, ◌<◌, ℕ, List, [], ◌∷◌, ◌++◌, length, length-append, take, drop, Option, Some, None, sym, ap, ◌∙◌, subst, arith}
 use Rattle.std.proofs.lemmas.List.{append_assoc, take-append-drop, append-nil}
 use Rattle.std.specs.Io.KnownBytes.{Appends, Keeps}
 use Rattle.std.specs.Prelude.{Result, Ok, Err, OnErr, OnOk, IfOk}
@@ -33,8 +33,8 @@ pub progress_done : (old new : Option (List ℕ)) (text rest : List ℕ) → Pro
 progress_done old new text [] p e = subst (λ (zs : List ℕ). Appends old new zs) (sym (p.1 ∙ append-nil p.0)) p.2
 progress_done old new text (x ∷ rest) p e = absurd (omega (arith, e))
 
-pub progress_fault : (old mid new : Option (List ℕ)) (text rest : List ℕ) → Progress old mid text rest → Keeps mid new → Broke old new text
-progress_fault old mid new text rest p k = record { front = p.0; rest = rest; whole = p.1; told = appends_kept old mid new p.0 p.2 k }
+pub progress_fault : (old mid new : Option (List ℕ)) (text rest : List ℕ) → Progress old mid text rest → 0 < length rest → Keeps mid new → Broke old new text
+progress_fault old mid new text rest p some k = record { front = p.0; rest = rest; whole = p.1; left = some; told = appends_kept old mid new p.0 p.2 k }
 
 pub keeps_none : (mid new : Option (List ℕ)) → Appends mid new [] → Keeps mid new
 keeps_none None new k = tt
@@ -44,12 +44,12 @@ keeps_none (Some a) (Some b) k = k ∙ append-nil a
 -- a text that broke, and would have gone on
 pub broke_before : (old new : Option (List ℕ)) (xs ys : List ℕ) → Broke old new xs → Broke old new (xs ++ ys)
 broke_before old new xs ys b =
-    record { front = b.front; rest = b.rest ++ ys; whole = ap (λ (zs : List ℕ). zs ++ ys) b.whole ∙ append_assoc b.front b.rest ys; told = b.told }
+    record { front = b.front; rest = b.rest ++ ys; left = omega (arith, b.left, length-append b.rest ys); whole = ap (λ (zs : List ℕ). zs ++ ys) b.whole ∙ append_assoc b.front b.rest ys; told = b.told }
 
 -- a text that broke after another was out
 pub broke_after : (old mid new : Option (List ℕ)) (xs ys : List ℕ) → Appends old mid xs → Broke mid new ys → Broke old new (xs ++ ys)
 broke_after old mid new xs ys h b =
-    record { front = xs ++ b.front; rest = b.rest; whole = ap (λ (zs : List ℕ). xs ++ zs) b.whole ∙ sym (append_assoc xs b.front b.rest); told = appends_more old mid new xs b.front h b.told }
+    record { front = xs ++ b.front; rest = b.rest; left = b.left; whole = ap (λ (zs : List ℕ). xs ++ zs) b.whole ∙ sym (append_assoc xs b.front b.rest); told = appends_more old mid new xs b.front h b.told }
 
 pub on_err : {A E : Type 0} (r : Result A E) (P : Type 0) → P → OnErr r P
 on_err (Ok x) P h = tt

@@ -16,7 +16,7 @@ use Rattle.dfu_link.specs.ScriptRun.{Stand, beginning, Prepares, Starts, at_rest
 use Rattle.dfu_link.specs.declared.scripting.fault.ScriptFault.{ScriptFault}
 use Rattle.dfu_link.specs.declared.scripting.fault.ScriptFault.TheVariants.{BadLine, LateConfig, BadConfig, TooLarge, NoMemory, Read, Write}
 
--- The writer failed among events: some were played, and a front of their text is out.
+-- The writer failed among events: some were played, and a front of their text is out, and not all of it.
 pub record HasBroken (b : Bench) (events : List Happening) (old new : Option (List ℕ)) : Type 0 where
   pub played : List Happening
   pub left : List Happening
