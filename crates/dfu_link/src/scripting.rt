@@ -22,6 +22,3 @@ mod words;
 
 pub use fault::ScriptFault;
 pub use whole::script;
-
-#[cfg(test)]
-mod tests;

@@ -4,6 +4,7 @@ mod bench;
 mod fates;
 mod faults;
 mod runs;
+mod scripts;
 
 use crate::{Event, Fate};
 use bench::{AMPLE, Setup, USUAL, W, go, offer, pass, play, stands, world};

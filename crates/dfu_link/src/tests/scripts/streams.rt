@@ -47,6 +47,50 @@ impl Write for Narrow {
     }
 }
 
+// Takes the first 128 bytes, and takes no memory for them.
+#[derive(Drop)]
+struct Fixed {
+    bytes: [u8; 128],
+    len: usize,
+}
+
+impl Write for Fixed {
+    fn write(&mut self, buf: &[u8]) -> io::Result<usize> {
+        let Some(room) = self.bytes.get_mut(self.len..) else {
+            return Ok(0);
+        };
+        let most = buf.len().min(room.len());
+        room[..most].copy_from_slice(&buf[..most]);
+        self.len = self.len.saturating_add(most);
+        Ok(most)
+    }
+
+    fn flush(&mut self) -> io::Result<()> {
+        Ok(())
+    }
+}
+
+// Where memory is ample the whole text is out. Where an allocation is refused, it is NoMemory: of
+// the text, the image or the medium with nothing out, of an offered file with the lines before.
+#[test]
+fn refused_allocation_in_a_script(rt: HostRuntime) {
+    let text = b"show\noffer ffffffffffffffffffff00015546441071c8510c\ngo pass 13\n";
+    let whole = b"state appIDLE status OK image 00\nreport installed\nimage ffffffff\n";
+    let mut fixed = Fixed {
+        bytes: [0; 128],
+        len: 0,
+    };
+    let result = script(rt.alloc(), text.as_slice(), &mut fixed);
+    let out = fixed.bytes.get(..fixed.len);
+    match result {
+        Ok(()) => assert_eq!(rt; out, whole.get(..)),
+        Err(fault) => {
+            assert_eq!(rt; fault, ScriptFault::NoMemory);
+            assert!(rt; fixed.len == 0 || out == whole.get(..33));
+        }
+    }
+}
+
 #[test]
 fn texts_have_a_limit(rt: HostRuntime) -> Result<(), Fail> {
     let rows = [
