@@ -4,11 +4,11 @@ _dfu() {
     local before=${COMP_WORDS[COMP_CWORD - 1]}
     COMPREPLY=()
     if [ "$COMP_CWORD" -eq 1 ]; then
-        COMPREPLY=($(compgen -W "check add show help -h --help" -- "$word"))
+        COMPREPLY=($(compgen -W "check add show run help -h --help" -- "$word"))
         return
     fi
     case ${COMP_WORDS[1]} in
-    check)
+    check | run)
         COMPREPLY=($(compgen -W "-h --help" -- "$word") $(compgen -f -- "$word"))
         ;;
     add)
@@ -23,7 +23,7 @@ _dfu() {
         fi
         ;;
     help)
-        COMPREPLY=($(compgen -W "check add show help" -- "$word"))
+        COMPREPLY=($(compgen -W "check add show run help" -- "$word"))
         ;;
     esac
 }

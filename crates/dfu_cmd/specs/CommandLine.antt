@@ -4,7 +4,7 @@ use Rattle.std.specs.String.{string_bytes}
 use Rattle.clap.specs.Words.{App, Row, Rule, Text, first_of, new_app, new_rule, with_rule, with_subcommand}
 use Rattle.clap.specs.declared.builder.ArgAction.TheVariants.{Set}
 use Rattle.dfu_cmd.specs.declared.task.Job.{Job}
-use Rattle.dfu_cmd.specs.declared.task.Job.TheVariants.{Check, Add, Show}
+use Rattle.dfu_cmd.specs.declared.task.Job.TheVariants.{Check, Add, Show, Run}
 
 -- a positional argument that has to be there
 abbrev pub needed : Text → Rule
@@ -28,13 +28,17 @@ add_app =
 abbrev pub show_app : App
 show_app = with_rule (with_rule (new_app (codes "show")) (needed (codes "kind"))) (needed (codes "hex"))
 
+-- run SCRIPT
+abbrev pub run_app : App
+run_app = with_rule (new_app (codes "run")) (needed (codes "script"))
+
 -- dfu with no subcommand yet: it has to get one
 abbrev pub top_app : App
 top_app = record (new_app (codes "dfu")) { top = record (new_app (codes "dfu")).top { subcommand_required = true } }
 
 -- dfu, with its subcommands
 unfoldable pub dfu_app : App
-dfu_app = with_subcommand (with_subcommand (with_subcommand top_app check_app.top) add_app.top) show_app.top
+dfu_app = with_subcommand (with_subcommand (with_subcommand (with_subcommand top_app check_app.top) add_app.top) show_app.top) run_app.top
 
 -- the job is what the subcommand and its arguments state, each text in its own place
 abbrev pub States : Option (Text × List Row) → Job → Type 0
@@ -44,3 +48,4 @@ States (Some p) (Add file to vid pid did) =
     (p.0 ≡ codes "add") × (first_of (codes "file") p.1 ≡ Some (string_bytes file)) × (first_of (codes "to") p.1 ≡ Some (string_bytes to))
     × (first_of (codes "vid") p.1 ≡ Some (string_bytes vid)) × (first_of (codes "pid") p.1 ≡ Some (string_bytes pid)) × (first_of (codes "did") p.1 ≡ Some (string_bytes did))
 States (Some p) (Show kind hex) = (p.0 ≡ codes "show") × (first_of (codes "kind") p.1 ≡ Some (string_bytes kind)) × (first_of (codes "hex") p.1 ≡ Some (string_bytes hex))
+States (Some p) (Run script) = (p.0 ≡ codes "run") × (first_of (codes "script") p.1 ≡ Some (string_bytes script))

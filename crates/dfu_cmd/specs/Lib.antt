@@ -6,3 +6,4 @@ pub mod CommandLine
 pub mod ShowLines
 pub mod Showing
 pub mod Adding
+pub mod Running

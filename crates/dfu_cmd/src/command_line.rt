@@ -3,7 +3,7 @@
 ghost use Rattle.std.specs.Prelude.{◌≡◌, IfOk, false, true};
 ghost use Rattle.clap.specs.Words.{app_of, new_app, rule_of, with_rule, with_subcommand};
 ghost use Rattle.clap.specs.declared.builder.Command.TheViews.{out-Command};
-ghost use Rattle.dfu_cmd.specs.CommandLine.{needed, option, check_app, add_app, show_app, top_app, dfu_app};
+ghost use Rattle.dfu_cmd.specs.CommandLine.{needed, option, check_app, add_app, show_app, run_app, top_app, dfu_app};
 
 use crate::help;
 use clap::{Arg, ArgAction, Command};
@@ -90,6 +90,14 @@ fn show_command<'a>(alloc: Global) -> Result<Command<'a>, AllocError>
     with(command, needed(alloc, "hex", "HEX", help::SHOW_HEX))
 }
 
+fn run_command<'a>(alloc: Global) -> Result<Command<'a>, AllocError>
+    ensures app { IfOk result (λ c. app_of c ≡ run_app) }
+    ensures local { IfOk result (λ c. (out-Command c).has_globals ≡ false) }
+{
+    let command = described(alloc, "run", help::RUN, help::RUN_EXAMPLE);
+    with(command, needed(alloc, "script", "SCRIPT", help::RUN_SCRIPT))
+}
+
 // The command before its subcommands: it has to get one of them.
 fn top_command<'a>(alloc: Global) -> Result<Command<'a>, AllocError>
     ensures app { IfOk result (λ c. app_of c ≡ top_app) }
@@ -108,5 +116,6 @@ pub(crate) fn dfu_command<'a>(alloc: Global) -> Result<Command<'a>, AllocError>
 {
     let command = with_sub(top_command(alloc)?, check_command(alloc)?)?;
     let command = with_sub(command, add_command(alloc)?)?;
-    with_sub(command, show_command(alloc)?)
+    let command = with_sub(command, show_command(alloc)?)?;
+    with_sub(command, run_command(alloc)?)
 }

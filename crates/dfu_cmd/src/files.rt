@@ -5,6 +5,7 @@ use crate::checking::check_text;
 use crate::exit::Exit;
 use crate::faults::fault_text;
 use crate::output::write_out;
+use crate::running::run_text;
 use dfu_suffix::{Ids, SuffixFault};
 use std::fs;
 use std::io::{self, Write};
@@ -17,6 +18,18 @@ pub(crate) fn run_check(rt: &HostRuntime, file: &str) -> Exit {
     }
     match fs::open(rt, file) {
         Ok(reader) => check_text(rt.alloc(), reader, &mut out),
+        Err(_error) => fault_text(SuffixFault::Read, &mut out),
+    }
+}
+
+// Runs a script, or that of standard input where the name is `-`.
+pub(crate) fn run_script(rt: &HostRuntime, script: &str) -> Exit {
+    let mut out = io::writer(rt);
+    if script == "-" {
+        return run_text(rt.alloc(), rt.reader(), &mut out);
+    }
+    match fs::open(rt, script) {
+        Ok(reader) => run_text(rt.alloc(), reader, &mut out),
         Err(_error) => fault_text(SuffixFault::Read, &mut out),
     }
 }

@@ -3,8 +3,9 @@
 pub(crate) const DFU: &str = "dfu 0.1.0: firmware files and upgrades over USB (DFU 1.1)";
 
 pub(crate) const DFU_EXAMPLE: &str = "\
-Example:
+Examples:
   dfu check firmware.dfu
+  dfu run examples/clean-run.script
 
 Exit status:
   0  done
@@ -45,3 +46,11 @@ pub(crate) const SHOW_HEX: &str = "The bytes, two hexadecimal digits each";
 pub(crate) const SHOW_EXAMPLE: &str = "\
 Example:
   dfu show status 000500000400";
+
+pub(crate) const RUN: &str = "Play a script of events on a simulated link of a host and a device";
+
+pub(crate) const RUN_SCRIPT: &str = "The script, or - for standard input";
+
+pub(crate) const RUN_EXAMPLE: &str = "\
+Example, a file with 4 bytes of payload that is installed after 13 actions of the host:
+  printf 'offer ffffffffffffffffffff00015546441071c8510c\\ngo pass 13\\n' | dfu run -";

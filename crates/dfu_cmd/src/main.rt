@@ -1,5 +1,5 @@
-//! The program `dfu`: it reads the words of a command line, opens files, and prints one line for
-//! what the library crates answer. It doesn't talk to a USB device.
+//! The program `dfu`: it reads the words of a command line, opens files, and prints what the
+//! library crates answer. It doesn't talk to a USB device.
 #![tactic(auto)]
 
 mod adding;
@@ -11,6 +11,7 @@ mod files;
 mod help;
 mod numbers;
 mod output;
+mod running;
 mod show_lines;
 mod showing;
 mod task;
@@ -21,7 +22,8 @@ pub use checking::check_text;
 use dfu_suffix::SuffixFault;
 pub use exit::Exit;
 pub use faults::fault_text;
-use files::{run_add, run_check};
+use files::{run_add, run_check, run_script};
+pub use running::run_text;
 pub use showing::show_text;
 use std::io;
 use std::process::ExitCode;
@@ -42,6 +44,7 @@ fn run_job(rt: &HostRuntime, job: Job) -> Exit {
             did,
         } => run_add(rt, &file, &to, &vid, &pid, &did),
         Job::Show { kind, hex } => show_text(rt.alloc(), &kind, &hex, &mut io::writer(rt)),
+        Job::Run { script } => run_script(rt, &script),
     }
 }
 

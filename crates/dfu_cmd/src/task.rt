@@ -28,6 +28,11 @@ pub enum Job {
         /// HEX: the bytes, two hexadecimal digits each.
         hex: String,
     },
+    /// Run a script, or that of standard input where `script` is `-`.
+    Run {
+        /// SCRIPT.
+        script: String,
+    },
 }
 
 /// Why the words are no job.

@@ -1,9 +1,11 @@
 mod readers;
+mod scripts;
 
-use crate::{Exit, Job, JobFault, add_text, check_text, job, show_text};
+use crate::{Exit, Job, JobFault, add_text, check_text, job, run_text, show_text};
 use dfu_suffix::Ids;
 use readers::{Failing, Refusing};
 use std::alloc::{AllocError, Global};
+use std::process::Abort;
 use std::test::Fail;
 
 // Payload FFFFFFFFh, identifiers FFFFh.
@@ -58,6 +60,13 @@ fn checks_a_reader_that_fails(rt: HostRuntime) {
     assert_eq!(rt; out.as_slice(), &b"fault Read\n"[..]);
 }
 
+#[test]
+fn runs_a_script_that_cannot_be_read(rt: HostRuntime) {
+    let mut out = Vec::new(rt.alloc());
+    assert_eq!(rt; run_text(rt.alloc(), Failing, &mut out), Exit::Fault);
+    assert_eq!(rt; out.as_slice(), &b"fault Read\n"[..]);
+}
+
 // A writer that refuses after some bytes: a prefix is out, and nothing more is tried.
 #[test]
 fn stops_at_a_writer_that_fails(rt: HostRuntime) {
@@ -72,6 +81,12 @@ fn stops_at_a_writer_that_fails(rt: HostRuntime) {
         );
         assert_eq!(rt; (out.left, out.calls_after), (0, 1), "with room for {room}");
     }
+    let mut out = Refusing {
+        left: 3,
+        calls_after: 0,
+    };
+    assert_eq!(rt; run_text(rt.alloc(), &b"show\n"[..], &mut out), Exit::Fault);
+    assert_eq!(rt; (out.left, out.calls_after), (0, 1));
 }
 
 #[test]
@@ -100,59 +115,53 @@ fn adds_no_second_suffix(rt: HostRuntime) {
     assert_eq!(rt; out.as_slice(), &b"refused AlreadySuffixed\n"[..]);
 }
 
-#[test]
-fn shows_known_bytes(rt: HostRuntime) {
-    let descriptor: &[u8] =
-        b"functional download yes upload no tolerant yes will-detach yes detach 255 transfer 8 version 0110\n";
-    let known: [(&str, &str, &[u8], Exit); 13] = [
-        ("functional", "09210dff0008001001", descriptor, Exit::Done),
-        ("functional", "0921FDff0008001001", descriptor, Exit::Done),
-        (
-            "functional",
-            "07210dff000800",
-            b"refused WrongLength\n",
-            Exit::Refused,
-        ),
-        ("functional", "", b"refused Short\n", Exit::Refused),
-        (
-            "status",
-            "000500000400",
-            b"status OK poll 5 state dfuDNBUSY string 0\n",
-            Exit::Done,
-        ),
-        (
-            "status",
-            "0f0000000a07",
-            b"status errSTALLEDPKT poll 0 state dfuERROR string 7\n",
-            Exit::Done,
-        ),
-        ("status", "0005000004", b"refused Short\n", Exit::Refused),
-        (
-            "status",
-            "000000000b00",
-            b"refused UnknownState\n",
-            Exit::Refused,
-        ),
-        (
-            "status",
-            "1000000b0b00",
-            b"refused UnknownCode\n",
-            Exit::Refused,
-        ),
-        ("status", "00050000040", b"refused BadHex\n", Exit::Refused),
-        ("status", "0005000004zz", b"refused BadHex\n", Exit::Refused),
-        ("status", "-", b"refused BadHex\n", Exit::Refused),
-        ("state", "zz", b"bad words\n", Exit::BadWords),
-    ];
-    for (kind, hex, line, exit) in known {
-        let mut out = Vec::new(rt.alloc());
+// What `show` writes for each of these texts, and how it ends.
+fn shows(rt: &impl Abort, alloc: Global, kind: &str, known: &[(&str, &[u8], Exit)]) {
+    for (hex, line, exit) in known {
+        let mut out = Vec::new(alloc);
         assert_eq!(rt;
-            show_text(rt.alloc(), kind, hex, &mut out),
-            exit,
+            show_text(alloc, kind, hex, &mut out),
+            *exit,
             "{kind} {hex}"
         );
-        assert_eq!(rt; out.as_slice(), line, "{kind} {hex}");
+        assert_eq!(rt; out.as_slice(), *line, "{kind} {hex}");
     }
+}
+
+#[test]
+fn shows_descriptors(rt: HostRuntime) {
+    let descriptor: &[u8] =
+        b"functional download yes upload no tolerant yes will-detach yes detach 255 transfer 8 version 0110\n";
+    let known: [(&str, &[u8], Exit); 4] = [
+        ("09210dff0008001001", descriptor, Exit::Done),
+        ("0921FDff0008001001", descriptor, Exit::Done),
+        ("07210dff000800", b"refused WrongLength\n", Exit::Refused),
+        ("", b"refused Short\n", Exit::Refused),
+    ];
+    shows(&rt, rt.alloc(), "functional", &known);
+}
+
+#[test]
+fn shows_answers_to_getstatus(rt: HostRuntime) {
+    let busy: &[u8] = b"status OK poll 5 state dfuDNBUSY string 0\n";
+    let stalled: &[u8] = b"status errSTALLEDPKT poll 0 state dfuERROR string 7\n";
+    let known: [(&str, &[u8], Exit); 8] = [
+        ("000500000400", busy, Exit::Done),
+        ("0f0000000a07", stalled, Exit::Done),
+        ("0005000004", b"refused Short\n", Exit::Refused),
+        ("000000000b00", b"refused UnknownState\n", Exit::Refused),
+        ("1000000b0b00", b"refused UnknownCode\n", Exit::Refused),
+        ("00050000040", b"refused BadHex\n", Exit::Refused),
+        ("0005000004zz", b"refused BadHex\n", Exit::Refused),
+        ("-", b"refused BadHex\n", Exit::Refused),
+    ];
+    shows(&rt, rt.alloc(), "status", &known);
+    shows(
+        &rt,
+        rt.alloc(),
+        "state",
+        &[("zz", b"bad words\n", Exit::BadWords)],
+    );
 }
 
 // The words of a line, as a command gets them.
@@ -185,6 +194,7 @@ fn told(alloc: Global, job: Job) -> Result<String, AllocError> {
             did,
         } => joined(alloc, &["add", &file, &to, &vid, &pid, &did]),
         Job::Show { kind, hex } => joined(alloc, &["show", &kind, &hex]),
+        Job::Run { script } => joined(alloc, &["run", &script]),
     }
 }
 
@@ -216,11 +226,14 @@ fn jobs_of_words(rt: HostRuntime) -> Result<(), Fail> {
         ("dfu add a b --did 1 --vid=2", "add;a;b;2;ffff;1;"),
         ("dfu check -", "check;-;"),
         ("dfu show status 00", "show;status;00;"),
+        ("dfu run -", "run;-;"),
+        ("dfu run a", "run;a;"),
         ("dfu", "words 2"),
         ("dfu check", "words 2"),
         ("dfu add a", "words 2"),
         ("dfu add a b c", "words 2"),
-        ("dfu run a", "words 2"),
+        ("dfu run", "words 2"),
+        ("dfu run a b", "words 2"),
         ("dfu --version", "words 2"),
         ("dfu show status -x", "words 2"),
         ("dfu --help", "words 0"),

@@ -79,6 +79,13 @@ fn show_job(alloc: Global, found: &ArgMatches<'_>) -> Result<Job, JobFault>
     Ok(Job::Show { kind, hex })
 }
 
+fn run_job(alloc: Global, found: &ArgMatches<'_>) -> Result<Job, JobFault>
+    ensures { IfOk result (λ j. States (Some (codes "run", rows_of (found_of found.now))) j) }
+{
+    let script = text_of(alloc, found, "script")?;
+    Ok(Job::Run { script })
+}
+
 fn named_job(alloc: Global, name: &str, found: &ArgMatches<'_>) -> Result<Job, JobFault>
     ensures { IfOk result (λ j. States (Some (name.now, rows_of (found_of found.now))) j) }
 {
@@ -86,6 +93,7 @@ fn named_job(alloc: Global, name: &str, found: &ArgMatches<'_>) -> Result<Job, J
         "check" => check_job(alloc, found),
         "add" => add_job(alloc, found),
         "show" => show_job(alloc, found),
+        "run" => run_job(alloc, found),
         _ => Err(JobFault::NoMemory),
     }
 }

@@ -1,0 +1,68 @@
+// `dfu run`: what a script prints, and the line for one that stopped.
+
+ghost use Rattle.std.specs.Prelude.{◌≡◌, ◌++◌, ◌∷◌, IfOk, [], codes};
+ghost use Rattle.std.specs.Fmt.{decimal};
+ghost use Rattle.std.specs.String.{string_bytes};
+ghost use Rattle.dfu_cmd.specs.Running.{WritesNumber, WritesStop, WritesRun};
+
+use crate::exit::Exit;
+use crate::faults::fault_text;
+use crate::output::write_out;
+use dfu_link::{ScriptFault, script};
+use dfu_suffix::SuffixFault;
+use std::alloc::{AllocError, Global};
+use std::io::{Read, Write};
+
+// A text and a number behind it.
+fn numbered(alloc: Global, text: &str, number: u32) -> Result<String, AllocError>
+    ensures { IfOk result (λ t. string_bytes t ≡ text.now ++ decimal number ++ 10 ∷ []) }
+{
+    let mut line = String::from_str(alloc, text)?;
+    let digits = number.to_string(alloc)?;
+    line.push_str(&digits)?;
+    line.push_str("\n")?;
+    Ok(line)
+}
+
+// Writes the line that names a line of the script.
+fn number_text<W: Write>(alloc: Global, text: &str, number: u32, writer: &mut W) -> Exit
+    ensures { WritesNumber text.now number (W.contents writer.old) (W.contents writer.new) result }
+{
+    match numbered(alloc, text, number) {
+        Ok(line) => write_out(writer, line.as_bytes(), Exit::Refused),
+        Err(_) => fault_text(SuffixFault::NoMemory, writer),
+    }
+}
+
+// Writes the line for a script that stopped. Where the writer failed nothing more is written.
+fn stop_text<W: Write>(alloc: Global, fault: ScriptFault, writer: &mut W) -> Exit
+    ensures { WritesStop fault (W.contents writer.old) (W.contents writer.new) result }
+{
+    match fault {
+        ScriptFault::BadLine(number) => number_text(alloc, "refused BadLine ", number, writer),
+        ScriptFault::LateConfig(number) => {
+            number_text(alloc, "refused LateConfig ", number, writer)
+        }
+        ScriptFault::BadConfig => write_out(writer, b"refused BadConfig\n", Exit::Refused),
+        ScriptFault::TooLarge => fault_text(SuffixFault::TooLarge, writer),
+        ScriptFault::NoMemory => fault_text(SuffixFault::NoMemory, writer),
+        ScriptFault::Read => fault_text(SuffixFault::Read, writer),
+        ScriptFault::Write => Exit::Fault,
+    }
+}
+
+/// Runs the script that the reader gives, and writes what it prints; with Done the last line is
+/// that of the active image. For a script that stopped the line is `refused NAME` with Refused, for
+/// BadLine and LateConfig with the number of the line behind it, or `fault Read` with Fault; what
+/// the lines before printed stands before it.
+///
+/// Where the writer fails it answers Fault; a prefix of the text is out, and nothing more is
+/// written.
+pub fn run_text<R: Read + Drop, W: Write>(alloc: Global, reader: R, writer: &mut W) -> Exit
+    ensures { WritesRun (R.remaining reader) (W.contents writer.old) (W.contents writer.new) result }
+{
+    match script(alloc, reader, writer) {
+        Ok(()) => Exit::Done,
+        Err(fault) => stop_text(alloc, fault, writer),
+    }
+}
