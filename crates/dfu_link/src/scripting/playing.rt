@@ -30,7 +30,7 @@ fn play<'f, M: Faulty + Drop, W: Write>(
     ensures err { OnErr result (HasBroken world.old (replicate times (happening event.entry)) (W.contents writer.old) (W.contents writer.new)) }
     ensures fault { IfErr result (λ f. f ≡ ScriptFault.Write) }
 {
-    for i in 0..times {
+    for turn in 0..times {
         let answer = world.step(event);
         say(writer, answer)?;
     }
@@ -44,9 +44,7 @@ pub(crate) fn file_of(alloc: Global, deed: Deed<'_>) -> Result<Vec<u8>, ScriptFa
 {
     match deed {
         Deed::Offer(text) => bytes_of(alloc, text),
-        Deed::Go { fate, times } => Ok(Vec::new(alloc)),
-        Deed::Time(ms) => Ok(Vec::new(alloc)),
-        Deed::Reset => Ok(Vec::new(alloc)),
+        _ => Ok(Vec::new(alloc)),
     }
 }
 

@@ -9,29 +9,29 @@ use Rattle.dfu_link.proofs.WriteLaws.{appends_none, appends_more, on_err}
 use Rattle.dfu_link.proofs.MoveLaws.{replicate_more, plays_one, broken}
 use Rattle.dfu_link.proofs.scripting.playing.play.Goals as goal
 
-pub loop-i-init : goal.loop-i-init
-loop-i-init g c = record { out = []; plays = none_comes; told = appends_none (g.W.Write.contents c.args.writer.now) }
+pub loop-turn-init : goal.loop-turn-init
+loop-turn-init g c = record { out = []; plays = none_comes; told = appends_none (g.W.Write.contents c.args.writer.now) }
 
-pub loop-i-preserved : goal.loop-i-preserved
-loop-i-preserved g c =
+pub loop-turn-preserved : goal.loop-turn-preserved
+loop-turn-preserved g c =
     let e = happening c.args.event in
     let old = g.W.Write.contents c.args.writer.now in
-    let mid = g.W.Write.contents c.loop-i.writer in
+    let mid = g.W.Write.contents c.loop-turn.writer in
     let new = g.W.Write.contents c.say.new.writer in
-    let before = c.loop-i.invariant in
+    let before = c.loop-turn.invariant in
     let answer = c.step-answer.result in
-    let more : HasPlayed c.args.world.now (replicate c.loop-i.i e ++ e ∷ []) old c.step-answer.new.self new = record {
+    let more : HasPlayed c.args.world.now (replicate c.loop-turn.turn e ++ e ∷ []) old c.step-answer.new.self new = record {
       out = before.out ++ answer_line answer;
-      plays = plays_one c.args.world.now c.loop-i.world c.step-answer.new.self (replicate c.loop-i.i e) e before.out answer before.plays c.step-answer.ensures.play;
+      plays = plays_one c.args.world.now c.loop-turn.world c.step-answer.new.self (replicate c.loop-turn.turn e) e before.out answer before.plays c.step-answer.ensures.play;
       told = appends_more old mid new before.out (answer_line answer) before.told c.in_ok-say.ensures.ok;
     } in
-    subst (λ (es : List Happening). HasPlayed c.args.world.now es old c.step-answer.new.self new) (sym (replicate_more c.loop-i.i e)) more
+    subst (λ (es : List Happening). HasPlayed c.args.world.now es old c.step-answer.new.self new) (sym (replicate_more c.loop-turn.turn e)) more
 
 pub returns-in_err-say-clause-err : goal.returns-in_err-say-clause-err
 returns-in_err-say-clause-err g c =
     let e = happening c.args.event in
     let old = g.W.Write.contents c.args.writer.now in
-    let mid = g.W.Write.contents c.loop-i.writer in
+    let mid = g.W.Write.contents c.loop-turn.writer in
     let new = g.W.Write.contents c.say.new.writer in
     on_err c.from_residual.result (HasBroken c.args.world.now (replicate c.args.times e) old new)
-    (broken c.args.world.now c.loop-i.world c.step-answer.new.self e c.loop-i.i c.args.times c.step-answer.result old mid new c.loop-i.invariant c.loop-i-test.true c.step-answer.ensures.play c.in_err-say.ensures.err)
+    (broken c.args.world.now c.loop-turn.world c.step-answer.new.self e c.loop-turn.turn c.args.times c.step-answer.result old mid new c.loop-turn.invariant c.loop-turn-test.true c.step-answer.ensures.play c.in_err-say.ensures.err)
