@@ -107,3 +107,23 @@ fn scripts_fall_at_a_line(rt: HostRuntime) -> Result<(), Fail> {
     }
     Ok(())
 }
+
+#[test]
+fn script_faults_have_texts(rt: HostRuntime) -> Result<(), Fail> {
+    let rows = [
+        (ScriptFault::BadLine(7), "line 7 is not understood"),
+        (
+            ScriptFault::LateConfig(2),
+            "line 2 sets up a device that has begun",
+        ),
+        (ScriptFault::BadConfig, "no device can be set up like this"),
+        (ScriptFault::TooLarge, "the script has over 16777216 bytes"),
+        (ScriptFault::NoMemory, "out of memory"),
+        (ScriptFault::Read, "the script can't be read"),
+        (ScriptFault::Write, "the output can't be written"),
+    ];
+    for (fault, text) in rows {
+        assert_eq!(rt; format!(in rt.alloc(); "{fault}")?.as_str(), text);
+    }
+    Ok(())
+}
