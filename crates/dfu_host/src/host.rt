@@ -99,9 +99,9 @@ impl<'f> Host<'f> {
     /// 1. `CannotUpload`: the descriptor has bitCanUpload 0.
     /// 2. `BadDescriptor`: the descriptor's transfer size is 0.
     pub fn upload(
+        alloc: Global,
         functional: &Functional,
         limits: Limits,
-        alloc: Global,
     ) -> Result<Host<'f>, HostFault>
         ensures refused { (fault : HostFault) → (result ≡ Err fault) ↔ (uploading.first_fault functional.now ≡ Some fault) }
         ensures started { IfOk result (λ h. h ≡ uploading.started functional.now limits) }

@@ -24,7 +24,7 @@ const IMAGE: [u8; 19] = [
 
 #[test]
 fn short_first_part_is_the_image(rt: HostRuntime) -> Result<(), Fail> {
-    let mut host = Host::upload(&TOLERANT, AMPLE, rt.alloc())?;
+    let mut host = Host::upload(rt.alloc(), &TOLERANT, AMPLE)?;
     let dialogue = [
         (GET_STATUS, APP_IDLE),
         (DETACH, Ack),
@@ -48,7 +48,7 @@ fn short_first_part_is_the_image(rt: HostRuntime) -> Result<(), Fail> {
 
 #[test]
 fn full_parts_go_on_until_a_short_one(rt: HostRuntime) -> Result<(), Fail> {
-    let mut host = Host::upload(&TOLERANT, AMPLE, rt.alloc())?;
+    let mut host = Host::upload(rt.alloc(), &TOLERANT, AMPLE)?;
     host.take(DFU_IDLE);
     for (number, part) in [(0, FIRST), (1, SECOND), (2, THIRD)] {
         assert_eq!(rt; host.next(), fetch(number, 8));
@@ -63,7 +63,7 @@ fn full_parts_go_on_until_a_short_one(rt: HostRuntime) -> Result<(), Fail> {
 
 #[test]
 fn empty_part_ends_an_image_of_full_parts(rt: HostRuntime) -> Result<(), Fail> {
-    let mut host = Host::upload(&TOLERANT, AMPLE, rt.alloc())?;
+    let mut host = Host::upload(rt.alloc(), &TOLERANT, AMPLE)?;
     told(&mut host, &[DFU_IDLE, FIRST]);
     assert_eq!(rt; host.uploaded(), [0, 1, 2, 3, 4, 5, 6, 7].as_slice());
     told(&mut host, &[Bytes(&[]), WasReset]);
@@ -79,7 +79,7 @@ fn empty_part_ends_an_image_of_full_parts(rt: HostRuntime) -> Result<(), Fail> {
 fn what_is_no_part_begins_anew(rt: HostRuntime) -> Result<(), Fail> {
     let long = Bytes(&[0, 1, 2, 3, 4, 5, 6, 7, 8]);
     for seen in [Nothing, Stall, long, Ack, Waited, WasReset] {
-        let mut host = Host::upload(&TOLERANT, AMPLE, rt.alloc())?;
+        let mut host = Host::upload(rt.alloc(), &TOLERANT, AMPLE)?;
         told(&mut host, &[DFU_IDLE, SECOND, seen]);
         assert_eq!(rt; host.next(), GET_STATUS);
         assert!(rt; host.uploaded().is_empty());
@@ -103,7 +103,7 @@ fn restart_throws_away_what_was_kept(rt: HostRuntime) -> Result<(), Fail> {
         restarts: 1,
     };
     for path in [&[DFU_IDLE, FIRST] as &[Seen<'_>], &[DFU_IDLE, FIRST, THIRD]] {
-        let mut host = Host::upload(&TOLERANT, once, rt.alloc())?;
+        let mut host = Host::upload(rt.alloc(), &TOLERANT, once)?;
         told(&mut host, path);
         host.take(Restarted);
         assert_eq!(rt; host.next(), GET_STATUS);
@@ -111,7 +111,7 @@ fn restart_throws_away_what_was_kept(rt: HostRuntime) -> Result<(), Fail> {
         told(&mut host, &[DFU_IDLE, THIRD, WasReset]);
         assert_eq!(rt; host.next(), UPLOADED);
         assert_eq!(rt; host.uploaded(), [16, 17, 18].as_slice());
-        let mut host = Host::upload(&TOLERANT, once, rt.alloc())?;
+        let mut host = Host::upload(rt.alloc(), &TOLERANT, once)?;
         told(&mut host, path);
         told(&mut host, &[Restarted, DFU_IDLE, FIRST, Restarted]);
         assert_eq!(rt; host.next(), Action::Done(Report::RestartsSpent));
@@ -135,12 +135,12 @@ fn image_has_less_than_65_535_full_parts(rt: HostRuntime) -> Result<(), Fail> {
         transfer: 1,
         ..TOLERANT
     };
-    let mut host = Host::upload(&by_one, AMPLE, rt.alloc())?;
+    let mut host = Host::upload(rt.alloc(), &by_one, AMPLE)?;
     tell_parts(&rt, &mut host, 65_534);
     told(&mut host, &[Bytes(&[]), WasReset]);
     assert_eq!(rt; host.next(), UPLOADED);
     assert_eq!(rt; host.uploaded().len(), 65_534);
-    let mut host = Host::upload(&by_one, AMPLE, rt.alloc())?;
+    let mut host = Host::upload(rt.alloc(), &by_one, AMPLE)?;
     tell_parts(&rt, &mut host, 65_535);
     assert_eq!(rt; host.next(), Action::Done(Report::TooManyBlocks));
     assert!(rt; host.uploaded().is_empty());
@@ -169,7 +169,7 @@ fn refusals_of_an_upload_come_in_their_order(rt: HostRuntime) -> Result<(), Fail
         (only, None),
     ];
     for (functional, fault) in &refused {
-        assert_eq!(rt; Host::upload(functional, AMPLE, rt.alloc()).err(), *fault);
+        assert_eq!(rt; Host::upload(rt.alloc(), functional, AMPLE).err(), *fault);
     }
     Ok(())
 }
@@ -192,7 +192,7 @@ const WAYS: [&[Seen<'static>]; 10] = [
 fn given_up_upload_ends_aborted(rt: HostRuntime) -> Result<(), Fail> {
     for way in &WAYS {
         for seen in [Ack, FIRST, Stall, Nothing, Waited, WasReset, Restarted] {
-            let mut host = Host::upload(&TOLERANT, AMPLE, rt.alloc())?;
+            let mut host = Host::upload(rt.alloc(), &TOLERANT, AMPLE)?;
             told(&mut host, way);
             host.abort();
             host.abort();
@@ -209,7 +209,7 @@ fn given_up_upload_ends_aborted(rt: HostRuntime) -> Result<(), Fail> {
 /// is fetched.
 #[test]
 fn part_is_kept_or_there_is_no_memory(rt: HostRuntime) -> Result<(), Fail> {
-    let mut host = Host::upload(&TOLERANT, AMPLE, rt.alloc())?;
+    let mut host = Host::upload(rt.alloc(), &TOLERANT, AMPLE)?;
     told(&mut host, &[DFU_IDLE, FIRST, SECOND, THIRD, WasReset]);
     match host.next() {
         Action::Done(Report::NoMemory) => assert!(rt; host.uploaded().is_empty()),
