@@ -1,4 +1,4 @@
--- How much an upload keeps: so many full parts as it counts, and at the end fewer than 65,535 of them and a shorter one.
+-- How much an upload keeps: so many full parts as it counts, and at the end fewer than 65,535 of them and a shorter one. Uploaded is said of nothing else.
 use Rattle.std.proofs.Common.{◌≡◌, ℕ, zero, suc, pred, ◌*◌, ◌<◌, ◌≤◌, nat_lt, ◌==◌, Bool, true, false, cond, List, [], ◌∷◌, length, refl, sym, ap, ◌∙◌, subst, arith, length-append}
 use Rattle.std.proofs.Math.Nat.{suc-mul, mul-le-mul_right}
 use Rattle.std.proofs.lemmas.Bool.Decides.{nat_tests}
@@ -6,16 +6,25 @@ use Rattle.dfu_wire.specs.declared.codes.Code.{Code}
 use Rattle.dfu_wire.specs.declared.codes.Code.TheVariants as code
 use Rattle.dfu_wire.specs.declared.states.State.{State}
 use Rattle.dfu_wire.specs.declared.states.State.TheVariants as state
+use Rattle.dfu_host.specs.declared.report.Report.{Report}
 use Rattle.dfu_host.specs.declared.report.Report.TheVariants as report
 use Rattle.dfu_host.specs.declared.seen.Seen.{Seen}
 use Rattle.dfu_host.specs.Table.{Goal, ToLoad, ToFetch, Task, Phase, Find, FindAgain, Detach, Enter, Clear, Quit, WaitFind, ResetFind, Block, Ask, Poll, WaitPoll, Close, AskLast, Manifest, WaitManifest, WaitLast, Trouble, Fetch, LastUploaded, Last, GiveUp, Over, OverUploaded, Heard, Acked, Status, StateIs, Part, Stalled, Waited, WasReset, Restarted, start_of, pieces, listed, troubled, polled, manifested, asked, asked_last, on_status, on_state, on_ack, on_waited, on_reset, on_part, row}
-use Rattle.dfu_host.specs.Host.{HostState, budgeted, restarted, told, after_phase, HostRows, seen_all, sees}
+use Rattle.dfu_host.specs.Host.{HostState, budgeted, restarted, told, after_phase, after, HostRows, seen_all, sees}
 
--- What is kept in a phase, by the transfer size t: k full parts while part k is fetched, and at the end fewer than 65,535 full parts hold.
+-- A report that gives no bytes: any but Uploaded.
+abbrev pub GivesNothing : Report → Type 0
+GivesNothing report.Uploaded = ⊥
+GivesNothing r = Unit {0}
+
+-- What is kept in a phase, by the transfer size t: k full parts while part k is fetched, and at the end fewer than 65,535 full parts hold. A phase that keeps
+-- nothing ends in no Uploaded.
 abbrev pub IsCounted : (t : ℕ) → Phase → Type 0
 IsCounted t (Fetch k kept) = (k < 65535) × (length kept ≡ k * t)
 IsCounted t (LastUploaded kept) = length kept < 65535 * t
 IsCounted t (OverUploaded kept) = length kept < 65535 * t
+IsCounted t (Last r) = GivesNothing r
+IsCounted t (Over r) = GivesNothing r
 IsCounted t phase = Unit {0}
 
 -- Whatever is seen, what a host keeps is counted, if it was so at first. It is so where a session begins, and after an abort.
@@ -127,13 +136,13 @@ row_counted t task (WaitLast poll) heard e some c = waited_counted t heard (Last
 row_counted t task Trouble heard e some c = status_counted t heard _ FindAgain Trouble (λ a poll s. troubled_counted t (start_of task.goal) a poll s (start_counted t task.goal)) tt tt
 row_counted t task (Fetch k kept) heard e some c = subst (λ (n : ℕ). IsCounted t (on_part n k kept heard)) (sym e) (part_counted t k kept heard some c)
 row_counted t task (LastUploaded kept) heard e some c = reset_counted t heard (OverUploaded kept) (LastUploaded kept) c c
-row_counted t task (Last r) heard e some c = reset_counted t heard (Over r) (Last r) tt tt
+row_counted t task (Last r) heard e some c = reset_counted t heard (Over r) (Last r) c c
 row_counted t task GiveUp heard e some c = tt
-row_counted t task (Over r) heard e some c = tt
+row_counted t task (Over r) heard e some c = c
 row_counted t task (OverUploaded kept) heard e some c = c
 
 budgeted_counted : (t left : ℕ) (phase : Phase) → IsCounted t phase → IsCounted t (budgeted left phase)
-budgeted_counted t left (Over r) c = tt
+budgeted_counted t left (Over r) c = c
 budgeted_counted t left (OverUploaded kept) c = c
 budgeted_counted t zero phase c = tt
 budgeted_counted t (suc left) phase c = c
@@ -148,7 +157,7 @@ told_counted t h phase Restarted e some c = restarted_counted phase h.restarts
 told_counted t h phase heard e some c = budgeted_counted t (pred h.actions) (row h.task phase heard) (row_counted t h.task phase heard e some c)
 
 after_counted : (t : ℕ) (h : HostState) (phase : Phase) (heard : Heard) → h.phase ≡ phase → h.task.transfer ≡ t → 0 < t → IsCounted t phase → IsCounted t (after_phase h phase heard).phase
-after_counted t h (Over r) heard same e some c = rw same tt
+after_counted t h (Over r) heard same e some c = rw same c
 after_counted t h (OverUploaded kept) heard same e some c = rw same c
 after_counted t h Find heard same e some c = told_counted t h Find heard e some c
 after_counted t h phase heard same e some c = told_counted t h phase heard e some c
@@ -177,3 +186,11 @@ stays_in t h h' (seen ∷ more) e some c (sees {mid = mid} step rows) =
 
 pub stays_counted : StaysCounted
 stays_counted h h' seens some c rows = stays_in h.task.transfer h h' seens refl some c rows
+
+-- So it is of whatever is heard.
+pub after_stays : (h : HostState) (heard : Heard) → 0 < h.task.transfer → IsCounted h.task.transfer h.phase → IsCounted h.task.transfer (after h heard).phase
+after_stays h heard some c = after_counted h.task.transfer h h.phase heard refl refl some c
+
+-- And the task stays.
+pub after_same_task : (h : HostState) (heard : Heard) → (after h heard).task ≡ h.task
+after_same_task h heard = same_task h h.phase heard

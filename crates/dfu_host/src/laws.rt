@@ -42,7 +42,7 @@ pub fn installed_once_confirmed()
 {}
 
 /// Whatever is seen, an upload that fetches part k has kept k full parts, and one that ends as
-/// Uploaded keeps fewer bytes than 65,535 full parts have.
+/// Uploaded keeps fewer bytes than 65,535 full parts have. No other session ends so.
 pub fn upload_counts_its_parts()
     ensures { StaysCounted }
 {}
