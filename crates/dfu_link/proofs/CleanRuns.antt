@@ -13,8 +13,8 @@ use Rattle.dfu_link.specs.Session.{said}
 use Rattle.dfu_link.specs.Play.{Fate, Pass, Event, Offer, Go, Link, Answered, silent, opened, Session, Nobody, Played, gone, played}
 use Rattle.dfu_link.specs.Bytes.{Bench, link_of}
 use Rattle.dfu_link.specs.CleanRun.{PassesTo, Quietly, here, there, resting, InstalledAfter}
-use Rattle.dfu_link.specs.Comes.{Happening, Offers, Goes, unharmed, Means, IsOffered, IsLive}
-use Rattle.dfu_link.specs.Sure.{IsHarmless, IsAsPlayed}
+use Rattle.dfu_link.specs.Comes.{Happening, Offers, Goes, unharmed, Means, IsOffered, IsLive, LinkState}
+use Rattle.dfu_link.specs.Sure.{IsHarmless, IsAsPlayed, IsSure}
 use Rattle.dfu_link.specs.CleanInstall.{clean_passes, CanInstall, offer_and_passes, InstallsCleanly}
 use Rattle.dfu_link.proofs.Clean.{clean_run}
 use Rattle.dfu_link.proofs.Events.{has_transfer, can_download, bytes_of}
@@ -22,7 +22,16 @@ use Rattle.dfu_link.specs.declared.fault.LinkFault.{LinkFault}
 use Rattle.dfu_link.specs.declared.fault.LinkFault.TheVariants as fault
 use Rattle.dfu_link.specs.Running.{IsStop}
 use Rattle.dfu_link.proofs.Refusals.{offered_not_bad}
-use Rattle.dfu_link.proofs.Chains.{Stepped, Stopped, Chain, no_more, one_more, same_profile}
+use Rattle.dfu_link.proofs.Chains.{Stopped, Chain, no_more, one_more, same_profile}
+
+-- Events one after the other, as the table of fates says of a medium that works.
+data SureChain : Bench → List Happening → List Report → Bench → Type 0 where
+  none_sure : {b : Bench} → SureChain b [] [] b
+  one_sure : {b mid b' : Bench} {h : Happening} {hs : List Happening} {report : Option Report} {reports : List Report} → IsSure b h mid report → SureChain mid hs reports b' → SureChain b (h ∷ hs) (said report ++ reports) b'
+
+sure_chain : {w w' : LinkState} {hs : List Happening} {reports : List Report} → Chain w hs reports w' → SureChain w.bench hs reports w'.bench
+sure_chain no_more = none_sure
+sure_chain (one_more s more) = one_sure s.sure (sure_chain more)
 
 abbrev pass : Happening
 pass = Goes Pass unharmed
@@ -58,8 +67,8 @@ leads_to b mid report event c w answer e x f =
     sym x.same ∙ ap (λ (d : Profile). played d (link_of b) event Works Works x.room) e ∙ f x.room in
     record { link = ap (λ (p : Played). p.link) same; told = x.told ∙ ap (λ (p : Played). p.answer.report) same }
 
-pass_leads : (b mid : Bench) (report : Option Report) (c : Profile) (w : Link) (answer : Answered) → profile b.device ≡ c → Stepped b pass mid report → PassesTo c (link_of b) w answer → LeadsTo mid report w answer
-pass_leads b mid report c w answer e s f = leads_to b mid report (Go Pass) c w answer e (pass_played b mid report s.sure.event s.sure.means s.sure.works) (λ room. f Works room)
+pass_leads : (b mid : Bench) (report : Option Report) (c : Profile) (w : Link) (answer : Answered) → profile b.device ≡ c → IsSure b pass mid report → PassesTo c (link_of b) w answer → LeadsTo mid report w answer
+pass_leads b mid report c w answer e s f = leads_to b mid report (Go Pass) c w answer e (pass_played b mid report s.event s.means s.works) (λ room. f Works room)
 
 -- Passes that report nothing.
 record WasQuiet (c : Profile) (b' : Bench) (reports : List Report) (n : ℕ) (end : Link) : Type 0 where
@@ -67,15 +76,15 @@ record WasQuiet (c : Profile) (b' : Bench) (reports : List Report) (n : ℕ) (en
   rest : Quietly c (link_of b') n end
   fixed : profile b'.device ≡ c
 
-quiet_passes : {b b' : Bench} {reports : List Report} {c : Profile} {end : Link} (k m : ℕ) → k ≤ m → Chain b (replicate k pass) reports b' → profile b.device ≡ c → Quietly c (link_of b) m end → WasQuiet c b' reports (m - k) end
-quiet_passes {b = b} {c = c} {end = end} zero m h no_more e q = record {
+quiet_passes : {b b' : Bench} {reports : List Report} {c : Profile} {end : Link} (k m : ℕ) → k ≤ m → SureChain b (replicate k pass) reports b' → profile b.device ≡ c → Quietly c (link_of b) m end → WasQuiet c b' reports (m - k) end
+quiet_passes {b = b} {c = c} {end = end} zero m h none_sure e q = record {
   none = refl;
   rest = let same : m ≡ m - 0 = omega arith in subst (λ (z : ℕ). Quietly c (link_of b) z end) same q;
   fixed = e;
 }
-quiet_passes {b = b} {b' = b'} {c = c} {end = end} (suc k) (suc m) h (one_more {mid = mid} {report = report} {reports = later} s more) e (there {mid = w} p q) =
+quiet_passes {b = b} {b' = b'} {c = c} {end = end} (suc k) (suc m) h (one_sure {mid = mid} {report = report} {reports = later} s more) e (there {mid = w} p q) =
     let t = pass_leads b mid report c w silent e s p in
-    let rest = quiet_passes k m (omega (arith, h)) more (same_profile b.device mid.device s.sure.kept ∙ e) (subst (λ (z : Link). Quietly c z m end) (sym t.link) q) in
+    let rest = quiet_passes k m (omega (arith, h)) more (same_profile b.device mid.device s.kept ∙ e) (subst (λ (z : Link). Quietly c z m end) (sym t.link) q) in
     record {
       none = ap (λ (r : Option Report). said r ++ later) t.told ∙ rest.none;
       rest = let same : m - k ≡ suc m - suc k = omega arith in subst (λ (z : ℕ). Quietly c (link_of b') z end) same rest.rest;
@@ -88,14 +97,14 @@ record WasLast (b' : Bench) (reports : List Report) (end : Link) (report : Repor
   says : reports ≡ report ∷ []
   link : link_of b' ≡ end
 
-last_pass : {b b' : Bench} {reports : List Report} {c : Profile} {before end : Link} {last : Report} (n : ℕ) → Chain b (replicate (suc n) pass) reports b' → profile b.device ≡ c → Quietly c (link_of b) n before
+last_pass : {b b' : Bench} {reports : List Report} {c : Profile} {before end : Link} {last : Report} (n : ℕ) → SureChain b (replicate (suc n) pass) reports b' → profile b.device ≡ c → Quietly c (link_of b) n before
     → PassesTo c before end (record { report = Some last; gave = None }) → WasLast b' reports end last
-last_pass {b = b} {b' = b'} {c = c} {end = end} {last = last} zero (one_more {report = report} s no_more) e here f =
+last_pass {b = b} {b' = b'} {c = c} {end = end} {last = last} zero (one_sure {report = report} s none_sure) e here f =
     let t = pass_leads b b' report c end (record { report = Some last; gave = None }) e s f in
     record { says = ap (λ (r : Option Report). said r ++ []) t.told; link = t.link }
-last_pass {b = b} {c = c} {before = before} (suc n) (one_more {mid = mid} {report = report} {reports = later} s more) e (there {mid = w} p q) f =
+last_pass {b = b} {c = c} {before = before} (suc n) (one_sure {mid = mid} {report = report} {reports = later} s more) e (there {mid = w} p q) f =
     let t = pass_leads b mid report c w silent e s p in
-    let rest = last_pass n more (same_profile b.device mid.device s.sure.kept ∙ e) (subst (λ (z : Link). Quietly c z n before) (sym t.link) q) f in
+    let rest = last_pass n more (same_profile b.device mid.device s.kept ∙ e) (subst (λ (z : Link). Quietly c z n before) (sym t.link) q) f in
     record { says = ap (λ (r : Option Report). said r ++ later) t.told ∙ rest.says; link = rest.link }
 
 -- The offer: the passes of a clean run are left.
@@ -106,12 +115,12 @@ record HasBegun (b : Bench) (payload : List ℕ) (mid : Bench) (report : Option 
   fixed : profile mid.device ≡ profile b.device
   told : report ≡ None
 
-has_begun : (b mid : Bench) (report : Option Report) (file : List ℕ) (limits : Limits) (payload : List ℕ) → CanInstall b file limits payload → Stepped b (Offers file limits) mid report → HasBegun b payload mid report
+has_begun : (b mid : Bench) (report : Option Report) (file : List ℕ) (limits : Limits) (payload : List ℕ) → CanInstall b file limits payload → IsSure b (Offers file limits) mid report → HasBegun b payload mid report
 has_begun b mid report file limits payload can s =
     let c : Profile = profile b.device in
     let n : ℕ = clean_passes b.device.config payload in
     let image : List ℕ = (link_of b).device.image in
-    let o = offer_played b mid report file limits s.sure.event s.sure.means s.sure.works in
+    let o = offer_played b mid report file limits s.event s.means s.works in
     let same : o.payload ≡ payload = (one_reading file o.payload payload _ _ _ _ _ _ o.offered.reads can.offered.reads).0 in
     let start : Link = (played c (resting image) (Offer payload limits.actions limits.restarts) Works Works true).link in
     let lead : LeadsTo mid report start silent =
@@ -123,19 +132,19 @@ has_begun b mid report file limits payload can s =
       before = run.before;
       quiet = subst (λ (z : Link). Quietly c z (n - 1) run.before) (sym lead.link) run.quiet;
       last = run.last;
-      fixed = same_profile b.device mid.device s.sure.kept;
+      fixed = same_profile b.device mid.device s.kept;
       told = lead.told;
     }
 
 -- The whole run.
 clean_chain : {b b' : Bench} {reports : List Report} (file : List ℕ) (limits : Limits) (payload : List ℕ) (count : ℕ) → CanInstall b file limits payload → count ≤ clean_passes b.device.config payload
-    → Chain b (offer_and_passes file limits count) reports b' → InstallsCleanly b payload count reports b'
-clean_chain {b = b} {b' = b'} file limits payload count can most (one_more {mid = mid} {report = report} {reports = later} s more) =
+    → SureChain b (offer_and_passes file limits count) reports b' → InstallsCleanly b payload count reports b'
+clean_chain {b = b} {b' = b'} file limits payload count can most (one_sure {mid = mid} {report = report} {reports = later} s more) =
     let n : ℕ = clean_passes b.device.config payload in
     let x = has_begun b mid report file limits payload can s in
     let some : suc (n - 1) ≡ n = omega arith in
     let ends : count ≡ n → WasLast b' later (resting payload) Installed =
-    λ k. last_pass (n - 1) (subst (λ (z : ℕ). Chain mid (replicate z pass) later b') (k ∙ sym some) more) x.fixed x.quiet x.last in
+    λ k. last_pass (n - 1) (subst (λ (z : ℕ). SureChain mid (replicate z pass) later b') (k ∙ sym some) more) x.fixed x.quiet x.last in
     record {
       early = λ less. ap (λ (r : Option Report). said r ++ later) x.told ∙ (quiet_passes count (n - 1) (omega (arith, less)) more x.fixed x.quiet).none;
       reported = λ k. ap (λ (r : Option Report). said r ++ later) x.told ∙ (ends k).says;
@@ -182,16 +191,16 @@ record StopsCleanly (why : LinkFault) (reports : List Report) : Type 0 where
   pub none : reports ≡ []
 
 clean_stop : {b b' : Bench} {next : Happening} {more : List Happening} {why : LinkFault} {reports : List Report} (file : List ℕ) (limits : Limits) (payload : List ℕ) (count at : ℕ) → CanInstall b file limits payload
-    → count ≤ clean_passes b.device.config payload → drop at (offer_and_passes file limits count) ≡ next ∷ more → Chain b (take at (offer_and_passes file limits count)) reports b' → IsStop b' next why → StopsCleanly why reports
-clean_stop {b = b} {next = next} {why = why} file limits payload count zero can most next_is no_more stop =
+    → count ≤ clean_passes b.device.config payload → drop at (offer_and_passes file limits count) ≡ next ∷ more → SureChain b (take at (offer_and_passes file limits count)) reports b' → IsStop b' next why → StopsCleanly why reports
+clean_stop {b = b} {next = next} {why = why} file limits payload count zero can most next_is none_sure stop =
     let same : next ≡ Offers file limits = cc in
     record { fault = offer_stands b file limits payload can why (subst (λ (h : Happening). IsStop b h why) same stop); none = refl }
-clean_stop {b = b} {b' = b'} {why = why} file limits payload count (suc k) can most next_is (one_more {mid = mid} {report = report} {reports = later} s more) stop =
+clean_stop {b = b} {b' = b'} {why = why} file limits payload count (suc k) can most next_is (one_sure {mid = mid} {report = report} {reports = later} s more) stop =
     let n : ℕ = clean_passes b.device.config payload in
     let y = next_pass count k next_is in
     let x = has_begun b mid report file limits payload can s in
     let cut : take k (replicate count pass) ≡ replicate k pass = take-replicate k count pass (omega (arith, y.0)) in
-    let q = quiet_passes k (n - 1) (omega (arith, y.0, most)) (subst (λ (hs : List Happening). Chain mid hs later b') cut more) x.fixed x.quiet in
+    let q = quiet_passes k (n - 1) (omega (arith, y.0, most)) (subst (λ (hs : List Happening). SureChain mid hs later b') cut more) x.fixed x.quiet in
     record {
       fault = pass_stands b' (λ e. nobody_installs (profile b.device) x.before (resting payload) x.last (nobody_stays q.rest e)) why (subst (λ (h : Happening). IsStop b' h why) y.1 stop);
       none = ap (λ (r : Option Report). said r ++ later) x.told ∙ q.none;
@@ -199,14 +208,14 @@ clean_stop {b = b} {b' = b'} {why = why} file limits payload count (suc k) can m
 
 -- As `run` says it.
 
-pub ran_clean : {b b' : Bench} {hs : List Happening} {reports : List Report} (file : List ℕ) (limits : Limits) (payload : List ℕ) (count : ℕ) → Chain b hs reports b' → CanInstall b file limits payload
-    → hs ≡ offer_and_passes file limits count → count ≤ clean_passes b.device.config payload → InstallsCleanly b payload count reports b'
-ran_clean {b = b} {b' = b'} {reports = reports} file limits payload count chain can is most = clean_chain file limits payload count can most (subst (λ (x : List Happening). Chain b x reports b') is chain)
+pub ran_clean : {w w' : LinkState} {hs : List Happening} {reports : List Report} (file : List ℕ) (limits : Limits) (payload : List ℕ) (count : ℕ) → Chain w hs reports w' → CanInstall w.bench file limits payload
+    → hs ≡ offer_and_passes file limits count → count ≤ clean_passes w.bench.device.config payload → InstallsCleanly w.bench payload count reports w'.bench
+ran_clean {w = w} {w' = w'} {reports = reports} file limits payload count chain can is most = clean_chain file limits payload count can most (subst (λ (x : List Happening). SureChain w.bench x reports w'.bench) is (sure_chain chain))
 
-pub stopped_clean : {b b' : Bench} {hs : List Happening} {why : LinkFault} {at : ℕ} {reports : List Report} (file : List ℕ) (limits : Limits) (payload : List ℕ) (count : ℕ) → Stopped b hs why at reports b'
-    → CanInstall b file limits payload → hs ≡ offer_and_passes file limits count → count ≤ clean_passes b.device.config payload → (why ≡ fault.NoMemory) × (reports ≡ [])
-stopped_clean {b = b} {b' = b'} {at = at} {reports = reports} file limits payload count s can is most =
+pub stopped_clean : {w w' : LinkState} {hs : List Happening} {why : LinkFault} {at : ℕ} {reports : List Report} (file : List ℕ) (limits : Limits) (payload : List ℕ) (count : ℕ) → Stopped w hs why at reports w'
+    → CanInstall w.bench file limits payload → hs ≡ offer_and_passes file limits count → count ≤ clean_passes w.bench.device.config payload → (why ≡ fault.NoMemory) × (reports ≡ [])
+stopped_clean {w = w} {w' = w'} {at = at} {reports = reports} file limits payload count s can is most =
     let x =
     clean_stop file limits payload count at can most (subst (λ (hs : List Happening). drop at hs ≡ s.runs.next ∷ s.runs.more) is s.runs.here)
-    (subst (λ (hs : List Happening). Chain b (take at hs) reports b') is s.chain) s.runs.why in
+    (subst (λ (hs : List Happening). SureChain w.bench (take at hs) reports w'.bench) is (sure_chain s.chain)) s.runs.why in
     (x.fault, x.none)

@@ -10,21 +10,24 @@ use Rattle.dfu_device.specs.Rows.{Elapses}
 use Rattle.dfu_wire.specs.declared.functionals.Functional.{Functional}
 use Rattle.dfu_suffix.specs.declared.ids.Ids.{Ids}
 use Rattle.dfu_host.specs.Download.{is_for, first_fault, started}
+use Rattle.dfu_host.specs.Uploading as uploading
 use Rattle.dfu_host.specs.declared.fault.HostFault.{HostFault}
 use Rattle.dfu_host.specs.declared.limits.Limits.{Limits}
 use Rattle.dfu_host.specs.declared.report.Report.{Report}
-use Rattle.dfu_host.specs.Host.{HostState}
-use Rattle.dfu_host.specs.Table.{deed}
+use Rattle.dfu_host.specs.Host.{HostState, aborted_in}
+use Rattle.dfu_host.specs.Table.{Phase, GiveUp, Over, OverUploaded, deed}
+use Rattle.dfu_link.specs.Fact.{IsOn}
 use Rattle.dfu_link.specs.declared.fate.Fate.{Fate as GivenFate}
 use Rattle.dfu_link.specs.declared.fate.Fate.TheVariants as fate
+use Rattle.dfu_link.specs.declared.fault.LinkFault.{LinkFault}
 use Rattle.dfu_link.specs.declared.fault.LinkFault.TheVariants as fault
 use Rattle.dfu_link.specs.declared.fault.OfferFault.{OfferFault}
 use Rattle.dfu_link.specs.declared.fault.OfferFault.TheVariants as offer_fault
-use Rattle.dfu_link.specs.Play.{Fate, Offer, Go, Time, ResetBus, Session, Nobody, Hosted, silent, told, took, settled, IsAllowed}
+use Rattle.dfu_link.specs.Play.{Fate, Offer, UploadIt, AbortIt, Go, Time, ResetBus, Session, Nobody, Hosted, given, silent, told, took, settled, aborted, IsAllowed}
 use Rattle.dfu_link.specs.Bytes.{Harm, fuse_of, armed, bus_was_reset, Acts, after_fate}
-use Rattle.dfu_link.specs.Comes.{Offers, Goes, Passes, Resets, unharmed, fate_of, IsOffered, IsBadOffer, refuses, happens, HasCome}
-use Rattle.dfu_link.specs.Standing.{session_of, bench_of}
-use Rattle.dfu_link.specs.Acting.{HasActed, ended, HasBegun}
+use Rattle.dfu_link.specs.Comes.{Offers, Goes, Passes, Resets, unharmed, fate_of, IsOffered, IsBadOffer, CanGive, Uploads, Aborts, Comes, refuses, happens, HasCome, HasComeAlone}
+use Rattle.dfu_link.specs.Standing.{session_of, given_by, bench_of, link_state}
+use Rattle.dfu_link.specs.Acting.{HasActed, ended, abort_told, HasBegun}
 use Rattle.dfu_link.proofs.Acts.{acts_whole}
 
 -- a medium that is not armed is armed with nothing
@@ -57,27 +60,31 @@ reset_allowed Nobody = tt
 reset_allowed (Hosted h) = tt
 
 -- time that passes
-pub time_comes : (ms : ℕ) (w w' : Shown) (host : Option HostState) → w.slots.medium.fuse ≡ Whole → Elapses ms w w' → HasCome (bench_of w host) (Passes ms) (bench_of w' host) (Ok None)
-time_comes ms w w' host e row = record {
+pub time_comes : (ms : ℕ) (w w' : Shown) (host gave : Option HostState) → w.slots.medium.fuse ≡ Whole → Elapses ms w w' → HasCome (link_state w host gave) (Passes ms) (link_state w' host gave) (Ok None)
+time_comes ms w w' host gave e row = record {
   answer = Ok silent;
+  up_is = refl;
   comes = happens {event = Time ms} refl (record { allowed = time_allowed (session_of host) ms; unarmed = e; happens = (row, refl, refl) });
   told = refl;
 }
 
 -- a reset of the bus, not by the host
-pub reset_comes : (w w' : Shown) (host host' : Option HostState) (report : Option Report) → w.slots.medium.fuse ≡ Whole → w' ≡ bus_was_reset w → session_of host' ≡ (told (session_of host)).session
-    → report ≡ (told (session_of host)).answer.report → HasCome (bench_of w host) Resets (bench_of w' host') (Ok report)
-reset_comes w w' host host' report e device session says = record {
+pub reset_comes : (w w' : Shown) (host host' gave gave' : Option HostState) (report : Option Report) → w.slots.medium.fuse ≡ Whole → w' ≡ bus_was_reset w → session_of host' ≡ (told (session_of host)).session
+    → given_by gave' ≡ given (told (session_of host)).answer.gave (given_by gave) → report ≡ (told (session_of host)).answer.report → HasCome (link_state w host gave) Resets (link_state w' host' gave') (Ok report)
+reset_comes w w' host host' gave gave' report e device session kept says = record {
   answer = Ok (told (session_of host)).answer;
+  up_is = kept;
   comes = happens {event = ResetBus} tt (record { allowed = reset_allowed (session_of host); unarmed = e; happens = ((λ i. record { device = device i; session = session i }), refl) });
   told = ap Ok says;
 }
 
 -- the host's next action
-pub go_comes : (f : GivenFate) (w w' : Shown) (h h' : HostState) (host' : Option HostState) (report : Option Report) → w.slots.medium.fuse ≡ Whole → HasActed h (fate_of f) w w' h'
-    → session_of host' ≡ (ended (Hosted h')).session → report ≡ (ended (Hosted h')).answer.report → HasCome (bench_of w (Some h)) (Goes (fate_of f) unharmed) (bench_of w' host') (Ok report)
-go_comes f w w' h h' host' report e acted session says = record {
+pub go_comes : (f : GivenFate) (w w' : Shown) (h h' : HostState) (host' gave gave' : Option HostState) (report : Option Report) → w.slots.medium.fuse ≡ Whole → HasActed h (fate_of f) w w' h'
+    → session_of host' ≡ (ended (Hosted h')).session → given_by gave' ≡ given (ended (Hosted h')).answer.gave (given_by gave) → report ≡ (ended (Hosted h')).answer.report
+    → HasCome (link_state w (Some h) gave) (Goes (fate_of f) unharmed) (link_state w' host' gave') (Ok report)
+go_comes f w w' h h' host' gave gave' report e acted session kept says = record {
   answer = Ok (took h acted.heard).answer;
+  up_is = kept ∙ ap (λ (x : HostState). given (settled x x.phase).answer.gave (given_by gave)) acted.same;
   comes = happens {event = Go (fate_of f)} refl (record {
     allowed = tt;
     unarmed = e;
@@ -96,8 +103,8 @@ go_comes f w w' h h' host' report e acted session says = record {
 }
 
 -- an action where no session is live
-pub go_refused : (f : Fate) (harm : Harm) (w : Shown) → HasCome (bench_of w None) (Goes f harm) (bench_of w None) (Err fault.NoHost)
-go_refused f harm w = record { answer = Err fault.NoHost; comes = refuses refl; told = refl }
+pub go_refused : (f : Fate) (harm : Harm) (w : Shown) (gave : Option HostState) → HasCome (link_state w None gave) (Goes f harm) (link_state w None gave) (Err fault.NoHost)
+go_refused f harm w gave = record { answer = Err fault.NoHost; comes = refuses refl; up_is = refl; told = refl }
 
 -- the first of these faults is none, so it is none of them
 not_first : (t : Bool) (fault : HostFault) (rest : Option HostFault) → cond t (Some fault) rest ≡ None → (t ≡ false) × (rest ≡ None)
@@ -132,20 +139,21 @@ can_download {s = s} {payload = payload} offered =
     is_true false e = absurd cc
 
 -- an offer while a session is live
-pub offer_busy : (file : List ℕ) (limits : Limits) (w : Shown) (host : Option HostState) → is_some host ≡ true → HasCome (bench_of w host) (Offers file limits) (bench_of w host) (Err fault.HostBusy)
-offer_busy file limits w (Some h) e = record { answer = Err fault.HostBusy; comes = refuses tt; told = refl }
-offer_busy file limits w None e = absurd cc
+pub offer_busy : (file : List ℕ) (limits : Limits) (w : Shown) (host : Option HostState) → is_some host ≡ true → HasComeAlone (bench_of w host) (Offers file limits) (bench_of w host) (Err fault.HostBusy)
+offer_busy file limits w (Some h) e up = record { answer = Err fault.HostBusy; comes = refuses tt; up_is = refl; told = refl }
+offer_busy file limits w None e up = absurd cc
 
 -- an offer of a file that is not taken
-pub offer_refused : (file : List ℕ) (limits : Limits) (w : Shown) (host : Option HostState) (why : OfferFault) → is_some host ≡ false → IsBadOffer w.config file why → HasCome (bench_of w host) (Offers file limits) (bench_of w host) (Err (fault.BadOffer why))
-offer_refused file limits w None why e bad = record { answer = Err (fault.BadOffer why); comes = refuses (refl, bad); told = refl }
-offer_refused file limits w (Some h) why e bad = absurd cc
+pub offer_refused : (file : List ℕ) (limits : Limits) (w : Shown) (host : Option HostState) (why : OfferFault) → is_some host ≡ false → IsBadOffer w.config file why → HasComeAlone (bench_of w host) (Offers file limits) (bench_of w host) (Err (fault.BadOffer why))
+offer_refused file limits w None why e bad up = record { answer = Err (fault.BadOffer why); comes = refuses (refl, bad); up_is = refl; told = refl }
+offer_refused file limits w (Some h) why e bad up = absurd cc
 
 -- an offer with which a session begins
 pub offer_comes : (file : List ℕ) (limits : Limits) (w : Shown) (host : Option HostState) (h : HostState) → is_some host ≡ false → w.slots.medium.fuse ≡ Whole → HasBegun w.config file limits h
-    → HasCome (bench_of w host) (Offers file limits) (bench_of w (Some h)) (Ok None)
-offer_comes file limits w None h n e begun = record {
+    → HasComeAlone (bench_of w host) (Offers file limits) (bench_of w (Some h)) (Ok None)
+offer_comes file limits w None h n e begun up = record {
   answer = Ok silent;
+  up_is = refl;
   comes = happens {event = Offer begun.content.payload limits.actions limits.restarts} (begun.offered, refl, refl) (record {
     allowed = bytes_of begun.offered;
     unarmed = e;
@@ -153,7 +161,7 @@ offer_comes file limits w None h n e begun = record {
   });
   told = refl;
 }
-offer_comes file limits w (Some h) k n e begun = absurd cc
+offer_comes file limits w (Some h) k n e begun up = absurd cc
 
 -- what was found of a file
 abbrev Found : List ℕ → Content → Type 0
@@ -183,3 +191,70 @@ offer_begins s file limits content f ids h e k found none is =
       offered = record { ids = content.ids; dfu = content.dfu; extra = found.0; reads = found.1; taken = taken };
       host = is ∙ ap (λ (x : Functional). started content x limits) e;
     }
+
+-- Uploads and aborts.
+
+-- a device that gives its image has blocks of some bytes
+pub gives_transfer : (s : Setting) → CanGive s → 0 < s.functional.transfer
+gives_transfer s gives =
+    let a = not_first (not s.functional.can_upload) _ _ gives in
+    let z = not_first (s.functional.transfer == 0) _ _ a.1 in
+    let e : (s.functional.transfer == 0) ≡ false = z.0 in
+    grind (arith, nat_tests)
+
+-- an upload while a session is live
+pub upload_busy : (limits : Limits) (w : Shown) (host : Option HostState) → is_some host ≡ true → HasComeAlone (bench_of w host) (Uploads limits) (bench_of w host) (Err fault.HostBusy)
+upload_busy limits w (Some h) e up = record { answer = Err fault.HostBusy; comes = refuses tt; up_is = refl; told = refl }
+upload_busy limits w None e up = absurd cc
+
+-- an upload from a device that gives no image
+pub upload_refused : (limits : Limits) (w : Shown) (host : Option HostState) (f : Functional) (why : HostFault) → is_some host ≡ false → f ≡ w.config.functional → uploading.first_fault f ≡ Some why
+    → HasComeAlone (bench_of w host) (Uploads limits) (bench_of w host) (Err (fault.BadOffer (offer_fault.Host why)))
+upload_refused limits w None f why n e bad up =
+    let first : uploading.first_fault w.config.functional ≡ Some why = subst (λ (x : Functional). uploading.first_fault x ≡ Some why) e bad in
+    record { answer = Err (fault.BadOffer (offer_fault.Host why)); comes = refuses (refl, first); up_is = refl; told = refl }
+upload_refused limits w (Some h) f why n e bad up = absurd cc
+
+-- an upload that begins
+pub upload_comes : (limits : Limits) (w : Shown) (host : Option HostState) (h : HostState) (f : Functional) → is_some host ≡ false → w.slots.medium.fuse ≡ Whole → f ≡ w.config.functional
+    → ((why : HostFault) → (◌≡◌ {A = Result HostState HostFault} (Ok h) (Err why)) ↔ (uploading.first_fault f ≡ Some why)) → h ≡ uploading.started f limits
+    → HasComeAlone (bench_of w host) (Uploads limits) (bench_of w (Some h)) (Ok None)
+upload_comes limits w None h f n e k none is up =
+    let gives : CanGive w.config = subst (λ (x : Functional). uploading.first_fault x ≡ None) k (none_of (uploading.first_fault f) h none) in
+    let begun : h ≡ uploading.started w.config.functional limits = is ∙ ap (λ (x : Functional). uploading.started x limits) k in
+    record {
+      answer = Ok silent;
+      up_is = refl;
+      comes = happens {event = UploadIt limits.actions limits.restarts} (gives, refl, refl) (record {
+        allowed = tt;
+        unarmed = e;
+        happens = ((λ i. record { device = w; session = Hosted (begun i) }), refl);
+      });
+      told = refl;
+    }
+upload_comes limits w (Some h) k f n e same none is up = absurd cc
+
+-- a host that is not done is given up
+given_up : (h : HostState) (phase : Phase) → IsOn phase → aborted_in h phase ≡ record h { phase = GiveUp }
+given_up h (Over report) on = elim on [ ]
+given_up h (OverUploaded kept) on = elim on [ ]
+given_up h phase on = refl
+
+pub abort_live : (h h' : HostState) → IsOn h.phase → h' ≡ aborted_in h h.phase → Hosted h' ≡ aborted (Hosted h)
+abort_live h h' on e = ap Hosted (e ∙ given_up h h.phase on)
+
+-- an abort
+pub abort_comes : (w : Shown) (host host' gave : Option HostState) (result : Result (Option Report) LinkFault) → w.slots.medium.fuse ≡ Whole → session_of host' ≡ aborted (session_of host) → result ≡ abort_told (session_of host)
+    → HasCome (link_state w host gave) Aborts (link_state w host' gave) result
+abort_comes w None host' gave result e session says = record {
+  answer = Err fault.NoHost;
+  up_is = refl;
+  comes = subst (λ (s : Session). Comes (bench_of w None) Aborts (record { device = w; session = s }) (Err fault.NoHost)) (sym session) (refuses refl);
+  told = says;
+}
+abort_comes w (Some h) host' gave result e session says = record {
+  answer = Ok silent;
+  up_is = refl;
+  comes = happens {event = AbortIt} tt (record { allowed = tt; unarmed = e; happens = ((λ i. record { device = w; session = session i }), refl) });
+  told = says;
+}

@@ -11,7 +11,7 @@ use Rattle.dfu_slots.specs.Medium.{Fuse}
 use Rattle.dfu_slots.specs.Medium.Fuse.{Whole}
 use Rattle.dfu_link.specs.Play.{Session, Nobody}
 use Rattle.dfu_link.specs.Bytes.{Bench, armed}
-use Rattle.dfu_link.specs.Comes.{Happening, Offers, Comes, refuses, HasCome, IsLive}
+use Rattle.dfu_link.specs.Comes.{Happening, Offers, Comes, refuses, LinkState, HasCome, IsLive}
 use Rattle.dfu_link.specs.declared.fault.LinkFault.{LinkFault}
 use Rattle.dfu_link.specs.declared.fault.LinkFault.TheVariants.{HostBusy}
 use Rattle.dfu_link.specs.Writing.{Broke}
@@ -32,9 +32,9 @@ pub replicate_more : {A : Type 0} (n : ℕ) (x : A) → replicate (n + 1) x ≡ 
 replicate_more n x = ap (λ (k : ℕ). replicate k x) (add-one n) ∙ suc_more n x
 
 -- One event more.
-pub plays_one : (b c c' : Bench) (events : List Happening) (e : Happening) (out : List ℕ) (r : Result (Option Report) LinkFault) → AllCome b events out c → HasCome c e c' r → AllCome b (events ++ e ∷ []) (out ++ answer_line r) c'
+pub plays_one : (b : Bench) (c c' : LinkState) (events : List Happening) (e : Happening) (out : List ℕ) (r : Result (Option Report) LinkFault) → AllCome b events out c.bench → HasCome c e c' r → AllCome b (events ++ e ∷ []) (out ++ answer_line r) c'.bench
 plays_one b c c' events e out r p h =
-    subst (λ (x : Result (Option Report) LinkFault). AllCome b (events ++ e ∷ []) (out ++ answer_line x) c') (sym h.told) (then_comes p h.comes)
+    subst (λ (x : Result (Option Report) LinkFault). AllCome b (events ++ e ∷ []) (out ++ answer_line x) c'.bench) (sym h.told) (then_comes p h.comes)
 
 -- An offer while a session is live.
 busy_offer : (b : Bench) (file : List ℕ) (limits : Limits) → IsLive b.session → Comes b (Offers file limits) b (Err HostBusy)
@@ -54,10 +54,10 @@ replicate_front (suc k) (suc n) x h =
     let rest = replicate_front k n x (omega (arith, h)) in
     (rest.0, ap (λ (xs : List _). x ∷ xs) rest.1)
 
-pub broken : (b c c' : Bench) (e : Happening) (k n : ℕ) (r : Result (Option Report) LinkFault) (old mid new : Option (List ℕ)) → HasPlayed b (replicate k e) old c mid → k < n → HasCome c e c' r → Broke mid new (answer_line r) → HasBroken b (replicate n e) old new
+pub broken : (b : Bench) (c c' : LinkState) (e : Happening) (k n : ℕ) (r : Result (Option Report) LinkFault) (old mid new : Option (List ℕ)) → HasPlayed b (replicate k e) old c.bench mid → k < n → HasCome c e c' r → Broke mid new (answer_line r) → HasBroken b (replicate n e) old new
 broken b c c' e k n r old mid new p lt come broke =
     let rest = replicate_front k n e lt in
-    record { played = replicate k e ++ e ∷ []; left = rest.0; split = rest.1; after = c'; out = p.out ++ answer_line r; plays = plays_one b c c' (replicate k e) e p.out r p.plays come; broke = broke_after old mid new p.out (answer_line r) p.told broke }
+    record { played = replicate k e ++ e ∷ []; left = rest.0; split = rest.1; after = c'.bench; out = p.out ++ answer_line r; plays = plays_one b c c' (replicate k e) e p.out r p.plays come; broke = broke_after old mid new p.out (answer_line r) p.told broke }
 
 -- A line.
 

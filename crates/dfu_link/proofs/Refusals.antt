@@ -1,16 +1,17 @@
 -- An event has one answer.
-use Rattle.std.proofs.Common.{◌≡◌, ℕ, List, Some, None, refl, sym, ap, ◌∙◌, subst}
+use Rattle.std.proofs.Common.{◌≡◌, ℕ, List, Option, Some, None, refl, sym, ap, ◌∙◌, subst}
 use Rattle.dfu_wire.specs.declared.functionals.Functional.{Functional}
 use Rattle.dfu_suffix.specs.declared.ids.Ids.{Ids}
 use Rattle.dfu_suffix.specs.Grammar.{Content}
 use Rattle.dfu_suffix.proofs.LawProofs.{never_both, one_reading}
+use Rattle.dfu_host.specs.declared.fault.HostFault.{HostFault}
 use Rattle.dfu_host.specs.Download.{first_fault}
 use Rattle.dfu_device.specs.Setting.{Setting}
 use Rattle.dfu_link.specs.declared.fault.LinkFault.TheVariants as fault
 use Rattle.dfu_link.specs.declared.fault.OfferFault.{OfferFault}
 use Rattle.dfu_link.specs.declared.fault.OfferFault.TheVariants as offer_fault
-use Rattle.dfu_link.specs.Play.{Offer, Go, Time, ResetBus, Session, Nobody, Hosted, IsAllowed}
-use Rattle.dfu_link.specs.Comes.{Offers, Goes, Passes, Resets, IsOffered, IsBadOffer, IsLive}
+use Rattle.dfu_link.specs.Play.{Offer, UploadIt, AbortIt, Go, Time, ResetBus, Session, Nobody, Hosted, IsAllowed}
+use Rattle.dfu_link.specs.Comes.{Offers, Uploads, Aborts, Goes, Passes, Resets, IsOffered, IsBadOffer, CanGive, IsBadUpload, IsLive}
 use Rattle.dfu_link.specs.OneAnswer.{OneRefusal, RefusedIsNoPlay, OneEvent}
 
 -- the faults of a download go by the payload and the identifiers alone
@@ -35,6 +36,16 @@ one_bad s file (offer_fault.Host f) (offer_fault.Host g) (content, says, first) 
     let e : Some f ≡ Some g = sym first ∙ (same_fault content other s.functional s.ids same.0 same.1 ∙ second) in
     cc
 
+-- an upload has one fault, or none
+one_bad_upload : (s : Setting) (why other : OfferFault) → IsBadUpload s why → IsBadUpload s other → why ≡ other
+one_bad_upload s (offer_fault.Host f) (offer_fault.Host g) x y = let e : Some f ≡ Some g = sym x ∙ y in cc
+one_bad_upload s (offer_fault.Host f) other x y = elim y [ ]
+one_bad_upload s why other x y = elim x [ ]
+
+bad_or_given : (s : Setting) (why : OfferFault) → IsBadUpload s why → CanGive s → ⊥
+bad_or_given s (offer_fault.Host f) x gives = let e : ◌≡◌ {A = Option HostFault} (Some f) None = sym x ∙ gives in absurd cc
+bad_or_given s why x gives = x
+
 -- One refusal.
 
 pub one_refusal : OneRefusal
@@ -45,6 +56,16 @@ one_refusal b (Offers file limits) (fault.BadOffer f) fault.HostBusy x y = absur
 one_refusal b (Offers file limits) (fault.BadOffer f) (fault.BadOffer g) x y = ap (λ (why : OfferFault). fault.BadOffer why) (one_bad b.device.config file f g x.1 y.1)
 one_refusal b (Offers file limits) (fault.BadOffer f) other x y = elim y [ ]
 one_refusal b (Offers file limits) why other x y = elim x [ ]
+one_refusal b (Uploads limits) fault.HostBusy fault.HostBusy x y = refl
+one_refusal b (Uploads limits) fault.HostBusy (fault.BadOffer g) x y = absurd (subst IsLive y.0 x)
+one_refusal b (Uploads limits) fault.HostBusy other x y = elim y [ ]
+one_refusal b (Uploads limits) (fault.BadOffer f) fault.HostBusy x y = absurd (subst IsLive x.0 y)
+one_refusal b (Uploads limits) (fault.BadOffer f) (fault.BadOffer g) x y = ap (λ (why : OfferFault). fault.BadOffer why) (one_bad_upload b.device.config f g x.1 y.1)
+one_refusal b (Uploads limits) (fault.BadOffer f) other x y = elim y [ ]
+one_refusal b (Uploads limits) why other x y = elim x [ ]
+one_refusal b Aborts fault.NoHost fault.NoHost x y = refl
+one_refusal b Aborts fault.NoHost other x y = elim y [ ]
+one_refusal b Aborts why other x y = elim x [ ]
 one_refusal b (Goes fate harm) fault.NoHost fault.NoHost x y = refl
 one_refusal b (Goes fate harm) fault.NoHost other x y = elim y [ ]
 one_refusal b (Goes fate harm) why other x y = elim x [ ]
@@ -57,12 +78,24 @@ busy_no_offer : (s : Session) (payload : List ℕ) (actions again : ℕ) → IsL
 busy_no_offer Nobody payload actions again live a = live
 busy_no_offer (Hosted h) payload actions again live a = a
 
+busy_no_upload : (s : Session) (actions again : ℕ) → IsLive s → IsAllowed s (UploadIt actions again) → ⊥
+busy_no_upload Nobody actions again live a = live
+busy_no_upload (Hosted h) actions again live a = a
+
 pub refused_no_play : RefusedIsNoPlay
 refused_no_play b (Offers file limits) fault.HostBusy (Offer payload actions again) x m a = busy_no_offer b.session payload actions again x a
 refused_no_play b (Offers file limits) fault.HostBusy event x m a = elim m [ ]
 refused_no_play b (Offers file limits) (fault.BadOffer f) (Offer payload actions again) x m a = offered_not_bad b.device.config file payload f m.0 x.1
 refused_no_play b (Offers file limits) (fault.BadOffer f) event x m a = elim m [ ]
 refused_no_play b (Offers file limits) why event x m a = elim x [ ]
+refused_no_play b (Uploads limits) fault.HostBusy (UploadIt actions again) x m a = busy_no_upload b.session actions again x a
+refused_no_play b (Uploads limits) fault.HostBusy event x m a = elim m [ ]
+refused_no_play b (Uploads limits) (fault.BadOffer f) (UploadIt actions again) x m a = bad_or_given b.device.config f x.1 m.0
+refused_no_play b (Uploads limits) (fault.BadOffer f) event x m a = elim m [ ]
+refused_no_play b (Uploads limits) why event x m a = elim x [ ]
+refused_no_play b Aborts fault.NoHost AbortIt x m a = subst (λ (s : Session). IsAllowed s AbortIt) x a
+refused_no_play b Aborts fault.NoHost event x m a = elim m [ ]
+refused_no_play b Aborts why event x m a = elim x [ ]
 refused_no_play b (Goes fate harm) fault.NoHost (Go g) x m a = subst (λ (s : Session). IsAllowed s (Go g)) x a
 refused_no_play b (Goes fate harm) fault.NoHost event x m a = elim m [ ]
 refused_no_play b (Goes fate harm) why event x m a = elim x [ ]
@@ -77,6 +110,12 @@ one_event s (Offers file limits) (Offer p actions again) (Offer q others more) m
     λ i. Offer (same i) ((m.1 ∙ sym n.1) i) ((m.2 ∙ sym n.2) i)
 one_event s (Offers file limits) (Offer p actions again) other m n = elim n [ ]
 one_event s (Offers file limits) event other m n = elim m [ ]
+one_event s (Uploads limits) (UploadIt actions again) (UploadIt others more) m n = λ i. UploadIt ((m.1 ∙ sym n.1) i) ((m.2 ∙ sym n.2) i)
+one_event s (Uploads limits) (UploadIt actions again) other m n = elim n [ ]
+one_event s (Uploads limits) event other m n = elim m [ ]
+one_event s Aborts AbortIt AbortIt m n = refl
+one_event s Aborts AbortIt other m n = elim n [ ]
+one_event s Aborts event other m n = elim m [ ]
 one_event s (Goes fate harm) (Go f) (Go g) m n = ap Go (m ∙ sym n)
 one_event s (Goes fate harm) (Go f) other m n = elim n [ ]
 one_event s (Goes fate harm) event other m n = elim m [ ]

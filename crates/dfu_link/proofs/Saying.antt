@@ -1,7 +1,7 @@
 -- What the steps of the session machine say and install.
 use Rattle.std.proofs.Common.{◌≡◌, ◌⊎◌, ℕ, Bool, List, [], ◌∷◌, Option, Some, refl, sym, ap, ◌∙◌, subst, inl, inr}
 use Rattle.dfu_host.specs.declared.report.Report.{Report}
-use Rattle.dfu_host.specs.declared.report.Report.TheVariants.{Installed}
+use Rattle.dfu_host.specs.declared.report.Report.TheVariants.{Installed, Uploaded}
 use Rattle.dfu_link.specs.Session.{Machine, Loading, IsOneOf, Begins, begins_not, takes, installs, Ends, ends_not, drops, Says, says_not, says_installed, says_uploaded, says_other, Kind, AnOffer, OnlyPlain, Step, offered, uploads, aborts, passes, passes_installed, restarts, goes, stops, and_then}
 use Rattle.dfu_link.specs.Headline.{offers_after, OnlyOffered}
 
@@ -29,6 +29,22 @@ step_live passes e = absurd cc
 step_live (passes_installed h) e = absurd cc
 step_live (restarts d s plain) e = absurd (subst OnlyPlain e plain)
 step_live (goes b d s) e = sym (ends_live d ∙ begins_live b) ∙ says_live s e
+
+says_up : {tolerant : Bool} {m m' : Machine} {report : Option Report} → Says tolerant m report m' → report ≡ Some Uploaded → m'.up ≡ m'.cur
+says_up says_not e = absurd cc
+says_up (says_installed cur same tolerant) e = absurd cc
+says_up says_uploaded e = refl
+says_up (says_other plain one) e = absurd (subst OnlyPlain e plain)
+
+-- where Uploaded is said, what was uploaded is the active image
+pub step_up : {tolerant : Bool} {t : ℕ} {kind : Kind} {m m' : Machine} {report : Option Report} → Step tolerant t kind m report m' → report ≡ Some Uploaded → m'.up ≡ m'.cur
+step_up offered e = absurd cc
+step_up uploads e = absurd cc
+step_up aborts e = absurd cc
+step_up passes e = absurd cc
+step_up (passes_installed h) e = absurd cc
+step_up (restarts d s plain) e = absurd (subst OnlyPlain e plain)
+step_up (goes b d s) e = says_up s e
 
 -- the active image stays, or becomes one of these
 abbrev Comes : List (List ℕ) → Machine → Machine → Type 0

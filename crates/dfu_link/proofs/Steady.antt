@@ -1,26 +1,31 @@
 -- What holds of a link between events is kept by each, and the session machine follows.
-use Rattle.std.proofs.Common.{◌≡◌, ◌⊎◌, ℕ, ◌<◌, List, [], ◌∷◌, Option, Result, refl, sym, ap, subst, inl, inr}
+use Rattle.std.proofs.Common.{◌≡◌, ◌⊎◌, ℕ, ◌<◌, List, [], ◌∷◌, Option, Some, None, Result, Ok, refl, sym, ap, ◌∙◌, subst, inl, inr}
 use Rattle.dfu_slots.specs.Medium.Fuse.{Whole}
 use Rattle.dfu_device.specs.Stage.{Profile, Stage, Closed, Committing}
 use Rattle.dfu_device.specs.Shown.{Shown, profile, situation}
 use Rattle.dfu_host.specs.declared.report.Report.{Report}
+use Rattle.dfu_host.specs.declared.report.Report.TheVariants.{Uploaded}
+use Rattle.dfu_device.specs.Setting.{Setting}
 use Rattle.dfu_host.specs.Table.{Goal, ToLoad, ToFetch}
 use Rattle.dfu_link.specs.declared.fault.LinkFault.{LinkFault}
 use Rattle.dfu_link.specs.Session.{Machine}
-use Rattle.dfu_link.specs.Play.{Pass, CutIn, Fail, Event, Offer, Go, Time, ResetBus, Session, Nobody, Hosted, Link, Answered, given, IsAllowed}
+use Rattle.dfu_link.specs.Play.{Pass, CutIn, Fail, Event, Offer, UploadIt, AbortIt, Go, Time, ResetBus, Session, Nobody, Hosted, Link, Answered, given, IsAllowed}
 use Rattle.dfu_link.specs.Agreement.{pending_of, live_of, IsSound, IsGoalOffer, IsLiveOffer, Agrees, NothingClosed, SomeAgrees, FreshAgrees}
 use Rattle.dfu_link.specs.Fact.{SessionFact}
 use Rattle.dfu_link.specs.Headline.{Follows}
 use Rattle.dfu_link.specs.Bytes.{Harm, Bench, link_of, Happens, BytePlay}
 use Rattle.dfu_link.specs.Understood.{Shows}
-use Rattle.dfu_link.specs.Comes.{Happening, Offers, Goes, Passes, Resets, harm_of, Means, Comes, refuses, happens, shown_as, HasCome}
+use Rattle.dfu_link.specs.Comes.{Happening, Offers, Uploads, Aborts, Goes, Passes, Resets, harm_of, Means, Comes, refuses, happens, shown_as, gave_of, LinkState, linked, HasCome}
 use Rattle.dfu_link.specs.Standing.{IsSized, IsSteady}
 use Rattle.dfu_link.specs.Following.{AllFollow}
+use Rattle.dfu_link.specs.Giving.{Gives}
 use Rattle.dfu_link.specs.Sure.{IsHarmless, IsAsPlayed, AllSure}
 use Rattle.dfu_link.proofs.Config.{happens_config}
 use Rattle.dfu_link.proofs.Projected.{fuse_in, bytes_show, bytes_sure}
 use Rattle.dfu_link.proofs.Whole.{Sizes, follows_sized}
-use Rattle.dfu_link.proofs.Events.{has_transfer}
+use Rattle.dfu_link.proofs.Saying.{step_up}
+use Rattle.dfu_link.proofs.Counted.{FitsIn, happens_counted, happens_fits}
+use Rattle.dfu_link.proofs.Events.{has_transfer, gives_transfer}
 
 -- Some machine agrees with each link.
 
@@ -50,14 +55,14 @@ live_offered : (session : Session) (x : List ℕ) → IsLiveOffer (x ∷ payload
 live_offered Nobody x = tt
 live_offered (Hosted h) x = goal_offered h.task.goal x
 
-abbrev machine_of : Link → Machine
-machine_of w = record { cur = w.device.image; offers = closed_in w.device.stage ∷ payload_in w.session ∷ []; pending = pending_of w.device.stage; live = live_of w.session; up = [] }
+abbrev machine_of : Link → List ℕ → Machine
+machine_of w up = record { cur = w.device.image; offers = closed_in w.device.stage ∷ payload_in w.session ∷ []; pending = pending_of w.device.stage; live = live_of w.session; up = up }
 
-machine_agrees : (w : Link) → Agrees w [] (machine_of w)
-machine_agrees w = record { cur = refl; pending = refl; live = refl; up_is = refl; sound = closed_sound w.device.stage (payload_in w.session ∷ []); offered = live_offered w.session (closed_in w.device.stage) }
+machine_agrees : (w : Link) (up : List ℕ) → Agrees w up (machine_of w up)
+machine_agrees w up = record { cur = refl; pending = refl; live = refl; up_is = refl; sound = closed_sound w.device.stage (payload_in w.session ∷ []); offered = live_offered w.session (closed_in w.device.stage) }
 
 pub some_agrees : SomeAgrees
-some_agrees w = (machine_of w, machine_agrees w)
+some_agrees w up = (machine_of w up, machine_agrees w up)
 
 open_sound : (stage : Stage) → NothingClosed stage → IsSound [] stage
 open_sound (Closed taken) h = elim h [ ]
@@ -81,6 +86,8 @@ sizes w Nobody (Offers file limits) (Offer payload actions restarts) m f z = has
 sizes w Nobody (Goes fate harm) (Offer payload actions restarts) m f z = elim m [ ]
 sizes w Nobody (Passes ms) (Offer payload actions restarts) m f z = elim m [ ]
 sizes w Nobody Resets (Offer payload actions restarts) m f z = elim m [ ]
+sizes w Nobody (Uploads limits) (Offer payload actions restarts) m f z = elim m [ ]
+sizes w Nobody Aborts (Offer payload actions restarts) m f z = elim m [ ]
 sizes w (Hosted host) h (Go fate) m f z = subst (λ (n : ℕ). 0 < n) f.task_is.transfer z
 sizes w session h event m f z = tt
 
@@ -89,6 +96,8 @@ sized_or_none : (w : Shown) (session : Session) (h : Happening) (event : Event) 
     → IsAllowed session event → Happens event harm (record { device = w; session = session }) b' answer → (0 < (profile w).transfer) ⊎ (b'.session ≡ Nobody)
 sized_or_none w (Hosted host) h event harm b' answer m f z a x = inl (subst (λ (n : ℕ). 0 < n) f.task_is.transfer z)
 sized_or_none w Nobody (Offers file limits) (Offer payload actions restarts) harm b' answer m f z a x = inl (has_transfer m.0)
+sized_or_none w Nobody (Uploads limits) (UploadIt actions restarts) harm b' answer m f z a x = inl (gives_transfer w.config m.0)
+sized_or_none w Nobody Aborts AbortIt harm b' answer m f z a x = elim a [ ]
 sized_or_none w Nobody (Passes ms) (Time n) harm b' answer m f z a x = inr x.1
 sized_or_none w Nobody Resets ResetBus harm b' answer m f z a x = inr (ap (λ (b : Bench). b.session) x.0)
 sized_or_none w Nobody (Goes fate harm2) (Go g) harm b' answer m f z a x = elim a [ ]
@@ -109,10 +118,11 @@ follows_play b b' h event harm answer up m steady means play agrees =
 play_steady : (b b' : Bench) (h : Happening) (event : Event) (harm : Harm) (answer : Answered) → IsSteady b → Means b.device.config h event → BytePlay b event harm b' answer → IsSteady b'
 play_steady b b' h event harm answer steady means play =
     let s : Shows b event b' answer = bytes_show b b' event harm answer play in
-    let f = follows_play b b' h event harm answer [] (machine_of (link_of b)) steady means play (machine_agrees (link_of b)) in
+    let f = follows_play b b' h event harm answer [] (machine_of (link_of b) []) steady means play (machine_agrees (link_of b) []) in
     record {
       fact = subst (λ (c : Profile). SessionFact c (situation b'.device) b'.session) (sym s.fixed) f.fact;
       unarmed = s.unarmed;
+      counted = happens_counted event harm b b' answer steady.sized steady.counted play.happens;
       sized = sized_by (profile b.device) b'.device b'.session f.fact (sized_or_none b.device b.session h event harm b' answer means steady.fact steady.sized play.allowed play.happens);
     }
 
@@ -120,24 +130,54 @@ comes_steady : {b b' : Bench} {h : Happening} {answer : Result Answered LinkFaul
 comes_steady steady (refuses why) = steady
 comes_steady {b = b} {b' = b'} {h = h} steady (happens {event = event} {answer = answer} means play) = play_steady b b' h event (harm_of h) answer steady means play
 
-pub come_steady : {b b' : Bench} {h : Happening} {result : Result (Option Report) LinkFault} → IsSteady b → HasCome b h b' result → IsSteady b'
+pub come_steady : {w w' : LinkState} {h : Happening} {result : Result (Option Report) LinkFault} → IsSteady w.bench → HasCome w h w' result → IsSteady w'.bench
 come_steady steady x = comes_steady steady x.comes
 
-comes_follow : {b b' : Bench} {h : Happening} {answer : Result Answered LinkFault} → IsSteady b → Comes b h b' answer → AllFollow b h b' (shown_as answer)
-comes_follow steady (refuses why) = refl
-comes_follow {b = b} {b' = b'} {h = h} steady (happens {event = event} {answer = answer} means play) = λ m agrees.
-    let f = follows_play b b' h event (harm_of h) answer m.up m steady means play agrees in
+comes_follow : {b b' : Bench} {h : Happening} {answer : Result Answered LinkFault} (up : List ℕ) → IsSteady b → Comes b h b' answer → AllFollow (linked b up) h (linked b' (given (gave_of answer) up)) (shown_as answer)
+comes_follow up steady (refuses why) = refl
+comes_follow {b = b} {b' = b'} {h = h} up steady (happens {event = event} {answer = answer} means play) = λ m agrees.
+    let f = follows_play b b' h event (harm_of h) answer up m steady means play agrees in
     record {
       event = event;
       means = means;
       after = f.after;
       step = f.step;
-      agrees = subst (λ (up : List ℕ). Agrees (link_of b') up f.after) (sym f.agrees.up_is) f.agrees;
+      agrees = f.agrees;
       installed = f.installed;
     }
 
-pub come_follow : {b b' : Bench} {h : Happening} {result : Result (Option Report) LinkFault} → IsSteady b → HasCome b h b' result → AllFollow b h b' result
-come_follow {b = b} {b' = b'} {h = h} steady x = subst (λ (r : Result (Option Report) LinkFault). AllFollow b h b' r) (sym x.told) (comes_follow steady x.comes)
+pub come_follow : {w w' : LinkState} {h : Happening} {result : Result (Option Report) LinkFault} → IsSteady w.bench → HasCome w h w' result → AllFollow w h w' result
+come_follow {w = w} {w' = w'} {h = h} {result = result} steady x =
+    let follow = comes_follow w.up steady x.comes in
+    subst (λ (up : List ℕ). AllFollow w h (linked w'.bench up) result) (sym x.up_is) (subst (λ (r : Result (Option Report) LinkFault). AllFollow w h (linked w'.bench (given (gave_of x.answer) w.up)) r) (sym x.told) follow)
+
+-- What an upload gives.
+
+-- the active image, where Uploaded is reported
+image_given : (b b' : Bench) (h : Happening) (event : Event) (harm : Harm) (answer : Answered) (up : List ℕ) → IsSteady b → Means b.device.config h event → BytePlay b event harm b' answer → answer.report ≡ Some Uploaded
+    → given answer.gave up ≡ (link_of b').device.image
+image_given b b' h event harm answer up steady means play e =
+    let f = follows_play b b' h event harm answer up (machine_of (link_of b) up) steady means play (machine_agrees (link_of b) up) in
+    sym f.agrees.up_is ∙ (step_up f.step e ∙ f.agrees.cur)
+
+gives_in : (b' : Bench) (up : List ℕ) (report : Option Report) (gave : Option (List ℕ)) (w : LinkState) → w.up ≡ up → FitsIn b'.device.config.functional.transfer report gave → (report ≡ Some Uploaded → given gave up ≡ (link_of b').device.image)
+    → Gives w (linked b' (given gave up)) (Ok report)
+gives_in b' up (Some Uploaded) (Some bytes) w same fits image = record { image = image refl; short = fits }
+gives_in b' up (Some Uploaded) None w same fits image = elim fits [ ]
+gives_in b' up report (Some bytes) w same fits image = elim fits [ ]
+gives_in b' up report None w same fits image = sym same
+
+comes_give : {b b' : Bench} {h : Happening} {answer : Result Answered LinkFault} (up : List ℕ) → IsSteady b → Comes b h b' answer → Gives (linked b up) (linked b' (given (gave_of answer) up)) (shown_as answer)
+comes_give up steady (refuses why) = refl
+comes_give {b = b} {b' = b'} {h = h} up steady (happens {event = event} {answer = answer} means play) =
+    let fits = happens_fits (profile b.device) (situation b.device) event (harm_of h) b b' answer steady.fact steady.sized steady.counted play.happens in
+    let same : b.device.config.functional.transfer ≡ b'.device.config.functional.transfer = ap (λ (s : Setting). s.functional.transfer) (sym (happens_config event (harm_of h) b b' answer play.happens)) in
+    gives_in b' up answer.report answer.gave (linked b up) refl (subst (λ (n : ℕ). FitsIn n answer.report answer.gave) same fits) (image_given b b' h event (harm_of h) answer up steady means play)
+
+pub come_gives : {w w' : LinkState} {h : Happening} {result : Result (Option Report) LinkFault} → IsSteady w.bench → HasCome w h w' result → Gives w w' result
+come_gives {w = w} {w' = w'} {result = result} steady x =
+    let gives = comes_give w.up steady x.comes in
+    subst (λ (up : List ℕ). Gives w (linked w'.bench up) result) (sym x.up_is) (subst (λ (r : Result (Option Report) LinkFault). Gives w (linked w'.bench (given (gave_of x.answer) w.up)) r) (sym x.told) gives)
 
 -- Nothing is cut and nothing fails.
 
@@ -162,5 +202,5 @@ comes_sure {b = b} {b' = b'} {h = h} (happens {event = event} {answer = answer} 
   works = as_played b b' event (harm_of h) answer play;
 }
 
-pub come_sure : {b b' : Bench} {h : Happening} {result : Result (Option Report) LinkFault} → HasCome b h b' result → AllSure b h b' result
-come_sure {b = b} {b' = b'} {h = h} x = subst (λ (r : Result (Option Report) LinkFault). AllSure b h b' r) (sym x.told) (comes_sure x.comes)
+pub come_sure : {w w' : LinkState} {h : Happening} {result : Result (Option Report) LinkFault} → HasCome w h w' result → AllSure w.bench h w'.bench result
+come_sure {w = w} {w' = w'} {h = h} x = subst (λ (r : Result (Option Report) LinkFault). AllSure w.bench h w'.bench r) (sym x.told) (comes_sure x.comes)

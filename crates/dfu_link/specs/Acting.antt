@@ -1,5 +1,5 @@
 -- What the link's small functions do, each as its part of a play.
-use Rattle.std.specs.Prelude.{◌≡◌, ℕ, List, Option, Some, None}
+use Rattle.std.specs.Prelude.{◌≡◌, ℕ, List, Option, Some, None, Result, Ok, Err}
 use Rattle.dfu_suffix.specs.Grammar.{Content}
 use Rattle.dfu_wire.specs.declared.requests.Request.{Request as Asked}
 use Rattle.dfu_device.specs.declared.answer.Answer.{Answer}
@@ -11,6 +11,8 @@ use Rattle.dfu_host.specs.declared.report.Report.TheVariants.{Uploaded}
 use Rattle.dfu_host.specs.Download.{started}
 use Rattle.dfu_host.specs.Host.{HostState, after}
 use Rattle.dfu_host.specs.Table.{Phase, Over, OverUploaded, Deed, Send, deed, Heard, Nothing}
+use Rattle.dfu_link.specs.declared.fault.LinkFault.{LinkFault}
+use Rattle.dfu_link.specs.declared.fault.LinkFault.TheVariants.{NoHost}
 use Rattle.dfu_link.specs.Play.{Fate, Session, Nobody, Hosted, silent, Took, settled}
 use Rattle.dfu_link.specs.Bytes.{HearsAnswer, Sends, Acts}
 use Rattle.dfu_link.specs.Comes.{IsOffered}
@@ -46,6 +48,11 @@ report_of phase = None
 abbrev pub ended : Session → Took
 ended Nobody = record { session = Nobody; answer = silent }
 ended (Hosted h) = settled h h.phase
+
+-- What an abort answers: it is refused where no session is live.
+abbrev pub abort_told : Session → Result (Option Report) LinkFault
+abort_told Nobody = Err NoHost
+abort_told (Hosted h) = Ok None
 
 -- A session begins with a file that is offered.
 pub record HasBegun (s : Setting) (file : List ℕ) (limits : Limits) (h : HostState) : Type 0 where

@@ -61,9 +61,9 @@ NothingClosed stage = Unit {0}
 abbrev pub fresh : Link → Machine
 fresh w = record { cur = w.device.image; offers = []; pending = pending_of w.device.stage; live = NoOne; up = [] }
 
--- Some session machine agrees with each link.
+-- Some session machine agrees with each link, whatever the last reported upload gave.
 abbrev pub SomeAgrees : Type 0
-SomeAgrees = (w : Link) → (m : Machine) × Agrees w m.up m
+SomeAgrees = (w : Link) (up : List ℕ) → (m : Machine) × Agrees w up m
 
 -- Where no session is live and no bytes are closed, one agrees to which nothing was offered.
 abbrev pub FreshAgrees : Type 0

@@ -5,6 +5,7 @@ use Rattle.dfu_suffix.specs.Grammar.{Content, IsFile, First}
 use Rattle.dfu_host.specs.declared.limits.Limits.{Limits}
 use Rattle.dfu_host.specs.declared.report.Report.{Report}
 use Rattle.dfu_host.specs.Download.{first_fault}
+use Rattle.dfu_host.specs.Uploading as uploading
 use Rattle.dfu_device.specs.Setting.{Setting}
 use Rattle.dfu_link.specs.declared.fate.Fate.{Fate as GivenFate}
 use Rattle.dfu_link.specs.declared.fate.Fate.TheVariants as fate
@@ -14,12 +15,14 @@ use Rattle.dfu_link.specs.declared.fault.LinkFault.{LinkFault}
 use Rattle.dfu_link.specs.declared.fault.LinkFault.TheVariants as link_fault
 use Rattle.dfu_link.specs.declared.fault.OfferFault.{OfferFault}
 use Rattle.dfu_link.specs.declared.fault.OfferFault.TheVariants as offer_fault
-use Rattle.dfu_link.specs.Play.{Fate, Pass, LostOut, LostBack, Twice, TwiceLostBack, Slip, Event, Offer, Go, Time, ResetBus, Session, Nobody, Hosted, Answered}
+use Rattle.dfu_link.specs.Play.{Fate, Pass, LostOut, LostBack, Twice, TwiceLostBack, Slip, Event, Offer, UploadIt, AbortIt, Go, Time, ResetBus, Session, Nobody, Hosted, Answered, given}
 use Rattle.dfu_link.specs.Bytes.{Harm, Bench, BytePlay}
 
 -- An event, as its caller gives it.
 pub data Happening : Type 0 where
   Offers : (file : List ℕ) → Limits → Happening
+  Uploads : Limits → Happening
+  Aborts : Happening
   Goes : Fate → Harm → Happening
   Passes : (ms : ℕ) → Happening
   Resets : Happening
@@ -40,6 +43,8 @@ fate_of (fate.Slip ms) = Slip ms
 -- What happens, of the event that a caller names.
 abbrev pub happening : GivenEvent → Happening
 happening (event.Offer file limits) = Offers file.now limits
+happening (event.Upload limits) = Uploads limits
+happening event.Abort = Aborts
 happening (event.Go f) = Goes (fate_of f) unharmed
 happening (event.Time ms) = Passes ms
 happening event.Reset = Resets
@@ -68,9 +73,20 @@ abbrev pub IsBadOffer : Setting → List ℕ → OfferFault → Type 0
 IsBadOffer s file (offer_fault.Suffix fault) = First fault file
 IsBadOffer s file (offer_fault.Host fault) = (content : Content) × SaysContent file content × (first_fault content s.functional s.ids ≡ Some fault)
 
+-- A device of these settings gives its image: no fault of an upload.
+abbrev pub CanGive : Setting → Type 0
+CanGive s = uploading.first_fault s.functional ≡ None
+
+-- Why an upload is refused: its first fault, by the device's descriptor.
+abbrev pub IsBadUpload : Setting → OfferFault → Type 0
+IsBadUpload s (offer_fault.Suffix fault) = ⊥
+IsBadUpload s (offer_fault.Host fault) = uploading.first_fault s.functional ≡ Some fault
+
 -- What happens, as an event of a device of these settings: an offer is that of the file's payload.
 abbrev pub Means : Setting → Happening → Event → Type 0
 Means s (Offers file limits) (Offer payload actions restarts) = IsOffered s file payload × (actions ≡ limits.actions) × (restarts ≡ limits.restarts)
+Means s (Uploads limits) (UploadIt actions restarts) = CanGive s × (actions ≡ limits.actions) × (restarts ≡ limits.restarts)
+Means s Aborts AbortIt = Unit {0}
 Means s (Goes f harm) (Go g) = g ≡ f
 Means s (Passes ms) (Time n) = n ≡ ms
 Means s Resets ResetBus = Unit {0}
@@ -81,10 +97,14 @@ abbrev pub IsLive : Session → Type 0
 IsLive Nobody = ⊥
 IsLive (Hosted h) = Unit {0}
 
--- When an event is refused: an offer while a session is live, an action while none is, and an offer of a file that is not taken while none is.
+-- When an event is refused: an offer or an upload while a session is live, an abort or an action while none is, and, while none is, an offer of a file
+-- that is not taken and an upload from a device that gives no image.
 abbrev pub IsRefused : Bench → Happening → LinkFault → Type 0
 IsRefused b (Offers file limits) link_fault.HostBusy = IsLive b.session
 IsRefused b (Offers file limits) (link_fault.BadOffer fault) = (b.session ≡ Nobody) × IsBadOffer b.device.config file fault
+IsRefused b (Uploads limits) link_fault.HostBusy = IsLive b.session
+IsRefused b (Uploads limits) (link_fault.BadOffer fault) = (b.session ≡ Nobody) × IsBadUpload b.device.config fault
+IsRefused b Aborts link_fault.NoHost = b.session ≡ Nobody
 IsRefused b (Goes f harm) link_fault.NoHost = b.session ≡ Nobody
 IsRefused b h fault = ⊥
 
@@ -98,8 +118,27 @@ abbrev pub shown_as : Result Answered LinkFault → Result (Option Report) LinkF
 shown_as (Ok answer) = Ok answer.report
 shown_as (Err fault) = Err fault
 
--- An event came, and its caller was told of it.
-pub record HasCome (b : Bench) (h : Happening) (b' : Bench) (result : Result (Option Report) LinkFault) : Type 0 where
+-- What was uploaded, of what comes of an event: nothing where it is refused.
+abbrev pub gave_of : Result Answered LinkFault → Option (List ℕ)
+gave_of (Ok answer) = answer.gave
+gave_of (Err fault) = None
+
+-- A link between events: its bench, and what the last reported upload gave.
+pub record LinkState : Type 0 where
+  pub bench : Bench
+  pub up : List ℕ
+
+-- A link of this bench, where this was given.
+abbrev pub linked : Bench → List ℕ → LinkState
+linked b up = record { bench = b; up = up }
+
+-- An event came, what was uploaded took the place of what the upload before gave, and its caller was told of it.
+pub record HasCome (w : LinkState) (h : Happening) (w' : LinkState) (result : Result (Option Report) LinkFault) : Type 0 where
   pub answer : Result Answered LinkFault
-  pub comes : Comes b h b' answer
+  pub comes : Comes w.bench h w'.bench answer
+  pub up_is : w'.up ≡ given (gave_of answer) w.up
   pub told : result ≡ shown_as answer
+
+-- An event came with which nothing is given.
+abbrev pub HasComeAlone : Bench → Happening → Bench → Result (Option Report) LinkFault → Type 0
+HasComeAlone b h b' result = (up : List ℕ) → HasCome (linked b up) h (linked b' up) result

@@ -9,20 +9,20 @@ use Rattle.dfu_link.specs.declared.fault.LinkFault.{LinkFault}
 use Rattle.dfu_link.specs.Session.{Machine, Loading, Step}
 use Rattle.dfu_link.specs.Play.{Event, kind_of}
 use Rattle.dfu_link.specs.Agreement.{Agrees}
-use Rattle.dfu_link.specs.Bytes.{Bench, link_of}
-use Rattle.dfu_link.specs.Comes.{Happening, Means}
+use Rattle.dfu_link.specs.Bytes.{link_of}
+use Rattle.dfu_link.specs.Comes.{Happening, Means, LinkState}
 
 -- The session machine follows what happened: it makes one legal step with the report, and agrees again; and where Installed is reported, the device
 -- is in appIDLE and the payload of the session that was live is the active image.
-pub record IsFollowed (b : Bench) (h : Happening) (b' : Bench) (report : Option Report) (m : Machine) : Type 0 where
+pub record IsFollowed (w : LinkState) (h : Happening) (w' : LinkState) (report : Option Report) (m : Machine) : Type 0 where
   pub event : Event
-  pub means : Means b.device.config h event
+  pub means : Means w.bench.device.config h event
   pub after : Machine
-  pub step : Step (profile b.device).tolerant (profile b.device).transfer (kind_of event) m report after
-  pub agrees : Agrees (link_of b') after.up after
-  pub installed : report ≡ Some Installed → (state_of b'.device.stage ≡ AppIdle) × (m.live ≡ Loading (link_of b').device.image)
+  pub step : Step (profile w.bench.device).tolerant (profile w.bench.device).transfer (kind_of event) m report after
+  pub agrees : Agrees (link_of w'.bench) w'.up after
+  pub installed : report ≡ Some Installed → (state_of w'.bench.device.stage ≡ AppIdle) × (m.live ≡ Loading (link_of w'.bench).device.image)
 
--- Each session machine that agrees follows what happened; what was refused changed nothing.
-abbrev pub AllFollow : Bench → Happening → Bench → Result (Option Report) LinkFault → Type 0
-AllFollow b h b' (Ok report) = (m : Machine) → Agrees (link_of b) m.up m → IsFollowed b h b' report m
-AllFollow b h b' (Err fault) = b' ≡ b
+-- Each session machine that agrees with the link and with what it last gave follows what happened; what was refused changed nothing.
+abbrev pub AllFollow : LinkState → Happening → LinkState → Result (Option Report) LinkFault → Type 0
+AllFollow w h w' (Ok report) = (m : Machine) → Agrees (link_of w.bench) w.up m → IsFollowed w h w' report m
+AllFollow w h w' (Err fault) = w' ≡ w

@@ -10,8 +10,8 @@ use Rattle.dfu_link.specs.Session.{Machine, IsOneOf, Legal}
 use Rattle.dfu_link.specs.Play.{Event, kind_of}
 use Rattle.dfu_link.specs.Agreement.{Agrees}
 use Rattle.dfu_link.specs.Headline.{offers_after}
-use Rattle.dfu_link.specs.Bytes.{Bench, link_of}
-use Rattle.dfu_link.specs.Comes.{Happening, Means}
+use Rattle.dfu_link.specs.Bytes.{link_of}
+use Rattle.dfu_link.specs.Comes.{Happening, Means, LinkState}
 
 -- What happens, one after the other, as events of a device of these settings.
 abbrev pub AreMeant : Setting → List Happening → List Event → Type 0
@@ -21,15 +21,15 @@ AreMeant s hs events = ⊥
 
 -- The session machine follows all that happens: it makes a legal run that says the reports in order, and agrees again. So the active image is the one
 -- before it, or a whole payload that was offered so far.
-pub record IsFollowedRun (b : Bench) (hs : List Happening) (reports : List Report) (b' : Bench) (m : Machine) : Type 0 where
+pub record IsFollowedRun (w : LinkState) (hs : List Happening) (reports : List Report) (w' : LinkState) (m : Machine) : Type 0 where
   pub events : List Event
-  pub meant : AreMeant b.device.config hs events
+  pub meant : AreMeant w.bench.device.config hs events
   pub after : Machine
-  pub legal : Legal (profile b.device).tolerant (profile b.device).transfer m (map kind_of events) reports after
-  pub agrees : Agrees (link_of b') after.up after
-  pub active : ((link_of b').device.image ≡ (link_of b).device.image) ⊎ IsOneOf (link_of b').device.image (offers_after (map kind_of events) m.offers)
+  pub legal : Legal (profile w.bench.device).tolerant (profile w.bench.device).transfer m (map kind_of events) reports after
+  pub agrees : Agrees (link_of w'.bench) w'.up after
+  pub active : ((link_of w'.bench).device.image ≡ (link_of w.bench).device.image) ⊎ IsOneOf (link_of w'.bench).device.image (offers_after (map kind_of events) m.offers)
 
 -- Each session machine that agrees follows a run, or what of it came before it stopped.
-abbrev pub AllFollowRun : Bench → List Happening → Bench → Result (Vec Report Global) Stop → Type 0
-AllFollowRun b hs b' (Ok reports) = (m : Machine) → Agrees (link_of b) m.up m → IsFollowedRun b hs reports.items b' m
-AllFollowRun b hs b' (Err stop) = (m : Machine) → Agrees (link_of b) m.up m → IsFollowedRun b (take stop.at hs) stop.reports.items b' m
+abbrev pub AllFollowRun : LinkState → List Happening → LinkState → Result (Vec Report Global) Stop → Type 0
+AllFollowRun w hs w' (Ok reports) = (m : Machine) → Agrees (link_of w.bench) w.up m → IsFollowedRun w hs reports.items w' m
+AllFollowRun w hs w' (Err stop) = (m : Machine) → Agrees (link_of w.bench) w.up m → IsFollowedRun w (take stop.at hs) stop.reports.items w' m

@@ -7,6 +7,7 @@ pub mod CleanRun
 pub mod Bytes
 pub mod Understood
 pub mod Comes
+pub mod Giving
 pub mod Running
 pub mod OneAnswer
 pub mod Standing

@@ -9,13 +9,14 @@ use Rattle.dfu_link.specs.declared.fault.LinkFault.TheVariants.{NoMemory}
 use Rattle.dfu_link.specs.declared.running.Stop.{Stop}
 use Rattle.dfu_link.specs.Session.{said}
 use Rattle.dfu_link.specs.Bytes.{Bench}
-use Rattle.dfu_link.specs.Comes.{Happening, happening, HasCome, IsRefused}
+use Rattle.dfu_link.specs.Comes.{Happening, happening, HasCome, IsRefused, LinkState}
+use Rattle.dfu_link.specs.Giving.{Gives}
 
--- What happens comes to a link one after the other, none of it is refused, and these are the reports in their order.
-pub data Runs : Bench → List Happening → List Report → Bench → Type 0 where
-  rests : {b : Bench} → Runs b [] [] b
-  comes : {b mid b' : Bench} {h : Happening} {hs : List Happening} {report : Option Report} {reports : List Report}
-      → HasCome b h mid (Ok report) → Runs mid hs reports b' → Runs b (h ∷ hs) (said report ++ reports) b'
+-- What happens comes to a link one after the other, none of it is refused, these are the reports in their order, and with Uploaded the active image is given.
+pub data Runs : LinkState → List Happening → List Report → LinkState → Type 0 where
+  rests : {w : LinkState} → Runs w [] [] w
+  comes : {w mid w' : LinkState} {h : Happening} {hs : List Happening} {report : Option Report} {reports : List Report}
+      → HasCome w h mid (Ok report) → Gives w mid (Ok report) → Runs mid hs reports w' → Runs w (h ∷ hs) (said report ++ reports) w'
 
 -- What happens, of the events that a caller names.
 abbrev pub happenings : List GivenEvent → List Happening
@@ -27,14 +28,14 @@ IsStop b next NoMemory = Unit {0}
 IsStop b next fault = IsRefused b next fault
 
 -- A run stopped at this place: what happens before it came, and what is next did not.
-pub record StopsAt (b : Bench) (hs : List Happening) (fault : LinkFault) (at : ℕ) (reports : List Report) (b' : Bench) : Type 0 where
+pub record StopsAt (w : LinkState) (hs : List Happening) (fault : LinkFault) (at : ℕ) (reports : List Report) (w' : LinkState) : Type 0 where
   pub next : Happening
   pub more : List Happening
   pub here : drop at hs ≡ next ∷ more
-  pub before : Runs b (take at hs) reports b'
-  pub why : IsStop b' next fault
+  pub before : Runs w (take at hs) reports w'
+  pub why : IsStop w'.bench next fault
 
 -- What a run answers: the reports of all that happens, or where it stopped.
-abbrev pub HasRun : Bench → List Happening → Bench → Result (Vec Report Global) Stop → Type 0
-HasRun b hs b' (Ok reports) = Runs b hs reports.items b'
-HasRun b hs b' (Err stop) = StopsAt b hs stop.fault stop.at stop.reports.items b'
+abbrev pub HasRun : LinkState → List Happening → LinkState → Result (Vec Report Global) Stop → Type 0
+HasRun w hs w' (Ok reports) = Runs w hs reports.items w'
+HasRun w hs w' (Err stop) = StopsAt w hs stop.fault stop.at stop.reports.items w'

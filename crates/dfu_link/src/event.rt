@@ -9,6 +9,10 @@ pub enum Event<'f> {
     /// A whole DFU file (USB DFU 1.1, appendix B) is offered to the device; the session that
     /// begins may last for so long.
     Offer { file: &'f [u8], limits: Limits },
+    /// An upload of the device's active image begins; the session may last for so long.
+    Upload { limits: Limits },
+    /// The session that is live is given up.
+    Abort,
     /// The host takes its next action.
     Go(Fate),
     /// So many milliseconds pass between the host's actions.

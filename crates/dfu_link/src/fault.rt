@@ -7,28 +7,29 @@ use thiserror::Error;
 /// Why an event is refused.
 #[derive(Clone, Copy, Debug, PartialEq, Eq, Error)]
 pub enum LinkFault {
-    /// A file is offered while a session is live. Looked for first.
+    /// A file is offered or an upload is to begin while a session is live. Looked for first.
     #[error("a session is live already")]
     HostBusy,
-    /// An action is to go while no session is live.
+    /// A session is to be given up or an action is to go while none is live.
     #[error("no session is live")]
     NoHost,
-    /// The file that is offered, while no session is live, is no DFU file or is not for the device.
-    #[error("the file is refused: {0}")]
+    /// The file that is offered, while no session is live, is no DFU file or is not for the device;
+    /// or the device, whose image is to be uploaded, gives none.
+    #[error("the session is refused: {0}")]
     BadOffer(OfferFault),
     /// There was no memory for a report. Of `run` alone.
     #[error("out of memory")]
     NoMemory,
 }
 
-/// Why an offer is refused.
+/// Why an offer or an upload is refused.
 #[derive(Clone, Copy, Debug, PartialEq, Eq, Error)]
 pub enum OfferFault {
-    /// The bytes are no DFU file: this is the first fault of `dfu_suffix::read`.
+    /// The bytes are no DFU file: this is the first fault of `dfu_suffix::read`. Of an offer alone.
     #[error("{0}")]
     Suffix(SuffixFault),
     /// The file is read, and this is the first fault of `Host::download` with the device's
-    /// descriptor and identifiers.
+    /// descriptor and identifiers; or of `Host::upload` with the descriptor.
     #[error("{0}")]
     Host(HostFault),
 }

@@ -13,6 +13,7 @@ mod play;
 mod running;
 mod scripting;
 mod sending;
+mod uploading;
 mod world;
 
 pub use event::Event;

@@ -1,19 +1,22 @@
 //! What each event makes of a device and a host.
 
-ghost use Rattle.std.specs.Prelude.{◌≡◌};
+ghost use Rattle.std.specs.Prelude.{◌≡◌, ℕ, List};
 ghost use Rattle.dfu_link.specs.Play.{told};
-ghost use Rattle.dfu_link.specs.Standing.{session_of, bench_of, IsSteady};
-ghost use Rattle.dfu_link.specs.Comes.{Offers, Goes, unharmed, fate_of, happening, HasCome};
-ghost use Rattle.dfu_link.specs.Acting.{report_of, ended};
+ghost use Rattle.dfu_link.specs.Play.{given, aborted};
+ghost use Rattle.dfu_link.specs.Standing.{session_of, given_by, bench_of, link_state, IsOnIn, IsSized, IsCountedIn, IsSteady};
+ghost use Rattle.dfu_link.specs.Comes.{Offers, Goes, unharmed, fate_of, happening, HasCome, HasComeAlone};
+ghost use Rattle.dfu_link.specs.Acting.{report_of, ended, abort_told};
 
 use crate::event::Event;
 use crate::fate::Fate;
 use crate::fault::LinkFault;
 use crate::offering::begin;
 use crate::sending::act;
+use crate::uploading::upload;
 use dfu_device::Device;
 use dfu_host::{Action, Host, Limits, Report, Seen};
 use dfu_slots::Medium;
+use std::alloc::Global;
 
 /// The report of a host that is done.
 fn report(host: &Host<'_>) -> Option<Report>
@@ -25,30 +28,37 @@ fn report(host: &Host<'_>) -> Option<Report>
     }
 }
 
-/// Ends the session of a host that is done, with its report.
-fn end(host: &mut Option<Host<'_>>) -> Option<Report>
+/// Ends the session of a host that is done, with its report. A host that reports Uploaded is kept.
+fn end<'f>(host: &mut Option<Host<'f>>, gave: &mut Option<Host<'f>>) -> Option<Report>
+    requires { IsCountedIn (session_of host.old) }
     ensures session { session_of host.new ≡ (ended (session_of host.old)).session }
+    ensures given { given_by gave.new ≡ given (ended (session_of host.old)).answer.gave (given_by gave.old) }
     ensures report { result ≡ (ended (session_of host.old)).answer.report }
 {
     let report = match host {
         None => None,
         Some(live) => report(live),
     };
-    if report.is_some() {
-        *host = None;
+    match report {
+        None => {}
+        Some(Report::Uploaded) => *gave = host.take(),
+        Some(_) => *host = None,
     }
     report
 }
 
 /// Tells a live host that the device was restarted.
-fn restart(host: &mut Option<Host<'_>>) -> Option<Report>
+fn restart<'f>(host: &mut Option<Host<'f>>, gave: &mut Option<Host<'f>>) -> Option<Report>
+    requires sized { IsSized (session_of host.old) }
+    requires counted { IsCountedIn (session_of host.old) }
     ensures session { session_of host.new ≡ (told (session_of host.old)).session }
+    ensures given { given_by gave.new ≡ given (told (session_of host.old)).answer.gave (given_by gave.old) }
     ensures report { result ≡ (told (session_of host.old)).answer.report }
 {
     if let Some(live) = host {
         live.take(Seen::Restarted);
     }
-    end(host)
+    end(host, gave)
 }
 
 /// A file is offered.
@@ -59,7 +69,7 @@ fn offer<'f, M: Medium + Drop>(
     limits: Limits,
 ) -> Result<Option<Report>, LinkFault>
     requires { IsSteady (bench_of device.now host.old) }
-    ensures { HasCome (bench_of device.now host.old) (Offers file.now limits) (bench_of device.now host.new) result }
+    ensures { HasComeAlone (bench_of device.now host.old) (Offers file.now limits) (bench_of device.now host.new) result }
 {
     if host.is_some() {
         return Err(LinkFault::HostBusy);
@@ -73,41 +83,61 @@ fn offer<'f, M: Medium + Drop>(
     }
 }
 
+/// The session is given up.
+fn abort(host: &mut Option<Host<'_>>) -> Result<Option<Report>, LinkFault>
+    requires { IsOnIn (session_of host.old) }
+    ensures session { session_of host.new ≡ aborted (session_of host.old) }
+    ensures told { result ≡ abort_told (session_of host.old) }
+{
+    match host {
+        None => Err(LinkFault::NoHost),
+        Some(live) => {
+            live.abort();
+            Ok(None)
+        }
+    }
+}
+
 /// The host takes its next action.
-fn go<M: Medium + Drop>(
+fn go<'f, M: Medium + Drop>(
     device: &mut Device<M>,
-    host: &mut Option<Host<'_>>,
+    host: &mut Option<Host<'f>>,
+    gave: &mut Option<Host<'f>>,
     fate: Fate,
 ) -> Result<Option<Report>, LinkFault>
     requires { IsSteady (bench_of device.old host.old) }
-    ensures { HasCome (bench_of device.old host.old) (Goes (fate_of fate) unharmed) (bench_of device.new host.new) result }
+    ensures { HasCome (link_state device.old host.old gave.old) (Goes (fate_of fate) unharmed) (link_state device.new host.new gave.new) result }
 {
     match host {
         None => return Err(LinkFault::NoHost),
         Some(live) => act(device, live, fate),
     }
-    Ok(end(host))
+    Ok(end(host, gave))
 }
 
 /// An event comes. A refused one changes nothing.
 pub(crate) fn play<'f, M: Medium + Drop>(
+    alloc: Global,
     device: &mut Device<M>,
     host: &mut Option<Host<'f>>,
+    gave: &mut Option<Host<'f>>,
     event: Event<'f>,
 ) -> Result<Option<Report>, LinkFault>
     requires { IsSteady (bench_of device.old host.old) }
-    ensures { HasCome (bench_of device.old host.old) (happening event.entry) (bench_of device.new host.new) result }
+    ensures { HasCome (link_state device.old host.old gave.old) (happening event.entry) (link_state device.new host.new gave.new) result }
 {
     match event {
         Event::Offer { file, limits } => offer(device, host, file, limits),
-        Event::Go(fate) => go(device, host, fate),
+        Event::Upload { limits } => upload(alloc, device, host, limits),
+        Event::Abort => abort(host),
+        Event::Go(fate) => go(device, host, gave, fate),
         Event::Time(ms) => {
             device.elapse(ms);
             Ok(None)
         }
         Event::Reset => {
             device.usb_reset();
-            Ok(restart(host))
+            Ok(restart(host, gave))
         }
     }
 }

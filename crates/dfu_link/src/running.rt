@@ -46,7 +46,7 @@ pub fn run<'f, M: Faulty + Drop>(
 ) -> Result<Vec<Report>, Stop>
     ensures runs { HasRun world.old (happenings events.now) world.new result }
     ensures legal { AllFollowRun world.old (happenings events.now) world.new result }
-    ensures clean { RunsCleanly world.old (happenings events.now) world.new result }
+    ensures clean { RunsCleanly world.old.bench (happenings events.now) world.new.bench result }
 {
     let mut reports = Vec::new(alloc);
     for i in 0..events.len() {

@@ -1,12 +1,13 @@
 //! A device and a host on a link.
 
-ghost use Rattle.std.specs.Prelude.{◌≡◌, IfOk, IfErr};
+ghost use Rattle.std.specs.Prelude.{◌≡◌, [], IfOk, IfErr};
 ghost use Rattle.dfu_slots.specs.Medium.Fuse.{Whole};
 ghost use Rattle.dfu_link.specs.Play.{Nobody};
 ghost use Rattle.dfu_link.specs.Bytes.{armed};
 ghost use Rattle.dfu_link.specs.Comes.{happening, HasCome, IsLive};
 ghost use Rattle.dfu_link.specs.Following.{AllFollow};
 ghost use Rattle.dfu_link.specs.Sure.{AllSure};
+ghost use Rattle.dfu_link.specs.Giving.{Gives};
 
 use crate::event::Event;
 use crate::fault::LinkFault;
@@ -14,67 +15,97 @@ use crate::play::play;
 use dfu_device::Device;
 use dfu_host::{Host, Report};
 use dfu_slots::Faulty;
+use std::alloc::Global;
 use std::marker::Model;
 
-/// A device, and the host of the session that is live, if one is.
+/// A device, the host of the session that is live, if one is, and what was uploaded last.
 ///
-/// Contracts see it as a `Bench`. No call takes memory.
+/// Contracts see it as a `LinkState`. Only `step` takes memory, and only in an upload.
 #[derive(Drop)]
 pub struct World<'f, M: Faulty + Drop> {
+    alloc: Global,
     device: Device<M>,
     host: Option<Host<'f>>,
+    // The host of the last session that reported Uploaded, if one did.
+    gave: Option<Host<'f>>,
 }
 
 impl<'f, M: Faulty + Drop> Model for World<'f, M> {
-    ghost use Rattle.dfu_link.specs.Bytes.{Bench};
-    ghost use Rattle.dfu_link.specs.Standing.{bench_of, IsSteady};
+    ghost use Rattle.dfu_link.specs.Comes.{LinkState};
+    ghost use Rattle.dfu_link.specs.Standing.{bench_of, link_state, IsSteady};
 
-    ghost Value = { Bench };
+    ghost Value = { LinkState };
 
-    ghost view = { λ w. bench_of w.device w.host };
+    ghost view = { λ w. link_state w.device w.host w.gave };
 
     ghost invariant = { λ w. IsSteady (bench_of w.device w.host) };
 }
 
 impl<'f, M: Faulty + Drop> World<'f, M> {
-    /// A link to a device, with no session. It disarms the device's medium.
-    pub fn new(device: Device<M>) -> World<'f, M>
-        ensures { result ≡ record { device = armed device Whole; session = Nobody } }
+    /// A link to a device, with no session and nothing uploaded. It disarms the device's medium,
+    /// and keeps the allocator for uploads to come.
+    pub fn new(alloc: Global, device: Device<M>) -> World<'f, M>
+        ensures { result ≡ record { bench = record { device = armed device Whole; session = Nobody }; up = [] } }
     {
         let mut device = device;
         device.disarm();
-        World { device, host: None }
+        World {
+            alloc,
+            device,
+            host: None,
+            gave: None,
+        }
     }
 
     /// Lets an event come, and answers the report of the session that ends with it, if one does.
-    /// It takes no memory.
+    /// It takes memory for the parts of an upload alone; where that is refused, the session ends
+    /// with the report NoMemory.
     ///
     /// # Errors
     ///
     /// A refused event changes nothing. The faults, in the order in which they are looked for:
     ///
-    /// 1. `HostBusy`: an offer while a session is live.
-    /// 2. `NoHost`: an action while no session is live.
-    /// 3. `BadOffer`: an offer of a file that isn't one, or that isn't for the device.
+    /// 1. `HostBusy`: an offer or an upload while a session is live.
+    /// 2. `NoHost`: an abort or an action while no session is live.
+    /// 3. `BadOffer`: an offer of a file that isn't one, or that isn't for the device; an upload
+    ///    from a device that can't upload, or whose transfer size is 0.
     pub fn step(&mut self, event: Event<'f>) -> Result<Option<Report>, LinkFault>
         ensures play { HasCome self.old (happening event.entry) self.new result }
         ensures legal { AllFollow self.old (happening event.entry) self.new result }
-        ensures sure { AllSure self.old (happening event.entry) self.new result }
+        ensures sure { AllSure self.old.bench (happening event.entry) self.new.bench result }
+        ensures gives { Gives self.old self.new result }
     {
-        play(&mut self.device, &mut self.host, event)
+        play(
+            self.alloc,
+            &mut self.device,
+            &mut self.host,
+            &mut self.gave,
+            event,
+        )
+    }
+
+    /// What the last session gave that reported Uploaded: the device's active image at that time.
+    /// At first it is empty.
+    pub fn uploaded(&self) -> &[u8]
+        ensures { result.now ≡ self.now.up }
+    {
+        match &self.gave {
+            None => &[],
+            Some(host) => host.uploaded(),
+        }
     }
 
     /// The device.
     pub fn device(&self) -> &Device<M>
-        ensures { result.now ≡ self.now.device }
+        ensures { result.now ≡ self.now.bench.device }
     {
         &self.device
     }
 
-    /// The device back. Where a session is live, the link back as it is.
+    /// The device back, without what was uploaded. Where a session is live, the link back as it is.
     pub fn into_device(self) -> Result<Device<M>, World<'f, M>>
-        ensures ok { IfOk result (λ device. (self.entry.session ≡ Nobody) × (device ≡ self.entry.device)) }
-        ensures err { IfErr result (λ world. IsLive self.entry.session × (world ≡ self.entry)) }
+        ensures ok { IfOk result (λ device. (self.entry.bench.session ≡ Nobody) × (device ≡ self.entry.bench.device)) }
+        ensures err { IfErr result (λ world. IsLive self.entry.bench.session × (world ≡ self.entry)) }
         // The medium of the device isn't armed.
         ensures unarmed { IfOk result (λ device. device.slots.medium.fuse ≡ Whole) }
     {

@@ -28,9 +28,9 @@ fn live_line<'f, M: Faulty + Drop, W: Write>(
     limits: &mut Limits,
     writer: &mut W,
 ) -> Result<(), ScriptFault>
-    requires { IsLive world.old.session }
-    ensures ok { OnOk result (Steps (point limits.old world.old) line.now (W.contents writer.old) (point limits.new world.new) (W.contents writer.new)) }
-    ensures fault { IfErr result (λ f. LineFalls (point limits.old world.old) number line.now (W.contents writer.old) (W.contents writer.new) f) }
+    requires { IsLive world.old.bench.session }
+    ensures ok { OnOk result (Steps (point limits.old world.old.bench) line.now (W.contents writer.old) (point limits.new world.new.bench) (W.contents writer.new)) }
+    ensures fault { IfErr result (λ f. LineFalls (point limits.old world.old.bench) number line.now (W.contents writer.old) (W.contents writer.new) f) }
 {
     match parse(line) {
         None => Err(ScriptFault::BadLine(number)),
@@ -54,8 +54,8 @@ fn follow<'f, M: Faulty + Drop, W: Write>(
     writer: &mut W,
 ) -> Result<Option<Device<M>>, ScriptFault>
     ensures shrinks { length lines.new.rest.now ≤ length lines.old.rest.now }
-    ensures ok { IfOk result (λ d. Follows (point limits.old world.entry) (lines.old.number + 1) (lines_of lines.old.rest.now) (W.contents writer.old) d (point limits.new) (lines.new.number + 1) (lines_of lines.new.rest.now) (W.contents writer.new)) }
-    ensures fault { IfErr result (λ f. RunFalls (point limits.old world.entry) (lines.old.number + 1) (lines_of lines.old.rest.now) (W.contents writer.old) (W.contents writer.new) f) }
+    ensures ok { IfOk result (λ d. Follows (point limits.old world.entry.bench) (lines.old.number + 1) (lines_of lines.old.rest.now) (W.contents writer.old) d (point limits.new) (lines.new.number + 1) (lines_of lines.new.rest.now) (W.contents writer.new)) }
+    ensures fault { IfErr result (λ f. RunFalls (point limits.old world.entry.bench) (lines.old.number + 1) (lines_of lines.old.rest.now) (W.contents writer.old) (W.contents writer.new) f) }
 {
     let mut world = world;
     'lines: loop {
@@ -102,7 +102,7 @@ fn act<M: Faulty + Drop, W: Write>(
         }
         Some(Line::Do(deed)) => {
             let file = file_of(alloc, deed)?;
-            let mut world = World::new(device);
+            let mut world = World::new(alloc, device);
             play_deed(&mut world, deed, &file, *limits, writer)?;
             let after = follow(world, lines, limits, writer)?;
             Ok(after)

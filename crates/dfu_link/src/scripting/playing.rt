@@ -26,8 +26,8 @@ fn play<'f, M: Faulty + Drop, W: Write>(
     times: u32,
     writer: &mut W,
 ) -> Result<(), ScriptFault>
-    ensures ok { OnOk result (HasPlayed world.old (replicate times (happening event.entry)) (W.contents writer.old) world.new (W.contents writer.new)) }
-    ensures err { OnErr result (HasBroken world.old (replicate times (happening event.entry)) (W.contents writer.old) (W.contents writer.new)) }
+    ensures ok { OnOk result (HasPlayed world.old.bench (replicate times (happening event.entry)) (W.contents writer.old) world.new.bench (W.contents writer.new)) }
+    ensures err { OnErr result (HasBroken world.old.bench (replicate times (happening event.entry)) (W.contents writer.old) (W.contents writer.new)) }
     ensures fault { IfErr result (λ f. f ≡ ScriptFault.Write) }
 {
     for turn in 0..times {
@@ -57,8 +57,8 @@ pub(crate) fn play_deed<'f, M: Faulty + Drop, W: Write>(
     writer: &mut W,
 ) -> Result<(), ScriptFault>
     requires { file.now ≡ file_bytes (deed_of deed) }
-    ensures ok { OnOk result (HasPlayed world.old (events_of limits (deed_of deed.entry)) (W.contents writer.old) world.new (W.contents writer.new)) }
-    ensures err { OnErr result (HasBroken world.old (events_of limits (deed_of deed.entry)) (W.contents writer.old) (W.contents writer.new)) }
+    ensures ok { OnOk result (HasPlayed world.old.bench (events_of limits (deed_of deed.entry)) (W.contents writer.old) world.new.bench (W.contents writer.new)) }
+    ensures err { OnErr result (HasBroken world.old.bench (events_of limits (deed_of deed.entry)) (W.contents writer.old) (W.contents writer.new)) }
     ensures fault { IfErr result (λ f. f ≡ ScriptFault.Write) }
 {
     match deed {
@@ -76,9 +76,9 @@ pub(crate) fn play_live<'f, M: Faulty + Drop, W: Write>(
     limits: Limits,
     writer: &mut W,
 ) -> Result<(), ScriptFault>
-    requires { IsLive world.old.session }
-    ensures ok { OnOk result (HasPlayed world.old (events_of limits (deed_of deed.entry)) (W.contents writer.old) world.new (W.contents writer.new)) }
-    ensures err { OnErr result (HasBroken world.old (events_of limits (deed_of deed.entry)) (W.contents writer.old) (W.contents writer.new)) }
+    requires { IsLive world.old.bench.session }
+    ensures ok { OnOk result (HasPlayed world.old.bench (events_of limits (deed_of deed.entry)) (W.contents writer.old) world.new.bench (W.contents writer.new)) }
+    ensures err { OnErr result (HasBroken world.old.bench (events_of limits (deed_of deed.entry)) (W.contents writer.old) (W.contents writer.new)) }
     ensures fault { IfErr result (λ f. f ≡ ScriptFault.Write) }
 {
     match deed {

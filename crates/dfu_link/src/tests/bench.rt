@@ -83,7 +83,7 @@ pub(crate) fn world<'f>(alloc: Global, setup: Setup) -> Result<World<'f, SimMedi
     )?;
     let medium = SimMedium::new(alloc, medium_len(setup.capacity))?;
     match Slots::format(medium, &[0]) {
-        Ok(slots) => Ok(World::new(Device::start(config, slots))),
+        Ok(slots) => Ok(World::new(alloc, Device::start(config, slots))),
         Err((fault, _)) => Err(fault)?,
     }
 }

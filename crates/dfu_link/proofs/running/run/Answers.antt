@@ -18,7 +18,7 @@ returns-in-Err g c =
 pub loop-i-preserved : goal.loop-i-preserved
 loop-i-preserved g c =
     rw (c.note.ensures, c.reserve.ensures.items)
-    (ran_on c.args.events.now c.loop-i.i _ c.loop-i-test.true c.loop-i.invariant (record { play = c.in-Ok.ensures.play; legal = c.in-Ok.ensures.legal; sure = c.in-Ok.ensures.sure }))
+    (ran_on c.args.events.now c.loop-i.i _ c.loop-i-test.true c.loop-i.invariant (record { play = c.in-Ok.ensures.play; legal = c.in-Ok.ensures.legal; sure = c.in-Ok.ensures.sure; gives = c.in-Ok.ensures.gives }))
 
 pub returns : goal.returns
 returns g c =

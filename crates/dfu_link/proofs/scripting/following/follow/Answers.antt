@@ -1,5 +1,5 @@
 use Rattle.std.proofs.Common.{arith, ◌∙◌, ◌+◌, ap, subst, List, ℕ, []}
-use Rattle.dfu_link.specs.Bytes.{Bench}
+use Rattle.dfu_link.specs.Comes.{LinkState}
 use Rattle.dfu_device.specs.Shown.{Shown}
 use Rattle.std.specs.Io.KnownBytes.{Appends}
 use Rattle.dfu_link.specs.Words.{lines_of}
@@ -10,11 +10,11 @@ use Rattle.dfu_link.proofs.MoveLaws.{moves_none, moves_then, ends_now}
 use Rattle.dfu_link.proofs.scripting.following.follow.Goals as goal
 
 pub lines-init : goal.lines-init
-lines-init g c = record { shrinks = omega arith; moves = moves_none (point c.args.limits.now c.args.world) (c.args.lines.now.number + 1) (lines_of c.args.lines.now.rest.now) (g.W.Write.contents c.args.writer.now) }
+lines-init g c = record { shrinks = omega arith; moves = moves_none (point c.args.limits.now c.args.world.bench) (c.args.lines.now.number + 1) (lines_of c.args.lines.now.rest.now) (g.W.Write.contents c.args.writer.now) }
 
 pub returns-in-None-clause-ok : goal.returns-in-None-clause-ok
 returns-in-None-clause-ok g c =
-    let p = point c.args.limits.now c.args.world in
+    let p = point c.args.limits.now c.args.world.bench in
     let k = c.args.lines.now.number + 1 in
     let k1 = c.lines.lines.number + 1 in
     let lines = lines_of c.args.lines.now.rest.now in
@@ -22,25 +22,25 @@ returns-in-None-clause-ok g c =
     let mid = g.W.Write.contents c.lines.writer in
     let new = g.W.Write.contents c.write_image.new.writer in
     let l = c.lines.limits in
-    let b = c.lines.world in
+    let b = c.lines.world.bench in
     let m : Moves p k lines old (point l b) k1 [] mid = subst (λ (ls : List (List ℕ)). Moves p k lines old (point l b) k1 ls mid) (c.in-None.ensures.next).0 c.lines.invariant.moves in
-    let told : Appends mid new (image_line b.device) = subst (λ (d : Shown). Appends mid new (image_line d)) (c.device.ensures ∙ ap (λ (x : Bench). x.device) (c.in-Err.ensures.err).1) c.in_ok-write_image-in-None.ensures.ok in
+    let told : Appends mid new (image_line b.device) = subst (λ (d : Shown). Appends mid new (image_line d)) (c.device.ensures ∙ ap (λ (x : LinkState). x.bench.device) (c.in-Err.ensures.err).1) c.in_ok-write_image-in-None.ensures.ok in
     ends_now p (point l b) k k1 lines old mid new m told
 
 pub lines-preserved : goal.lines-preserved
 lines-preserved g c =
-    let p = point c.args.limits.now c.args.world in
+    let p = point c.args.limits.now c.args.world.bench in
     let k = c.args.lines.now.number + 1 in
     let k1 = c.lines.lines.number + 1 in
     let lines = lines_of c.args.lines.now.rest.now in
     let old = g.W.Write.contents c.args.writer.now in
     let mid = g.W.Write.contents c.lines.writer in
     let new = g.W.Write.contents c.live_line.new.writer in
-    let q = point c.lines.limits c.lines.world in
-    let q' = point c.live_line.new.limits c.live_line.new.world in
+    let q = point c.lines.limits c.lines.world.bench in
+    let q' = point c.live_line.new.limits c.live_line.new.world.bench in
     let lines1 = lines_of c.lines.lines.rest.now in
     let lines2 = lines_of c.next_line.new.lines.rest.now in
-    let step : Steps q c.in-Some.line.now mid q' new = subst (λ (b : Bench). Steps (point c.lines.limits b) c.in-Some.line.now mid q' new) (c.in-Err.ensures.err).1 c.in_ok-live_line-in-Some.ensures.ok in
+    let step : Steps q c.in-Some.line.now mid q' new = subst (λ (b : LinkState). Steps (point c.lines.limits b.bench) c.in-Some.line.now mid q' new) (c.in-Err.ensures.err).1 c.in_ok-live_line-in-Some.ensures.ok in
     record {
       shrinks = omega (arith, c.lines.invariant.shrinks, c.next_line.ensures.shrinks);
       moves = moves_then p q q' k k1 (c.next_line.new.lines.number + 1) lines lines1 lines2 c.in-Some.line.now old mid new c.lines.invariant.moves (c.in-Some.ensures.next).0 (ap (λ (n : ℕ). n + 1) (c.in-Some.ensures.next).1) step;

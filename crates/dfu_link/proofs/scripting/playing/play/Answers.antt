@@ -20,12 +20,12 @@ loop-turn-preserved g c =
     let new = g.W.Write.contents c.say.new.writer in
     let before = c.loop-turn.invariant in
     let answer = c.step-answer.result in
-    let more : HasPlayed c.args.world.now (replicate c.loop-turn.turn e ++ e ∷ []) old c.step-answer.new.self new = record {
+    let more : HasPlayed c.args.world.now.bench (replicate c.loop-turn.turn e ++ e ∷ []) old c.step-answer.new.self.bench new = record {
       out = before.out ++ answer_line answer;
-      plays = plays_one c.args.world.now c.loop-turn.world c.step-answer.new.self (replicate c.loop-turn.turn e) e before.out answer before.plays c.step-answer.ensures.play;
+      plays = plays_one c.args.world.now.bench c.loop-turn.world c.step-answer.new.self (replicate c.loop-turn.turn e) e before.out answer before.plays c.step-answer.ensures.play;
       told = appends_more old mid new before.out (answer_line answer) before.told c.in_ok-say.ensures.ok;
     } in
-    subst (λ (es : List Happening). HasPlayed c.args.world.now es old c.step-answer.new.self new) (sym (replicate_more c.loop-turn.turn e)) more
+    subst (λ (es : List Happening). HasPlayed c.args.world.now.bench es old c.step-answer.new.self.bench new) (sym (replicate_more c.loop-turn.turn e)) more
 
 pub returns-in_err-say-clause-err : goal.returns-in_err-say-clause-err
 returns-in_err-say-clause-err g c =
@@ -33,5 +33,5 @@ returns-in_err-say-clause-err g c =
     let old = g.W.Write.contents c.args.writer.now in
     let mid = g.W.Write.contents c.loop-turn.writer in
     let new = g.W.Write.contents c.say.new.writer in
-    on_err c.from_residual.result (HasBroken c.args.world.now (replicate c.args.times e) old new)
-    (broken c.args.world.now c.loop-turn.world c.step-answer.new.self e c.loop-turn.turn c.args.times c.step-answer.result old mid new c.loop-turn.invariant c.loop-turn-test.true c.step-answer.ensures.play c.in_err-say.ensures.err)
+    on_err c.from_residual.result (HasBroken c.args.world.now.bench (replicate c.args.times e) old new)
+    (broken c.args.world.now.bench c.loop-turn.world c.step-answer.new.self e c.loop-turn.turn c.args.times c.step-answer.result old mid new c.loop-turn.invariant c.loop-turn-test.true c.step-answer.ensures.play c.in_err-say.ensures.err)

@@ -1,4 +1,4 @@
-use Rattle.dfu_link.proofs.Steady.{come_steady, come_follow, come_sure}
+use Rattle.dfu_link.proofs.Steady.{come_steady, come_follow, come_sure, come_gives}
 use Rattle.dfu_link.proofs.world.World.step.Goals as goal
 
 pub invariant_of-self : goal.invariant_of-self
@@ -9,3 +9,6 @@ returns-clause-legal g c = rw (← c.self.view_is) (come_follow c.self.invariant
 
 pub returns-clause-sure : goal.returns-clause-sure
 returns-clause-sure g c = rw (← c.self.view_is) (come_sure c.play.ensures)
+
+pub returns-clause-gives : goal.returns-clause-gives
+returns-clause-gives g c = rw (← c.self.view_is) (come_gives c.self.invariant c.play.ensures)

@@ -1,0 +1,95 @@
+-- What a live session keeps is counted after each event, and what it gives with Uploaded is short.
+use Rattle.std.proofs.Common.{◌≡◌, ℕ, ◌*◌, ◌<◌, List, length, Option, Some, None, refl, sym, subst}
+use Rattle.dfu_host.specs.declared.report.Report.{Report}
+use Rattle.dfu_host.specs.declared.report.Report.TheVariants.{Uploaded}
+use Rattle.dfu_host.specs.Table.{Task, Phase, Over, OverUploaded, Heard, Restarted}
+use Rattle.dfu_host.specs.Host.{HostState, after}
+use Rattle.dfu_host.specs.Counting.{IsCounted, after_stays, after_same_task}
+use Rattle.dfu_device.specs.Stage.{Profile}
+use Rattle.dfu_device.specs.Outcome.{Situation}
+use Rattle.dfu_link.specs.Play.{Fate, Event, Offer, UploadIt, AbortIt, Go, Time, ResetBus, Cut, Session, Nobody, Hosted, Answered, settled, took, told, aborted}
+use Rattle.dfu_link.specs.Fact.{SessionFact}
+use Rattle.dfu_link.specs.Bytes.{Harm, Bench, Happens}
+use Rattle.dfu_device.specs.Shown.{Shown}
+use Rattle.dfu_link.specs.Acting.{HasActed}
+use Rattle.dfu_link.specs.Standing.{IsOnIn, IsSized, IsCountedIn}
+
+-- bytes are given with Uploaded alone, and then fewer than 65,535 blocks of them
+abbrev pub FitsIn : (t : ℕ) → Option Report → Option (List ℕ) → Type 0
+FitsIn t (Some Uploaded) (Some bytes) = length bytes < 65535 * t
+FitsIn t (Some Uploaded) None = ⊥
+FitsIn t report (Some bytes) = ⊥
+FitsIn t report None = Unit {0}
+
+abbrev pub Fits : (t : ℕ) → Answered → Type 0
+Fits t answer = FitsIn t answer.report answer.gave
+
+-- a session that goes on is counted, and one that ends gives what is counted
+
+settled_counted : (h : HostState) (phase : Phase) → h.phase ≡ phase → IsCounted h.task.transfer phase → IsCountedIn (settled h phase).session
+settled_counted h (Over r) e c = tt
+settled_counted h (OverUploaded kept) e c = tt
+settled_counted h phase e c = subst (λ (p : Phase). IsCounted h.task.transfer p) (sym e) c
+
+over_fits : (t : ℕ) (r : Report) → IsCounted t (Over r) → FitsIn t (Some r) None
+over_fits t Uploaded c = elim c [ ]
+over_fits t r c = tt
+
+settled_fits : (t : ℕ) (h : HostState) (phase : Phase) → IsCounted t phase → Fits t (settled h phase).answer
+settled_fits t h (Over r) c = over_fits t r c
+settled_fits t h (OverUploaded kept) c = c
+settled_fits t h phase c = tt
+
+-- a host that took something
+pub after_counted_in : (h : HostState) (heard : Heard) → 0 < h.task.transfer → IsCounted h.task.transfer h.phase → IsCountedIn (Hosted (after h heard))
+after_counted_in h heard some c = subst (λ (task : Task). IsCounted task.transfer (after h heard).phase) (sym (after_same_task h heard)) (after_stays h heard some c)
+
+took_counted : (h : HostState) (heard : Heard) → IsSized (Hosted h) → IsCountedIn (Hosted h) → IsCountedIn (took h heard).session
+took_counted h heard some c = settled_counted (after h heard) (after h heard).phase refl (after_counted_in h heard some c)
+
+took_fits : (h : HostState) (heard : Heard) → IsSized (Hosted h) → IsCountedIn (Hosted h) → Fits h.task.transfer (took h heard).answer
+took_fits h heard some c = settled_fits h.task.transfer (after h heard) (after h heard).phase (after_stays h heard some c)
+
+told_counted : (session : Session) → IsSized session → IsCountedIn session → IsCountedIn (told session).session
+told_counted Nobody some c = tt
+told_counted (Hosted h) some c = took_counted h Restarted some c
+
+told_fits : (p : Profile) (s : Situation) (session : Session) → SessionFact p s session → IsSized session → IsCountedIn session → Fits p.transfer (told session).answer
+told_fits p s Nobody f some c = tt
+told_fits p s (Hosted h) f some c = subst (λ (n : ℕ). Fits n (took h Restarted).answer) f.task_is.transfer (took_fits h Restarted some c)
+
+aborted_counted : (session : Session) → IsCountedIn (aborted session)
+aborted_counted Nobody = tt
+aborted_counted (Hosted h) = tt
+
+-- a host that took the answer of its action
+pub acted_counted : (fate : Fate) (w w' : Shown) (h h' : HostState) → IsSized (Hosted h) → IsCountedIn (Hosted h) → HasActed h fate w w' h' → IsCountedIn (Hosted h')
+acted_counted fate w w' h h' some c acted = subst (λ (x : HostState). IsCountedIn (Hosted x)) (sym acted.same) (after_counted_in h acted.heard some c)
+
+-- a live session is not done
+pub fact_on : (p : Profile) (s : Situation) (session : Session) → SessionFact p s session → IsOnIn session
+fact_on p s Nobody f = tt
+fact_on p s (Hosted h) f = f.on
+
+-- each event
+
+pub happens_counted : (event : Event) (harm : Harm) (b b' : Bench) (answer : Answered) → IsSized b.session → IsCountedIn b.session → Happens event harm b b' answer → IsCountedIn b'.session
+happens_counted (Offer payload actions restarts) harm b b' answer some c (e, f) = subst (λ (x : Bench). IsCountedIn x.session) (sym e) tt
+happens_counted (UploadIt actions restarts) harm b b' answer some c (e, f) = subst (λ (x : Bench). IsCountedIn x.session) (sym e) tt
+happens_counted AbortIt harm b b' answer some c (e, f) = subst (λ (x : Bench). IsCountedIn x.session) (sym e) (aborted_counted b.session)
+happens_counted (Go fate) harm b b' answer some c g = subst IsCountedIn (sym g.session) (took_counted g.host g.heard (subst IsSized g.live some) (subst IsCountedIn g.live c))
+happens_counted (Time ms) harm b b' answer some c (e, s, n) = subst IsCountedIn (sym s) c
+happens_counted ResetBus harm b b' answer some c (e, f) = subst (λ (x : Bench). IsCountedIn x.session) (sym e) (told_counted b.session some c)
+happens_counted Cut harm b b' answer some c (e, f) = subst (λ (x : Bench). IsCountedIn x.session) (sym e) (told_counted b.session some c)
+
+-- what an answer gives, by the device's transfer size
+pub happens_fits : (p : Profile) (s : Situation) (event : Event) (harm : Harm) (b b' : Bench) (answer : Answered) → SessionFact p s b.session → IsSized b.session → IsCountedIn b.session → Happens event harm b b' answer → Fits p.transfer answer
+happens_fits p s (Offer payload actions restarts) harm b b' answer f some c (e, a) = subst (Fits p.transfer) (sym a) tt
+happens_fits p s (UploadIt actions restarts) harm b b' answer f some c (e, a) = subst (Fits p.transfer) (sym a) tt
+happens_fits p s AbortIt harm b b' answer f some c (e, a) = subst (Fits p.transfer) (sym a) tt
+happens_fits p s (Go fate) harm b b' answer f some c g =
+    let fact = subst (SessionFact p s) g.live f in
+    subst (Fits p.transfer) (sym g.answered) (subst (λ (n : ℕ). Fits n (took g.host g.heard).answer) fact.task_is.transfer (took_fits g.host g.heard (subst IsSized g.live some) (subst IsCountedIn g.live c)))
+happens_fits p s (Time ms) harm b b' answer f some c (e, k, a) = subst (Fits p.transfer) (sym a) tt
+happens_fits p s ResetBus harm b b' answer f some c (e, a) = subst (Fits p.transfer) (sym a) (told_fits p s b.session f some c)
+happens_fits p s Cut harm b b' answer f some c (e, a) = subst (Fits p.transfer) (sym a) (told_fits p s b.session f some c)
