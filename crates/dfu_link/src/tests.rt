@@ -5,6 +5,7 @@ mod fates;
 mod faults;
 mod runs;
 mod scripts;
+mod uploads;
 
 use crate::{Event, Fate};
 use bench::{AMPLE, Setup, USUAL, W, go, offer, pass, play, stands, world};

@@ -60,6 +60,15 @@ fn medium_len(capacity: u32) -> u32 {
 
 /// A link to a device with the image `00`.
 pub(crate) fn world<'f>(alloc: Global, setup: Setup) -> Result<World<'f, SimMedium>, Fail> {
+    world_of(alloc, setup, &[0])
+}
+
+/// A link to a device with this image.
+pub(crate) fn world_of<'f>(
+    alloc: Global,
+    setup: Setup,
+    image: &[u8],
+) -> Result<World<'f, SimMedium>, Fail> {
     let ids = Ids {
         device: 0x0100,
         product: 0x0001,
@@ -82,7 +91,7 @@ pub(crate) fn world<'f>(alloc: Global, setup: Setup) -> Result<World<'f, SimMedi
         setup.manifest_ms,
     )?;
     let medium = SimMedium::new(alloc, medium_len(setup.capacity))?;
-    match Slots::format(medium, &[0]) {
+    match Slots::format(medium, image) {
         Ok(slots) => Ok(World::new(alloc, Device::start(config, slots))),
         Err((fault, _)) => Err(fault)?,
     }
@@ -104,6 +113,11 @@ pub(crate) fn offer(file: &[u8]) -> Turn<'_> {
         times: 1,
     }
 }
+
+pub(crate) const UPLOAD: Turn<'static> = Turn {
+    event: Event::Upload { limits: AMPLE },
+    times: 1,
+};
 
 pub(crate) fn go(fate: Fate) -> Turn<'static> {
     Turn {

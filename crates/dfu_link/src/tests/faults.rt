@@ -52,8 +52,8 @@ fn faults_have_their_texts(rt: HostRuntime) -> Result<(), Fail> {
     let rows = [
         (LinkFault::HostBusy, "a session is live already"),
         (LinkFault::NoHost, "no session is live"),
-        (LinkFault::BadOffer(OfferFault::Suffix(SuffixFault::NoSignature)), "the file is refused: the file has no DFU signature"),
-        (LinkFault::BadOffer(OfferFault::Host(HostFault::CannotDownload)), "the file is refused: the device takes no downloads"),
+        (LinkFault::BadOffer(OfferFault::Suffix(SuffixFault::NoSignature)), "the session is refused: the file has no DFU signature"),
+        (LinkFault::BadOffer(OfferFault::Host(HostFault::CannotDownload)), "the session is refused: the device takes no downloads"),
         (LinkFault::NoMemory, "out of memory"),
     ];
     for (fault, text) in rows {

@@ -22,9 +22,9 @@ fn installs<'f, M: Faulty + Drop>(
     alloc: Global,
     events: &[Event<'f>],
 ) -> bool
-    ensures { (file payload : List ℕ) (limits : Limits) → CanInstall world.old file limits payload
-        → happenings events.now ≡ offer_and_passes file limits (clean_passes world.old.device.config payload)
-        → IsTrue result → link_of world.new ≡ resting payload }
+    ensures { (file payload : List ℕ) (limits : Limits) → CanInstall world.old.bench file limits payload
+        → happenings events.now ≡ offer_and_passes file limits (clean_passes world.old.bench.device.config payload)
+        → IsTrue result → link_of world.new.bench ≡ resting payload }
 {
     match run(world, alloc, events) {
         Ok(_) => true,
