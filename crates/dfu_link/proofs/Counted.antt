@@ -1,5 +1,5 @@
 -- What a live session keeps is counted after each event, and what it gives with Uploaded is short.
-use Rattle.std.proofs.Common.{◌≡◌, ℕ, ◌*◌, ◌<◌, List, length, Option, Some, None, refl, sym, subst}
+use Rattle.std.proofs.Common.{◌≡◌, ℕ, ◌*◌, ◌<◌, List, length, Option, Some, None, Ok, refl, sym, subst}
 use Rattle.dfu_host.specs.declared.report.Report.{Report}
 use Rattle.dfu_host.specs.declared.report.Report.TheVariants.{Uploaded}
 use Rattle.dfu_host.specs.Table.{Task, Phase, Over, OverUploaded, Heard, Restarted}
@@ -11,6 +11,7 @@ use Rattle.dfu_link.specs.Play.{Fate, Event, Offer, UploadIt, AbortIt, Go, Time,
 use Rattle.dfu_link.specs.Fact.{SessionFact}
 use Rattle.dfu_link.specs.Bytes.{Harm, Bench, Happens}
 use Rattle.dfu_device.specs.Shown.{Shown}
+use Rattle.dfu_link.specs.Comes.{ComesWith, IsWhole}
 use Rattle.dfu_link.specs.Acting.{HasActed}
 use Rattle.dfu_link.specs.Standing.{IsOnIn, IsSized, IsCountedIn}
 
@@ -61,6 +62,20 @@ told_fits p s (Hosted h) f some c = subst (λ (n : ℕ). Fits n (took h Restarte
 aborted_counted : (session : Session) → IsCountedIn (aborted session)
 aborted_counted Nobody = tt
 aborted_counted (Hosted h) = tt
+
+fits_whole : (t : ℕ) (report : Option Report) (gave : Option (List ℕ)) → FitsIn t report gave → ComesWith report gave
+fits_whole t (Some Uploaded) (Some bytes) fits = tt
+fits_whole t (Some Uploaded) None fits = elim fits [ ]
+fits_whole t report (Some bytes) fits = elim fits [ ]
+fits_whole t report None fits = tt
+
+-- and bytes come with Uploaded alone
+pub took_whole : (h : HostState) (heard : Heard) → IsSized (Hosted h) → IsCountedIn (Hosted h) → IsWhole (Ok (took h heard).answer)
+took_whole h heard some c = let answer = (took h heard).answer in fits_whole h.task.transfer answer.report answer.gave (took_fits h heard some c)
+
+pub told_whole : (session : Session) → IsSized session → IsCountedIn session → IsWhole (Ok (told session).answer)
+told_whole Nobody some c = tt
+told_whole (Hosted h) some c = took_whole h Restarted some c
 
 -- a host that took the answer of its action
 pub acted_counted : (fate : Fate) (w w' : Shown) (h h' : HostState) → IsSized (Hosted h) → IsCountedIn (Hosted h) → HasActed h fate w w' h' → IsCountedIn (Hosted h')

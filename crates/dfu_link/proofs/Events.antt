@@ -26,9 +26,10 @@ use Rattle.dfu_link.specs.declared.fault.OfferFault.TheVariants as offer_fault
 use Rattle.dfu_link.specs.Play.{Fate, Offer, UploadIt, AbortIt, Go, Time, ResetBus, Session, Nobody, Hosted, given, silent, told, took, settled, aborted, IsAllowed}
 use Rattle.dfu_link.specs.Bytes.{Harm, fuse_of, armed, bus_was_reset, Acts, after_fate}
 use Rattle.dfu_link.specs.Comes.{Offers, Goes, Passes, Resets, unharmed, fate_of, IsOffered, IsBadOffer, CanGive, Uploads, Aborts, Comes, refuses, happens, HasCome, HasComeAlone}
-use Rattle.dfu_link.specs.Standing.{session_of, given_by, bench_of, link_state}
+use Rattle.dfu_link.specs.Standing.{session_of, given_by, bench_of, link_state, IsSized, IsCountedIn}
 use Rattle.dfu_link.specs.Acting.{HasActed, ended, abort_told, HasBegun}
 use Rattle.dfu_link.proofs.Acts.{acts_whole}
+use Rattle.dfu_link.proofs.Counted.{took_whole, told_whole}
 
 -- a medium that is not armed is armed with nothing
 unarmed_is : (w : Shown) → w.slots.medium.fuse ≡ Whole → armed w Whole ≡ w
@@ -63,27 +64,30 @@ reset_allowed (Hosted h) = tt
 pub time_comes : (ms : ℕ) (w w' : Shown) (host gave : Option HostState) → w.slots.medium.fuse ≡ Whole → Elapses ms w w' → HasCome (link_state w host gave) (Passes ms) (link_state w' host gave) (Ok None)
 time_comes ms w w' host gave e row = record {
   answer = Ok silent;
+  whole = tt;
   up_is = refl;
   comes = happens {event = Time ms} refl (record { allowed = time_allowed (session_of host) ms; unarmed = e; happens = (row, refl, refl) });
   told = refl;
 }
 
 -- a reset of the bus, not by the host
-pub reset_comes : (w w' : Shown) (host host' gave gave' : Option HostState) (report : Option Report) → w.slots.medium.fuse ≡ Whole → w' ≡ bus_was_reset w → session_of host' ≡ (told (session_of host)).session
+pub reset_comes : (w w' : Shown) (host host' gave gave' : Option HostState) (report : Option Report) → IsSized (session_of host) → IsCountedIn (session_of host) → w.slots.medium.fuse ≡ Whole → w' ≡ bus_was_reset w → session_of host' ≡ (told (session_of host)).session
     → given_by gave' ≡ given (told (session_of host)).answer.gave (given_by gave) → report ≡ (told (session_of host)).answer.report → HasCome (link_state w host gave) Resets (link_state w' host' gave') (Ok report)
-reset_comes w w' host host' gave gave' report e device session kept says = record {
+reset_comes w w' host host' gave gave' report sized counted e device session kept says = record {
   answer = Ok (told (session_of host)).answer;
+  whole = told_whole (session_of host) sized counted;
   up_is = kept;
   comes = happens {event = ResetBus} tt (record { allowed = reset_allowed (session_of host); unarmed = e; happens = ((λ i. record { device = device i; session = session i }), refl) });
   told = ap Ok says;
 }
 
 -- the host's next action
-pub go_comes : (f : GivenFate) (w w' : Shown) (h h' : HostState) (host' gave gave' : Option HostState) (report : Option Report) → w.slots.medium.fuse ≡ Whole → HasActed h (fate_of f) w w' h'
+pub go_comes : (f : GivenFate) (w w' : Shown) (h h' : HostState) (host' gave gave' : Option HostState) (report : Option Report) → IsSized (Hosted h) → IsCountedIn (Hosted h) → w.slots.medium.fuse ≡ Whole → HasActed h (fate_of f) w w' h'
     → session_of host' ≡ (ended (Hosted h')).session → given_by gave' ≡ given (ended (Hosted h')).answer.gave (given_by gave) → report ≡ (ended (Hosted h')).answer.report
     → HasCome (link_state w (Some h) gave) (Goes (fate_of f) unharmed) (link_state w' host' gave') (Ok report)
-go_comes f w w' h h' host' gave gave' report e acted session kept says = record {
+go_comes f w w' h h' host' gave gave' report sized counted e acted session kept says = record {
   answer = Ok (took h acted.heard).answer;
+  whole = took_whole h acted.heard sized counted;
   up_is = kept ∙ ap (λ (x : HostState). given (settled x x.phase).answer.gave (given_by gave)) acted.same;
   comes = happens {event = Go (fate_of f)} refl (record {
     allowed = tt;
@@ -104,7 +108,7 @@ go_comes f w w' h h' host' gave gave' report e acted session kept says = record 
 
 -- an action where no session is live
 pub go_refused : (f : Fate) (harm : Harm) (w : Shown) (gave : Option HostState) → HasCome (link_state w None gave) (Goes f harm) (link_state w None gave) (Err fault.NoHost)
-go_refused f harm w gave = record { answer = Err fault.NoHost; comes = refuses refl; up_is = refl; told = refl }
+go_refused f harm w gave = record { answer = Err fault.NoHost; comes = refuses refl; whole = tt; up_is = refl; told = refl }
 
 -- the first of these faults is none, so it is none of them
 not_first : (t : Bool) (fault : HostFault) (rest : Option HostFault) → cond t (Some fault) rest ≡ None → (t ≡ false) × (rest ≡ None)
@@ -140,12 +144,12 @@ can_download {s = s} {payload = payload} offered =
 
 -- an offer while a session is live
 pub offer_busy : (file : List ℕ) (limits : Limits) (w : Shown) (host : Option HostState) → is_some host ≡ true → HasComeAlone (bench_of w host) (Offers file limits) (bench_of w host) (Err fault.HostBusy)
-offer_busy file limits w (Some h) e up = record { answer = Err fault.HostBusy; comes = refuses tt; up_is = refl; told = refl }
+offer_busy file limits w (Some h) e up = record { answer = Err fault.HostBusy; comes = refuses tt; whole = tt; up_is = refl; told = refl }
 offer_busy file limits w None e up = absurd cc
 
 -- an offer of a file that is not taken
 pub offer_refused : (file : List ℕ) (limits : Limits) (w : Shown) (host : Option HostState) (why : OfferFault) → is_some host ≡ false → IsBadOffer w.config file why → HasComeAlone (bench_of w host) (Offers file limits) (bench_of w host) (Err (fault.BadOffer why))
-offer_refused file limits w None why e bad up = record { answer = Err (fault.BadOffer why); comes = refuses (refl, bad); up_is = refl; told = refl }
+offer_refused file limits w None why e bad up = record { answer = Err (fault.BadOffer why); comes = refuses (refl, bad); whole = tt; up_is = refl; told = refl }
 offer_refused file limits w (Some h) why e bad up = absurd cc
 
 -- an offer with which a session begins
@@ -153,6 +157,7 @@ pub offer_comes : (file : List ℕ) (limits : Limits) (w : Shown) (host : Option
     → HasComeAlone (bench_of w host) (Offers file limits) (bench_of w (Some h)) (Ok None)
 offer_comes file limits w None h n e begun up = record {
   answer = Ok silent;
+  whole = tt;
   up_is = refl;
   comes = happens {event = Offer begun.content.payload limits.actions limits.restarts} (begun.offered, refl, refl) (record {
     allowed = bytes_of begun.offered;
@@ -204,7 +209,7 @@ gives_transfer s gives =
 
 -- an upload while a session is live
 pub upload_busy : (limits : Limits) (w : Shown) (host : Option HostState) → is_some host ≡ true → HasComeAlone (bench_of w host) (Uploads limits) (bench_of w host) (Err fault.HostBusy)
-upload_busy limits w (Some h) e up = record { answer = Err fault.HostBusy; comes = refuses tt; up_is = refl; told = refl }
+upload_busy limits w (Some h) e up = record { answer = Err fault.HostBusy; comes = refuses tt; whole = tt; up_is = refl; told = refl }
 upload_busy limits w None e up = absurd cc
 
 -- an upload from a device that gives no image
@@ -212,7 +217,7 @@ pub upload_refused : (limits : Limits) (w : Shown) (host : Option HostState) (f 
     → HasComeAlone (bench_of w host) (Uploads limits) (bench_of w host) (Err (fault.BadOffer (offer_fault.Host why)))
 upload_refused limits w None f why n e bad up =
     let first : uploading.first_fault w.config.functional ≡ Some why = subst (λ (x : Functional). uploading.first_fault x ≡ Some why) e bad in
-    record { answer = Err (fault.BadOffer (offer_fault.Host why)); comes = refuses (refl, first); up_is = refl; told = refl }
+    record { answer = Err (fault.BadOffer (offer_fault.Host why)); comes = refuses (refl, first); whole = tt; up_is = refl; told = refl }
 upload_refused limits w (Some h) f why n e bad up = absurd cc
 
 -- an upload that begins
@@ -224,6 +229,7 @@ upload_comes limits w None h f n e k none is up =
     let begun : h ≡ uploading.started w.config.functional limits = is ∙ ap (λ (x : Functional). uploading.started x limits) k in
     record {
       answer = Ok silent;
+      whole = tt;
       up_is = refl;
       comes = happens {event = UploadIt limits.actions limits.restarts} (gives, refl, refl) (record {
         allowed = tt;
@@ -248,12 +254,14 @@ pub abort_comes : (w : Shown) (host host' gave : Option HostState) (result : Res
     → HasCome (link_state w host gave) Aborts (link_state w host' gave) result
 abort_comes w None host' gave result e session says = record {
   answer = Err fault.NoHost;
+  whole = tt;
   up_is = refl;
   comes = subst (λ (s : Session). Comes (bench_of w None) Aborts (record { device = w; session = s }) (Err fault.NoHost)) (sym session) (refuses refl);
   told = says;
 }
 abort_comes w (Some h) host' gave result e session says = record {
   answer = Ok silent;
+  whole = tt;
   up_is = refl;
   comes = happens {event = AbortIt} tt (record { allowed = tt; unarmed = e; happens = ((λ i. record { device = w; session = session i }), refl) });
   told = says;

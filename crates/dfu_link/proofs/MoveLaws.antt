@@ -2,20 +2,21 @@
 use Rattle.std.proofs.Common.{◌≡◌, ℕ, zero, suc, ◌+◌, List, [], ◌∷◌, ◌++◌, Option, Some, None, refl, sym, ap, ◌∙◌, subst, add-one, append_assoc, arith, ◌<◌, length-append}
 use Rattle.std.proofs.lemmas.List.{append-nil}
 use Rattle.std.specs.Borrow.{Bor}
-use Rattle.std.specs.Prelude.{replicate, Result, Err, MatchOption}
+use Rattle.std.specs.Prelude.{replicate, unwrap_or, Result, Ok, Err, MatchOption}
 use Rattle.std.specs.Io.KnownBytes.{Appends}
 use Rattle.dfu_host.specs.declared.limits.Limits.{Limits}
 use Rattle.dfu_host.specs.declared.report.Report.{Report}
+use Rattle.dfu_host.specs.declared.report.Report.TheVariants.{Uploaded}
 use Rattle.dfu_device.specs.Shown.{Shown}
 use Rattle.dfu_slots.specs.Medium.{Fuse}
 use Rattle.dfu_slots.specs.Medium.Fuse.{Whole}
-use Rattle.dfu_link.specs.Play.{Session, Nobody}
+use Rattle.dfu_link.specs.Play.{Session, Nobody, Answered, given}
 use Rattle.dfu_link.specs.Bytes.{Bench, armed}
-use Rattle.dfu_link.specs.Comes.{Happening, Offers, Comes, refuses, LinkState, HasCome, IsLive}
+use Rattle.dfu_link.specs.Comes.{Happening, Offers, Comes, refuses, shown_as, gave_of, ComesWith, IsWhole, LinkState, HasCome, IsLive}
 use Rattle.dfu_link.specs.declared.fault.LinkFault.{LinkFault}
 use Rattle.dfu_link.specs.declared.fault.LinkFault.TheVariants.{HostBusy}
 use Rattle.dfu_link.specs.Writing.{Broke}
-use Rattle.dfu_link.specs.Texts.{answer_line, image_line, show_line}
+use Rattle.dfu_link.specs.Texts.{uploaded_line, told_line, answer_line, image_line, show_line}
 use Rattle.dfu_link.specs.Said.{Said, Blank, LimitsTo, Does, Show, Deed}
 use Rattle.dfu_link.specs.Lines.{line_of}
 use Rattle.dfu_link.specs.ScriptRun.{Stand, nothing, then_prepares, prepared, at_rest, AllCome, none_comes, then_comes, Point, point, events_of, skips, limits_to, plays, shows, LinesRun, stays, then_runs}
@@ -31,10 +32,22 @@ suc_more (suc n) x = ap (λ (xs : List _). x ∷ xs) (suc_more n x)
 pub replicate_more : {A : Type 0} (n : ℕ) (x : A) → replicate (n + 1) x ≡ replicate n x ++ x ∷ []
 replicate_more n x = ap (λ (k : ℕ). replicate k x) (add-one n) ∙ suc_more n x
 
+-- What is printed of what a caller was told, and of what came: a report of an upload has the bytes that were given.
+told_in : (report : Option Report) (gave : Option (List ℕ)) (up up' : List ℕ) → ComesWith report gave → up' ≡ given gave up → told_line (Ok report) up' ≡ told_line (Ok report) (unwrap_or gave [])
+told_in None gave up up' whole e = refl
+told_in (Some Uploaded) (Some bytes) up up' whole e = ap uploaded_line e
+told_in (Some Uploaded) None up up' whole e = elim whole [ ]
+told_in (Some r) gave up up' whole e = refl
+
+told_same : (answer : Result Answered LinkFault) (up up' : List ℕ) → IsWhole answer → up' ≡ given (gave_of answer) up → told_line (shown_as answer) up' ≡ answer_line answer
+told_same (Ok answer) up up' whole e = told_in answer.report answer.gave up up' whole e
+told_same (Err fault) up up' whole e = refl
+
 -- One event more.
-pub plays_one : (b : Bench) (c c' : LinkState) (events : List Happening) (e : Happening) (out : List ℕ) (r : Result (Option Report) LinkFault) → AllCome b events out c.bench → HasCome c e c' r → AllCome b (events ++ e ∷ []) (out ++ answer_line r) c'.bench
+pub plays_one : (b : Bench) (c c' : LinkState) (events : List Happening) (e : Happening) (out : List ℕ) (r : Result (Option Report) LinkFault) → AllCome b events out c.bench → HasCome c e c' r → AllCome b (events ++ e ∷ []) (out ++ told_line r c'.up) c'.bench
 plays_one b c c' events e out r p h =
-    subst (λ (x : Result (Option Report) LinkFault). AllCome b (events ++ e ∷ []) (out ++ answer_line x) c'.bench) (sym h.told) (then_comes p h.comes)
+    let same : told_line r c'.up ≡ answer_line h.answer = ap (λ (x : Result (Option Report) LinkFault). told_line x c'.up) h.told ∙ told_same h.answer c.up c'.up h.whole h.up_is in
+    subst (λ (text : List ℕ). AllCome b (events ++ e ∷ []) (out ++ text) c'.bench) (sym same) (then_comes p h.comes)
 
 -- An offer while a session is live.
 busy_offer : (b : Bench) (file : List ℕ) (limits : Limits) → IsLive b.session → Comes b (Offers file limits) b (Err HostBusy)
@@ -54,10 +67,10 @@ replicate_front (suc k) (suc n) x h =
     let rest = replicate_front k n x (omega (arith, h)) in
     (rest.0, ap (λ (xs : List _). x ∷ xs) rest.1)
 
-pub broken : (b : Bench) (c c' : LinkState) (e : Happening) (k n : ℕ) (r : Result (Option Report) LinkFault) (old mid new : Option (List ℕ)) → HasPlayed b (replicate k e) old c.bench mid → k < n → HasCome c e c' r → Broke mid new (answer_line r) → HasBroken b (replicate n e) old new
+pub broken : (b : Bench) (c c' : LinkState) (e : Happening) (k n : ℕ) (r : Result (Option Report) LinkFault) (old mid new : Option (List ℕ)) → HasPlayed b (replicate k e) old c.bench mid → k < n → HasCome c e c' r → Broke mid new (told_line r c'.up) → HasBroken b (replicate n e) old new
 broken b c c' e k n r old mid new p lt come broke =
     let rest = replicate_front k n e lt in
-    record { played = replicate k e ++ e ∷ []; left = rest.0; split = rest.1; after = c'.bench; out = p.out ++ answer_line r; plays = plays_one b c c' (replicate k e) e p.out r p.plays come; broke = broke_after old mid new p.out (answer_line r) p.told broke }
+    record { played = replicate k e ++ e ∷ []; left = rest.0; split = rest.1; after = c'.bench; out = p.out ++ told_line r c'.up; plays = plays_one b c c' (replicate k e) e p.out r p.plays come; broke = broke_after old mid new p.out (told_line r c'.up) p.told broke }
 
 -- A line.
 

@@ -4,6 +4,7 @@ use Rattle.dfu_suffix.specs.declared.ids.Ids.{Ids}
 use Rattle.dfu_suffix.specs.Grammar.{Content, IsFile, First}
 use Rattle.dfu_host.specs.declared.limits.Limits.{Limits}
 use Rattle.dfu_host.specs.declared.report.Report.{Report}
+use Rattle.dfu_host.specs.declared.report.Report.TheVariants.{Uploaded}
 use Rattle.dfu_host.specs.Download.{first_fault}
 use Rattle.dfu_host.specs.Uploading as uploading
 use Rattle.dfu_device.specs.Setting.{Setting}
@@ -123,6 +124,18 @@ abbrev pub gave_of : Result Answered LinkFault → Option (List ℕ)
 gave_of (Ok answer) = answer.gave
 gave_of (Err fault) = None
 
+-- Bytes come with Uploaded, and with no other report.
+abbrev pub ComesWith : Option Report → Option (List ℕ) → Type 0
+ComesWith (Some Uploaded) None = ⊥
+ComesWith (Some Uploaded) (Some bytes) = Unit {0}
+ComesWith report None = Unit {0}
+ComesWith report (Some bytes) = ⊥
+
+-- So it is of what comes of an event.
+abbrev pub IsWhole : Result Answered LinkFault → Type 0
+IsWhole (Ok answer) = ComesWith answer.report answer.gave
+IsWhole (Err fault) = Unit {0}
+
 -- A link between events: its bench, and what the last reported upload gave.
 pub record LinkState : Type 0 where
   pub bench : Bench
@@ -136,6 +149,7 @@ linked b up = record { bench = b; up = up }
 pub record HasCome (w : LinkState) (h : Happening) (w' : LinkState) (result : Result (Option Report) LinkFault) : Type 0 where
   pub answer : Result Answered LinkFault
   pub comes : Comes w.bench h w'.bench answer
+  pub whole : IsWhole answer
   pub up_is : w'.up ≡ given (gave_of answer) w.up
   pub told : result ≡ shown_as answer
 

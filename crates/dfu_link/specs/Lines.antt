@@ -2,7 +2,7 @@
 use Rattle.std.specs.Prelude.{ℕ, Bool, false, length, ◌==◌, List, [], ◌∷◌, Option, Some, None, nat_le, if◌then◌else◌}
 use Rattle.dfu_link.specs.Words.{◌>>=◌, guard, bytes_of, number_of, quad_of, pair_of, first, ends, words_of}
 use Rattle.dfu_link.specs.Play.{Pass, LostOut, LostBack, Twice, TwiceLostBack, Slip}
-use Rattle.dfu_link.specs.Said.{Said, Blank, Sets, LimitsTo, Does, Show, TheIds, TheDevice, TheCapacity, TheImage, Offer, Go, Time, Reset, functional_of}
+use Rattle.dfu_link.specs.Said.{Said, Blank, Sets, LimitsTo, Does, Show, TheIds, TheDevice, TheCapacity, TheImage, Offer, Upload, Abort, Go, Time, Reset, functional_of}
 use Rattle.dfu_link.specs.Keywords.{keyword_of, fate_keyword_of}
 use Rattle.dfu_link.specs.declared.scripting.keywords.Keyword.{Keyword}
 use Rattle.dfu_link.specs.declared.scripting.keywords.Keyword.TheVariants as key
@@ -123,6 +123,8 @@ by_keyword key.Capacity words = capacity_of words
 by_keyword key.Image words = image_of words
 by_keyword key.Limits words = limits_of words
 by_keyword key.Offer words = offer_of words
+by_keyword key.Upload words = ends (Does Upload) words
+by_keyword key.Abort words = ends (Does Abort) words
 by_keyword key.Go words = go_of words
 by_keyword key.Time words = time_of words
 by_keyword key.Reset words = ends (Does Reset) words

@@ -36,9 +36,11 @@ pub data Setting : Type 0 where
   TheCapacity : ℕ → Setting
   TheImage : List ℕ → Setting
 
--- The events of a line: a file is offered, the host takes so many actions of one fate, time passes, or the bus is reset.
+-- The events of a line: a file is offered, an upload begins, the session is given up, the host takes so many actions of one fate, time passes, or the bus is reset.
 pub data Deed : Type 0 where
   Offer : (file : List ℕ) → Deed
+  Upload : Deed
+  Abort : Deed
   Go : Fate → (times : ℕ) → Deed
   Time : (ms : ℕ) → Deed
   Reset : Deed
@@ -61,6 +63,8 @@ setting_of (setting.Image text) = TheImage (hex_bytes text)
 -- The events of a line as the code has it.
 abbrev pub deed_of : deeds.Deed → Deed
 deed_of (deed.Offer text) = Offer (hex_bytes text)
+deed_of deed.Upload = Upload
+deed_of deed.Abort = Abort
 deed_of (deed.Go f times) = Go (fate_of f) times
 deed_of (deed.Time ms) = Time ms
 deed_of deed.Reset = Reset

@@ -11,11 +11,11 @@ use Rattle.dfu_device.specs.Setting.{Setting as DeviceSetting}
 use Rattle.dfu_device.specs.Shown.{Shown}
 use Rattle.dfu_link.specs.Play.{Nobody, Answered}
 use Rattle.dfu_link.specs.Bytes.{Bench}
-use Rattle.dfu_link.specs.Comes.{Happening, Offers, Goes, Passes, Resets, unharmed, Comes, shown_as}
+use Rattle.dfu_link.specs.Comes.{Happening, Offers, Uploads, Aborts, Goes, Passes, Resets, unharmed, Comes}
 use Rattle.dfu_link.specs.declared.fault.LinkFault.{LinkFault}
 use Rattle.dfu_link.specs.Texts.{answer_line, image_line, show_line}
 use Rattle.dfu_link.specs.Words.{lines_of}
-use Rattle.dfu_link.specs.Said.{Setting, TheIds, TheDevice, TheCapacity, TheImage, Deed, Offer, Go, Time, Reset, Said, Blank, Sets, LimitsTo, Does, Show, functional_of}
+use Rattle.dfu_link.specs.Said.{Setting, TheIds, TheDevice, TheCapacity, TheImage, Deed, Offer, Upload, Abort, Go, Time, Reset, Said, Blank, Sets, LimitsTo, Does, Show, functional_of}
 use Rattle.dfu_link.specs.Lines.{line_of}
 
 -- What is set before the first event line or `show`: the device, how many bytes an image may have, the image at first, and the limits of sessions.
@@ -86,7 +86,7 @@ at_rest d = record { device = d; session = Nobody }
 pub data AllCome : Bench → List Happening → List ℕ → Bench → Type 0 where
   none_comes : {b : Bench} → AllCome b [] [] b
   then_comes : {b c c' : Bench} {events : List Happening} {event : Happening} {out : List ℕ} {answer : Result Answered LinkFault} →
-      AllCome b events out c → Comes c event c' answer → AllCome b (events ++ event ∷ []) (out ++ answer_line (shown_as answer)) c'
+      AllCome b events out c → Comes c event c' answer → AllCome b (events ++ event ∷ []) (out ++ answer_line answer) c'
 
 -- Where a script is once the device is started: the limits of the next session, and the link.
 pub record Point : Type 0 where
@@ -100,6 +100,8 @@ point limits at = record { limits = limits; at = at }
 -- The events of an event line.
 abbrev pub events_of : Limits → Deed → List Happening
 events_of limits (Offer file) = Offers file limits ∷ []
+events_of limits Upload = Uploads limits ∷ []
+events_of limits Abort = Aborts ∷ []
 events_of limits (Go fate times) = replicate times (Goes fate unharmed)
 events_of limits (Time ms) = Passes ms ∷ []
 events_of limits Reset = Resets ∷ []

@@ -1,5 +1,5 @@
 -- The lines that a script prints.
-use Rattle.std.specs.Prelude.{ℕ, List, [], ◌∷◌, ◌++◌, Option, Some, None, Result, Ok, Err, codes}
+use Rattle.std.specs.Prelude.{ℕ, List, [], ◌∷◌, ◌++◌, Option, Some, None, unwrap_or, Result, Ok, Err, codes}
 use Rattle.hex.specs.Hex.{encode_lower}
 use Rattle.dfu_wire.specs.State.{state_name}
 use Rattle.dfu_wire.specs.Code.{code_name}
@@ -12,6 +12,8 @@ use Rattle.dfu_host.specs.declared.report.Report.TheVariants as report
 use Rattle.dfu_slots.specs.Seen.{image_of}
 use Rattle.dfu_device.specs.Stage.{state_of, code_of}
 use Rattle.dfu_device.specs.Shown.{Shown}
+use Rattle.dfu_link.specs.Play.{Answered}
+use Rattle.dfu_link.specs.Comes.{shown_as, gave_of}
 use Rattle.dfu_link.specs.declared.fault.OfferFault.{OfferFault}
 use Rattle.dfu_link.specs.declared.fault.OfferFault.TheVariants as offer
 use Rattle.dfu_link.specs.declared.fault.LinkFault.{LinkFault}
@@ -48,17 +50,21 @@ abbrev pub offer_fault_name : OfferFault → List ℕ
 offer_fault_name (offer.Suffix fault) = suffix_fault_name fault
 offer_fault_name (offer.Host fault) = host_fault_name fault
 
--- The line of a report.
-abbrev pub report_line : Report → List ℕ
-report_line report.Installed = codes "report installed\n"
-report_line report.Unconfirmed = codes "report unconfirmed\n"
-report_line report.Aborted = codes "report aborted\n"
-report_line report.GaveUp = codes "report gave-up\n"
-report_line (report.Refused code) = codes "report refused " ++ code_name code ++ 10 ∷ []
-report_line report.RestartsSpent = codes "report restarts-spent\n"
-report_line report.Uploaded = codes "report uploaded\n"
-report_line report.TooManyBlocks = codes "report too-many-blocks\n"
-report_line report.NoMemory = codes "report no-memory\n"
+-- The line of what was uploaded.
+abbrev pub uploaded_line : List ℕ → List ℕ
+uploaded_line bytes = codes "report uploaded " ++ (hex_text bytes ++ 10 ∷ [])
+
+-- The line of a report; of an upload it shows the bytes that were uploaded.
+abbrev pub report_line : Report → (uploaded : List ℕ) → List ℕ
+report_line report.Installed uploaded = codes "report installed\n"
+report_line report.Unconfirmed uploaded = codes "report unconfirmed\n"
+report_line report.Aborted uploaded = codes "report aborted\n"
+report_line report.GaveUp uploaded = codes "report gave-up\n"
+report_line (report.Refused code) uploaded = codes "report refused " ++ code_name code ++ 10 ∷ []
+report_line report.RestartsSpent uploaded = codes "report restarts-spent\n"
+report_line report.Uploaded uploaded = uploaded_line uploaded
+report_line report.TooManyBlocks uploaded = codes "report too-many-blocks\n"
+report_line report.NoMemory uploaded = codes "report no-memory\n"
 
 -- The line of a refused event.
 abbrev pub refusal_line : LinkFault → List ℕ
@@ -67,11 +73,15 @@ refusal_line link.NoHost = codes "refused NoHost\n"
 refusal_line (link.BadOffer fault) = codes "refused BadOffer " ++ offer_fault_name fault ++ 10 ∷ []
 refusal_line link.NoMemory = codes "refused NoMemory\n"
 
--- What is printed of an event: the line of its refusal or of its report, or nothing.
-abbrev pub answer_line : Result (Option Report) LinkFault → List ℕ
-answer_line (Ok None) = []
-answer_line (Ok (Some r)) = report_line r
-answer_line (Err fault) = refusal_line fault
+-- What is printed of what an event's caller was told: the line of its refusal or of its report, or nothing.
+abbrev pub told_line : Result (Option Report) LinkFault → (uploaded : List ℕ) → List ℕ
+told_line (Ok None) uploaded = []
+told_line (Ok (Some r)) uploaded = report_line r uploaded
+told_line (Err fault) uploaded = refusal_line fault
+
+-- What is printed of what came of an event.
+abbrev pub answer_line : Result Answered LinkFault → List ℕ
+answer_line answer = told_line (shown_as answer) (unwrap_or (gave_of answer) [])
 
 -- The line of the device's image.
 abbrev pub image_line : Shown → List ℕ

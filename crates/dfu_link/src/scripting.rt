@@ -1,6 +1,7 @@
 //! Scripts: a text of lines that sets up a device, lets events come to the link of that device and a
 //! host, and writes what comes of them.
 
+mod digits;
 mod fault;
 mod fields;
 mod following;

@@ -12,6 +12,8 @@ pub(crate) enum Keyword {
     Image,
     Limits,
     Offer,
+    Upload,
+    Abort,
     Go,
     Time,
     Reset,
@@ -45,6 +47,10 @@ pub(crate) fn read_keyword(word: &[u8]) -> Option<Keyword>
         Some(Keyword::Limits)
     } else if word == b"offer".as_slice() {
         Some(Keyword::Offer)
+    } else if word == b"upload".as_slice() {
+        Some(Keyword::Upload)
+    } else if word == b"abort".as_slice() {
+        Some(Keyword::Abort)
     } else if word == b"go".as_slice() {
         Some(Keyword::Go)
     } else if word == b"time".as_slice() {

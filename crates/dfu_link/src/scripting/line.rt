@@ -38,6 +38,10 @@ pub(crate) enum Setting<'l> {
 pub(crate) enum Deed<'l> {
     // A file is offered.
     Offer(HexText<'l>),
+    // An upload begins.
+    Upload,
+    // The session is given up.
+    Abort,
     // The host takes its next action, so often with this fate.
     Go { fate: Fate, times: u32 },
     // So many milliseconds pass.

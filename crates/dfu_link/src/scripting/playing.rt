@@ -32,7 +32,7 @@ fn play<'f, M: Faulty + Drop, W: Write>(
 {
     for turn in 0..times {
         let answer = world.step(event);
-        say(writer, answer)?;
+        say(writer, answer, world.uploaded())?;
     }
     Ok(())
 }
@@ -63,6 +63,8 @@ pub(crate) fn play_deed<'f, M: Faulty + Drop, W: Write>(
 {
     match deed {
         Deed::Offer(_) => play(world, Event::Offer { file, limits }, 1, writer),
+        Deed::Upload => play(world, Event::Upload { limits }, 1, writer),
+        Deed::Abort => play(world, Event::Abort, 1, writer),
         Deed::Go { fate, times } => play(world, Event::Go(fate), times, writer),
         Deed::Time(ms) => play(world, Event::Time(ms), 1, writer),
         Deed::Reset => play(world, Event::Reset, 1, writer),
@@ -82,7 +84,7 @@ pub(crate) fn play_live<'f, M: Faulty + Drop, W: Write>(
     ensures fault { IfErr result (λ f. f ≡ ScriptFault.Write) }
 {
     match deed {
-        Deed::Offer(_) => say(writer, Err(LinkFault::HostBusy)),
+        Deed::Offer(_) => say(writer, Err(LinkFault::HostBusy), &[]),
         _ => play_deed(world, deed, &[], limits, writer),
     }
 }

@@ -24,6 +24,8 @@ fn by_keyword(keyword: Keyword, rest: &[u8]) -> Option<Line<'_>>
         Keyword::Image => image(rest),
         Keyword::Limits => limits(rest),
         Keyword::Offer => offer(rest),
+        Keyword::Upload => ended(Line::Do(Deed::Upload), rest),
+        Keyword::Abort => ended(Line::Do(Deed::Abort), rest),
         Keyword::Go => go(rest),
         Keyword::Time => time(rest),
         Keyword::Reset => ended(Line::Do(Deed::Reset), rest),

@@ -3,9 +3,10 @@
 ghost use Rattle.std.specs.Prelude.{◌≡◌, OnOk, OnErr, IfErr};
 ghost use Rattle.std.specs.Io.KnownBytes.{Appends};
 ghost use Rattle.dfu_link.specs.Writing.{Broke};
-ghost use Rattle.dfu_link.specs.Texts.{suffix_fault_name, host_fault_name, offer_fault_name, report_line, refusal_line, answer_line};
+ghost use Rattle.dfu_link.specs.Texts.{suffix_fault_name, host_fault_name, offer_fault_name, uploaded_line, report_line, refusal_line, told_line};
 
 use crate::fault::{LinkFault, OfferFault};
+use crate::scripting::digits::write_bytes;
 use crate::scripting::fault::ScriptFault;
 use crate::scripting::output::{write_out, write_three};
 use dfu_host::{HostFault, Report};
@@ -50,9 +51,19 @@ fn offer_fault_name(fault: OfferFault) -> &'static str
     }
 }
 
-fn say_report<W: Write>(writer: &mut W, report: Report) -> Result<(), ScriptFault>
-    ensures ok { OnOk result (Appends (W.contents writer.old) (W.contents writer.new) (report_line report)) }
-    ensures err { OnErr result (Broke (W.contents writer.old) (W.contents writer.new) (report_line report)) }
+fn say_uploaded<W: Write>(writer: &mut W, bytes: &[u8]) -> Result<(), ScriptFault>
+    ensures ok { OnOk result (Appends (W.contents writer.old) (W.contents writer.new) (uploaded_line bytes.now)) }
+    ensures err { OnErr result (Broke (W.contents writer.old) (W.contents writer.new) (uploaded_line bytes.now)) }
+    ensures fault { IfErr result (λ f. f ≡ ScriptFault.Write) }
+{
+    write_out(writer, b"report uploaded ")?;
+    write_bytes(writer, bytes)
+}
+
+// The line of a report. What was uploaded is shown with Uploaded alone.
+fn say_report<W: Write>(writer: &mut W, report: Report, uploaded: &[u8]) -> Result<(), ScriptFault>
+    ensures ok { OnOk result (Appends (W.contents writer.old) (W.contents writer.new) (report_line report uploaded.now)) }
+    ensures err { OnErr result (Broke (W.contents writer.old) (W.contents writer.new) (report_line report uploaded.now)) }
     ensures fault { IfErr result (λ f. f ≡ ScriptFault.Write) }
 {
     match report {
@@ -62,7 +73,7 @@ fn say_report<W: Write>(writer: &mut W, report: Report) -> Result<(), ScriptFaul
         Report::GaveUp => write_out(writer, b"report gave-up\n"),
         Report::Refused(code) => write_three(writer, "report refused ", code.name(), "\n"),
         Report::RestartsSpent => write_out(writer, b"report restarts-spent\n"),
-        Report::Uploaded => write_out(writer, b"report uploaded\n"),
+        Report::Uploaded => say_uploaded(writer, uploaded),
         Report::TooManyBlocks => write_out(writer, b"report too-many-blocks\n"),
         Report::NoMemory => write_out(writer, b"report no-memory\n"),
     }
@@ -83,18 +94,19 @@ fn say_refusal<W: Write>(writer: &mut W, fault: LinkFault) -> Result<(), ScriptF
     }
 }
 
-// Writes what is printed of an event.
+// Writes what is printed of an event, where this was uploaded last.
 pub(crate) fn say<W: Write>(
     writer: &mut W,
     answer: Result<Option<Report>, LinkFault>,
+    uploaded: &[u8],
 ) -> Result<(), ScriptFault>
-    ensures ok { OnOk result (Appends (W.contents writer.old) (W.contents writer.new) (answer_line answer)) }
-    ensures err { OnErr result (Broke (W.contents writer.old) (W.contents writer.new) (answer_line answer)) }
+    ensures ok { OnOk result (Appends (W.contents writer.old) (W.contents writer.new) (told_line answer uploaded.now)) }
+    ensures err { OnErr result (Broke (W.contents writer.old) (W.contents writer.new) (told_line answer uploaded.now)) }
     ensures fault { IfErr result (λ f. f ≡ ScriptFault.Write) }
 {
     match answer {
         Ok(None) => write_out(writer, &[]),
-        Ok(Some(report)) => say_report(writer, report),
+        Ok(Some(report)) => say_report(writer, report, uploaded),
         Err(fault) => say_refusal(writer, fault),
     }
 }

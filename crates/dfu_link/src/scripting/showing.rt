@@ -7,6 +7,7 @@ ghost use Rattle.dfu_slots.specs.Seen.{image_of};
 ghost use Rattle.dfu_link.specs.Writing.{Broke};
 ghost use Rattle.dfu_link.specs.Texts.{hex_text, image_line, state_text, show_line};
 
+use crate::scripting::digits::write_digits;
 use crate::scripting::fault::ScriptFault;
 use crate::scripting::output::{write_out, write_three, write_two};
 use dfu_device::Device;
@@ -31,12 +32,8 @@ fn write_piece<M: Medium, W: Write>(
 {
     let len = len as usize;
     let mut bytes = [0; 256];
-    let mut digits = [0; 512];
     slots.read_active(at, &mut bytes[..len]);
-    let Ok(()) = hex::encode_to_slice(&bytes[..len], &mut digits[..2 * len]) else {
-        unreachable!()
-    };
-    write_out(writer, &digits[..2 * len])
+    write_digits(writer, &bytes[..len])
 }
 
 // Writes an image as hexadecimal text, piece by piece.

@@ -14,4 +14,4 @@ end-requires g c =
     acted_counted (fate_of c.args.fate) _ _ _ _ (subst (λ (h : Option HostState). IsSized (session_of h)) c.in-Some.is c.requires.sized) (subst (λ (h : Option HostState). IsCountedIn (session_of h)) c.in-Some.is c.requires.counted) c.act.ensures
 
 pub returns : goal.returns
-returns g c = rw c.in-Some.is (go_comes c.args.fate _ _ _ _ _ c.args.gave.now c.end.new.gave _ c.requires.unarmed c.act.ensures c.end.ensures.session c.end.ensures.given c.end.ensures.report)
+returns g c = rw c.in-Some.is (go_comes c.args.fate _ _ _ _ _ c.args.gave.now c.end.new.gave _ (subst (λ (h : Option HostState). IsSized (session_of h)) c.in-Some.is c.requires.sized) (subst (λ (h : Option HostState). IsCountedIn (session_of h)) c.in-Some.is c.requires.counted) c.requires.unarmed c.act.ensures c.end.ensures.session c.end.ensures.given c.end.ensures.report)

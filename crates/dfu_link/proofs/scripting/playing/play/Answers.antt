@@ -1,7 +1,7 @@
 use Rattle.std.proofs.Common.{◌++◌, ◌∷◌, [], List, sym, subst}
 use Rattle.std.specs.Prelude.{replicate}
 use Rattle.dfu_link.specs.Comes.{happening, Happening}
-use Rattle.dfu_link.specs.Texts.{answer_line}
+use Rattle.dfu_link.specs.Texts.{told_line}
 use Rattle.dfu_link.specs.ScriptRun.{none_comes}
 use Rattle.dfu_link.specs.Falls.{HasBroken}
 use Rattle.dfu_link.specs.Moving.{HasPlayed}
@@ -19,11 +19,11 @@ loop-turn-preserved g c =
     let mid = g.W.Write.contents c.loop-turn.writer in
     let new = g.W.Write.contents c.say.new.writer in
     let before = c.loop-turn.invariant in
-    let answer = c.step-answer.result in
+    let text = told_line c.step-answer.result c.step-answer.new.self.up in
     let more : HasPlayed c.args.world.now.bench (replicate c.loop-turn.turn e ++ e ∷ []) old c.step-answer.new.self.bench new = record {
-      out = before.out ++ answer_line answer;
-      plays = plays_one c.args.world.now.bench c.loop-turn.world c.step-answer.new.self (replicate c.loop-turn.turn e) e before.out answer before.plays c.step-answer.ensures.play;
-      told = appends_more old mid new before.out (answer_line answer) before.told c.in_ok-say.ensures.ok;
+      out = before.out ++ text;
+      plays = plays_one c.args.world.now.bench c.loop-turn.world c.step-answer.new.self (replicate c.loop-turn.turn e) e before.out c.step-answer.result before.plays c.step-answer.ensures.play;
+      told = appends_more old mid new before.out text before.told (rw c.uploaded.ensures at c.in_ok-say.ensures.ok);
     } in
     subst (λ (es : List Happening). HasPlayed c.args.world.now.bench es old c.step-answer.new.self.bench new) (sym (replicate_more c.loop-turn.turn e)) more
 
@@ -34,4 +34,4 @@ returns-in_err-say-clause-err g c =
     let mid = g.W.Write.contents c.loop-turn.writer in
     let new = g.W.Write.contents c.say.new.writer in
     on_err c.from_residual.result (HasBroken c.args.world.now.bench (replicate c.args.times e) old new)
-    (broken c.args.world.now.bench c.loop-turn.world c.step-answer.new.self e c.loop-turn.turn c.args.times c.step-answer.result old mid new c.loop-turn.invariant c.loop-turn-test.true c.step-answer.ensures.play c.in_err-say.ensures.err)
+    (broken c.args.world.now.bench c.loop-turn.world c.step-answer.new.self e c.loop-turn.turn c.args.times c.step-answer.result old mid new c.loop-turn.invariant c.loop-turn-test.true c.step-answer.ensures.play (rw c.uploaded.ensures at c.in_err-say.ensures.err))
