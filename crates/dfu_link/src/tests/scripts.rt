@@ -61,6 +61,31 @@ fn scripts_go_on_after_losses(rt: HostRuntime) -> Result<(), Fail> {
     Ok(())
 }
 
+// Uploads, and sessions that are given up.
+#[rattlefmt::skip]
+#[test]
+fn scripts_upload_and_give_up(rt: HostRuntime) -> Result<(), Fail> {
+    let eight = "report uploaded 0001020304050607\nimage 0001020304050607\n";
+    let rows = [
+        ("image 0001020304050607 / upload / go pass 7", eight),
+        ("upload / go pass 4 / go twice / go pass 1", "report uploaded 00\nimage 00\n"),
+        ("image 0001020304050607 / upload / go pass 4 / go twice / go pass 6", eight),
+        ("image - / upload / go pass 6", "report uploaded -\nimage -\n"),
+        ("upload / go pass 6 / offer W / go pass 13 / upload / go pass 6", "report uploaded 00\nreport installed\nreport uploaded ffffffff\nimage ffffffff\n"),
+        ("device 05 255 8 1 5 10 / upload", "refused BadOffer CannotUpload\nimage 00\n"),
+        ("limits 3 0 / upload / go pass 3", "report gave-up\nimage 00\n"),
+        ("offer W / go pass 8 / abort / go pass 1 / show", "report aborted\nstate dfuIDLE status OK image 00\nimage 00\n"),
+        ("abort / upload / upload / offer W / abort / go lostout", "refused NoHost\nrefused HostBusy\nrefused HostBusy\nreport aborted\nimage 00\n"),
+    ];
+    for (row, out) in rows {
+        let text = text_of(rt.alloc(), row)?;
+        let mut seen = Vec::new(rt.alloc());
+        assert_eq!(rt; script(rt.alloc(), text.as_slice(), &mut seen), Ok(()), "of {row}");
+        assert_eq!(rt; seen.as_slice(), out.as_bytes(), "of {row}");
+    }
+    Ok(())
+}
+
 // A refused event prints a line, and the script goes on.
 #[rattlefmt::skip]
 #[test]

@@ -59,7 +59,6 @@ fn numbers_tell_65_534_full_parts_apart(rt: HostRuntime) -> Result<(), Fail> {
     let by_one = Setup { transfer: 1, capacity: 65_537, ..USUAL };
     let rows = [
         (65_534, 65_540, Report::Uploaded, 65_534),
-        (65_535, 65_539, Report::TooManyBlocks, 0),
         (65_537, 65_539, Report::TooManyBlocks, 0),
     ];
     for (len, passes, report, kept) in rows {

@@ -80,6 +80,8 @@ fn lines_of_no_language(rt: HostRuntime) -> Result<(), Fail> {
         "go lostout 1",
         "go slip",
         "reset 1",
+        "upload 1",
+        "abort now",
     ];
     for line in lines {
         let mut seen = Vec::new(rt.alloc());
@@ -117,7 +119,7 @@ fn long_lines(rt: HostRuntime) -> Result<(), Fail> {
     Ok(())
 }
 
-// An image is printed whole, whatever its length.
+// An image is printed whole, whatever its length, and so is what was uploaded.
 #[test]
 fn images_of_each_length(rt: HostRuntime) -> Result<(), Fail> {
     for bytes in [0usize, 1, 255, 256, 257, 512, 700] {
@@ -129,12 +131,15 @@ fn images_of_each_length(rt: HostRuntime) -> Result<(), Fail> {
             digits.push(b'-')?;
         }
         let mut text = Vec::new(rt.alloc());
-        text.extend_from_slice(b"capacity 700\nimage ")?;
+        text.extend_from_slice(b"device 07 255 4096 1 5 10\ncapacity 700\nimage ")?;
         text.extend_from_slice(&digits)?;
+        text.extend_from_slice(b"\nupload\ngo pass 6\n")?;
         let mut out = Vec::new(rt.alloc());
-        out.extend_from_slice(b"image ")?;
-        out.extend_from_slice(&digits)?;
-        out.push(b'\n')?;
+        for line in ["report uploaded ", "image "] {
+            out.extend_from_slice(line.as_bytes())?;
+            out.extend_from_slice(&digits)?;
+            out.push(b'\n')?;
+        }
         let mut seen = Vec::new(rt.alloc());
         assert_eq!(rt; script(rt.alloc(), text.as_slice(), &mut seen), Ok(()));
         assert_eq!(rt; seen.as_slice(), out.as_slice(), "{bytes} bytes");

@@ -91,6 +91,28 @@ fn refused_allocation_in_a_script(rt: HostRuntime) {
     }
 }
 
+// Where a part of an upload finds no memory, the session ends, and the script goes on.
+#[test]
+fn refused_allocation_in_an_upload(rt: HostRuntime) {
+    let mut fixed = Fixed {
+        bytes: [0; 128],
+        len: 0,
+    };
+    let result = script(rt.alloc(), b"upload\ngo pass 6\n".as_slice(), &mut fixed);
+    let out = fixed.bytes.get(..fixed.len);
+    let uploaded = b"report uploaded 00\nimage 00\n";
+    let refused = b"report no-memory\nrefused NoHost\nimage 00\n";
+    match result {
+        Ok(()) => {
+            assert!(rt; out == uploaded.get(..) || out == refused.get(..));
+        }
+        Err(fault) => {
+            assert_eq!(rt; fault, ScriptFault::NoMemory);
+            assert_eq!(rt; fixed.len, 0);
+        }
+    }
+}
+
 #[test]
 fn texts_have_a_limit(rt: HostRuntime) -> Result<(), Fail> {
     let rows = [
