@@ -1,5 +1,5 @@
 -- What holds of a link between events is kept by each, and the session machine follows.
-use Rattle.std.proofs.Common.{◌≡◌, ◌⊎◌, ℕ, ◌<◌, List, [], ◌∷◌, Option, Some, None, Result, Ok, refl, sym, ap, ◌∙◌, subst, inl, inr}
+use Rattle.std.proofs.Common.{◌≡◌, ◌⊎◌, ℕ, ◌<◌, List, [], ◌∷◌, Option, Some, None, Result, Ok, Err, refl, sym, ap, ◌∙◌, subst, inl, inr}
 use Rattle.dfu_slots.specs.Medium.Fuse.{Whole}
 use Rattle.dfu_device.specs.Stage.{Profile, Stage, Closed, Committing}
 use Rattle.dfu_device.specs.Shown.{Shown, profile, situation}
@@ -18,7 +18,7 @@ use Rattle.dfu_link.specs.Understood.{Shows}
 use Rattle.dfu_link.specs.Comes.{Happening, Offers, Uploads, Aborts, Goes, Passes, Resets, harm_of, Means, Comes, refuses, happens, shown_as, gave_of, LinkState, linked, HasCome}
 use Rattle.dfu_link.specs.Standing.{IsSized, IsSteady}
 use Rattle.dfu_link.specs.Following.{AllFollow}
-use Rattle.dfu_link.specs.Giving.{Gives}
+use Rattle.dfu_link.specs.Giving.{Gives, UploadsGive, RestIsSteady}
 use Rattle.dfu_link.specs.Sure.{IsHarmless, IsAsPlayed, AllSure}
 use Rattle.dfu_link.proofs.Config.{happens_config}
 use Rattle.dfu_link.proofs.Projected.{fuse_in, bytes_show, bytes_sure}
@@ -178,6 +178,27 @@ pub come_gives : {w w' : LinkState} {h : Happening} {result : Result (Option Rep
 come_gives {w = w} {w' = w'} {result = result} steady x =
     let gives = comes_give w.up steady x.comes in
     subst (λ (up : List ℕ). Gives w (linked w'.bench up) result) (sym x.up_is) (subst (λ (r : Result (Option Report) LinkFault). Gives w (linked w'.bench (given (gave_of x.answer) w.up)) r) (sym x.told) gives)
+
+gave_image : (t : ℕ) (up image : List ℕ) (report : Option Report) (gave : Option (List ℕ)) → FitsIn t report gave → given gave up ≡ image → report ≡ Some Uploaded → gave ≡ Some image
+gave_image t up image report (Some bytes) fits e u = ap Some e
+gave_image t up image report None fits e u = absurd (subst (λ (r : Option Report). FitsIn t r None) u fits)
+
+abbrev GivesThen : Bench → Result Answered LinkFault → Type 0
+GivesThen b (Ok answer) = answer.report ≡ Some Uploaded → answer.gave ≡ Some (link_of b).device.image
+GivesThen b (Err fault) = Unit {0}
+
+gives_then : {b b' : Bench} {h : Happening} {result : Result Answered LinkFault} → IsSteady b → Comes b h b' result → GivesThen b' result
+gives_then steady (refuses why) = tt
+gives_then {b = b} {b' = b'} {h = h} steady (happens {event = event} {answer = answer} means play) = λ e.
+    gave_image (profile b.device).transfer [] (link_of b').device.image answer.report answer.gave
+    (happens_fits (profile b.device) (situation b.device) event (harm_of h) b b' answer steady.fact steady.sized steady.counted play.happens)
+    (image_given b b' h event (harm_of h) answer [] steady means play e) e
+
+pub uploads_give : UploadsGive
+uploads_give b b' h answer steady comes = (comes_steady steady comes, gives_then steady comes)
+
+pub rest_is_steady : RestIsSteady
+rest_is_steady device unarmed = record { fact = tt; unarmed = unarmed; sized = tt; counted = tt }
 
 -- Nothing is cut and nothing fails.
 

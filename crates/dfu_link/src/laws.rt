@@ -2,6 +2,7 @@
 
 ghost use Rattle.dfu_link.specs.Agreement.{SomeAgrees, FreshAgrees};
 ghost use Rattle.dfu_link.specs.CleanRun.{CleanRun};
+ghost use Rattle.dfu_link.specs.Giving.{UploadsGive, RestIsSteady};
 ghost use Rattle.dfu_link.specs.Headline.{Headline, OnlyOffered, Simulation};
 ghost use Rattle.dfu_link.specs.OneAnswer.{OneEvent, OneRefusal, RefusedIsNoPlay};
 ghost use Rattle.dfu_link.specs.Understood.{ImageShown, BytesHeadline, BytesShow, Understood};
@@ -58,6 +59,13 @@ pub fn one_answer()
     ensures fault { OneRefusal }
     ensures no_play { RefusedIsNoPlay }
     ensures event { OneEvent }
+{}
+
+/// Whatever comes to a link that began with a device at rest, the bytes that come with Uploaded
+/// are those of the active image. So they are in a script.
+pub fn uploads_give_the_image()
+    ensures gives { UploadsGive }
+    ensures rest { RestIsSteady }
 {}
 
 /// Where the medium's bytes have an active image, it is the one that plays speak of, and no other.

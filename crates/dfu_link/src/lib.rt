@@ -21,7 +21,7 @@ pub use fate::Fate;
 pub use fault::{LinkFault, OfferFault};
 pub use laws::{
     bytes_show, clean_run, headline, image_shown, machine_agrees, one_answer, only_offered,
-    simulation, understood,
+    simulation, understood, uploads_give_the_image,
 };
 pub use running::{Stop, run};
 pub use scripting::{ScriptFault, script};

@@ -1,8 +1,7 @@
 //! What each event makes of a device and a host.
 
-ghost use Rattle.std.specs.Prelude.{◌≡◌, ℕ, List};
-ghost use Rattle.dfu_link.specs.Play.{told};
-ghost use Rattle.dfu_link.specs.Play.{given, aborted};
+ghost use Rattle.std.specs.Prelude.{◌≡◌};
+ghost use Rattle.dfu_link.specs.Play.{given, told, aborted};
 ghost use Rattle.dfu_link.specs.Standing.{session_of, given_by, bench_of, link_state, IsOnIn, IsSized, IsCountedIn, IsSteady};
 ghost use Rattle.dfu_link.specs.Comes.{Offers, Goes, unharmed, fate_of, happening, HasCome, HasComeAlone};
 ghost use Rattle.dfu_link.specs.Acting.{report_of, ended, abort_told};
