@@ -23,9 +23,10 @@ use dfu_suffix::SuffixFault;
 pub use exit::Exit;
 pub use faults::fault_text;
 use files::{run_add, run_check, run_script};
+use output::write_out;
 pub use running::run_text;
 pub use showing::show_text;
-use std::io;
+use std::io::{self, ErrorKind};
 use std::process::ExitCode;
 pub use task::{Job, JobFault};
 pub use words::job;
@@ -54,17 +55,38 @@ fn explain(rt: &HostRuntime, error: &clap::Error) -> io::Result<u8> {
     Ok(error.exit_code() as u8)
 }
 
-fn main(rt: HostRuntime) -> io::Result<ExitCode> {
-    let words: Vec<String> = std::env::args(&rt)?.collect(rt.alloc())?;
-    let status = match job(rt.alloc(), &words) {
-        Ok(job) => run_job(&rt, job).status(),
+fn run_words(rt: &HostRuntime, words: &[String]) -> io::Result<u8> {
+    match job(rt.alloc(), words) {
+        Ok(job) => Ok(run_job(rt, job).status()),
         Err(fault) => match fault {
-            JobFault::Words(error) => explain(&rt, &error)?,
-            JobFault::NoMemory => {
-                let mut out = io::writer(&rt);
-                fault_text(SuffixFault::NoMemory, &mut out).status()
-            }
+            JobFault::Words(error) => explain(rt, &error),
+            JobFault::NoMemory => Ok(no_memory(rt).status()),
         },
+    }
+}
+
+fn no_memory(rt: &HostRuntime) -> Exit {
+    fault_text(SuffixFault::NoMemory, &mut io::writer(rt))
+}
+
+// The words of the command line.
+fn words_of(rt: &HostRuntime) -> io::Result<Vec<String>> {
+    let words = std::env::args(rt)?.collect(rt.alloc())?;
+    Ok(words)
+}
+
+// Words that can't be had: one of them isn't text, or there is no memory for them.
+fn refuse_words(rt: &HostRuntime, error: &io::Error) -> Exit {
+    match error.kind() {
+        ErrorKind::InvalidData => write_out(&mut io::writer(rt), b"bad words\n", Exit::BadWords),
+        _ => no_memory(rt),
+    }
+}
+
+fn main(rt: HostRuntime) -> io::Result<ExitCode> {
+    let status = match words_of(&rt) {
+        Ok(words) => run_words(&rt, &words)?,
+        Err(error) => refuse_words(&rt, &error).status(),
     };
     Ok(ExitCode::from(status))
 }
