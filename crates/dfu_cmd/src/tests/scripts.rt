@@ -88,6 +88,13 @@ fn scripts_print_what_comes_of_them(rt: HostRuntime) -> Result<(), Fail> {
         ("offer E", "refused BadOffer EmptyPayload / image 00"),
         ("limits 100 1 / offer W / go pass 7 / reset / go pass 13", "report installed / image ffffffff"),
         ("offer W / go pass 7 / reset", "report restarts-spent / image 00"),
+        ("image 0001020304050607 / upload / go pass 7", "report uploaded 0001020304050607 / image 0001020304050607"),
+        ("upload / go pass 4 / go twice / go pass 1", "report uploaded 00 / image 00"),
+        ("image 0001020304050607 / upload / go pass 4 / go twice / go pass 6", "report uploaded 0001020304050607 / image 0001020304050607"),
+        ("image - / upload / go pass 6", "report uploaded - / image -"),
+        ("device 05 255 8 1 5 10 / upload", "refused BadOffer CannotUpload / image 00"),
+        ("offer W / go pass 8 / abort / go pass 1 / show", "report aborted / state dfuIDLE status OK image 00 / image 00"),
+        ("abort / upload / upload / abort / go lostout", "refused NoHost / refused HostBusy / report aborted / image 00"),
     ];
     for (script, printed) in rows {
         prints(&rt, rt.alloc(), script, printed, Exit::Done)?;
