@@ -1,6 +1,8 @@
 // Words, numbers and lines at the ends of their ranges.
 
 use crate::{ScriptFault, script};
+use std::alloc::Global;
+use std::process::Abort;
 use std::test::Fail;
 
 // Lines that are understood, alone in a script.
@@ -37,16 +39,20 @@ fn lines_of_the_language(rt: HostRuntime) -> Result<(), Fail> {
     Ok(())
 }
 
-// Lines that are not.
+// A line that is none of the language stops the script, and nothing is out.
+fn is_bad(rt: &impl Abort, alloc: Global, line: &str) {
+    let mut seen = Vec::new(alloc);
+    assert_eq!(rt;
+        script(alloc, line.as_bytes(), &mut seen),
+        Err(ScriptFault::BadLine(1)),
+        "of {line}"
+    );
+    assert_eq!(rt; seen.as_slice(), &b""[..], "of {line}");
+}
+
 #[test]
-fn lines_of_no_language(rt: HostRuntime) -> Result<(), Fail> {
+fn lines_that_set_nothing(rt: HostRuntime) {
     let lines = [
-        "bogus",
-        "Show",
-        "show now",
-        "show\t",
-        "\tshow",
-        "reset\r",
         "ids 1209 0001",
         "ids 1209 0001 010",
         "ids 1209 0001 0100 0",
@@ -66,6 +72,21 @@ fn lines_of_no_language(rt: HostRuntime) -> Result<(), Fail> {
         "limits 1",
         "limits 1 65536",
         "limits 4294967296 0",
+    ];
+    for line in lines {
+        is_bad(&rt, rt.alloc(), line);
+    }
+}
+
+#[test]
+fn lines_of_no_language(rt: HostRuntime) {
+    let lines = [
+        "bogus",
+        "Show",
+        "show now",
+        "show\t",
+        "\tshow",
+        "reset\r",
         "offer",
         "offer - -",
         "time 00000000001",
@@ -84,15 +105,8 @@ fn lines_of_no_language(rt: HostRuntime) -> Result<(), Fail> {
         "abort now",
     ];
     for line in lines {
-        let mut seen = Vec::new(rt.alloc());
-        assert_eq!(rt;
-            script(rt.alloc(), line.as_bytes(), &mut seen),
-            Err(ScriptFault::BadLine(1)),
-            "of {line}"
-        );
-        assert_eq!(rt; seen.as_slice(), &b""[..], "of {line}");
+        is_bad(&rt, rt.alloc(), line);
     }
-    Ok(())
 }
 
 // A line has up to 65,536 bytes, also where it says nothing.

@@ -14,7 +14,7 @@ const EMPTY: &[u8] = b"ffffffffffff000155464410e1f17b88";
 // Payload '123456789', vendor 1209h, product 0001h, device 0100h.
 const DIGITS: &[u8] = b"313233343536373839000101000912000155464410621c70fe";
 
-// In a row `/` ends a line, and W, Z, E and N are the digits of these files.
+/// In a row `/` ends a line, and W, Z, E and N are the digits of these files.
 pub fn text_of(alloc: Global, row: &str) -> Result<Vec<u8>, AllocError> {
     let mut text = Vec::new(alloc);
     for byte in row.as_bytes() {
