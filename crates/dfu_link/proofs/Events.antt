@@ -10,24 +10,21 @@ use Rattle.dfu_device.specs.Rows.{Elapses}
 use Rattle.dfu_wire.specs.declared.functionals.Functional.{Functional}
 use Rattle.dfu_suffix.specs.declared.ids.Ids.{Ids}
 use Rattle.dfu_host.specs.Download.{is_for, first_fault, started}
-use Rattle.dfu_host.specs.Uploading as uploading
 use Rattle.dfu_host.specs.declared.fault.HostFault.{HostFault}
 use Rattle.dfu_host.specs.declared.limits.Limits.{Limits}
 use Rattle.dfu_host.specs.declared.report.Report.{Report}
-use Rattle.dfu_host.specs.Host.{HostState, aborted_in}
-use Rattle.dfu_host.specs.Table.{Phase, GiveUp, Over, OverUploaded, deed}
-use Rattle.dfu_link.specs.Fact.{IsOn}
+use Rattle.dfu_host.specs.Host.{HostState}
+use Rattle.dfu_host.specs.Table.{deed}
 use Rattle.dfu_link.specs.declared.fate.Fate.{Fate as GivenFate}
 use Rattle.dfu_link.specs.declared.fate.Fate.TheVariants as fate
-use Rattle.dfu_link.specs.declared.fault.LinkFault.{LinkFault}
 use Rattle.dfu_link.specs.declared.fault.LinkFault.TheVariants as fault
 use Rattle.dfu_link.specs.declared.fault.OfferFault.{OfferFault}
 use Rattle.dfu_link.specs.declared.fault.OfferFault.TheVariants as offer_fault
-use Rattle.dfu_link.specs.Play.{Fate, Offer, UploadIt, AbortIt, Go, Time, ResetBus, Session, Nobody, Hosted, given, silent, told, took, settled, aborted, IsAllowed}
+use Rattle.dfu_link.specs.Play.{Fate, Offer, Go, Time, ResetBus, Session, Nobody, Hosted, given, silent, told, took, settled, IsAllowed}
 use Rattle.dfu_link.specs.Bytes.{Harm, fuse_of, armed, bus_was_reset, Acts, after_fate}
-use Rattle.dfu_link.specs.Comes.{Offers, Goes, Passes, Resets, unharmed, fate_of, IsOffered, IsBadOffer, CanGive, Uploads, Aborts, Comes, refuses, happens, HasCome, HasComeAlone}
+use Rattle.dfu_link.specs.Comes.{Offers, Goes, Passes, Resets, unharmed, fate_of, IsOffered, IsBadOffer, refuses, happens, HasCome, HasComeAlone}
 use Rattle.dfu_link.specs.Standing.{session_of, given_by, bench_of, link_state, IsSized, IsCountedIn}
-use Rattle.dfu_link.specs.Acting.{HasActed, ended, abort_told, HasBegun}
+use Rattle.dfu_link.specs.Acting.{HasActed, ended, HasBegun}
 use Rattle.dfu_link.proofs.Acts.{acts_whole}
 use Rattle.dfu_link.proofs.Counted.{took_whole, told_whole}
 
@@ -111,7 +108,7 @@ pub go_refused : (f : Fate) (harm : Harm) (w : Shown) (gave : Option HostState) 
 go_refused f harm w gave = record { answer = Err fault.NoHost; comes = refuses refl; whole = tt; up_is = refl; told = refl }
 
 -- the first of these faults is none, so it is none of them
-not_first : (t : Bool) (fault : HostFault) (rest : Option HostFault) → cond t (Some fault) rest ≡ None → (t ≡ false) × (rest ≡ None)
+pub not_first : (t : Bool) (fault : HostFault) (rest : Option HostFault) → cond t (Some fault) rest ≡ None → (t ≡ false) × (rest ≡ None)
 not_first true fault rest e = absurd cc
 not_first false fault rest e = (refl, e)
 
@@ -181,7 +178,7 @@ offer_bad s file content f ids why e k found h = (
   subst (λ (x : Functional). first_fault content x s.ids ≡ Some why) e (subst (λ (y : Ids). first_fault content f y ≡ Some why) k h),
 )
 
-none_of : (o : Option HostFault) (h : HostState) → ((why : HostFault) → (◌≡◌ {A = Result HostState HostFault} (Ok h) (Err why)) ↔ (o ≡ Some why)) → o ≡ None
+pub none_of : (o : Option HostFault) (h : HostState) → ((why : HostFault) → (◌≡◌ {A = Result HostState HostFault} (Ok h) (Err why)) ↔ (o ≡ Some why)) → o ≡ None
 none_of None h f = refl
 none_of (Some why) h f = let e : ◌≡◌ {A = Result HostState HostFault} (Ok h) (Err why) = (f why).1 refl in absurd cc
 
@@ -196,73 +193,3 @@ offer_begins s file limits content f ids h e k found none is =
       offered = record { ids = content.ids; dfu = content.dfu; extra = found.0; reads = found.1; taken = taken };
       host = is ∙ ap (λ (x : Functional). started content x limits) e;
     }
-
--- Uploads and aborts.
-
--- a device that gives its image has blocks of some bytes
-pub gives_transfer : (s : Setting) → CanGive s → 0 < s.functional.transfer
-gives_transfer s gives =
-    let a = not_first (not s.functional.can_upload) _ _ gives in
-    let z = not_first (s.functional.transfer == 0) _ _ a.1 in
-    let e : (s.functional.transfer == 0) ≡ false = z.0 in
-    grind (arith, nat_tests)
-
--- an upload while a session is live
-pub upload_busy : (limits : Limits) (w : Shown) (host : Option HostState) → is_some host ≡ true → HasComeAlone (bench_of w host) (Uploads limits) (bench_of w host) (Err fault.HostBusy)
-upload_busy limits w (Some h) e up = record { answer = Err fault.HostBusy; comes = refuses tt; whole = tt; up_is = refl; told = refl }
-upload_busy limits w None e up = absurd cc
-
--- an upload from a device that gives no image
-pub upload_refused : (limits : Limits) (w : Shown) (host : Option HostState) (f : Functional) (why : HostFault) → is_some host ≡ false → f ≡ w.config.functional → uploading.first_fault f ≡ Some why
-    → HasComeAlone (bench_of w host) (Uploads limits) (bench_of w host) (Err (fault.BadOffer (offer_fault.Host why)))
-upload_refused limits w None f why n e bad up =
-    let first : uploading.first_fault w.config.functional ≡ Some why = subst (λ (x : Functional). uploading.first_fault x ≡ Some why) e bad in
-    record { answer = Err (fault.BadOffer (offer_fault.Host why)); comes = refuses (refl, first); whole = tt; up_is = refl; told = refl }
-upload_refused limits w (Some h) f why n e bad up = absurd cc
-
--- an upload that begins
-pub upload_comes : (limits : Limits) (w : Shown) (host : Option HostState) (h : HostState) (f : Functional) → is_some host ≡ false → w.slots.medium.fuse ≡ Whole → f ≡ w.config.functional
-    → ((why : HostFault) → (◌≡◌ {A = Result HostState HostFault} (Ok h) (Err why)) ↔ (uploading.first_fault f ≡ Some why)) → h ≡ uploading.started f limits
-    → HasComeAlone (bench_of w host) (Uploads limits) (bench_of w (Some h)) (Ok None)
-upload_comes limits w None h f n e k none is up =
-    let gives : CanGive w.config = subst (λ (x : Functional). uploading.first_fault x ≡ None) k (none_of (uploading.first_fault f) h none) in
-    let begun : h ≡ uploading.started w.config.functional limits = is ∙ ap (λ (x : Functional). uploading.started x limits) k in
-    record {
-      answer = Ok silent;
-      whole = tt;
-      up_is = refl;
-      comes = happens {event = UploadIt limits.actions limits.restarts} (gives, refl, refl) (record {
-        allowed = tt;
-        unarmed = e;
-        happens = ((λ i. record { device = w; session = Hosted (begun i) }), refl);
-      });
-      told = refl;
-    }
-upload_comes limits w (Some h) k f n e same none is up = absurd cc
-
--- a host that is not done is given up
-given_up : (h : HostState) (phase : Phase) → IsOn phase → aborted_in h phase ≡ record h { phase = GiveUp }
-given_up h (Over report) on = elim on [ ]
-given_up h (OverUploaded kept) on = elim on [ ]
-given_up h phase on = refl
-
-pub abort_live : (h h' : HostState) → IsOn h.phase → h' ≡ aborted_in h h.phase → Hosted h' ≡ aborted (Hosted h)
-abort_live h h' on e = ap Hosted (e ∙ given_up h h.phase on)
-
--- an abort
-pub abort_comes : (w : Shown) (host host' gave : Option HostState) (result : Result (Option Report) LinkFault) → w.slots.medium.fuse ≡ Whole → session_of host' ≡ aborted (session_of host) → result ≡ abort_told (session_of host)
-    → HasCome (link_state w host gave) Aborts (link_state w host' gave) result
-abort_comes w None host' gave result e session says = record {
-  answer = Err fault.NoHost;
-  whole = tt;
-  up_is = refl;
-  comes = subst (λ (s : Session). Comes (bench_of w None) Aborts (record { device = w; session = s }) (Err fault.NoHost)) (sym session) (refuses refl);
-  told = says;
-}
-abort_comes w (Some h) host' gave result e session says = record {
-  answer = Ok silent;
-  whole = tt;
-  up_is = refl;
-  comes = happens {event = AbortIt} tt (record { allowed = tt; unarmed = e; happens = ((λ i. record { device = w; session = session i }), refl) });
-  told = says;
-}

@@ -18,6 +18,7 @@ pub mod Replies
 pub mod Projected
 pub mod Acts
 pub mod Events
+pub mod Uploads
 pub mod Counted
 pub mod Steady
 pub mod Config

@@ -25,7 +25,8 @@ use Rattle.dfu_link.proofs.Projected.{fuse_in, bytes_show, bytes_sure}
 use Rattle.dfu_link.proofs.Whole.{Sizes, follows_sized}
 use Rattle.dfu_link.proofs.Saying.{step_up}
 use Rattle.dfu_link.proofs.Counted.{FitsIn, happens_counted, happens_fits}
-use Rattle.dfu_link.proofs.Events.{has_transfer, gives_transfer}
+use Rattle.dfu_link.proofs.Events.{has_transfer}
+use Rattle.dfu_link.proofs.Uploads.{gives_transfer}
 
 -- Some machine agrees with each link.
 

@@ -1,4 +1,5 @@
-use Rattle.dfu_link.proofs.Events.{time_comes, reset_comes, abort_comes}
+use Rattle.dfu_link.proofs.Events.{time_comes, reset_comes}
+use Rattle.dfu_link.proofs.Uploads.{abort_comes}
 use Rattle.dfu_link.proofs.play.play.Goals as goal
 
 pub returns-in-Time : goal.returns-in-Time

@@ -1,5 +1,5 @@
 use Rattle.std.proofs.Common.{sym, ◌∙◌, refl}
-use Rattle.dfu_link.proofs.Events.{upload_busy, upload_refused, upload_comes}
+use Rattle.dfu_link.proofs.Uploads.{upload_busy, upload_refused, upload_comes}
 use Rattle.dfu_link.proofs.uploading.upload.Goals as goal
 
 pub returns-then-is_some : goal.returns-then-is_some
