@@ -3,7 +3,8 @@ use Rattle.std.specs.Prelude.{ℕ, ◌-◌, ◌^◌, false, List, [], ◌∷◌,
 use Rattle.std.specs.Fmt.{decimal, digits, padded_integral, format_spec}
 use Rattle.dfu_suffix.specs.declared.summary.Summary.{Summary}
 use Rattle.dfu_suffix.specs.declared.fault.SuffixFault.{SuffixFault}
-use Rattle.dfu_suffix.specs.declared.fault.SuffixFault.TheVariants.{TooShort, NoSignature, BadLength, DfuSe, BadCrc, AlreadySuffixed, TooLarge, NoMemory, Read, Write}
+use Rattle.dfu_suffix.specs.declared.fault.SuffixFault.TheVariants.{Read, Write}
+use Rattle.dfu_suffix.specs.FaultName.{suffix_fault_name}
 use Rattle.dfu_cmd.specs.declared.exit.Exit.{Exit}
 use Rattle.dfu_cmd.specs.declared.exit.Exit.TheVariants.{Done, Refused, Fault}
 
@@ -18,24 +19,11 @@ ok_line s =
     ++ (codes " device " ++ hex 4 s.ids.device) ++ (codes " product " ++ hex 4 s.ids.product) ++ (codes " vendor " ++ hex 4 s.ids.vendor)
     ++ (codes " dfu " ++ hex 4 s.dfu) ++ (codes " crc " ++ hex 8 s.crc) ++ 10 ∷ []
 
--- the name of a fault
-abbrev pub name_of : SuffixFault → List ℕ
-name_of TooShort = codes "TooShort"
-name_of NoSignature = codes "NoSignature"
-name_of BadLength = codes "BadLength"
-name_of DfuSe = codes "DfuSe"
-name_of BadCrc = codes "BadCrc"
-name_of AlreadySuffixed = codes "AlreadySuffixed"
-name_of TooLarge = codes "TooLarge"
-name_of NoMemory = codes "NoMemory"
-name_of Read = codes "Read"
-name_of Write = codes "Write"
-
 -- the line for a fault: fault NAME where a stream failed, and else refused NAME
 unfoldable pub fault_line : SuffixFault → List ℕ
 fault_line Read = codes "fault Read" ++ 10 ∷ []
 fault_line Write = codes "fault Write" ++ 10 ∷ []
-fault_line f = codes "refused " ++ name_of f ++ 10 ∷ []
+fault_line f = codes "refused " ++ suffix_fault_name f ++ 10 ∷ []
 
 -- how a command ends at a fault
 abbrev pub fault_exit : SuffixFault → Exit

@@ -8,7 +8,7 @@ use Rattle.dfu_wire.specs.State.{state_name}
 use Rattle.dfu_wire.specs.Status.{StatusFields}
 use Rattle.dfu_wire.specs.declared.functionals.Functional.{Functional}
 use Rattle.dfu_wire.specs.declared.fault.WireFault.{WireFault}
-use Rattle.dfu_wire.specs.declared.fault.WireFault.TheVariants as fault
+use Rattle.dfu_wire.specs.FaultName.{wire_fault_name}
 use Rattle.dfu_suffix.specs.declared.fault.SuffixFault.TheVariants.{NoMemory}
 use Rattle.dfu_cmd.specs.Lines.{fault_line, hex}
 
@@ -30,19 +30,9 @@ status_line s string =
     codes "status" ++ (codes " " ++ code_name s.code) ++ (codes " poll " ++ decimal s.poll_ms) ++ (codes " state " ++ state_name s.state)
     ++ (codes " string " ++ decimal string) ++ 10 ∷ []
 
--- the name of a fault of wire bytes
-abbrev pub wire_name : WireFault → List ℕ
-wire_name fault.Short = codes "Short"
-wire_name fault.Long = codes "Long"
-wire_name fault.WrongLength = codes "WrongLength"
-wire_name fault.WrongType = codes "WrongType"
-wire_name fault.UnknownState = codes "UnknownState"
-wire_name fault.UnknownCode = codes "UnknownCode"
-wire_name fault.PollTooLong = codes "PollTooLong"
-
 -- refused NAME
 unfoldable pub wire_line : WireFault → List ℕ
-wire_line f = codes "refused " ++ wire_name f ++ 10 ∷ []
+wire_line f = codes "refused " ++ wire_fault_name f ++ 10 ∷ []
 
 -- the line for a text that isn't hexadecimal, or where memory ran out
 abbrev pub bad_hex_line : FromHexError → List ℕ

@@ -14,3 +14,4 @@ pub mod Counting
 pub mod Goals
 pub mod View
 pub mod Keeping
+pub mod FaultName

@@ -1,5 +1,8 @@
 //! Why a session does not begin.
 
+ghost use Rattle.std.specs.Prelude.{◌≡◌};
+ghost use Rattle.dfu_host.specs.FaultName.{host_fault_name};
+
 use thiserror::Error;
 
 /// Why a session does not begin. A call answers the first that holds, in this order.
@@ -21,4 +24,19 @@ pub enum HostFault {
     /// The descriptor's transfer size is 0.
     #[error("the device's transfer size is 0")]
     BadDescriptor,
+}
+
+impl HostFault {
+    /// The name of the fault, that of its variant, as `EmptyPayload`.
+    pub fn name(self) -> &'static str
+        ensures { result.now ≡ host_fault_name self }
+    {
+        match self {
+            HostFault::EmptyPayload => "EmptyPayload",
+            HostFault::WrongTarget => "WrongTarget",
+            HostFault::CannotDownload => "CannotDownload",
+            HostFault::CannotUpload => "CannotUpload",
+            HostFault::BadDescriptor => "BadDescriptor",
+        }
+    }
 }

@@ -3,10 +3,8 @@ use Rattle.std.specs.Prelude.{ℕ, List, [], ◌∷◌, ◌++◌, Option, Some, 
 use Rattle.hex.specs.Hex.{encode_lower}
 use Rattle.dfu_wire.specs.State.{state_name}
 use Rattle.dfu_wire.specs.Code.{code_name}
-use Rattle.dfu_suffix.specs.declared.fault.SuffixFault.{SuffixFault}
-use Rattle.dfu_suffix.specs.declared.fault.SuffixFault.TheVariants as suffix
-use Rattle.dfu_host.specs.declared.fault.HostFault.{HostFault}
-use Rattle.dfu_host.specs.declared.fault.HostFault.TheVariants as host
+use Rattle.dfu_suffix.specs.FaultName.{suffix_fault_name}
+use Rattle.dfu_host.specs.FaultName.{host_fault_name}
 use Rattle.dfu_host.specs.declared.report.Report.{Report}
 use Rattle.dfu_host.specs.declared.report.Report.TheVariants as report
 use Rattle.dfu_slots.specs.Seen.{image_of}
@@ -23,27 +21,6 @@ use Rattle.dfu_link.specs.declared.fault.LinkFault.TheVariants as link
 abbrev pub hex_text : List ℕ → List ℕ
 hex_text [] = codes "-"
 hex_text (byte ∷ bytes) = encode_lower (byte ∷ bytes)
-
--- The name of a fault of a file.
-abbrev pub suffix_fault_name : SuffixFault → List ℕ
-suffix_fault_name suffix.TooShort = codes "TooShort"
-suffix_fault_name suffix.NoSignature = codes "NoSignature"
-suffix_fault_name suffix.BadLength = codes "BadLength"
-suffix_fault_name suffix.DfuSe = codes "DfuSe"
-suffix_fault_name suffix.BadCrc = codes "BadCrc"
-suffix_fault_name suffix.AlreadySuffixed = codes "AlreadySuffixed"
-suffix_fault_name suffix.TooLarge = codes "TooLarge"
-suffix_fault_name suffix.NoMemory = codes "NoMemory"
-suffix_fault_name suffix.Read = codes "Read"
-suffix_fault_name suffix.Write = codes "Write"
-
--- The name of a fault of a session.
-abbrev pub host_fault_name : HostFault → List ℕ
-host_fault_name host.EmptyPayload = codes "EmptyPayload"
-host_fault_name host.WrongTarget = codes "WrongTarget"
-host_fault_name host.CannotDownload = codes "CannotDownload"
-host_fault_name host.CannotUpload = codes "CannotUpload"
-host_fault_name host.BadDescriptor = codes "BadDescriptor"
 
 -- The name of a fault of an offer.
 abbrev pub offer_fault_name : OfferFault → List ℕ

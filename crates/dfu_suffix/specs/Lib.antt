@@ -4,4 +4,5 @@ pub mod Reading
 pub mod Gathering
 pub mod Checking
 pub mod Adding
+pub mod FaultName
 pub mod Laws

@@ -1,5 +1,8 @@
 // Why a file is refused.
 
+ghost use Rattle.std.specs.Prelude.{◌≡◌};
+ghost use Rattle.dfu_suffix.specs.FaultName.{suffix_fault_name};
+
 use thiserror::Error;
 
 /// Why a file isn't read, checked or written. `read` and `check` answer the first of TooLarge,
@@ -37,4 +40,24 @@ pub enum SuffixFault {
     /// The writer failed, or took nothing of what was left.
     #[error("the file can't be written")]
     Write,
+}
+
+impl SuffixFault {
+    /// The name of the fault, that of its variant, as `TooShort`.
+    pub fn name(self) -> &'static str
+        ensures { result.now ≡ suffix_fault_name self }
+    {
+        match self {
+            SuffixFault::TooShort => "TooShort",
+            SuffixFault::NoSignature => "NoSignature",
+            SuffixFault::BadLength => "BadLength",
+            SuffixFault::DfuSe => "DfuSe",
+            SuffixFault::BadCrc => "BadCrc",
+            SuffixFault::AlreadySuffixed => "AlreadySuffixed",
+            SuffixFault::TooLarge => "TooLarge",
+            SuffixFault::NoMemory => "NoMemory",
+            SuffixFault::Read => "Read",
+            SuffixFault::Write => "Write",
+        }
+    }
 }

@@ -1,4 +1,5 @@
 pub mod Code
+pub mod FaultName
 pub mod Functional
 pub mod OneFunctional
 pub mod OneRequest

@@ -1,5 +1,8 @@
 //! Why bytes or numbers are no value of the wire.
 
+ghost use Rattle.std.specs.Prelude.{◌≡◌};
+ghost use Rattle.dfu_wire.specs.FaultName.{wire_fault_name};
+
 use thiserror::Error;
 
 /// Why bytes or numbers are no value of the wire. Each reader says in which order it looks.
@@ -28,4 +31,21 @@ pub enum WireFault {
     /// A poll time is over 16,777,215 milliseconds, so three bytes do not hold it.
     #[error("the poll time does not fit 24 bits")]
     PollTooLong,
+}
+
+impl WireFault {
+    /// The name of the fault, that of its variant, as `Short`.
+    pub fn name(self) -> &'static str
+        ensures { result.now ≡ wire_fault_name self }
+    {
+        match self {
+            WireFault::Short => "Short",
+            WireFault::Long => "Long",
+            WireFault::WrongLength => "WrongLength",
+            WireFault::WrongType => "WrongType",
+            WireFault::UnknownState => "UnknownState",
+            WireFault::UnknownCode => "UnknownCode",
+            WireFault::PollTooLong => "PollTooLong",
+        }
+    }
 }

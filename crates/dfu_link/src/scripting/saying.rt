@@ -3,51 +3,21 @@
 ghost use Rattle.std.specs.Prelude.{◌≡◌, OnOk, OnErr, IfErr};
 ghost use Rattle.std.specs.Io.KnownBytes.{Appends};
 ghost use Rattle.dfu_link.specs.Writing.{Broke};
-ghost use Rattle.dfu_link.specs.Texts.{suffix_fault_name, host_fault_name, offer_fault_name, uploaded_line, report_line, refusal_line, told_line};
+ghost use Rattle.dfu_link.specs.Texts.{offer_fault_name, uploaded_line, report_line, refusal_line, told_line};
 
 use crate::fault::{LinkFault, OfferFault};
 use crate::scripting::digits::write_bytes;
 use crate::scripting::fault::ScriptFault;
 use crate::scripting::output::{write_out, write_three};
-use dfu_host::{HostFault, Report};
-use dfu_suffix::SuffixFault;
+use dfu_host::Report;
 use std::io::Write;
-
-fn suffix_fault_name(fault: SuffixFault) -> &'static str
-    ensures { result.now ≡ suffix_fault_name fault }
-{
-    match fault {
-        SuffixFault::TooShort => "TooShort",
-        SuffixFault::NoSignature => "NoSignature",
-        SuffixFault::BadLength => "BadLength",
-        SuffixFault::DfuSe => "DfuSe",
-        SuffixFault::BadCrc => "BadCrc",
-        SuffixFault::AlreadySuffixed => "AlreadySuffixed",
-        SuffixFault::TooLarge => "TooLarge",
-        SuffixFault::NoMemory => "NoMemory",
-        SuffixFault::Read => "Read",
-        SuffixFault::Write => "Write",
-    }
-}
-
-fn host_fault_name(fault: HostFault) -> &'static str
-    ensures { result.now ≡ host_fault_name fault }
-{
-    match fault {
-        HostFault::EmptyPayload => "EmptyPayload",
-        HostFault::WrongTarget => "WrongTarget",
-        HostFault::CannotDownload => "CannotDownload",
-        HostFault::CannotUpload => "CannotUpload",
-        HostFault::BadDescriptor => "BadDescriptor",
-    }
-}
 
 fn offer_fault_name(fault: OfferFault) -> &'static str
     ensures { result.now ≡ offer_fault_name fault }
 {
     match fault {
-        OfferFault::Suffix(fault) => suffix_fault_name(fault),
-        OfferFault::Host(fault) => host_fault_name(fault),
+        OfferFault::Suffix(fault) => fault.name(),
+        OfferFault::Host(fault) => fault.name(),
     }
 }
 
