@@ -10,19 +10,20 @@ use Rattle.dfu_suffix.specs.declared.ids.Ids.{Ids}
 use Rattle.dfu_suffix.specs.declared.fault.SuffixFault.{SuffixFault}
 use Rattle.dfu_suffix.specs.declared.fault.SuffixFault.TheVariants.{AlreadySuffixed, DfuSe, TooLarge, NoMemory, Read, Write}
 
--- the bytes have a suffix already: they are a file of the grammar, or DfuSe is their first fault
+-- The bytes have a suffix already: they are a file of the grammar, or DfuSe is their first fault.
 abbrev pub HasSuffix : List ℕ → Type 0
 HasSuffix bytes = HasReading bytes ⊎ First DfuSe bytes
 
--- the bytes are to get a suffix: with it they are within the limit of a file, and they have none yet
+-- The bytes are to get a suffix: with it they are within the limit of a file, and they have none yet.
 abbrev pub NeedsSuffix : List ℕ → Type 0
 NeedsSuffix bytes = (length bytes ≤ 16777200) × (HasSuffix bytes → ⊥)
 
--- the text is the file with this payload and these identifiers, with bcdDFU 0100h and no extra bytes
+-- The text is the file with this payload and these identifiers, with bcdDFU 0100h and no extra bytes.
 abbrev pub IsAdded : List ℕ → Ids → List ℕ → Type 0
 IsAdded payload ids text = IsFile payload ids 0x0100 [] text
 
--- what `add` answers for all that the reader gives: the length of the file, which is then out whole; TooLarge, where they are too many to get a suffix; AlreadySuffixed, where they are not too many and have one; Write, where the writer failed after the first k bytes of the file; and Read or NoMemory
+-- At Ok the file is out whole, and its length is the answer; at Write a part from its start is out; TooLarge and
+-- AlreadySuffixed say what is wrong with the bytes; Read and NoMemory say nothing of them.
 abbrev pub Adds : List ℕ → Ids → Option (List ℕ) → Option (List ℕ) → Result ℕ SuffixFault → Type 0
 Adds all ids old new (Ok n) = NeedsSuffix all × (text : List ℕ) × IsAdded all ids text × Appends old new text × (n ≡ length text)
 Adds all ids old new (Err TooLarge) = 16777200 < length all
@@ -32,21 +33,22 @@ Adds all ids old new (Err Read) = ⊤
 Adds all ids old new (Err NoMemory) = ⊤
 Adds all ids old new (Err fault) = ⊥
 
--- a fault other than Write leaves what the writer holds as it was
+-- A fault other than Write leaves what the writer holds as it was.
 abbrev pub KeepsAtFault : {T : Type 0} → Option (List ℕ) → Option (List ℕ) → Result T SuffixFault → Type 0
 KeepsAtFault old new (Ok n) = ⊤
 KeepsAtFault old new (Err Write) = ⊤
 KeepsAtFault old new (Err fault) = Keeps old new
 
--- a suffix of 16 bytes up to its dwCRC: bcdDevice, idProduct, idVendor, bcdDFU 0100h, the letters UFD and bLength
+-- A suffix of 16 bytes begins with bcdDevice, idProduct, idVendor, bcdDFU 0100h, the letters UFD and bLength.
 abbrev pub added_fields : Ids → List ℕ
 added_fields ids = to_le_bytes w16 ids.device ++ (to_le_bytes w16 ids.product ++ (to_le_bytes w16 ids.vendor ++ (0x00 ∷ 0x01 ∷ 0x55 ∷ 0x46 ∷ 0x44 ∷ 16 ∷ [])))
 
--- the suffix that this payload gets: its fields and the register over the payload and them
+-- The suffix that this payload gets is its fields, and then the register over the payload and them.
 abbrev pub added_suffix : List ℕ → Ids → List ℕ
 added_suffix payload ids = added_fields ids ++ to_le_bytes w32 (register (payload ++ added_fields ids))
 
--- the file was made in memory, or there is none to make
+-- At Ok the file was made in memory; TooLarge and AlreadySuffixed say why there is none to make; Read and NoMemory
+-- say nothing of the bytes.
 abbrev pub Makes : List ℕ → Ids → Result (Vec ℕ Global) SuffixFault → Type 0
 Makes all ids (Ok v) = NeedsSuffix all × IsAdded all ids v.items
 Makes all ids (Err TooLarge) = 16777200 < length all
@@ -55,12 +57,12 @@ Makes all ids (Err Read) = ⊤
 Makes all ids (Err NoMemory) = ⊤
 Makes all ids (Err fault) = ⊥
 
--- the writer failed when the first k bytes of the text were out
+-- The fault is Write, and the first k bytes of the text are out, which are not the whole.
 abbrev pub IsOutInPart : Option (List ℕ) → Option (List ℕ) → List ℕ → SuffixFault → Type 0
 IsOutInPart old new text Write = (k : ℕ) × (k < length text) × Appends old new (take k text)
 IsOutInPart old new text fault = ⊥
 
--- the text is out whole, or the writer failed
+-- At Ok the text is out whole, and at Write a part from its start is, and not the whole.
 abbrev pub PutsOut : {T : Type 0} → Option (List ℕ) → Option (List ℕ) → List ℕ → Result T SuffixFault → Type 0
 PutsOut old new text (Ok done) = Appends old new text
 PutsOut old new text (Err fault) = IsOutInPart old new text fault

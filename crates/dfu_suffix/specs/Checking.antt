@@ -7,17 +7,18 @@ use Rattle.dfu_suffix.specs.declared.ids.Ids.{Ids}
 use Rattle.dfu_suffix.specs.declared.fault.SuffixFault.{SuffixFault}
 use Rattle.dfu_suffix.specs.declared.fault.SuffixFault.TheVariants.{NoMemory, Read}
 
--- the summary of the file with this payload, these fields and these extra bytes
+-- This is the summary of the file with this payload, these fields and these extra bytes.
 abbrev pub summary_of : List ℕ → Ids → ℕ → List ℕ → Summary
 summary_of payload ids dfu extra = record { payload = length payload; suffix = 16 + length extra; ids = ids; dfu = dfu; crc = register (before_crc payload ids dfu extra) }
 
--- what is accepted is a file of the grammar, with its summary; each file of the grammar is accepted; all else has a first fault, which is the answer
+-- What is accepted is a file of the grammar, with its summary; each file of the grammar is accepted; all else has a
+-- first fault, which is the answer.
 pub record Checks (bytes : List ℕ) (answer : Result Summary SuffixFault) : Type 0 where
   pub found : IfOk answer (λ s. (payload : List ℕ) × (extra : List ℕ) × IsFile payload s.ids s.dfu extra bytes × (s ≡ summary_of payload s.ids s.dfu extra))
   pub only : (payload : List ℕ) (ids : Ids) (dfu : ℕ) (extra : List ℕ) → IsFile payload ids dfu extra bytes → answer ≡ Ok (summary_of payload ids dfu extra)
   pub fault : (fault : SuffixFault) → (answer ≡ Err fault) ↔ First fault bytes
 
--- the fact holds, unless the reader failed or an allocation was refused
+-- The fact holds, unless the answer is Read or NoMemory.
 abbrev pub UnlessCut : {T : Type 0} → Result T SuffixFault → Type 0 → Type 0
 UnlessCut (Err Read) P = ⊤
 UnlessCut (Err NoMemory) P = ⊤

@@ -36,19 +36,20 @@ fn file_of<R: Read + Drop>(alloc: Global, reader: R, ids: Ids) -> Result<Vec<u8>
 ///
 /// # Errors
 ///
-/// TooLarge once byte 16,777,201 was read, and no read is made after that; NoMemory where an
-/// allocation was refused; Read at the first error of the reader, with no second try; then
-/// AlreadySuffixed exactly where `read` would answer Ok or DfuSe for the bytes. After these nothing
-/// was written. Write at the first error of the writer, with no second try, and where it takes
-/// nothing of what is left: then a part of the file from its start, and not the whole, was written.
+/// TooLarge once byte 16,777,201 was read, and no read is made after that; Read at the first error
+/// of the reader, with no second try; AlreadySuffixed exactly where `read` would answer Ok or DfuSe
+/// for the bytes; NoMemory where an allocation was refused, while the bytes are gathered or, after
+/// AlreadySuffixed was looked for, for the suffix. After these nothing is out. After Write the
+/// start of the file is out, and not the whole; it comes at the first error of the writer, with no
+/// second try, and where the writer takes nothing of what is left.
 pub fn add<R: Read + Drop, W: Write>(
     alloc: Global,
     reader: R,
     ids: Ids,
     writer: &mut W,
 ) -> Result<u32, SuffixFault>
-    // The answer follows from the bytes that the reader gives, however it cuts them. Where it is
-    // Ok, a file of the grammar with that payload and these identifiers is out.
+    // What the answer says of all that the reader gives, however it cuts it: at Ok a file of the
+    // grammar with that payload and these identifiers is out, and at Write a part from its start.
     ensures answer { IfSome (R.remaining reader) (λ all. Adds all ids (W.contents writer.old) (W.contents writer.new) result) }
     // After a fault other than Write nothing is out.
     ensures kept { KeepsAtFault (W.contents writer.old) (W.contents writer.new) result }

@@ -33,8 +33,8 @@ fn summarize(bytes: &[u8]) -> Result<Summary, SuffixFault>
 /// allocation was refused; Read at the first error of the reader, with no second try; else the
 /// fault that `read` answers for the bytes.
 pub fn check<R: Read + Drop>(alloc: Global, reader: R) -> Result<Summary, SuffixFault>
-    // The answer is Ok exactly for a file of the grammar, with its summary, and else the first
-    // fault of the bytes, however the reader cuts them.
+    // An answer other than Read and NoMemory is Ok exactly for a file of the grammar, with its
+    // summary, and else the first fault of the bytes, however the reader cuts them.
     ensures { IfSome (R.remaining reader) (λ all. UnlessCut result (Checks all result)) }
 {
     let bytes = gather(alloc, reader, MAX_FILE)?;
