@@ -8,19 +8,19 @@ use Rattle.dfu_suffix.specs.declared.ids.Ids.{Ids}
 use Rattle.dfu_suffix.specs.declared.fault.SuffixFault.{SuffixFault}
 use Rattle.dfu_suffix.specs.declared.fault.SuffixFault.TheVariants.{TooShort, NoSignature, BadLength, DfuSe, BadCrc, AlreadySuffixed, TooLarge, NoMemory, Read, Write}
 
--- what a file says: its payload, its identifiers, bcdDFU and bLength
+-- A file says its payload, its identifiers, bcdDFU and bLength.
 pub record Content : Type 0 where
   pub payload : List ℕ
   pub ids : Ids
   pub dfu : ℕ
   pub suffix : ℕ
 
--- a file up to its CRC: payload, extra bytes, bcdDevice, idProduct, idVendor, bcdDFU, the letters UFD and bLength
+-- A file begins with its payload, its extra bytes, bcdDevice, idProduct, idVendor, bcdDFU, the letters UFD and bLength.
 abbrev pub before_crc : List ℕ → Ids → ℕ → List ℕ → List ℕ
 before_crc payload ids dfu extra =
     payload ++ (extra ++ (to_le_bytes w16 ids.device ++ (to_le_bytes w16 ids.product ++ (to_le_bytes w16 ids.vendor ++ (to_le_bytes w16 dfu ++ (0x55 ∷ 0x46 ∷ 0x44 ∷ (16 + length extra) ∷ []))))))
 
--- the bytes are a file with this payload, these fields and these extra bytes, and then the register over all of that
+-- The bytes are a file with this payload, these fields and these extra bytes, and then the register over all of that.
 pub record IsFile (payload : List ℕ) (ids : Ids) (dfu : ℕ) (extra : List ℕ) (bytes : List ℕ) : Type 0 where
   pub spelled : bytes ≡ before_crc payload ids dfu extra ++ to_le_bytes w32 (register (before_crc payload ids dfu extra))
   pub extra_fits : length extra ≤ 239
@@ -31,15 +31,15 @@ pub record IsFile (payload : List ℕ) (ids : Ids) (dfu : ℕ) (extra : List ℕ
   pub not_dfuse : dfu ≢ 0x011A
   pub small : length bytes ≤ 16777216
 
--- the last 16 bytes
+-- The tail of bytes is the last 16 of them.
 abbrev pub tail_of : List ℕ → List ℕ
 tail_of bytes = drop (length bytes - 16) bytes
 
--- whether the 16 bytes have the letters UFD in their place
+-- A tail is signed where it has the letters UFD in their place.
 abbrev pub is_signed : List ℕ → Bool
 is_signed tail = (slice_index tail 8 == 0x55) && ((slice_index tail 9 == 0x46) && (slice_index tail 10 == 0x44))
 
--- the condition of each fault of a file
+-- Each fault of a file has its condition on the bytes, and the other faults have none.
 abbrev pub has_fault : List ℕ → SuffixFault → Bool
 has_fault bytes TooLarge = nat_lt 16777216 (length bytes)
 has_fault bytes TooShort = nat_lt (length bytes) 16
@@ -52,10 +52,10 @@ has_fault bytes NoMemory = false
 has_fault bytes Read = false
 has_fault bytes Write = false
 
--- the order in which the faults are looked for
+-- The faults of a file are looked for in this order.
 abbrev pub fault_order : List SuffixFault
 fault_order = TooLarge ∷ TooShort ∷ NoSignature ∷ BadLength ∷ DfuSe ∷ BadCrc ∷ []
 
--- this is the first fault of the bytes
+-- This is the first fault of the bytes.
 abbrev pub First : SuffixFault → List ℕ → Type 0
 First fault bytes = find (has_fault bytes) fault_order ≡ Some fault

@@ -6,22 +6,22 @@ use Rattle.dfu_suffix.specs.Grammar.{IsFile, First}
 use Rattle.dfu_suffix.specs.declared.ids.Ids.{Ids}
 use Rattle.dfu_suffix.specs.declared.fault.SuffixFault.{SuffixFault}
 
--- each number of the list is a byte
+-- Each number of the list is a byte.
 abbrev pub AreBytes : List ℕ → Type 0
 AreBytes bytes = (k : ℕ) → slice_index bytes k < 256
 
--- the bytes are some file of the grammar
+-- The bytes are some file of the grammar.
 abbrev pub HasReading : List ℕ → Type 0
 HasReading bytes = (payload : List ℕ) × (ids : Ids) × (dfu : ℕ) × (extra : List ℕ) × IsFile payload ids dfu extra bytes
 
--- bytes have a reading or a first fault, and never both
+-- Bytes have a reading or a first fault, and never both.
 abbrev pub EachFileOrFault : Type 0
 EachFileOrFault = (bytes : List ℕ) → AreBytes bytes → (HasReading bytes ⊎ ((fault : SuffixFault) × First fault bytes)) × ((fault : SuffixFault) → HasReading bytes → First fault bytes → ⊥)
 
--- two readings of the same bytes are the same
+-- Two readings of the same bytes are the same.
 abbrev pub OneReading : Type 0
 OneReading = (bytes p q : List ℕ) (i j : Ids) (d e : ℕ) (x y : List ℕ) → IsFile p i d x bytes → IsFile q j e y bytes → (p ≡ q) × (i ≡ j) × (d ≡ e) × (x ≡ y)
 
--- the register over four bytes or more is 0 exactly where the last four are the register over those before
+-- The register over four bytes or more is 0 exactly where the last four are the register over those before.
 abbrev pub LastFour : Type 0
 LastFour = (bytes : List ℕ) → AreBytes bytes → 4 ≤ length bytes → (register bytes ≡ 0) ↔ (little_number 4 (drop (length bytes - 4) bytes) ≡ register (take (length bytes - 4) bytes))

@@ -4,7 +4,7 @@ use Rattle.byteorder.specs.Endian.{little_number}
 use Rattle.dfu_suffix.specs.Grammar.{Content, tail_of, has_fault, fault_order}
 use Rattle.dfu_suffix.specs.declared.fault.SuffixFault.{SuffixFault}
 
--- what the last 16 bytes say of bytes that have no fault
+-- The last 16 bytes say this content of bytes that have no fault.
 abbrev pub content_of : List ℕ → Content
 content_of bytes = record {
   payload = take (length bytes - slice_index (tail_of bytes) 11) bytes;
@@ -13,11 +13,11 @@ content_of bytes = record {
   suffix = slice_index (tail_of bytes) 11;
 }
 
--- the fault, where there is one, and else the content
+-- The answer is the fault, where there is one, and else the content.
 abbrev pub content_or : Option SuffixFault → Content → Result Content SuffixFault
 content_or (Some fault) content = Err fault
 content_or None content = Ok content
 
--- the first fault of the bytes, or what they say
+-- Reading bytes answers their first fault, or what they say.
 unfoldable pub reading : List ℕ → Result Content SuffixFault
 reading bytes = content_or (find (has_fault bytes) fault_order) (content_of bytes)

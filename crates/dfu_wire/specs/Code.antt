@@ -3,7 +3,7 @@ use Rattle.std.specs.Prelude.{ℕ, List, codes}
 use Rattle.dfu_wire.specs.declared.codes.Code.{Code}
 use Rattle.dfu_wire.specs.declared.codes.Code.TheVariants as code
 
--- the number that bStatus holds for a code
+-- bStatus holds this number for a code.
 abbrev pub code_byte : Code → ℕ
 code_byte code.Ok = 0
 code_byte code.Target = 1
@@ -22,7 +22,7 @@ code_byte code.Por = 13
 code_byte code.Unknown = 14
 code_byte code.StalledPkt = 15
 
--- the standard's name of a code
+-- The standard has this name for a code.
 abbrev pub code_name : Code → List ℕ
 code_name code.Ok = codes "OK"
 code_name code.Target = codes "errTARGET"

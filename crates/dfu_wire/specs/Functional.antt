@@ -4,8 +4,8 @@ use Rattle.dfu_wire.specs.declared.functionals.Functional.{Functional}
 use Rattle.dfu_wire.specs.declared.fault.WireFault.{WireFault}
 use Rattle.dfu_wire.specs.declared.fault.WireFault.TheVariants as fault
 
--- these nine bytes are this descriptor: numbers of two bytes have their low byte first, and bits 4
--- to 7 of the attributes may be anything
+-- These nine bytes are this descriptor: numbers of two bytes have their low byte first, and bits 4
+-- to 7 of the attributes may be anything.
 pub record IsFunctional (f : Functional) (b : List ℕ) : Type 0 where
   pub length : length b ≡ 9
   pub own_length : slice_index b 0 ≡ 9
@@ -18,8 +18,8 @@ pub record IsFunctional (f : Functional) (b : List ℕ) : Type 0 where
   pub transfer : f.transfer ≡ slice_index b 5 + 256 * slice_index b 6
   pub version : f.version ≡ slice_index b 7 + 256 * slice_index b 8
 
--- the first fault of bytes that are no descriptor: none at all, then a first byte that is not 9,
--- then too few, too many, and another type
+-- Bytes that are no descriptor have this first fault: there are none at all, then the first byte is
+-- not 9, then they are too few, or too many, or of another type.
 abbrev pub FirstFunctionalFault : WireFault → List ℕ → Type 0
 FirstFunctionalFault fault.Short b = (length b ≡ 0) ⊎ ((slice_index b 0 ≡ 9) × (length b < 9))
 FirstFunctionalFault fault.WrongLength b = (0 < length b) × (slice_index b 0 ≢ 9)

@@ -5,14 +5,14 @@ use Rattle.dfu_wire.specs.declared.functionals.Functional.{Functional}
 use Rattle.dfu_wire.specs.declared.fault.WireFault.{WireFault}
 use Rattle.dfu_wire.specs.Functional.{IsFunctional, FirstFunctionalFault}
 
--- two descriptors of the same bytes are the same descriptor
+-- Two descriptors of the same bytes are the same descriptor.
 abbrev pub OneFunctional : Type 0
 OneFunctional = (f g : Functional) (b : List ℕ) → IsFunctional f b → IsFunctional g b → f ≡ g
 
 pub IsFunctional-one : OneFunctional
 IsFunctional-one f g b x y = grind arith
 
--- bytes that are a descriptor have no fault
+-- Bytes that are a descriptor have no fault.
 abbrev pub NoFunctionalFault : Type 0
 NoFunctionalFault =
     (f : Functional) (e : WireFault) (b : List ℕ) → IsFunctional f b → FirstFunctionalFault e b → ⊥
@@ -20,7 +20,7 @@ NoFunctionalFault =
 pub IsFunctional-no_fault : NoFunctionalFault
 IsFunctional-no_fault f e b x y = grind arith
 
--- two first faults of the same bytes are the same fault
+-- Two first faults of the same bytes are the same fault.
 abbrev pub OneFunctionalFault : Type 0
 OneFunctionalFault =
     (d e : WireFault) (b : List ℕ) → FirstFunctionalFault d b → FirstFunctionalFault e b → d ≡ e

@@ -6,7 +6,7 @@ use Rattle.dfu_wire.specs.declared.requests.Request.{Request}
 use Rattle.dfu_wire.specs.declared.requests.Request.TheVariants as request
 use Rattle.dfu_wire.specs.Request.{IsNamed, IsForUs, Asks}
 
--- no setup is two of the seven requests
+-- No setup is two of the seven requests.
 one_named : (s : Setup) (q r : Request) → IsNamed s q → IsNamed s r → q ≡ r
 one_named s request.OtherClass r a b = absurd a
 one_named s request.NotDfu r a b = absurd a
@@ -21,7 +21,7 @@ one_named s (request.GetState l) (request.GetState k) a b = cc
 one_named s request.Abort request.Abort a b = refl
 one_named s q r a b = absurd (omega arith)
 
--- a setup that is one of the seven requests is of the class, and for interface 0
+-- A setup that is one of the seven requests is of the class, and for interface 0.
 named_for_us : (s : Setup) (q : Request) → IsNamed s q → IsForUs s
 named_for_us s (request.Detach t) a = (inl a.0.kind, a.0.index)
 named_for_us s (request.Dnload n l) a = (inl a.0.kind, a.0.index)
@@ -33,7 +33,7 @@ named_for_us s request.Abort a = (inl a.0.kind, a.0.index)
 named_for_us s request.OtherClass a = absurd a
 named_for_us s request.NotDfu a = absurd a
 
--- two answers to what the same setup asks for are the same answer
+-- Two answers to what the same setup asks for are the same answer.
 abbrev pub OneRequest : Type 0
 OneRequest = (s : Setup) (q r : Request) → Asks s q → Asks s r → q ≡ r
 

@@ -4,7 +4,7 @@ use Rattle.std.proofs.Common.{sym, ◌∙◌}
 use Rattle.dfu_wire.specs.declared.setups.Setup.{Setup}
 use Rattle.dfu_wire.specs.Setup.{IsSetup}
 
--- two setups of the same bytes are the same setup
+-- Two setups of the same bytes are the same setup.
 abbrev pub OneSetup : Type 0
 OneSetup = (s t : Setup) (b : List ℕ) → IsSetup s b → IsSetup t b → s ≡ t
 

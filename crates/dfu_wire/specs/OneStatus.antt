@@ -4,14 +4,14 @@ use Rattle.std.proofs.Common.{arith}
 use Rattle.dfu_wire.specs.declared.fault.WireFault.{WireFault}
 use Rattle.dfu_wire.specs.Status.{StatusFields, IsStatus, FirstStatusFault}
 
--- two statuses of the same bytes are the same status
+-- Two statuses of the same bytes are the same status.
 abbrev pub OneStatus : Type 0
 OneStatus = (s t : StatusFields) (b : List ℕ) → IsStatus s b → IsStatus t b → s ≡ t
 
 pub IsStatus-one : OneStatus
 IsStatus-one s t b x y = grind arith
 
--- bytes that are a status have no fault
+-- Bytes that are a status have no fault.
 abbrev pub NoStatusFault : Type 0
 NoStatusFault =
     (s : StatusFields) (e : WireFault) (b : List ℕ) → IsStatus s b → FirstStatusFault e b → ⊥
@@ -19,7 +19,7 @@ NoStatusFault =
 pub IsStatus-no_fault : NoStatusFault
 IsStatus-no_fault s e b x y = grind arith
 
--- two first faults of the same bytes are the same fault
+-- Two first faults of the same bytes are the same fault.
 abbrev pub OneStatusFault : Type 0
 OneStatusFault =
     (d e : WireFault) (b : List ℕ) → FirstStatusFault d b → FirstStatusFault e b → d ≡ e

@@ -4,13 +4,13 @@ use Rattle.dfu_wire.specs.declared.setups.Setup.{Setup}
 use Rattle.dfu_wire.specs.declared.requests.Request.{Request}
 use Rattle.dfu_wire.specs.declared.requests.Request.TheVariants as request
 
--- the setup has this kind and this number of a request, and is for interface 0
+-- The setup has this kind and this number of a request, and is for interface 0.
 pub record IsClass (s : Setup) (kind_byte number : ℕ) : Type 0 where
   pub kind : s.kind ≡ kind_byte
   pub request : s.request ≡ number
   pub index : s.index ≡ 0
 
--- the setup is this one of the seven requests: 21h sends to the device and A1h reads from it
+-- The setup is this one of the seven requests: 21h sends to the device and A1h reads from it.
 abbrev pub IsNamed : Setup → Request → Type 0
 IsNamed s (request.Detach timeout) = IsClass s 0x21 0 × (s.length ≡ 0) × (timeout ≡ s.value)
 IsNamed s (request.Dnload block len) = IsClass s 0x21 1 × (block ≡ s.value) × (len ≡ s.length)
@@ -22,22 +22,22 @@ IsNamed s request.Abort = IsClass s 0x21 6 × (s.length ≡ 0)
 IsNamed s request.OtherClass = ⊥
 IsNamed s request.NotDfu = ⊥
 
--- the setup is of this class and for interface 0: its kind is 21h or A1h and its index is 0
+-- The setup is of this class and for interface 0: its kind is 21h or A1h and its index is 0.
 abbrev pub IsForUs : Setup → Type 0
 IsForUs s = ((s.kind ≡ 0x21) ⊎ (s.kind ≡ 0xa1)) × (s.index ≡ 0)
 
--- what a setup asks for: one of the seven requests, another request of the class, or no request of
--- the class
+-- A setup asks for one of the seven requests, for another request of the class, or for no request of
+-- the class.
 abbrev pub Asks : Setup → Request → Type 0
 Asks s request.OtherClass = IsForUs s × ((r : Request) → IsNamed s r → ⊥)
 Asks s request.NotDfu = IsForUs s → ⊥
 Asks s r = IsNamed s r
 
--- the request is none of the seven
+-- The request is none of the seven.
 abbrev pub IsUnnamed : Request → Type 0
 IsUnnamed r = (r ≡ request.OtherClass) ⊎ (r ≡ request.NotDfu)
 
--- the setup's value is 0 where the request gives it no meaning
+-- The setup's value is 0 where the request gives it no meaning.
 abbrev pub IsPlain : Setup → Request → Type 0
 IsPlain s (request.GetStatus len) = s.value ≡ 0
 IsPlain s request.ClrStatus = s.value ≡ 0

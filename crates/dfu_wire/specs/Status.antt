@@ -7,23 +7,23 @@ use Rattle.dfu_wire.specs.declared.fault.WireFault.TheVariants as fault
 use Rattle.dfu_wire.specs.State.{state_byte}
 use Rattle.dfu_wire.specs.Code.{code_byte}
 
--- what a status tells: a code, a poll time in milliseconds, and the state that the device enters
--- after this answer
+-- A status tells a code, a poll time in milliseconds, and the state that the device enters after this
+-- answer.
 pub record StatusFields : Type 0 where
   pub code : Code
   pub poll_ms : ℕ
   pub state : State
 
--- these six bytes are this status: the poll time has its low byte first, and the sixth byte, the
--- index of a string, may be anything
+-- These six bytes are this status: the poll time has its low byte first, and the sixth byte, the
+-- index of a string, may be anything.
 pub record IsStatus (s : StatusFields) (b : List ℕ) : Type 0 where
   pub length : length b ≡ 6
   pub code : slice_index b 0 ≡ code_byte s.code
   pub poll : s.poll_ms ≡ slice_index b 1 + 256 * slice_index b 2 + 65536 * slice_index b 3
   pub state : slice_index b 4 ≡ state_byte s.state
 
--- the first fault of bytes that are no status: too few, then too many, then no such code, and no
--- such state
+-- Bytes that are no status have this first fault: they are too few, then too many, then there is no
+-- such code, then no such state.
 abbrev pub FirstStatusFault : WireFault → List ℕ → Type 0
 FirstStatusFault fault.Short b = length b < 6
 FirstStatusFault fault.Long b = 6 < length b
