@@ -1,0 +1,46 @@
+//! Descriptors that were worked out by hand from the standard's table.
+
+use crate::{Functional, WireFault, reread_functional};
+
+const DESCRIPTOR: Functional = Functional {
+    can_download: true,
+    can_upload: false,
+    tolerant: true,
+    will_detach: true,
+    detach_ms: 255,
+    transfer: 8,
+    version: 0x0110,
+};
+
+#[test]
+fn descriptor_is_read_and_written_without_its_reserved_bits(rt: HostRuntime) {
+    let bytes = [0x09, 0x21, 0x0d, 0xff, 0x00, 0x08, 0x00, 0x10, 0x01];
+    let reserved = [0x09, 0x21, 0xfd, 0xff, 0x00, 0x08, 0x00, 0x10, 0x01];
+    assert_eq!(rt; Functional::decode(&bytes), Ok(DESCRIPTOR));
+    assert_eq!(rt; Functional::decode(&reserved), Ok(DESCRIPTOR));
+    assert_eq!(rt; DESCRIPTOR.encode(), bytes);
+    assert_eq!(rt; reread_functional(&DESCRIPTOR), Ok(DESCRIPTOR));
+}
+
+#[test]
+fn descriptor_faults_come_in_their_order(rt: HostRuntime) {
+    let rows: [(&[u8], WireFault); 8] = [
+        (&[], WireFault::Short),
+        (&[0x07], WireFault::WrongLength),
+        (
+            &[0x07, 0x21, 0x0d, 0xff, 0x00, 0x08, 0x00],
+            WireFault::WrongLength,
+        ),
+        (
+            &[0x0a, 0x22, 0, 0, 0, 0, 0, 0, 0, 0],
+            WireFault::WrongLength,
+        ),
+        (&[0x09], WireFault::Short),
+        (&[0x09, 0x22, 0, 0, 0, 0, 0, 0], WireFault::Short),
+        (&[0x09, 0x22, 0, 0, 0, 0, 0, 0, 0, 0], WireFault::Long),
+        (&[0x09, 0x22, 0, 0, 0, 0, 0, 0, 0], WireFault::WrongType),
+    ];
+    for (bytes, fault) in rows {
+        assert_eq!(rt; Functional::decode(bytes), Err(fault), "at {bytes:?}");
+    }
+}

@@ -1,0 +1,67 @@
+//! The standard's numbers and names of states and codes.
+
+use crate::{Code, State, WireFault};
+use std::test::Fail;
+
+const STATE_NAMES: [&str; 11] = [
+    "appIDLE",
+    "appDETACH",
+    "dfuIDLE",
+    "dfuDNLOAD-SYNC",
+    "dfuDNBUSY",
+    "dfuDNLOAD-IDLE",
+    "dfuMANIFEST-SYNC",
+    "dfuMANIFEST",
+    "dfuMANIFEST-WAIT-RESET",
+    "dfuUPLOAD-IDLE",
+    "dfuERROR",
+];
+
+const CODE_NAMES: [&str; 16] = [
+    "OK",
+    "errTARGET",
+    "errFILE",
+    "errWRITE",
+    "errERASE",
+    "errCHECK_ERASED",
+    "errPROG",
+    "errVERIFY",
+    "errADDRESS",
+    "errNOTDONE",
+    "errFIRMWARE",
+    "errVENDOR",
+    "errUSBR",
+    "errPOR",
+    "errUNKNOWN",
+    "errSTALLEDPKT",
+];
+
+#[test]
+fn every_byte_is_a_state_or_none(rt: HostRuntime) -> Result<(), Fail> {
+    for byte in 0..=255 {
+        match STATE_NAMES.get(usize::from(byte)) {
+            Some(name) => {
+                let state = State::from_byte(byte)?;
+                assert_eq!(rt; state.byte(), byte);
+                assert_eq!(rt; state.name(), *name);
+            }
+            None => assert_eq!(rt; State::from_byte(byte), Err(WireFault::UnknownState)),
+        }
+    }
+    Ok(())
+}
+
+#[test]
+fn every_byte_is_a_code_or_none(rt: HostRuntime) -> Result<(), Fail> {
+    for byte in 0..=255 {
+        match CODE_NAMES.get(usize::from(byte)) {
+            Some(name) => {
+                let code = Code::from_byte(byte)?;
+                assert_eq!(rt; code.byte(), byte);
+                assert_eq!(rt; code.name(), *name);
+            }
+            None => assert_eq!(rt; Code::from_byte(byte), Err(WireFault::UnknownCode)),
+        }
+    }
+    Ok(())
+}
