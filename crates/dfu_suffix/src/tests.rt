@@ -1,6 +1,7 @@
 mod added;
 mod files;
 mod readers;
+mod texts;
 mod writers;
 
 use crate::{Crc, Ids, SuffixFault, Summary, check, read};
@@ -43,23 +44,25 @@ fn summary_by_read(bytes: &[u8]) -> Result<Summary, SuffixFault> {
     })
 }
 
+// Bytes, the register over them, and their usual CRC-32, which is its complement.
 #[test]
 fn registers_of_known_bytes(rt: HostRuntime) {
-    let known: [(&[u8], u32); 11] = [
-        (b"", 0xffff_ffff),
-        (&[0xff], 0x00ff_ffff),
-        (&[0xff; 4], 0x0000_0000),
-        (b"123456789", 0x340b_c6d9),
-        (&FOUR_ONES[..16], 0x0c51_c871),
-        (&NO_IDS[..16], 0x3c06_bd37),
-        (&EMPTY[..12], 0x887b_f1e1),
-        (&LONG_SUFFIX[..16], 0x7b56_f8e7),
-        (&DFUSE[..16], 0xae1c_e98c),
-        (&DIGITS[..21], 0xfe70_1c62),
-        (&FOUR_ONES, 0x0000_0000),
+    let known: [(&[u8], u32, u32); 11] = [
+        (b"", 0xffff_ffff, 0x0000_0000),
+        (&[0xff], 0x00ff_ffff, 0xff00_0000),
+        (&[0xff; 4], 0x0000_0000, 0xffff_ffff),
+        (b"123456789", 0x340b_c6d9, 0xcbf4_3926),
+        (&FOUR_ONES[..16], 0x0c51_c871, 0xf3ae_378e),
+        (&NO_IDS[..16], 0x3c06_bd37, 0xc3f9_42c8),
+        (&EMPTY[..12], 0x887b_f1e1, 0x7784_0e1e),
+        (&LONG_SUFFIX[..16], 0x7b56_f8e7, 0x84a9_0718),
+        (&DFUSE[..16], 0xae1c_e98c, 0x51e3_1673),
+        (&DIGITS[..21], 0xfe70_1c62, 0x018f_e39d),
+        (&FOUR_ONES, 0x0000_0000, 0xffff_ffff),
     ];
-    for (bytes, value) in known {
+    for (bytes, value, usual) in known {
         assert_eq!(rt; register(bytes), value, "over {bytes:?}");
+        assert_eq!(rt; !register(bytes), usual, "the usual CRC-32 over {bytes:?}");
         assert_eq!(rt; register_by_bits(bytes), value, "bit by bit over {bytes:?}");
     }
 }
