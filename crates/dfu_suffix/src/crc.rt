@@ -131,6 +131,19 @@ fn after_sixteen(register: u32, bytes: &[u8]) -> u32
         ^ after_128_zeros(register ^ LittleEndian::read_u32(first))
 }
 
+// The register after more bytes, each by itself.
+#[inline(always)]
+fn after_each(start: u32, bytes: &[u8]) -> u32
+    ensures { result ≡ after_bits start (bits_of bytes.now) }
+{
+    let mut register = start;
+    for byte in bytes {
+        register = after_byte(register, *byte);
+    }
+    register
+}
+
+// The register after more bytes, sixteen at a time, and the last ones each by itself.
 fn after_bytes(start: u32, bytes: &[u8]) -> u32
     ensures { result ≡ after_bits start (bits_of bytes.now) }
 {
@@ -140,8 +153,5 @@ fn after_bytes(start: u32, bytes: &[u8]) -> u32
         register = after_sixteen(register, sixteen);
         rest = more;
     }
-    for byte in rest {
-        register = after_byte(register, *byte);
-    }
-    register
+    after_each(register, rest)
 }

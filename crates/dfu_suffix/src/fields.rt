@@ -26,19 +26,21 @@ pub(crate) fn is_signed(tail: &[u8]) -> bool
     tail[8] == b'U' && tail[9] == b'F' && tail[10] == b'D'
 }
 
-pub(crate) fn u16_at(tail: &[u8], at: usize) -> u16
-    requires { at + 2 ≤ length tail.now }
-    ensures { result ≡ little_number 2 (drop at tail.now) }
+// The number in the two bytes from `at`, the low one first.
+pub(crate) fn u16_at(bytes: &[u8], at: usize) -> u16
+    requires { at + 2 ≤ length bytes.now }
+    ensures { result ≡ little_number 2 (drop at bytes.now) }
 {
-    let (_, field) = tail.split_at(at);
+    let (_, field) = bytes.split_at(at);
     LittleEndian::read_u16(field)
 }
 
-pub(crate) fn u32_at(tail: &[u8], at: usize) -> u32
-    requires { at + 4 ≤ length tail.now }
-    ensures { result ≡ little_number 4 (drop at tail.now) }
+// The number in the four bytes from `at`, the low one first.
+pub(crate) fn u32_at(bytes: &[u8], at: usize) -> u32
+    requires { at + 4 ≤ length bytes.now }
+    ensures { result ≡ little_number 4 (drop at bytes.now) }
 {
-    let (_, field) = tail.split_at(at);
+    let (_, field) = bytes.split_at(at);
     LittleEndian::read_u32(field)
 }
 

@@ -11,7 +11,8 @@ use std::io::Read;
 // Each turn but the last takes a byte.
 const MAX_TURNS: usize = MAX_FILE + 2;
 
-// No read is made after the byte past `limit` was read.
+// All that the reader gives, or TooLarge where that is over `limit`. No read is made after the one
+// that gives the byte past `limit`.
 pub(crate) fn gather<R: Read + Drop>(
     alloc: Global,
     mut reader: R,

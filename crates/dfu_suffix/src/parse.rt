@@ -18,6 +18,7 @@ const MIN_SUFFIX: usize = 16;
 // The value of bcdDFU in a DfuSe file.
 const DFUSE: u16 = 0x011a;
 
+// What the bytes say, read from their end, or their first fault.
 #[tactic(auto, using(std::proofs::lemmas::Bool::Decides::nat_tests), unfolding(crate::specs::Reading::reading))]
 fn parse(bytes: &[u8]) -> Result<File<'_>, SuffixFault>
     ensures { result ≡ reading bytes.now }

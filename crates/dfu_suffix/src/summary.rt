@@ -2,7 +2,7 @@
 
 use crate::ids::Ids;
 
-/// A file's fields and the length of its payload.
+/// A file's fields and the length of its payload, as `check` answers them.
 #[derive(Clone, Copy, Debug, PartialEq, Eq)]
 pub struct Summary {
     /// How many bytes the payload has, at most 16,777,200.

@@ -1,4 +1,4 @@
-use Rattle.std.proofs.Common.{◌≡◌, ℕ, ◌∙◌, ◌/◌, ◌^◌, ◌<◌, arith}
+use Rattle.std.proofs.Common.{◌∙◌, ◌/◌, ◌^◌, arith}
 use Rattle.dfu_suffix.specs.declared.table.bits_104.TheConstants.{AFTER_104}
 use Rattle.dfu_suffix.specs.declared.table.bits_112.TheConstants.{AFTER_112}
 use Rattle.dfu_suffix.specs.declared.table.bits_120.TheConstants.{AFTER_120}

@@ -1,4 +1,4 @@
-use Rattle.std.proofs.Common.{◌≡◌, ℕ, ◌∙◌, ◌/◌, ◌^◌, ◌<◌, arith}
+use Rattle.std.proofs.Common.{◌∙◌, ◌/◌, ◌^◌, arith}
 use Rattle.dfu_suffix.specs.declared.table.bits_8.TheConstants.{AFTER_8}
 use Rattle.dfu_suffix.specs.declared.table.bits_16.TheConstants.{AFTER_16}
 use Rattle.dfu_suffix.specs.declared.table.bits_24.TheConstants.{AFTER_24}

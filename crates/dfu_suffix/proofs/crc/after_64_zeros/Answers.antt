@@ -1,4 +1,4 @@
-use Rattle.std.proofs.Common.{◌≡◌, ℕ, ◌∙◌, ◌/◌, ◌^◌, ◌<◌, arith}
+use Rattle.std.proofs.Common.{◌∙◌, ◌/◌, ◌^◌, arith}
 use Rattle.dfu_suffix.specs.declared.table.bits_40.TheConstants.{AFTER_40}
 use Rattle.dfu_suffix.specs.declared.table.bits_48.TheConstants.{AFTER_48}
 use Rattle.dfu_suffix.specs.declared.table.bits_56.TheConstants.{AFTER_56}

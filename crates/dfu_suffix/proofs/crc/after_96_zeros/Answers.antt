@@ -1,4 +1,4 @@
-use Rattle.std.proofs.Common.{◌≡◌, ℕ, ◌∙◌, ◌/◌, ◌^◌, ◌<◌, arith}
+use Rattle.std.proofs.Common.{◌∙◌, ◌/◌, ◌^◌, arith}
 use Rattle.dfu_suffix.specs.declared.table.bits_72.TheConstants.{AFTER_72}
 use Rattle.dfu_suffix.specs.declared.table.bits_80.TheConstants.{AFTER_80}
 use Rattle.dfu_suffix.specs.declared.table.bits_88.TheConstants.{AFTER_88}

@@ -1,7 +1,7 @@
-use Rattle.std.proofs.Common.{◌≡◌, ℕ, List, ◌++◌, refl, ap, ◌∙◌, sym, get_or, take}
+use Rattle.std.proofs.Common.{◌≡◌, ℕ, List, ◌++◌, ap, ◌∙◌, sym, take}
 use Rattle.std.proofs.lemmas.List.{take-append-drop}
-use Rattle.dfu_suffix.specs.Register.{after_bits, bits_of, low_bits}
-use Rattle.dfu_suffix.proofs.Tables.{after_more, after-append}
+use Rattle.dfu_suffix.specs.Register.{after_bits, bits_of}
+use Rattle.dfu_suffix.proofs.Tables.{after-append}
 use Rattle.dfu_suffix.proofs.crc.after_bytes.Goals as goal
 
 pub loop-sixteen-preserved : goal.loop-sixteen-preserved
@@ -13,14 +13,3 @@ loop-sixteen-preserved c =
     ap (λ (z : ℕ). after_bits z (bits_of c.in-Some.more.now)) c.after_sixteen-register.ensures
     ∙ (sym (after-append r c.in-Some.sixteen.now c.in-Some.more.now)
     ∙ (ap (λ (xs : List ℕ). after_bits r (bits_of xs)) joined ∙ c.loop-sixteen.invariant))
-
-pub loop-byte-init : goal.loop-byte-init
-unfolding after_bits bits_of
-loop-byte-init c = refl
-
-pub loop-byte-preserved : goal.loop-byte-preserved
-loop-byte-preserved c =
-    let xs = c.loop-sixteen.rest.now in
-    let i = c.loop-byte.byte-index in
-    let more = after_more c.loop-sixteen.register xs i c.loop-byte-test.true in
-    c.after_byte-register.ensures ∙ (ap (λ (r : ℕ). after_bits r (low_bits 8 (get_or xs i 0))) c.loop-byte.invariant ∙ sym more)

@@ -1,4 +1,4 @@
-use Rattle.std.proofs.Common.{◌≡◌, length, take}
+use Rattle.std.proofs.Common.{◌≡◌, length}
 use Rattle.dfu_suffix.specs.Register.{after_bits, bits_of}
 use Rattle.dfu_suffix.proofs.crc.after_bytes.Given as goal
 
@@ -8,6 +8,3 @@ invariant-loop-sixteen l = after_bits l.register (bits_of l.rest) ≡ after_bits
 
 abbrev pub decreases-loop-sixteen : goal.decreases-loop-sixteen
 decreases-loop-sixteen l = length l.rest
-
-abbrev pub invariant-loop-byte : goal.invariant-loop-byte
-invariant-loop-byte l = l.register ≡ after_bits l.initial.register (bits_of (take l.byte-index l.byte-items))

@@ -1,4 +1,4 @@
-use Rattle.std.proofs.Common.{◌≡◌, ℕ, List, subst, ◌++◌, ◌∙◌, sym, ap, take, drop, length, bit_xor, arith}
+use Rattle.std.proofs.Common.{◌≡◌, ℕ, List, subst, ◌++◌, ◌∙◌, sym, ap, take, drop, bit_xor, arith}
 use Rattle.std.proofs.lemmas.List.{take-append-drop}
 use Rattle.dfu_suffix.specs.Register.{after_bits, bits_of, shifts}
 use Rattle.dfu_suffix.proofs.Bytes.{AreBytes-drop, AreBytes-take}
