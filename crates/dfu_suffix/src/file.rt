@@ -1,6 +1,6 @@
 // A file that was read.
 
-ghost use Rattle.std.specs.Prelude.{◌≡◌};
+ghost use Rattle.std.specs.Prelude.{◌≡◌, ◌≢◌, ◌≤◌};
 
 use crate::ids::Ids;
 use std::marker::Model;
@@ -16,11 +16,14 @@ pub struct File<'f> {
 }
 
 impl<'f> Model for File<'f> {
+    ghost use Rattle.std.specs.Prelude.{◌≢◌, ◌≤◌};
     ghost use Rattle.dfu_suffix.specs.Grammar.{Content};
 
     ghost Value = { Content };
 
     ghost view = { λ f. record { payload = f.payload.now; ids = f.ids; dfu = f.dfu; suffix = f.suffix } };
+
+    ghost invariant = { λ f. (16 ≤ f.suffix) × (f.dfu ≢ 0x011A) };
 }
 
 impl<'f> File<'f> {
@@ -40,14 +43,16 @@ impl<'f> File<'f> {
 
     /// bcdDFU, the version of the format. It isn't 011Ah.
     pub fn dfu(&self) -> u16
-        ensures { result ≡ self.now.dfu }
+        ensures value { result ≡ self.now.dfu }
+        ensures other { result ≢ 0x011A }
     {
         self.dfu
     }
 
     /// bLength: how many bytes the suffix has, from 16 to 255.
     pub fn suffix(&self) -> u8
-        ensures { result ≡ self.now.suffix }
+        ensures value { result ≡ self.now.suffix }
+        ensures fits { 16 ≤ result }
     {
         self.suffix
     }

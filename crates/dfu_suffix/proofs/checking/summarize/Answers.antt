@@ -11,4 +11,4 @@ returns-in_err-file c =
 pub returns : goal.returns
 returns c =
     let (extra, is_file, long) = c.in_ok-file.ensures.found in
-    checks_parts _ _ _ extra _ _ _ _ _ _ is_file (ap length c.payload.ensures) (c.suffix.ensures ∙ long) c.ids.ensures c.dfu.ensures c.u32_at.ensures
+    checks_parts _ _ _ extra _ _ _ _ _ _ is_file (ap length c.payload.ensures) (c.suffix.ensures.value ∙ long) c.ids.ensures c.dfu.ensures.value c.u32_at.ensures
