@@ -1,9 +1,6 @@
 -- What adding a suffix answers and writes.
-use Rattle.std.specs.Prelude.{◌≡◌, ◌⊎◌, ℕ, ◌<◌, ◌≤◌, List, [], ◌∷◌, ◌++◌, length, take, Option, Result, Ok, Err, ⊤, Vec}
-use Rattle.std.specs.Int.{w16, w32, to_le_bytes}
+use Rattle.std.specs.Prelude.{◌≡◌, ◌⊎◌, ℕ, ◌<◌, ◌≤◌, List, [], length, take, Option, Result, Ok, Err, ⊤}
 use Rattle.std.specs.Io.KnownBytes.{Appends, Keeps}
-use Rattle.std.specs.declared.alloc.Global.{Global}
-use Rattle.dfu_suffix.specs.Register.{register}
 use Rattle.dfu_suffix.specs.Grammar.{IsFile, First}
 use Rattle.dfu_suffix.specs.Laws.{HasReading}
 use Rattle.dfu_suffix.specs.declared.ids.Ids.{Ids}
@@ -22,13 +19,17 @@ NeedsSuffix bytes = (length bytes ≤ 16777200) × (HasSuffix bytes → ⊥)
 abbrev pub IsAdded : List ℕ → Ids → List ℕ → Type 0
 IsAdded payload ids text = IsFile payload ids 0x0100 [] text
 
+-- The first k bytes of the text are out, which are not the whole.
+abbrev pub IsOutInPart : Option (List ℕ) → Option (List ℕ) → List ℕ → Type 0
+IsOutInPart old new text = (k : ℕ) × (k < length text) × Appends old new (take k text)
+
 -- At Ok the file is out whole, and its length is the answer; at Write a part from its start is out; TooLarge and
 -- AlreadySuffixed say what is wrong with the bytes; Read and NoMemory say nothing of them.
 abbrev pub Adds : List ℕ → Ids → Option (List ℕ) → Option (List ℕ) → Result ℕ SuffixFault → Type 0
 Adds all ids old new (Ok n) = NeedsSuffix all × (text : List ℕ) × IsAdded all ids text × Appends old new text × (n ≡ length text)
 Adds all ids old new (Err TooLarge) = 16777200 < length all
 Adds all ids old new (Err AlreadySuffixed) = (length all ≤ 16777200) × HasSuffix all
-Adds all ids old new (Err Write) = NeedsSuffix all × (text : List ℕ) × IsAdded all ids text × (k : ℕ) × (k < length text) × Appends old new (take k text)
+Adds all ids old new (Err Write) = NeedsSuffix all × (text : List ℕ) × IsAdded all ids text × IsOutInPart old new text
 Adds all ids old new (Err Read) = ⊤
 Adds all ids old new (Err NoMemory) = ⊤
 Adds all ids old new (Err fault) = ⊥
@@ -38,31 +39,3 @@ abbrev pub KeepsAtFault : {T : Type 0} → Option (List ℕ) → Option (List �
 KeepsAtFault old new (Ok n) = ⊤
 KeepsAtFault old new (Err Write) = ⊤
 KeepsAtFault old new (Err fault) = Keeps old new
-
--- A suffix of 16 bytes begins with bcdDevice, idProduct, idVendor, bcdDFU 0100h, the letters UFD and bLength.
-abbrev pub added_fields : Ids → List ℕ
-added_fields ids = to_le_bytes w16 ids.device ++ (to_le_bytes w16 ids.product ++ (to_le_bytes w16 ids.vendor ++ (0x00 ∷ 0x01 ∷ 0x55 ∷ 0x46 ∷ 0x44 ∷ 16 ∷ [])))
-
--- The suffix that this payload gets is its fields, and then the register over the payload and them.
-abbrev pub added_suffix : List ℕ → Ids → List ℕ
-added_suffix payload ids = added_fields ids ++ to_le_bytes w32 (register (payload ++ added_fields ids))
-
--- At Ok the file was made in memory; TooLarge and AlreadySuffixed say why there is none to make; Read and NoMemory
--- say nothing of the bytes.
-abbrev pub Makes : List ℕ → Ids → Result (Vec ℕ Global) SuffixFault → Type 0
-Makes all ids (Ok v) = NeedsSuffix all × IsAdded all ids v.items
-Makes all ids (Err TooLarge) = 16777200 < length all
-Makes all ids (Err AlreadySuffixed) = (length all ≤ 16777200) × HasSuffix all
-Makes all ids (Err Read) = ⊤
-Makes all ids (Err NoMemory) = ⊤
-Makes all ids (Err fault) = ⊥
-
--- The fault is Write, and the first k bytes of the text are out, which are not the whole.
-abbrev pub IsOutInPart : Option (List ℕ) → Option (List ℕ) → List ℕ → SuffixFault → Type 0
-IsOutInPart old new text Write = (k : ℕ) × (k < length text) × Appends old new (take k text)
-IsOutInPart old new text fault = ⊥
-
--- At Ok the text is out whole, and at Write a part from its start is, and not the whole.
-abbrev pub PutsOut : {T : Type 0} → Option (List ℕ) → Option (List ℕ) → List ℕ → Result T SuffixFault → Type 0
-PutsOut old new text (Ok done) = Appends old new text
-PutsOut old new text (Err fault) = IsOutInPart old new text fault

@@ -15,10 +15,15 @@ pub record Content : Type 0 where
   pub dfu : ℕ
   pub suffix : ℕ
 
--- A file begins with its payload, its extra bytes, bcdDevice, idProduct, idVendor, bcdDFU, the letters UFD and bLength.
+-- The fields before dwCRC are bcdDevice, idProduct, idVendor, bcdDFU, the letters UFD, and bLength, which counts the
+-- extra bytes too.
+abbrev pub fields_before_crc : Ids → ℕ → List ℕ → List ℕ
+fields_before_crc ids dfu extra =
+    to_le_bytes w16 ids.device ++ (to_le_bytes w16 ids.product ++ (to_le_bytes w16 ids.vendor ++ (to_le_bytes w16 dfu ++ (0x55 ∷ 0x46 ∷ 0x44 ∷ (16 + length extra) ∷ []))))
+
+-- A file has its payload, its extra bytes and these fields before dwCRC.
 abbrev pub before_crc : List ℕ → Ids → ℕ → List ℕ → List ℕ
-before_crc payload ids dfu extra =
-    payload ++ (extra ++ (to_le_bytes w16 ids.device ++ (to_le_bytes w16 ids.product ++ (to_le_bytes w16 ids.vendor ++ (to_le_bytes w16 dfu ++ (0x55 ∷ 0x46 ∷ 0x44 ∷ (16 + length extra) ∷ []))))))
+before_crc payload ids dfu extra = payload ++ (extra ++ fields_before_crc ids dfu extra)
 
 -- The bytes are a file with this payload, these fields and these extra bytes, and then the register over all of that.
 pub record IsFile (payload : List ℕ) (ids : Ids) (dfu : ℕ) (extra : List ℕ) (bytes : List ℕ) : Type 0 where

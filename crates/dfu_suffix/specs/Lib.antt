@@ -4,5 +4,6 @@ pub mod Reading
 pub mod Gathering
 pub mod Checking
 pub mod Adding
+pub mod Making
 pub mod FaultName
 pub mod Laws

@@ -24,11 +24,11 @@ bits_of bytes = flat_map (low_bits 8) bytes
 unfoldable pub register : List ℕ → ℕ
 register bytes = after_bits 0xFFFF_FFFF (bits_of bytes)
 
--- One bit 0 changes a number as if it were the register.
+-- A number is shifted by one bit 0, as if it were the register.
 abbrev pub shift : ℕ → ℕ
-shift s = if s % 2 == 0 then s / 2 else bit_xor (s / 2) 0xEDB8_8320
+shift s = after_bit s 0
 
--- Bits 0, n of them, change a number one by one.
+-- A number is shifted by n bits 0, one after the other.
 unfoldable pub shifts : ℕ → ℕ → ℕ
 shifts zero s = s
 shifts (suc n) s = shifts n (shift s)

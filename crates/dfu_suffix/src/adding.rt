@@ -1,7 +1,8 @@
 // Files made of what a reader gives.
 
 ghost use Rattle.std.specs.Prelude.{◌≤◌, length, IfOk, IfSome};
-ghost use Rattle.dfu_suffix.specs.Adding.{Adds, KeepsAtFault, Makes};
+ghost use Rattle.dfu_suffix.specs.Adding.{Adds, KeepsAtFault};
+ghost use Rattle.dfu_suffix.specs.Making.{Makes};
 
 use crate::fault::SuffixFault;
 use crate::gather::gather;

@@ -1,7 +1,8 @@
 // The suffix that a payload gets (USB DFU 1.1, appendix B), and whether bytes have one.
 
 ghost use Rattle.std.specs.Prelude.{◌≡◌, ◌↔◌, ◌++◌, ℕ, true, OnOk};
-ghost use Rattle.dfu_suffix.specs.Adding.{HasSuffix, added_fields, added_suffix};
+ghost use Rattle.dfu_suffix.specs.Adding.{HasSuffix};
+ghost use Rattle.dfu_suffix.specs.Making.{added_fields, added_suffix};
 ghost use Rattle.dfu_suffix.specs.Register.{register};
 ghost use Rattle.dfu_suffix.specs.declared.fault.SuffixFault.TheVariants.{DfuSe};
 
@@ -12,6 +13,7 @@ use crate::parse::read;
 use std::alloc::AllocError;
 
 // The fields up to dwCRC: bcdDFU is 0100h and bLength 16.
+#[tactic(auto, unfolding(crate::specs::Making::added_fields))]
 fn fields_of(ids: Ids) -> [u8; 12]
     ensures { result ≡ added_fields ids }
 {
@@ -44,6 +46,7 @@ pub(crate) fn append_suffix(text: &mut Vec<u8>, ids: Ids) -> Result<(), AllocErr
     text.extend_from_slice(&crc.to_le_bytes())
 }
 
+// Whether the fault is that of a DfuSe file.
 fn is_dfuse(fault: SuffixFault) -> bool
     ensures { (result ≡ true) ↔ (fault ≡ DfuSe) }
 {

@@ -1,6 +1,6 @@
 // A text for a writer.
 
-ghost use Rattle.dfu_suffix.specs.Adding.{PutsOut};
+ghost use Rattle.dfu_suffix.specs.Making.{PutsOut};
 
 use crate::fault::SuffixFault;
 use std::io::Write;
