@@ -3,7 +3,7 @@ use Rattle.std.proofs.Common.{◌≡◌, ℕ, List, Option, Some, None, refl, sy
 use Rattle.dfu_wire.specs.declared.functionals.Functional.{Functional}
 use Rattle.dfu_suffix.specs.declared.ids.Ids.{Ids}
 use Rattle.dfu_suffix.specs.Grammar.{Content}
-use Rattle.dfu_suffix.proofs.LawProofs.{never_both, one_reading}
+use Rattle.dfu_suffix.specs.OneReading.{never_both, one_reading}
 use Rattle.dfu_host.specs.declared.fault.HostFault.{HostFault}
 use Rattle.dfu_host.specs.Download.{first_fault}
 use Rattle.dfu_device.specs.Setting.{Setting}

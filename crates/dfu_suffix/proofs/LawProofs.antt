@@ -11,13 +11,14 @@ use Rattle.byteorder.specs.Endian.{little_number}
 use Rattle.dfu_suffix.specs.Register.{register, after_bits, bits_of, low_bits}
 use Rattle.dfu_suffix.specs.Grammar.{Content, IsFile, First, before_crc, has_fault}
 use Rattle.dfu_suffix.specs.Reading.{reading}
-use Rattle.dfu_suffix.specs.Laws.{AreBytes, HasReading, EachFileOrFault, OneReading, LastFour}
+use Rattle.dfu_suffix.specs.Laws.{AreBytes, HasReading, EachFileOrFault, LastFour}
+use Rattle.dfu_suffix.specs.OneReading.{register-fits, reading_fault, never_both, one_reading}
 use Rattle.dfu_suffix.specs.declared.ids.Ids.{Ids}
 use Rattle.dfu_suffix.specs.declared.fault.SuffixFault.{SuffixFault}
 use Rattle.dfu_suffix.proofs.Bytes.{AreBytes-drop}
-use Rattle.dfu_suffix.proofs.Shifts.{bits_little, four_more, register-fits}
+use Rattle.dfu_suffix.proofs.Shifts.{bits_little, four_more}
 use Rattle.dfu_suffix.proofs.Tables.{register-append}
-use Rattle.dfu_suffix.proofs.FileLaws.{crc_stored, parts_stand, reading_fault, reading_found, reading_only}
+use Rattle.dfu_suffix.proofs.FileLaws.{crc_stored, reading_found}
 
 read_or_refused : (b : List ℕ) (r : Result Content SuffixFault) → AreBytes b → reading b ≡ r → HasReading b ⊎ ((fault : SuffixFault) × First fault b)
 read_or_refused b (Ok c) f h =
@@ -25,29 +26,8 @@ read_or_refused b (Ok c) f h =
     inl (c.payload, c.ids, c.dfu, found.0, found.1)
 read_or_refused b (Err x) f h = inr (x, (reading_fault b x).0 h)
 
-pub never_both : (b : List ℕ) (fault : SuffixFault) → HasReading b → First fault b → ⊥
-never_both b fault (payload, ids, dfu, extra, h) first =
-    let right = reading_only payload ids dfu extra b h in
-    let wrong = (reading_fault b fault).1 first in
-    cc
-
 pub file_or_fault : EachFileOrFault
 file_or_fault b f = (read_or_refused b (reading b) f refl, never_both b)
-
-same_content : (p q : List ℕ) (i j : Ids) (d e n m : ℕ) → ◌≡◌ {A = Result Content SuffixFault} (Ok (record { payload = p; ids = i; dfu = d; suffix = n })) (Ok (record { payload = q; ids = j; dfu = e; suffix = m })) → (p ≡ q) × (i ≡ j) × (d ≡ e) × (n ≡ m)
-same_content p q i j d e n m h =
-    let same : ◌≡◌ {A = Content} (record { payload = p; ids = i; dfu = d; suffix = n }) (record { payload = q; ids = j; dfu = e; suffix = m }) = cc in
-    (ap (λ (c : Content). c.payload) same, ap (λ (c : Content). c.ids) same, ap (λ (c : Content). c.dfu) same, ap (λ (c : Content). c.suffix) same)
-
-pub one_reading : OneReading
-one_reading b p q i j d e x y h k =
-    let same = same_content p q i j d e (16 + length x) (16 + length y) (sym (reading_only p i d x b h) ∙ reading_only q j e y b k) in
-    let long : length x ≡ length y = omega (arith, same.3) in
-    let mine = (parts_stand p i d x b h).1 in
-    let yours = (parts_stand q j e y b k).1 in
-    let moved : take (length x) (drop (length p) b) ≡ take (length y) (drop (length q) b) =
-    ap (λ (n : ℕ). take n (drop (length p) b)) long ∙ ap (λ (zs : List ℕ). take (length y) (drop (length zs) b)) same.0 in
-    (same.0, same.1, same.2, mine ∙ (moved ∙ sym yours))
 
 pub last_four : LastFour
 last_four s f h =

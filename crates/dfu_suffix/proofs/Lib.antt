@@ -1,6 +1,7 @@
 pub mod Bytes
 pub mod Shifts
 pub mod Tables
+pub mod NoFault
 pub mod FileLaws
 pub mod GatherLaws
 pub mod LawProofs

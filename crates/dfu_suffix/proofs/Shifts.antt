@@ -5,12 +5,12 @@ use Rattle.std.proofs.lemmas.Bool.Decides.{eqb_tells}
 use Rattle.std.proofs.Math.Nat.{mul_comm}
 use Rattle.byteorder.specs.Endian.{little_from}
 use Rattle.std.proofs.Math.Seq.{drop-cons}
-use Rattle.std.proofs.Common.{length, get_or, take, drop, ◌≡◌, ℕ, zero, suc, ◌+◌, ◌*◌, ◌/◌, ◌%◌, ◌^◌, ◌<◌, ◌≤◌, cond, eqb, List, [], ◌∷◌, ◌++◌, refl, sym, ap, ◌∙◌, arith}
+use Rattle.std.proofs.Common.{length, get_or, take, drop, ◌≡◌, ℕ, zero, suc, ◌+◌, ◌*◌, ◌/◌, ◌%◌, ◌^◌, ◌<◌, ◌≤◌, cond, eqb, List, ◌∷◌, ◌++◌, refl, sym, ap, ◌∙◌, arith}
 use Rattle.std.specs.Int.Bits.{bit_xor, xor_assoc, xor_self, xor_zero_l, xor_zero_r}
 use Rattle.std.proofs.lemmas.Nat.{xor_comm, xor_shr, xor_mod, xor_block, shr-shr, shr_split}
 use Rattle.std.proofs.Math.Nat.{pow-suc, mul_assoc, zero-add}
 use Rattle.std.proofs.lemmas.Nat.{pow_pos, mod_below}
-use Rattle.dfu_suffix.specs.Register.{after_bit, after_bits, low_bits, bits_of, register, shift, shifts}
+use Rattle.dfu_suffix.specs.Register.{after_bit, after_bits, low_bits, bits_of, shift, shifts}
 
 swap_last : (a b c : ℕ) → bit_xor (bit_xor a b) c ≡ bit_xor (bit_xor a c) b
 swap_last a b c = xor_assoc a b c ∙ (ap (bit_xor a) (xor_comm b c) ∙ sym (xor_assoc a c b))
@@ -193,23 +193,6 @@ pub four_step : (r x : ℕ) → x < 2 ^ 32 → after_bits r (low_bits 32 x) ≡ 
 four_step r x h =
     let none : x / 2 ^ 32 ≡ 0 = omega arith in
     sym (shifts_xor 32 r x ∙ (ap (bit_xor (after_bits r (low_bits 32 x))) none ∙ xor_zero_r (after_bits r (low_bits 32 x))))
-
--- ---- the register fits
-
-after_bit-fits : (r bit : ℕ) → r < 2 ^ 32 → after_bit r bit < 2 ^ 32
-after_bit-fits r bit h =
-    let half : r / 2 < 2 ^ 32 = omega arith in
-    let mixed : bit_xor (r / 2) 0xEDB8_8320 < 2 ^ 32 = xor_lt 32 (r / 2) 0xEDB8_8320 half (omega arith) in
-    elim (eqb (r % 2) bit) as (λ t. cond t (r / 2) (bit_xor (r / 2) 0xEDB8_8320) < 2 ^ 32) [ true ↦ half | false ↦ mixed ]
-
-pub after_bits-fits : (bits : List ℕ) (r : ℕ) → r < 2 ^ 32 → after_bits r bits < 2 ^ 32
-unfolding after_bits
-after_bits-fits [] r h = h
-after_bits-fits (bit ∷ bits) r h = after_bits-fits bits (after_bit r bit) (after_bit-fits r bit h)
-
-pub register-fits : (bytes : List ℕ) → register bytes < 2 ^ 32
-unfolding register
-register-fits bytes = after_bits-fits (bits_of bytes) 0xFFFF_FFFF (omega arith)
 
 -- ---- the register over a whole file
 

@@ -7,3 +7,4 @@ pub mod Adding
 pub mod Making
 pub mod FaultName
 pub mod Laws
+pub mod OneReading

@@ -1,6 +1,7 @@
 // Laws of the file format, each the contract of a function that does nothing.
 
-ghost use Rattle.dfu_suffix.specs.Laws.{EachFileOrFault, OneReading, LastFour};
+ghost use Rattle.dfu_suffix.specs.Laws.{EachFileOrFault, LastFour};
+ghost use Rattle.dfu_suffix.specs.OneReading.{OneReading};
 
 /// Bytes have a reading or a first fault, and never both.
 pub fn file_or_fault()

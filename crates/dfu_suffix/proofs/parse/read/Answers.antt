@@ -1,5 +1,6 @@
 use Rattle.std.proofs.Common.{arith, ◌∙◌, sym}
-use Rattle.dfu_suffix.proofs.FileLaws.{if_ok, reading_found, reading_fault, reading_only}
+use Rattle.dfu_suffix.specs.OneReading.{reading_fault, reading_only}
+use Rattle.dfu_suffix.proofs.FileLaws.{if_ok, reading_found}
 use Rattle.dfu_suffix.proofs.parse.read.Goals as goal
 
 pub returns-clause-found : goal.returns-clause-found

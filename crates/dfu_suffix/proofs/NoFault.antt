@@ -1,0 +1,190 @@
+-- Bytes that have no fault are a file of the grammar.
+use Rattle.std.proofs.Common.{◌≡◌, ◌≢◌, ℕ, zero, suc, ◌+◌, ◌-◌, ◌*◌, ◌/◌, ◌%◌, ◌^◌, ◌<◌, ◌≤◌, ◌&&◌, ◌||◌, Bool, true, false, cond, eqb, ltb, List, [], ◌∷◌, ◌++◌, length, take, drop, get_or, Option, Some, None, refl, sym, ap, ◌∙◌, arith, length-append, length-take, length-drop}
+use Rattle.std.proofs.lemmas.Bool.{ltb-false}
+use Rattle.std.specs.Prelude.{find}
+use Rattle.std.specs.Int.{w16, w32, to_le_bytes}
+use Rattle.std.proofs.lemmas.Bool.{eqb-true, eq-eqb, not-false}
+use Rattle.dfu_suffix.proofs.Bytes.{AreBytes-drop}
+use Rattle.std.proofs.lemmas.List.{append_assoc, take-append-drop, take_at, drop_all, get_or-drop, drop-drop}
+use Rattle.std.proofs.Math.Seq.{drop-cons}
+use Rattle.std.proofs.Math.Nat.{add-zero}
+use Rattle.byteorder.specs.Endian.{little_number}
+use Rattle.dfu_suffix.specs.Register.{register}
+use Rattle.dfu_suffix.specs.Laws.{AreBytes}
+use Rattle.dfu_suffix.specs.Grammar.{IsFile, fields_before_crc, before_crc, tail_of, is_signed, has_fault, fault_order}
+use Rattle.dfu_suffix.specs.Reading.{content_of}
+use Rattle.dfu_suffix.specs.declared.fault.SuffixFault.TheVariants.{TooShort, NoSignature, BadLength, DfuSe, BadCrc, TooLarge}
+
+-- ---- numbers and their bytes
+
+le2 : (x y : ℕ) → x < 256 → y < 256 → to_le_bytes w16 (x + 256 * (y + 256 * 0)) ≡ x ∷ y ∷ []
+le2 x y p q =
+    let low : (x + 256 * (y + 256 * 0)) % 256 ≡ x = omega arith in
+    let high : (x + 256 * (y + 256 * 0)) / 256 % 256 ≡ y = omega arith in
+    cc
+
+two : (xs : List ℕ) (i : ℕ) → AreBytes xs → to_le_bytes w16 (little_number 2 (drop i xs)) ≡ get_or xs i 0 ∷ get_or xs (i + 1) 0 ∷ []
+two xs i f =
+    let a : get_or (drop i xs) 0 0 ≡ get_or xs i 0 = get_or-drop i xs 0 0 ∙ ap (λ (k : ℕ). get_or xs k 0) (add-zero i) in
+    let b : get_or (drop i xs) 1 0 ≡ get_or xs (i + 1) 0 = get_or-drop i xs 1 0 in
+    let cells = le2 (get_or (drop i xs) 0 0) (get_or (drop i xs) 1 0) (omega (arith, f i)) (omega (arith, f (i + 1))) in
+    cells ∙ cc
+
+le4 : (x y z w : ℕ) → x < 256 → y < 256 → z < 256 → w < 256 → to_le_bytes w32 (x + 256 * (y + 256 * (z + 256 * (w + 256 * 0)))) ≡ x ∷ y ∷ z ∷ w ∷ []
+le4 x y z w p q r s =
+    let n = x + 256 * (y + 256 * (z + 256 * (w + 256 * 0))) in
+    let e0 : n % 256 ≡ x = omega arith in
+    let e1 : n / 256 % 256 ≡ y = omega arith in
+    let e2 : n / 65536 % 256 ≡ z = omega arith in
+    let e3 : n / 16777216 % 256 ≡ w = omega arith in
+    cc
+
+number_fits : (xs : List ℕ) → AreBytes xs → little_number 2 xs < 2 ^ 16
+number_fits xs f = omega (arith, f 0, f 1)
+
+-- ---- cells
+
+abbrev cells : ℕ → ℕ → List ℕ → List ℕ
+cells zero i xs = []
+cells (suc n) i xs = get_or xs i 0 ∷ cells n (suc i) xs
+
+drop_cells : (n i : ℕ) (xs : List ℕ) → i + n ≡ length xs → drop i xs ≡ cells n i xs
+drop_cells zero i xs h = drop_all i xs (omega arith)
+drop_cells (suc n) i xs h = drop-cons xs i 0 (omega arith) ∙ ap (λ (ys : List ℕ). get_or xs i 0 ∷ ys) (drop_cells n (suc i) xs (omega arith))
+
+-- ---- no fault
+
+passed : {X : Type 0} (t : Bool) (x : X) (o : Option X) → cond t (Some x) o ≡ None → (t ≡ false) × (o ≡ None)
+passed true x o h = (cc, cc)
+passed false x o h = (refl, h)
+
+or_false : (a b : Bool) → (a || b) ≡ false → (a ≡ false) × (b ≡ false)
+or_false true b h = (h, cc)
+or_false false b h = (refl, h)
+
+and_true : (a b : Bool) → (a && b) ≡ true → (a ≡ true) × (b ≡ true)
+and_true true b h = (refl, h)
+and_true false b h = (h, cc)
+
+-- what bytes with no fault are
+pub record Sound (b : List ℕ) : Type 0 where
+  pub small : length b ≤ 16777216
+  pub long : 16 ≤ length b
+  pub letter_u : get_or (tail_of b) 8 0 ≡ 0x55
+  pub letter_f : get_or (tail_of b) 9 0 ≡ 0x46
+  pub letter_d : get_or (tail_of b) 10 0 ≡ 0x44
+  pub whole : 16 ≤ get_or (tail_of b) 11 0
+  pub within : get_or (tail_of b) 11 0 ≤ length b
+  pub not_dfuse : little_number 2 (drop 6 (tail_of b)) ≢ 0x011A
+  pub crc : little_number 4 (drop 12 (tail_of b)) ≡ register (take (length b - 4) b)
+
+pub sound : (b : List ℕ) → find (has_fault b) fault_order ≡ None → Sound b
+sound b h =
+    let p0 = passed (has_fault b TooLarge) TooLarge (find (has_fault b) (TooShort ∷ NoSignature ∷ BadLength ∷ DfuSe ∷ BadCrc ∷ [])) h in
+    let p1 = passed (has_fault b TooShort) TooShort (find (has_fault b) (NoSignature ∷ BadLength ∷ DfuSe ∷ BadCrc ∷ [])) p0.1 in
+    let p2 = passed (has_fault b NoSignature) NoSignature (find (has_fault b) (BadLength ∷ DfuSe ∷ BadCrc ∷ [])) p1.1 in
+    let p3 = passed (has_fault b BadLength) BadLength (find (has_fault b) (DfuSe ∷ BadCrc ∷ [])) p2.1 in
+    let p4 = passed (has_fault b DfuSe) DfuSe (find (has_fault b) (BadCrc ∷ [])) p3.1 in
+    let p5 = passed (has_fault b BadCrc) BadCrc (find (has_fault b) []) p4.1 in
+    let t = tail_of b in
+    let signed = not-false (is_signed t) p2.0 in
+    let s0 = and_true (eqb (get_or t 8 0) 0x55) (eqb (get_or t 9 0) 0x46 && eqb (get_or t 10 0) 0x44) signed in
+    let s1 = and_true (eqb (get_or t 9 0) 0x46) (eqb (get_or t 10 0) 0x44) s0.1 in
+    let l = or_false (ltb (get_or t 11 0) 16) (ltb (length b) (get_or t 11 0)) p3.0 in
+    record {
+      small = ltb-false 16777216 (length b) p0.0;
+      long = ltb-false (length b) 16 p1.0;
+      letter_u = eqb-true (get_or t 8 0) 0x55 s0.0;
+      letter_f = eqb-true (get_or t 9 0) 0x46 s1.0;
+      letter_d = eqb-true (get_or t 10 0) 0x44 s1.1;
+      whole = ltb-false (get_or t 11 0) 16 l.0;
+      within = ltb-false (length b) (get_or t 11 0) l.1;
+      not_dfuse = λ e. let yes = eq-eqb (little_number 2 (drop 6 t)) 0x011A e in cc;
+      crc = eqb-true (little_number 4 (drop 12 t)) (register (take (length b - 4) b)) (not-false (eqb (little_number 4 (drop 12 t)) (register (take (length b - 4) b))) p5.0);
+    }
+
+abbrev pub extra_of : List ℕ → List ℕ
+extra_of b = take (get_or (tail_of b) 11 0 - 16) (drop (length b - get_or (tail_of b) 11 0) b)
+
+length_tail : (b : List ℕ) → 16 ≤ length b → length (tail_of b) ≡ 16
+length_tail b h = length-drop (length b - 16) b ∙ omega arith
+
+pub length_extra : (b : List ℕ) → Sound b → 16 + length (extra_of b) ≡ get_or (tail_of b) 11 0
+length_extra b s =
+    let l = get_or (tail_of b) 11 0 in
+    let w = s.whole in
+    let i = s.within in
+    let e = length-take (l - 16) (drop (length b - l) b) in
+    let d = length-drop (length b - l) b in
+    omega arith
+
+-- the bytes in front of the last 16
+front_parts : (b : List ℕ) → Sound b → take (length b - get_or (tail_of b) 11 0) b ++ (extra_of b ++ tail_of b) ≡ b
+front_parts b s =
+    let l = get_or (tail_of b) 11 0 in
+    let w = s.whole in
+    let i = s.within in
+    let place : (length b - l) + (l - 16) ≡ length b - 16 = omega arith in
+    let rest : drop (l - 16) (drop (length b - l) b) ≡ tail_of b = drop-drop (l - 16) (length b - l) b ∙ ap (λ (k : ℕ). drop k b) place in
+    ap (λ (xs : List ℕ). take (length b - l) b ++ (extra_of b ++ xs)) (sym rest)
+    ∙ (ap (λ (xs : List ℕ). take (length b - l) b ++ xs) (take-append-drop (l - 16) (drop (length b - l) b)) ∙ take-append-drop (length b - l) b)
+
+-- the first twelve of the last 16 bytes
+abbrev fields : List ℕ → List ℕ
+fields t = get_or t 0 0 ∷ get_or t 1 0 ∷ get_or t 2 0 ∷ get_or t 3 0 ∷ get_or t 4 0 ∷ get_or t 5 0 ∷ get_or t 6 0 ∷ get_or t 7 0 ∷ get_or t 8 0 ∷ get_or t 9 0 ∷ get_or t 10 0 ∷ get_or t 11 0 ∷ []
+
+abbrev crc_bytes : List ℕ → List ℕ
+crc_bytes t = get_or t 12 0 ∷ get_or t 13 0 ∷ get_or t 14 0 ∷ get_or t 15 0 ∷ []
+
+tail_cells : (t : List ℕ) → length t ≡ 16 → t ≡ fields t ++ crc_bytes t
+tail_cells t h = drop_cells 16 0 t (sym h)
+
+-- what was read from the fields, written again
+fields_again : (b : List ℕ) → Sound b → AreBytes b → fields_before_crc (content_of b).ids (content_of b).dfu (extra_of b) ≡ fields (tail_of b)
+fields_again b s f =
+    let t = tail_of b in
+    let ft : AreBytes t = AreBytes-drop b (length b - 16) f in
+    let d = two t 0 ft in
+    let p = two t 2 ft in
+    let v = two t 4 ft in
+    let u = two t 6 ft in
+    let l = length_extra b s in
+    let lu = s.letter_u in
+    let lf = s.letter_f in
+    let ld = s.letter_d in
+    cc
+
+crc_again : (t : List ℕ) → AreBytes t → to_le_bytes w32 (little_number 4 (drop 12 t)) ≡ crc_bytes t
+crc_again t f =
+    let a = get_or-drop 12 t 0 0 in
+    let b = get_or-drop 12 t 1 0 in
+    let c = get_or-drop 12 t 2 0 in
+    let d = get_or-drop 12 t 3 0 in
+    let four = le4 (get_or (drop 12 t) 0 0) (get_or (drop 12 t) 1 0) (get_or (drop 12 t) 2 0) (get_or (drop 12 t) 3 0) (omega (arith, f 12)) (omega (arith, f 13)) (omega (arith, f 14)) (omega (arith, f 15)) in
+    four ∙ cc
+
+pub found : (b : List ℕ) → Sound b → AreBytes b → IsFile (content_of b).payload (content_of b).ids (content_of b).dfu (extra_of b) b
+found b s f =
+    let t = tail_of b in
+    let ft : AreBytes t = AreBytes-drop b (length b - 16) f in
+    let payload = take (length b - get_or t 11 0) b in
+    let front = payload ++ (extra_of b ++ fields t) in
+    let before = before_crc (content_of b).payload (content_of b).ids (content_of b).dfu (extra_of b) in
+    let same : before ≡ front = ap (λ (xs : List ℕ). payload ++ (extra_of b ++ xs)) (fields_again b s f) in
+    let seam : payload ++ (extra_of b ++ (fields t ++ crc_bytes t)) ≡ front ++ crc_bytes t = sym (simp append_assoc) in
+    let whole : b ≡ front ++ crc_bytes t =
+    sym (front_parts b s) ∙ (ap (λ (xs : List ℕ). payload ++ (extra_of b ++ xs)) (tail_cells t (length_tail b s.long)) ∙ seam) in
+    let len : length front ≡ length b - 4 = omega (arith, ap length whole, length-append front (crc_bytes t)) in
+    let cut : take (length b - 4) b ≡ front = ap (take (length b - 4)) whole ∙ take_at front (crc_bytes t) (length b - 4) len in
+    let crc : to_le_bytes w32 (register before) ≡ crc_bytes t =
+    ap (λ (xs : List ℕ). to_le_bytes w32 (register xs)) (same ∙ sym cut) ∙ (ap (to_le_bytes w32) (sym s.crc) ∙ crc_again t ft) in
+    record {
+      spelled = whole ∙ (ap (λ (xs : List ℕ). xs ++ crc_bytes t) (sym same) ∙ ap (λ (xs : List ℕ). before ++ xs) (sym crc));
+      extra_fits = omega (arith, length_extra b s, ft 11);
+      device_fits = number_fits (drop 0 t) (AreBytes-drop t 0 ft);
+      product_fits = number_fits (drop 2 t) (AreBytes-drop t 2 ft);
+      vendor_fits = number_fits (drop 4 t) (AreBytes-drop t 4 ft);
+      dfu_fits = number_fits (drop 6 t) (AreBytes-drop t 6 ft);
+      not_dfuse = s.not_dfuse;
+      small = s.small;
+    }
