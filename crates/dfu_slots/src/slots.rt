@@ -48,6 +48,8 @@ impl<M: Medium> Slots<M> {
         ensures unchanged { IfErr result (λ e. e.0 ≢ FormatFault.Failed → e.1 ≡ medium) }
         ensures failed { IfErr result (λ e. e.0 ≡ FormatFault.Failed →
             BrokenWrites (M.state medium) (format_series (M.state medium) image.now) (M.state e.1)) }
+        ensures rose { IfErr result (λ e. e.0 ≡ FormatFault.Failed →
+            Rose (M.state medium).failures (M.state e.1).failures) }
     {
         if !open::is_sized(&medium) {
             return Err((FormatFault::WrongSize, medium));

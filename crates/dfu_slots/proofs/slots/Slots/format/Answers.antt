@@ -1,8 +1,10 @@
 use Rattle.std.proofs.Common.{arith, length, ◌≤◌, sym}
 use Rattle.dfu_slots.specs.Layout.{slot_size}
 use Rattle.dfu_slots.specs.Image.{gate_of, IsSized, capacity_of}
+use Rattle.dfu_slots.specs.Seen.{format_series}
 use Rattle.dfu_slots.proofs.Formatted.{format_done}
 use Rattle.dfu_slots.proofs.Seeing.{image_is, shaped}
+use Rattle.dfu_slots.proofs.Series.{broken_rose}
 use Rattle.dfu_slots.proofs.slots.Slots.format.Goals as goal
 
 pub returns-in-Ok-clause-active : goal.returns-in-Ok-clause-active
@@ -21,3 +23,8 @@ returns-in-Ok-clause-image g c = sym (image_is (record { medium = g.M.Medium.sta
 
 pub returns-in-Ok-clause-shape : goal.returns-in-Ok-clause-shape
 returns-in-Ok-clause-shape g c = shaped (record { medium = g.M.Medium.state c.write_image.new.medium }) (invariant_of-result g c)
+
+pub returns-in-Err-clause-rose : goal.returns-in-Err-clause-rose
+returns-in-Err-clause-rose g c is =
+    let was = g.M.Medium.state c.args.medium in
+    broken_rose (format_series was c.args.image.now) was (g.M.Medium.state c.write_image.new.medium) c.in-Err.ensures
