@@ -1,15 +1,15 @@
--- A medium that is not armed fails no write, and stays so.
+-- A medium whose fuse is whole fails no write, and stays so.
 use Rattle.std.specs.Prelude.{◌≡◌, List, [], ◌∷◌}
 use Rattle.std.proofs.Common.{true, false, inl, inr, ap, ◌∙◌, subst}
 use Rattle.dfu_slots.specs.Medium.{MediumState, Fuse, Works, Breaks, Write, Wrote, AllWrites, BrokenWrites}
 use Rattle.dfu_slots.specs.Medium.Fuse.{Whole}
 use Rattle.dfu_slots.specs.Seen.{SlotsState, Call, writes_of, Called}
 
--- after one write it is not armed
+-- after one write it is whole
 wrote_whole : (s next : MediumState) (w : Write) → s.fuse ≡ Whole → Wrote s w.at w.bytes next → next.fuse ≡ Whole
 wrote_whole s next w e wrote = subst (λ (f : Fuse). Works f next.fuse) e wrote.fuse
 
--- after a list of writes it is not armed
+-- after a list of writes it is whole
 pub all_whole : (s now : MediumState) (ws : List Write) → s.fuse ≡ Whole → AllWrites s ws now → now.fuse ≡ Whole
 all_whole s now [] e same = ap (λ (m : MediumState). m.fuse) same ∙ e
 all_whole s now (w ∷ ws) e (next, wrote, more) = all_whole next now ws (wrote_whole s next w e wrote) more
@@ -20,7 +20,7 @@ broken_whole s now [] e none = none
 broken_whole s now (w ∷ ws) e (inl failed) = subst (λ (f : Fuse). Breaks f s.bytes w.at w.bytes now.bytes now.fuse) e failed.fuse
 broken_whole s now (w ∷ ws) e (inr (next, wrote, more)) = broken_whole next now ws (wrote_whole s next w e wrote) more
 
--- after a list of calls it is not armed
+-- after a list of calls it is whole
 pub called_whole : (s now : SlotsState) (calls : List Call) → s.medium.fuse ≡ Whole → Called s calls true now → now.medium.fuse ≡ Whole
 called_whole s now [] e same = ap (λ (x : SlotsState). x.medium.fuse) same ∙ e
 called_whole s now (call ∷ calls) e (mid, first, more) = called_whole mid now calls (all_whole s.medium mid.medium (writes_of s call) e first) more

@@ -41,7 +41,8 @@ pub enum PutFault {
     /// Nothing was written. `begin` never answers it.
     #[error("the image is longer than a slot's data")]
     TooLarge,
-    /// A write to the medium failed. The active image is as it was, or after `commit` the new one.
+    /// A write to the medium failed. The active image is as it was; after `commit`
+    /// it is that one or the whole new one.
     #[error("a write to the medium failed")]
     Failed,
     /// The spare's gate reads open, so it may hold the image before this one: `begin` comes first.

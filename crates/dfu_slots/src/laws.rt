@@ -24,7 +24,8 @@ pub fn refused_has_no_image()
     ensures { (fault : OpenFault) (m : MediumState) → IsOpenFault fault m → ¬ HasImage m }
 {}
 
-/// A medium that is not armed fails no write and no call, whatever they are, and stays so.
+/// A medium whose fuse is whole (as `SimMedium::new` and `disarm` leave it) fails no write and no call,
+/// whatever they are, and stays so. Of a medium whose fuse is unknown nothing is said.
 pub fn unarmed_never_fails()
     ensures writes { (writes : List Write) (old now : MediumState) →
         old.fuse ≡ Whole → ¬ BrokenWrites old writes now }
