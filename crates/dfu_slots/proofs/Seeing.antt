@@ -1,5 +1,5 @@
 -- What the layers above see of a store with an active image.
-use Rattle.std.proofs.Common.{◌≡◌, ◌==◌, not, true, false, ℕ, ◌-◌, ◌/◌, List, length, take, drop, refl, sym, ◌∙◌, ap, subst, arith}
+use Rattle.std.proofs.Common.{◌≡◌, ◌==◌, not, true, false, ℕ, ◌-◌, ◌*◌, ◌/◌, List, length, take, drop, refl, sym, ◌∙◌, ap, subst, arith}
 use Rattle.std.proofs.lemmas.Nat.{from_le_bytes-to_le_bytes_4}
 use Rattle.std.proofs.lemmas.Bool.{ne_eqb, eqb-true, eqb-false, not_from_false, not_from_true, not-true, not-false, eq-eqb}
 use Rattle.std.specs.Int.{w32, from_le_bytes}
@@ -62,7 +62,7 @@ room_capacity s = refl
 
 pub room_from : (s now : SlotsState) → length now.medium.bytes ≡ length s.medium.bytes → room_of now ≡ room_of s
 unfolding room_of
-room_from s now same = ap (λ (n : ℕ). n / 2 - 32) same
+room_from s now same = ap (λ (n : ℕ). n / 2 - 2 * gate_of s.medium) same
 
 pub begun_closed : (s : SlotsState) → is_begun s ≡ true → ¬ IsOpen (spare_slot s)
 unfolding is_begun
@@ -87,21 +87,3 @@ begun_from_gate s now same = ap (λ (g : ℕ). not (g == OPEN)) same
 pub spare_is : (s : SlotsState) → spare_of s ≡ (spare_slot s).data_bytes
 unfolding spare_of
 spare_is s = refl
-
--- Another fuse.
-
-module _ (s now : SlotsState) (same : now.medium.bytes ≡ s.medium.bytes) where
-  pub fused_image : image_of now ≡ image_of s
-  unfolding image_of
-  fused_image = ap (λ (l : List ℕ). take (header_length (slot 16 l (active_at 16 l))) (slot 16 l (active_at 16 l)).data_bytes) same
-
-  pub fused_spare : spare_of now ≡ spare_of s
-  unfolding spare_of
-  fused_spare = ap (λ (l : List ℕ). (spare 16 l).data_bytes) same
-
-  pub fused_begun : is_begun now ≡ is_begun s
-  unfolding is_begun
-  fused_begun = ap (λ (l : List ℕ). not ((spare 16 l).gate == OPEN)) same
-
-  pub fused_room : room_of now ≡ room_of s
-  fused_room = room_from s now (ap length same)

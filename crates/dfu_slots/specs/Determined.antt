@@ -3,6 +3,7 @@ use Rattle.std.specs.Prelude.{◌≡◌, ℕ, ◌+◌, Bool, true, false, List, 
 use Rattle.std.proofs.Common.{inl, inr, sym, ap, ◌∙◌, subst, arith}
 use Rattle.dfu_slots.specs.Medium.{MediumState, Fuse, Works, Breaks, written, Write, Wrote, FailedWrite, AllWrites, BrokenWrites}
 use Rattle.dfu_slots.specs.Medium.Fuse.{Unknown, Whole, Armed, Stopped}
+use Rattle.dfu_slots.specs.Image.{gate_of}
 use Rattle.dfu_slots.specs.Writes.{begin_writes, put_writes, commit_writes}
 use Rattle.dfu_slots.specs.Seen.{SlotsState, Call, Begin, Put, Commit, writes_of, Called}
 
@@ -117,9 +118,9 @@ broken_same_end (w ∷ ws) s t x y same k (inr (p, a, more)) (inr (q, b, rest)) 
 
 -- the same bytes have the same writes
 writes_same : (s t : SlotsState) (call : Call) → Same s.medium t.medium → writes_of s call ≡ writes_of t call
-writes_same s t Begin same = ap (λ (l : List ℕ). begin_writes 16 l) same.bytes
-writes_same s t (Put at bytes) same = ap (λ (l : List ℕ). put_writes 16 l at bytes) same.bytes
-writes_same s t (Commit len) same = ap (λ (l : List ℕ). commit_writes 16 l len) same.bytes
+writes_same s t Begin same = ap (λ (l : List ℕ). begin_writes (gate_of s.medium) l) same.bytes
+writes_same s t (Put at bytes) same = ap (λ (l : List ℕ). put_writes (gate_of s.medium) l at bytes) same.bytes
+writes_same s t (Commit len) same = ap (λ (l : List ℕ). commit_writes (gate_of s.medium) l len) same.bytes
 
 module _ (s t x y : SlotsState) (call : Call) (same : Same s.medium t.medium) where
   -- so the writes of a call on one are those of the call on the other

@@ -51,7 +51,7 @@ pub record HasImage (m : MediumState) : Type 0 where
   pub image : List ℕ
   pub active : Active m image
 
--- which image is active does not hang on the fuse
+-- which image is active does not depend on the fuse
 pub active_fused : (m : MediumState) (fuse : Fuse) (image : List ℕ) → Active m image → Active (record m { fuse = fuse }) image
 active_fused m fuse image active = record { at = active.at; spare = active.spare; stands = active.stands }
 

@@ -1,6 +1,5 @@
 -- What a medium is seen as, and what a write may do to it.
 use Rattle.std.specs.Prelude.{◌≡◌, ◌⊎◌, ℕ, ◌+◌, ◌-◌, ◌^◌, ◌≤◌, min, max, Bool, true, false, List, [], ◌∷◌, ◌++◌, length, take, drop, Result, Ok, Err}
-use Rattle.std.proofs.Common.{arith}
 
 -- What the next writes of a medium will do.
 pub data Fuse : Type 0 where
@@ -37,17 +36,6 @@ Torn old at new left = KeepsOutside at (at + length new) old left
 -- the count of failures rose, or stood at its last value and still does
 abbrev pub Rose : ℕ → ℕ → Type 0
 Rose before now = max before (min (before + 1) (2 ^ 64 - 1)) ≤ now
-
--- a rise stays one when the count grows before it or after it
-pub rose_after : (before mid now : ℕ) → before ≤ mid → Rose mid now → Rose before now
-rose_after before mid now le rose = omega (arith, le, rose)
-
-pub rose_before : (before mid now : ℕ) → Rose before mid → mid ≤ now → Rose before now
-rose_before before mid now rose le = omega (arith, rose, le)
-
--- the count never falls
-pub rose_grows : (before now : ℕ) → Rose before now → before ≤ now
-rose_grows before now rose = omega (arith, rose)
 
 -- a write may work with this fuse, and leaves that one
 abbrev pub Works : Fuse → Fuse → Type 0
