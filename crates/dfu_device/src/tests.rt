@@ -1,4 +1,4 @@
-use crate::{Answer, Config, Device};
+use crate::{Answer, Config, ConfigFault, Device};
 use arrayvec::ArrayVec;
 use dfu_slots::{SimMedium, Slots};
 use dfu_suffix::Ids;
@@ -123,4 +123,26 @@ fn play(rt: &impl Abort, device: &mut Device<SimMedium>, rows: &[Row]) {
         assert_eq!(rt; out.as_slice(), row.bytes, "the bytes of row {number}");
         assert_eq!(rt; device.state(), row.after, "the state after row {number}");
     }
+}
+
+#[test]
+fn faults_say_what_is_wrong(rt: HostRuntime) -> Result<(), Fail> {
+    let rows = [
+        (
+            ConfigFault::BadTransfer,
+            "the transfer size is not 1 to 4096 bytes",
+        ),
+        (
+            ConfigFault::BadPoll,
+            "a poll time does not fit in 24 bits, or the manifestation time is 0 without tolerance",
+        ),
+        (
+            ConfigFault::BadLeast,
+            "the fewest bytes of an image are not 1 to 16777216",
+        ),
+    ];
+    for (fault, text) in rows {
+        assert_eq!(rt; format!(in rt.alloc(); "{fault}")?.as_str(), text);
+    }
+    Ok(())
 }

@@ -136,20 +136,9 @@ fn check(
         &body[..len.min(body.len())],
         out,
     );
-    let (wanted, bytes, next) = expected(station, asked);
     assert_eq!(rt;
-        answer,
-        wanted,
-        "kind {kind} request {request} length {length}"
-    );
-    assert_eq!(rt;
-        out.len(),
-        bytes,
-        "kind {kind} request {request} length {length}"
-    );
-    assert_eq!(rt;
-        device.state(),
-        next,
+        (answer, out.len(), device.state()),
+        expected(station, asked),
         "kind {kind} request {request} length {length}"
     );
 }
