@@ -28,7 +28,7 @@ abbrev pub IsLuck : Luck → Shown → Shown → Type 0
 IsLuck Works w w' = Unit {0}
 IsLuck luck w w' = Rose w.slots.medium.failures w'.slots.medium.failures
 
--- what a plan led to is its outcome at some luck; an unarmed medium always works, and stays unarmed
+-- what a plan led to is its outcome at some luck; a medium whose fuse is whole always works, and stays whole
 pub record Came (p : Plan) (len : ℕ) (w : Shown) (a : Answer) (out : List ℕ) (w' : Shown) : Type 0 where
   pub luck : Luck
   pub reply : Reply

@@ -1,51 +1,22 @@
 -- Where a fault of the medium comes from.
-use Rattle.std.specs.Prelude.{◌⊎◌, ℕ, List, []}
-use Rattle.std.proofs.Common.{ap, inl, inr, subst}
-use Rattle.dfu_slots.specs.Seen.{image_of}
+use Rattle.std.specs.Prelude.{◌⊎◌, ℕ, List}
+use Rattle.dfu_wire.specs.declared.codes.Code.TheVariants.{Write as ErrWrite, Prog as ErrProg}
 use Rattle.dfu_device.specs.declared.answer.Answer.{Answer}
-use Rattle.dfu_device.specs.declared.answer.Answer.TheVariants as answer
 use Rattle.dfu_slots.specs.Medium.{Rose}
-use Rattle.dfu_device.specs.Stage.{Stage, InApp, Detaching, Idle, Unwritten, Written, Writing, Ready, Closed, Complete, Committing, Waiting, Sending, Broken}
-use Rattle.dfu_device.specs.Table.{reset_stage, Plan, Sure, Writes, Commits, time_plan}
-use Rattle.dfu_device.specs.Shown.{Shown, profile}
-use Rattle.dfu_device.specs.Rows.{meant, asked_length, Done, is_served, setup_plan, handled_as, Cause, Transfer, Passing, BusReset, PowerOn, Row}
-use Rattle.dfu_device.specs.TakenRow.{either_way}
-use Rattle.dfu_device.specs.Leads.{IsMediumFault, WorksWell, row_leads, time_leads}
+use Rattle.dfu_device.specs.Stage.{Stage, Broken}
+use Rattle.dfu_device.specs.Shown.{Shown}
+use Rattle.dfu_device.specs.Rows.{Cause, Row}
+
+-- dfuERROR with errWRITE or errPROG
+abbrev pub IsMediumFault : Stage → Type 0
+IsMediumFault (Broken ErrWrite) = Unit {0}
+IsMediumFault (Broken ErrProg) = Unit {0}
+IsMediumFault stage = ⊥
 
 -- the count of the medium's failures rose
 abbrev pub MediumFailed : Shown → Shown → Type 0
 MediumFailed w w' = Rose w.slots.medium.failures w'.slots.medium.failures
 
-done_works : (p : Plan) (len : ℕ) (w : Shown) (a : Answer) (out : List ℕ) (w' : Shown) → WorksWell w.stage p → Done p len w a out w' → IsMediumFault w'.stage → IsMediumFault w.stage ⊎ MediumFailed w w'
-done_works (Sure reply stage) len w a out w' well (says, is) broken = inl (well (subst IsMediumFault (ap (λ (z : Shown). z.stage) is) broken))
-done_works (Writes before block reply stage bad) len w a out w' well (inl (says, h)) broken = inl (well (subst IsMediumFault h.stage_is broken))
-done_works (Writes before block reply stage bad) len w a out w' well (inr (says, h)) broken = inr h.failed
-done_works (Commits taken reply stage bad) len w a out w' well (inl (says, h)) broken = inl (well (subst IsMediumFault h.stage_is broken))
-done_works (Commits taken reply stage bad) len w a out w' well (inr (says, h)) broken = inr h.failed
-
-reset_works : (st : Stage) → IsMediumFault (reset_stage st) → ⊥
-reset_works InApp x = x
-reset_works (Detaching timer passed) x = x
-reset_works Idle x = x
-reset_works (Unwritten before block number) x = x
-reset_works (Written taken number) x = x
-reset_works (Writing before block number passed) x = x
-reset_works (Ready taken number) x = x
-reset_works (Closed taken) x = x
-reset_works Complete x = x
-reset_works (Committing taken passed) x = x
-reset_works Waiting x = x
-reset_works (Sending place number) x = x
-reset_works (Broken code) x = x
-
 -- errWRITE and errPROG come only where the medium failed, and then stay
 abbrev pub FaultsHaveCause : Type 0
 FaultsHaveCause = (w : Shown) (cause : Cause) (a : Answer) (out : List ℕ) (w' : Shown) → Row w cause a out w' → IsMediumFault w'.stage → IsMediumFault w.stage ⊎ MediumFailed w w'
-
-pub faults_have_cause : FaultsHaveCause
-faults_have_cause w (Transfer setup body) a out w' (handled_as p q reads asks done) broken =
-    done_works (setup_plan w p q body) (asked_length q) w a out w'
-    (either_way (WorksWell w.stage) (is_served p q body) _ _ (row_leads (profile w) (image_of w.slots) w.stage (meant q body)).1 (λ y. y)) done broken
-faults_have_cause w (Passing ms) a out w' (is, none, row) broken = done_works (time_plan (profile w) w.stage ms) 0 w answer.Ack [] w' (time_leads (profile w) (image_of w.slots) w.stage ms).1 row broken
-faults_have_cause w BusReset a out w' (is, none, same) broken = absurd (reset_works w.stage (subst IsMediumFault (ap (λ (z : Shown). z.stage) same) broken))
-faults_have_cause w PowerOn a out w' (is, none, same) broken = absurd (subst IsMediumFault (ap (λ (z : Shown). z.stage) same) broken)

@@ -1,28 +1,19 @@
 -- What a row does to the slot store, and so to the image.
 use Rattle.std.specs.Prelude.{◌≡◌, ◌⊎◌, ℕ, Bool, true, false, List, [], ◌∷◌, ◌++◌, length}
-use Rattle.std.proofs.Common.{sym, ap, ◌∙◌, inl, inr, subst}
-use Rattle.std.proofs.lemmas.Bool.{true≢false}
-use Rattle.dfu_wire.specs.declared.setups.Setup.{Setup}
-use Rattle.dfu_wire.specs.declared.requests.Request.{Request as Asked}
 use Rattle.dfu_wire.specs.declared.codes.Code.{Code}
 use Rattle.dfu_wire.specs.declared.codes.Code.TheVariants.{Write as ErrWrite, Prog as ErrProg}
 use Rattle.dfu_slots.specs.Seen.{image_of, Commit, Called}
 use Rattle.dfu_device.specs.declared.answer.Answer.{Answer}
-use Rattle.dfu_device.specs.declared.answer.Answer.TheVariants as answer
-use Rattle.dfu_device.specs.Stage.{Request, GetStatus, ClrStatus, GetState, Profile, Stage, Broken}
-use Rattle.dfu_device.specs.Table.{Plan, Sure, Writes, Commits, plan, time_plan}
-use Rattle.dfu_device.specs.Shown.{Shown, profile, situation}
-use Rattle.dfu_device.specs.Rows.{block_calls, meant, asked_length, Done, is_served, setup_plan, handled_as, Cause, Transfer, Passing, BusReset, PowerOn, Row}
+use Rattle.dfu_device.specs.Stage.{Broken}
+use Rattle.dfu_device.specs.Shown.{Shown, situation, written_in}
+use Rattle.dfu_device.specs.Rows.{block_calls, Cause, Row}
 use Rattle.dfu_device.specs.Taken.{taken_of}
-use Rattle.dfu_device.specs.TakenRow.{either_way}
-use Rattle.dfu_device.specs.Leads.{CallsFor, row_leads, time_leads}
 
--- The image.
-
--- the last block taken was written behind those before it: the image stays, and where that failed the code is errWRITE
+-- the last block taken was written behind those before it, all the bytes written: the image stays, and where that failed the code is errWRITE
 pub record WroteOn (w w' : Shown) : Type 0 where
   pub before : List ℕ
   pub block : List ℕ
+  pub behind : before ≡ written_in w.stage
   pub all : before ++ block ≡ taken_of (situation w)
   pub ok : Bool
   pub calls : Called w.slots (block_calls before block) ok w'.slots
@@ -40,79 +31,10 @@ pub record PutInPlace (w w' : Shown) : Type 0 where
 abbrev pub KeepsImage : Shown → Shown → Type 0
 KeepsImage w w' = (w'.slots ≡ w.slots) ⊎ WroteOn w w' ⊎ PutInPlace w w'
 
-done_keeps : (p : Plan) (len : ℕ) (w : Shown) (a : Answer) (out : List ℕ) (w' : Shown) → CallsFor (taken_of (situation w)) p → Done p len w a out w' → KeepsImage w w'
-done_keeps (Sure reply stage) len w a out w' only (says, is) = inl (ap (λ (z : Shown). z.slots) is)
-done_keeps (Writes before block reply stage bad) len w a out w' only (inl (says, h)) = inr (inl (record {
-  before = before;
-  block = block;
-  all = only;
-  ok = true;
-  calls = h.calls;
-  image = h.image;
-  failed = λ e. absurd (true≢false e);
-}))
-done_keeps (Writes before block reply stage bad) len w a out w' only (inr (says, h)) = inr (inl (record {
-  before = before;
-  block = block;
-  all = only;
-  ok = false;
-  calls = h.calls;
-  image = h.image;
-  failed = λ e. h.stage_is;
-}))
-done_keeps (Commits taken reply stage bad) len w a out w' only (inl (says, h)) = inr (inr (record {
-  ok = true;
-  calls = subst (λ (x : List ℕ). Called w.slots (Commit (length x) ∷ []) true w'.slots) only h.calls;
-  image = λ e. h.image ∙ only;
-  failed = λ e. absurd (true≢false e);
-}))
-done_keeps (Commits taken reply stage bad) len w a out w' only (inr (says, h)) = inr (inr (record {
-  ok = false;
-  calls = subst (λ (x : List ℕ). Called w.slots (Commit (length x) ∷ []) false w'.slots) only h.calls;
-  image = λ e. absurd (true≢false (sym e));
-  failed = λ e. (h.stage_is, subst (λ (x : List ℕ). (image_of w'.slots ≡ image_of w.slots) ⊎ (image_of w'.slots ≡ x)) only h.image);
-}))
-
-setup_calls : (w : Shown) (p : Setup) (q : Asked) (body : List ℕ) → CallsFor (taken_of (situation w)) (setup_plan w p q body)
-setup_calls w p q body = either_way (CallsFor (taken_of (situation w))) (is_served p q body) _ _ (row_leads (profile w) (image_of w.slots) w.stage (meant q body)).0 tt
-
 -- each row calls the slot store for the bytes taken or not at all, and changes the image only by a commit of them
 abbrev pub RowKeeps : Type 0
 RowKeeps = (w : Shown) (cause : Cause) (a : Answer) (out : List ℕ) (w' : Shown) → Row w cause a out w' → KeepsImage w w'
 
-pub image_kept : RowKeeps
-image_kept w (Transfer setup body) a out w' (handled_as p q reads asks done) = done_keeps (setup_plan w p q body) (asked_length q) w a out w' (setup_calls w p q body) done
-image_kept w (Passing ms) a out w' (is, none, row) = done_keeps (time_plan (profile w) w.stage ms) 0 w answer.Ack [] w' (time_leads (profile w) (image_of w.slots) w.stage ms).0 row
-image_kept w BusReset a out w' (is, none, same) = inl (ap (λ (z : Shown). z.slots) same)
-image_kept w PowerOn a out w' (is, none, same) = inl (ap (λ (z : Shown). z.slots) same)
-
--- Plans that call nothing.
-
--- a plan calls nothing of the slot store
-abbrev pub IsSure : Plan → Type 0
-IsSure (Sure reply stage) = Unit {0}
-IsSure p = ⊥
-
-sure_keeps : (p : Plan) (len : ℕ) (w : Shown) (a : Answer) (out : List ℕ) (w' : Shown) → IsSure p → Done p len w a out w' → w'.slots ≡ w.slots
-sure_keeps (Sure reply stage) len w a out w' sure (says, is) = ap (λ (z : Shown). z.slots) is
-sure_keeps (Writes before block reply stage bad) len w a out w' sure done = absurd sure
-sure_keeps (Commits taken reply stage bad) len w a out w' sure done = absurd sure
-
-error_sure : (c : Profile) (i : List ℕ) (code : Code) (r : Request) → IsSure (plan c i (Broken code) r)
-error_sure c i code ClrStatus = tt
-error_sure c i code GetStatus = tt
-error_sure c i code GetState = tt
-error_sure c i code r = tt
-
 -- in dfuERROR no row calls anything of the slot store, so that the image stays
 abbrev pub ErrorKeeps : Type 0
 ErrorKeeps = (code : Code) (w : Shown) (cause : Cause) (a : Answer) (out : List ℕ) (w' : Shown) → w.stage ≡ Broken code → Row w cause a out w' → w'.slots ≡ w.slots
-
-pub error_keeps : ErrorKeeps
-error_keeps code w (Transfer setup body) a out w' at (handled_as p q reads asks done) =
-    sure_keeps (setup_plan w p q body) (asked_length q) w a out w'
-    (either_way IsSure (is_served p q body) _ _ (subst (λ (st : Stage). IsSure (plan (profile w) (image_of w.slots) st (meant q body))) (sym at) (error_sure (profile w) (image_of w.slots) code (meant q body))) tt) done
-error_keeps code w (Passing ms) a out w' at (is, none, row) =
-    sure_keeps (time_plan (profile w) w.stage ms) 0 w answer.Ack [] w' (subst (λ (st : Stage). IsSure (time_plan (profile w) st ms)) (sym at) tt) row
-error_keeps code w BusReset a out w' at (is, none, same) = ap (λ (z : Shown). z.slots) same
-error_keeps code w PowerOn a out w' at (is, none, same) = ap (λ (z : Shown). z.slots) same

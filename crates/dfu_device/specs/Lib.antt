@@ -11,10 +11,8 @@ pub mod Taken
 pub mod TakenRow
 pub mod TakenHistory
 pub mod Sent
-pub mod SentRow
 pub mod SentHistory
 pub mod Uploaded
 pub mod Told
-pub mod Leads
 pub mod Kept
 pub mod Faults

@@ -34,7 +34,7 @@ profile w = profile_of w.config (room_of w.slots)
 abbrev pub situation : Shown → Situation
 situation w = record { image = image_of w.slots; stage = w.stage }
 
--- the bytes taken and written: all that are taken but for a block that is not written yet
+-- the bytes taken that are written and not yet put in place; none once manifestation is complete
 abbrev pub written_in : Stage → List ℕ
 written_in (Unwritten before block number) = before
 written_in (Written taken number) = taken
@@ -44,6 +44,6 @@ written_in (Closed taken) = taken
 written_in (Committing taken passed) = taken
 written_in stage = []
 
--- the bytes taken and written stand at the front of the spare slot's data
+-- they stand at the front of the spare slot's data
 abbrev pub IsStored : Shown → Type 0
 IsStored w = take (length (written_in w.stage)) (spare_of w.slots) ≡ written_in w.stage

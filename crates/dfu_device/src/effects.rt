@@ -17,7 +17,7 @@ use arrayvec::ArrayVec;
 use dfu_slots::{Medium, PutFault, Slots};
 use dfu_wire::{Code, Status};
 
-impl<M: Medium + Drop> Machine<M> {
+impl<M: Medium> Machine<M> {
     /// How long the host is to wait, in milliseconds.
     fn poll_ms(&self) -> u32
         ensures value { result ≡ poll_of (profile (shown self.now)) (shown self.now).stage }
@@ -92,7 +92,10 @@ impl<M: Medium + Drop> Machine<M> {
     /// that the host has to ask for the status once more.
     pub fn write_block(&mut self, written: u32, number: u16, late: bool) -> bool
         requires { ((passed : ℕ) × (self.old.mode ≡ Mode.Writing written number passed)) ⊎ (self.old.mode ≡ Mode.Unwritten written number) }
-        ensures done { result ≡ true → WroteBlock (take written (spare_of self.old.slots)) self.old.block.items self.old.config self.old.slots (if late then Written (take written (spare_of self.old.slots) ++ self.old.block.items) number else Ready (take written (spare_of self.old.slots) ++ self.old.block.items) number) (shown self.new) }
+        ensures done { let before = take written (spare_of self.old.slots) in
+            let block = self.old.block.items in
+            let next = if late then Written (before ++ block) number else Ready (before ++ block) number in
+            result ≡ true → WroteBlock before block self.old.config self.old.slots next (shown self.new) }
         ensures failed { result ≡ false → FailedBlock (take written (spare_of self.old.slots)) self.old.block.items self.old.config self.old.slots (shown self.new) }
     {
         match put_block(&mut self.slots, written, self.block.as_slice()) {
@@ -134,7 +137,7 @@ impl<M: Medium + Drop> Machine<M> {
 }
 
 /// Writes a block behind the bytes written, the first one after a `begin`.
-fn put_block<M: Medium + Drop>(
+fn put_block<M: Medium>(
     slots: &mut Slots<M>,
     written: u32,
     block: &[u8],

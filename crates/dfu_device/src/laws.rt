@@ -1,8 +1,8 @@
 //! Laws of the rows of a device: each function has an empty body, and its contract is the law.
 
 ghost use Rattle.dfu_device.specs.Came.{PlanCame, RowOf, AskedCame, NotServed, TimeCame, StatusWhole};
-ghost use Rattle.dfu_device.specs.TakenHistory.{AskedTook, TimeTook, RowTakes, StepTakes, HistoryTakes, StartTakes};
-ghost use Rattle.dfu_device.specs.SentHistory.{RowSends, StepSends, HistorySends};
+ghost use Rattle.dfu_device.specs.TakenHistory.{AskedTook, TimeTook, RowTakes, StepTakes, HistoryTakes, StartTakes, OneTaken};
+ghost use Rattle.dfu_device.specs.SentHistory.{RowSends, StepSends, HistorySends, OneSent};
 ghost use Rattle.dfu_device.specs.Uploaded.{UploadEnds, UploadGives};
 ghost use Rattle.dfu_device.specs.Told.{StatusTold, StateTold};
 ghost use Rattle.dfu_device.specs.Kept.{RowKeeps, ErrorKeeps};
@@ -21,7 +21,7 @@ pub fn rows_come_to_outcomes()
 {}
 
 /// The bytes taken: a row takes the body that it acknowledges, and a device has taken what its
-/// history says, one row or many.
+/// history says, one row or many. A history says it of no other bytes.
 pub fn rows_take()
     ensures asked { AskedTook }
     ensures time { TimeTook }
@@ -29,16 +29,19 @@ pub fn rows_take()
     ensures step { StepTakes }
     ensures history { HistoryTakes }
     ensures from_start { StartTakes }
+    ensures one { OneTaken }
 {}
 
 /// The bytes sent: a row sends the bytes with which it answers an UPLOAD, and a device has sent what
-/// its history says. At the end of an upload the pieces, joined, are the active image.
+/// its history says, which says it of no other bytes. At the end of an upload the pieces, joined, are
+/// the active image.
 pub fn rows_send()
     ensures row { RowSends }
     ensures step { StepSends }
     ensures history { HistorySends }
     ensures ends { UploadEnds }
     ensures gives { UploadGives }
+    ensures one { OneSent }
 {}
 
 /// A status or a state that was answered is that of the state entered.
@@ -47,8 +50,8 @@ pub fn rows_tell()
     ensures state { StateTold }
 {}
 
-/// A row calls nothing of the slot store, or writes the last block taken, or commits the bytes taken;
-/// the image changes by such a commit alone, and in dfuERROR it stays. errWRITE and errPROG come only
+/// A row calls nothing of the slot store, or writes the last block taken behind the bytes written, or
+/// commits the bytes taken; the image changes by such a commit alone, and in dfuERROR it stays. errWRITE and errPROG come only
 /// where the medium failed.
 pub fn rows_keep()
     ensures image { RowKeeps }

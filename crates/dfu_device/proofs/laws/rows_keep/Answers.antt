@@ -1,5 +1,5 @@
-use Rattle.dfu_device.specs.Kept.{image_kept, error_keeps}
-use Rattle.dfu_device.specs.Faults.{faults_have_cause}
+use Rattle.dfu_device.proofs.Kept.{image_kept, error_keeps}
+use Rattle.dfu_device.proofs.Faults.{faults_have_cause}
 use Rattle.dfu_device.proofs.laws.rows_keep.Goals as goal
 
 pub returns : goal.returns

@@ -1,4 +1,4 @@
-use Rattle.dfu_device.specs.Told.{status_told, state_told}
+use Rattle.dfu_device.proofs.Told.{status_told, state_told}
 use Rattle.dfu_device.proofs.laws.rows_tell.Goals as goal
 
 pub returns : goal.returns

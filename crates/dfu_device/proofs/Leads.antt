@@ -1,23 +1,18 @@
 -- What every row of the table is like: for which bytes it calls the slot store, and in which fault of the medium it ends.
 use Rattle.std.specs.Prelude.{◌≡◌, ℕ, ◌+◌, ◌==◌, nat_lt, nat_le, max, not, List, [], ◌++◌, length, take, drop}
 use Rattle.std.proofs.Common.{refl}
-use Rattle.dfu_wire.specs.declared.codes.Code.TheVariants.{Write as ErrWrite, Prog as ErrProg}
 use Rattle.dfu_device.specs.Stage.{Ack, Data, Request, Detach, Dnload, Upload, GetStatus, ClrStatus, GetState, Abort, Profile, Stage, InApp, Detaching, Idle, Unwritten, Written, Writing, Ready, Closed, Complete, Committing, Waiting, Sending, Broken}
 use Rattle.dfu_device.specs.Table.{next_number, Plan, Sure, Writes, Commits, plan, time_plan, further_plan, block_plan, upload_plan, is_empty}
+use Rattle.dfu_device.specs.Shown.{written_in}
 use Rattle.dfu_device.specs.Taken.{taken_in}
 use Rattle.dfu_device.specs.TakenRow.{either_way}
+use Rattle.dfu_device.specs.Faults.{IsMediumFault}
 
--- a plan calls the slot store for these bytes alone: it writes the last block of them, or commits them
-abbrev pub CallsFor : List ℕ → Plan → Type 0
-CallsFor x (Sure reply stage) = Unit {0}
-CallsFor x (Writes before block reply stage bad) = before ++ block ≡ x
-CallsFor x (Commits taken reply stage bad) = taken ≡ x
-
--- dfuERROR with errWRITE or errPROG
-abbrev pub IsMediumFault : Stage → Type 0
-IsMediumFault (Broken ErrWrite) = Unit {0}
-IsMediumFault (Broken ErrProg) = Unit {0}
-IsMediumFault stage = ⊥
+-- a plan calls the slot store for the bytes taken alone: it writes the last block of them, behind those written, or commits them
+abbrev pub CallsFor : (written taken : List ℕ) → Plan → Type 0
+CallsFor w x (Sure reply stage) = Unit {0}
+CallsFor w x (Writes before block reply stage bad) = (before ≡ w) × (before ++ block ≡ x)
+CallsFor w x (Commits taken reply stage bad) = taken ≡ x
 
 -- where the medium works, a plan ends in no fault of the medium but one that was there
 abbrev pub WorksWell : Stage → Plan → Type 0
@@ -27,7 +22,7 @@ WorksWell st (Commits taken reply stage bad) = IsMediumFault stage → IsMediumF
 
 -- a plan calls the slot store for the bytes taken or not at all, and ends in a fault of the medium only where that failed or the fault was there
 abbrev pub Leads : List ℕ → Stage → Plan → Type 0
-Leads i st p = CallsFor (taken_in i st) p × WorksWell st p
+Leads i st p = CallsFor (written_in st) (taken_in i st) p × WorksWell st p
 
 block_leads : (i : List ℕ) (st : Stage) (c : Profile) (before : List ℕ) (expected number : ℕ) (body : List ℕ) → Leads i st (block_plan c before expected number body)
 block_leads i st c before expected number body =
@@ -61,7 +56,7 @@ row_leads c i Idle Abort = (tt, λ y. absurd y)
 row_leads c i Idle GetStatus = (tt, λ y. absurd y)
 row_leads c i Idle GetState = (tt, λ y. absurd y)
 row_leads c i Idle r = (tt, λ y. absurd y)
-row_leads c i (Unwritten before block number) GetStatus = either_way (Leads i (Unwritten before block number)) (c.busy == 0) _ _ (refl, λ y. absurd y) (tt, λ y. absurd y)
+row_leads c i (Unwritten before block number) GetStatus = either_way (Leads i (Unwritten before block number)) (c.busy == 0) _ _ ((refl, refl), λ y. absurd y) (tt, λ y. absurd y)
 row_leads c i (Unwritten before block number) GetState = (tt, λ y. absurd y)
 row_leads c i (Unwritten before block number) r = (tt, λ y. absurd y)
 row_leads c i (Written taken number) GetStatus = (tt, λ y. absurd y)
@@ -99,7 +94,7 @@ time_leads c i (Detaching timer passed) ms =
     (either_way P (nat_le (max 1 timer) (passed + ms)) _ _ (tt, λ y. absurd y) (tt, λ y. absurd y)))
 time_leads c i (Writing before block number passed) ms =
     let P : Plan → Type 0 = Leads i (Writing before block number passed) in
-    either_way P (ms == 0) _ _ (tt, λ y. absurd y) (either_way P (nat_le c.busy (passed + ms)) _ _ (refl, λ y. absurd y) (tt, λ y. absurd y))
+    either_way P (ms == 0) _ _ (tt, λ y. absurd y) (either_way P (nat_le c.busy (passed + ms)) _ _ ((refl, refl), λ y. absurd y) (tt, λ y. absurd y))
 time_leads c i (Committing taken passed) ms =
     let P : Plan → Type 0 = Leads i (Committing taken passed) in
     either_way P (ms == 0) _ _ (tt, λ y. absurd y) (either_way P (nat_le c.manifest (passed + ms)) _ _
