@@ -22,11 +22,11 @@ use std::marker::Model;
 ///
 /// No call takes memory, and none but `power_on` refuses.
 #[derive(Drop)]
-pub struct Device<M: Medium + Drop> {
+pub struct Device<M: Medium> {
     machine: Machine<M>,
 }
 
-impl<M: Medium + Drop> Model for Device<M> {
+impl<M: Medium> Model for Device<M> {
     ghost use Rattle.dfu_device.specs.Shown.{Shown};
     ghost use Rattle.dfu_device.specs.View.{shown};
 
@@ -35,7 +35,7 @@ impl<M: Medium + Drop> Model for Device<M> {
     ghost view = { λ d. shown d.machine };
 }
 
-impl<M: Medium + Drop> Device<M> {
+impl<M: Medium> Device<M> {
     /// A device in appIDLE.
     pub fn start(config: Config, slots: Slots<M>) -> Device<M>
         ensures { result ≡ record { config = config; slots = slots; stage = InApp } }
@@ -45,9 +45,17 @@ impl<M: Medium + Drop> Device<M> {
         }
     }
 
-    /// A device that gets power: in appIDLE, on a medium that it opens and does not write. The
-    /// faults are those of `Slots::open`, and come exactly where the medium has no active image;
-    /// they hand the medium back as it was.
+    /// A device that gets power: in appIDLE, on a medium that it opens and does not write.
+    ///
+    /// # Errors
+    ///
+    /// The first fault of the medium, with the medium as it was. One comes exactly where the medium
+    /// has no active image; they are looked for in this order:
+    ///
+    /// 1. `WrongSize`: its length is not 2 * (32 + C) with C from 1 to 16,777,216.
+    /// 2. `NoImage`: neither slot's gate is open.
+    /// 3. `TwoImages`: both are, and neither generation is the other's plus 1 modulo 256.
+    /// 4. `BadHeader`: the active slot's header is not well formed.
     pub fn power_on(config: Config, medium: M) -> Result<Device<M>, (OpenFault, M)>
         ensures ok { IfOk result (λ d. d ≡ record { config = config; slots = store_on (M.state medium); stage = InApp }) }
         ensures has_image { OnOk result (HasImage (M.state medium)) }
@@ -66,35 +74,37 @@ impl<M: Medium + Drop> Device<M> {
         self.machine.handle(setup, body, out)
     }
 
-    /// So many milliseconds pass. At most one change comes of it; the rest of the time is dropped.
+    /// So many milliseconds pass; 0 change nothing. They count in appDETACH, dfuDNBUSY and dfuMANIFEST,
+    /// where they add up from the moment the state was entered (USB DFU 1.1, appendix A). At most one
+    /// change comes of a call; the rest of its time is dropped.
     pub fn elapse(&mut self, ms: u32)
         ensures row { Elapses ms self.old self.new }
     {
         self.machine.elapse(ms);
     }
 
-    /// The bus is reset: appDETACH goes to dfuIDLE, every other state to appIDLE.
+    /// The bus is reset: appDETACH goes to dfuIDLE, every other state to appIDLE (USB DFU 1.1, appendix A).
     pub fn usb_reset(&mut self)
         ensures { self.new ≡ record self.old { stage = reset_stage self.old.stage } }
     {
         self.machine.usb_reset();
     }
 
-    /// The state of the standard.
+    /// The state of the standard (USB DFU 1.1, section 6.1.2, bState).
     pub fn state(&self) -> State
         ensures { result ≡ state_of self.now.stage }
     {
         self.machine.state()
     }
 
-    /// The status code: that of dfuERROR, and OK in every other state.
+    /// The status code: that of dfuERROR, and OK in every other state (USB DFU 1.1, section 6.1.2, bStatus).
     pub fn code(&self) -> Code
         ensures { result ≡ code_of self.now.stage }
     {
         self.machine.code()
     }
 
-    /// The functional descriptor.
+    /// The functional descriptor (USB DFU 1.1, section 4.1.3), with version 0110h.
     pub fn functional(&self) -> Functional
         ensures { result ≡ self.now.config.functional }
     {
@@ -115,8 +125,8 @@ impl<M: Medium + Drop> Device<M> {
         self.machine.config
     }
 
-    /// The slot store. The bytes taken stand in the data of its spare slot, but for a block that is
-    /// not written yet.
+    /// The slot store. Until they are put in place the bytes taken stand at the front of the data of
+    /// its spare slot, but for a block that is not written yet.
     pub fn slots(&self) -> &Slots<M>
         ensures slots { result.now ≡ self.now.slots }
         ensures stored { IsStored self.now }
@@ -134,7 +144,7 @@ impl<M: Medium + Drop> Device<M> {
     }
 }
 
-impl<M: Faulty + Drop> Device<M> {
+impl<M: Faulty> Device<M> {
     /// Arms the medium, as `Slots::arm`.
     pub fn arm(&mut self, writes: u32, tear: &[u8], stop: bool)
         ensures { self.new ≡ record self.old { slots = fused self.old.slots (Armed writes (take 4096 tear.now) stop) } }

@@ -17,7 +17,7 @@ use dfu_wire::{Code, Request, Setup, State};
 /// The machine inside a device: what is fixed, the slot store, the state, and the block that is not
 /// written yet.
 #[derive(Drop)]
-pub struct Machine<M: Medium + Drop> {
+pub struct Machine<M: Medium> {
     pub config: Config,
     pub slots: Slots<M>,
     pub mode: Mode,
@@ -25,7 +25,7 @@ pub struct Machine<M: Medium + Drop> {
     ghost sound: { IsTrue (is_sound mode (length block.items) slots) },
 }
 
-impl<M: Medium + Drop> Machine<M> {
+impl<M: Medium> Machine<M> {
     ghost use Rattle.dfu_device.specs.View.{shown};
 
     /// A machine in appIDLE.

@@ -1,4 +1,5 @@
-//! How a device answers a request in each of its states, in the order of the standard.
+//! How a device answers a request in each of its states but dfuUPLOAD-IDLE, which stands in
+//! `uploads.rt`, in the order of the standard.
 
 ghost use Rattle.std.specs.Prelude.{◌≡◌, ℕ, List, [], length, take};
 ghost use Rattle.dfu_slots.specs.Seen.{spare_of};
@@ -13,7 +14,7 @@ use arrayvec::ArrayVec;
 use dfu_slots::Medium;
 use dfu_wire::{Code, Request};
 
-impl<M: Medium + Drop> Machine<M> {
+impl<M: Medium> Machine<M> {
     /// appIDLE
     pub fn in_app_idle(&mut self, request: Request, out: &mut ArrayVec<u8, 4096>) -> Answer
         requires mode { self.old.mode ≡ Mode.InApp }

@@ -10,7 +10,7 @@ use crate::machine::Machine;
 use crate::mode::Mode;
 use dfu_slots::Medium;
 
-impl<M: Medium + Drop> Machine<M> {
+impl<M: Medium> Machine<M> {
     /// So many milliseconds pass.
     pub fn elapse(&mut self, ms: u32)
         ensures row { Elapses ms (shown self.old) (shown self.new) }

@@ -15,7 +15,7 @@ use arrayvec::ArrayVec;
 use dfu_slots::Medium;
 use dfu_wire::{Code, Request};
 
-impl<M: Medium + Drop> Machine<M> {
+impl<M: Medium> Machine<M> {
     /// dfuUPLOAD-IDLE
     pub fn in_sending(
         &mut self,

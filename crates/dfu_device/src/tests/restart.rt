@@ -5,7 +5,7 @@ use crate::Device;
 use dfu_slots::Medium;
 
 /// Power goes and comes back. That is never refused: the medium of a device has an active image.
-pub(crate) fn restarted<M: Medium + Drop>(device: Device<M>) -> Device<M>
+pub(crate) fn restarted<M: Medium>(device: Device<M>) -> Device<M>
     ensures { result ≡ record device { stage = InApp } }
 {
     let config = device.config();
