@@ -1,10 +1,10 @@
 -- What a history took, and what it sent, is fixed by it.
-use Rattle.std.specs.Prelude.{◌≡◌, ℕ, Bool, true, false, List, [], ◌∷◌, ◌++◌}
+use Rattle.std.specs.Prelude.{◌≡◌, Bool, true, false, List, [], ◌∷◌, ◌++◌}
 use Rattle.std.proofs.Common.{sym, ap, ◌∙◌, subst}
 use Rattle.std.proofs.lemmas.Bool.{false≢true}
 use Rattle.dfu_device.specs.Stage.{state_of}
-use Rattle.dfu_device.specs.Taken.{is_downloading, Step, blocks_of, AllDownloading, Taken, from_start, since}
-use Rattle.dfu_device.specs.Sent.{is_uploading, pieces_of, AllUploading, Sent, sent_from_start, sent_since}
+use Rattle.dfu_device.specs.Taken.{is_downloading, Step, blocks_of, AllDownloading, from_start, since}
+use Rattle.dfu_device.specs.Sent.{is_uploading, pieces_of, AllUploading, sent_from_start, sent_since}
 use Rattle.dfu_device.specs.TakenHistory.{OneTaken}
 use Rattle.dfu_device.specs.SentHistory.{OneSent}
 

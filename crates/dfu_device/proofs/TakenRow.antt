@@ -1,5 +1,5 @@
 -- One row of the table takes what it acknowledges, whatever the medium does.
-use Rattle.std.specs.Prelude.{◌≡◌, ℕ, ◌+◌, ◌==◌, nat_lt, nat_le, max, not, if◌then◌else◌, List, [], ◌∷◌, ◌++◌, length, take, drop}
+use Rattle.std.specs.Prelude.{◌≡◌, ℕ, ◌+◌, ◌==◌, nat_lt, nat_le, max, not, List, [], ◌∷◌, ◌++◌, length, take, drop}
 use Rattle.std.proofs.Common.{refl, sym, ap}
 use Rattle.std.proofs.lemmas.List.{append-nil}
 use Rattle.dfu_device.specs.Stage.{Data, Request, Detach, Dnload, Upload, GetStatus, ClrStatus, GetState, Abort, OtherRequest, Reply, Ack, Profile, Stage, InApp, Detaching, Idle, Unwritten, Written, Writing, Ready, Closed, Complete, Committing, Waiting, Sending, Broken}

@@ -6,7 +6,7 @@ use Rattle.dfu_wire.specs.Setup.{IsSetup}
 use Rattle.dfu_wire.specs.Request.{Asks}
 use Rattle.dfu_device.specs.declared.answer.Answer.{Answer}
 use Rattle.dfu_device.specs.declared.answer.Answer.TheVariants as answer
-use Rattle.dfu_device.specs.Stage.{Request, OtherRequest, Reply, Ack, state_of}
+use Rattle.dfu_device.specs.Stage.{Request, OtherRequest, Reply, state_of}
 use Rattle.dfu_device.specs.Shown.{Shown, situation}
 use Rattle.dfu_device.specs.Rows.{meant, asked_length, Answers, Elapses, is_served, Handles, Cause, Row}
 use Rattle.dfu_device.specs.Taken.{taken_of, held_in, taken_after, Step, IsRow, IsHistory, acknowledged, Taken}

@@ -5,7 +5,7 @@ use Rattle.dfu_wire.specs.declared.requests.Request.TheVariants as asked
 use Rattle.dfu_wire.specs.Setup.{IsSetup}
 use Rattle.dfu_wire.specs.Request.{Asks}
 use Rattle.dfu_device.specs.declared.answer.Answer.TheVariants as answer
-use Rattle.dfu_device.specs.Stage.{GetStatus, GetState, StateOf, state_of, status_of}
+use Rattle.dfu_device.specs.Stage.{StateOf, state_of, status_of}
 use Rattle.dfu_device.specs.Shown.{Shown, profile}
 use Rattle.dfu_device.specs.Rows.{Answers, is_served, Handles}
 

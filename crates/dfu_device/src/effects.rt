@@ -137,11 +137,7 @@ impl<M: Medium> Machine<M> {
 }
 
 /// Writes a block behind the bytes written, the first one after a `begin`.
-fn put_block<M: Medium>(
-    slots: &mut Slots<M>,
-    written: u32,
-    block: &[u8],
-) -> Result<(), PutFault>
+fn put_block<M: Medium>(slots: &mut Slots<M>, written: u32, block: &[u8]) -> Result<(), PutFault>
     requires begun { (written ≡ 0) ⊎ (is_begun slots.old ≡ true) }
     requires shape { is_shaped slots.old ≡ true }
     requires room { written + length block.now ≤ room_of slots.old }
