@@ -1,5 +1,7 @@
 -- What a host makes of a part of an upload.
-use Rattle.std.proofs.Common.{◌≡◌, ℕ, List, refl, sym, ap, ◌∙◌, subst, inl, inr}
+use Rattle.std.proofs.Common.{◌≡◌, ◌⊎◌, ℕ, ◌%◌, ◌<◌, List, length, refl, sym, ap, ◌∙◌, subst, arith, inl, inr}
+use Rattle.std.proofs.Math.Nat.{mod-eq_of_lt}
+use Rattle.dfu_wire.specs.declared.requests.Request.TheVariants as request
 use Rattle.dfu_host.specs.declared.phase.Phase.{Phase}
 use Rattle.dfu_host.specs.declared.phase.Phase.TheVariants as phase
 use Rattle.dfu_host.specs.declared.heard.Heard.{Heard}
@@ -7,7 +9,7 @@ use Rattle.dfu_host.specs.declared.heard.Heard.TheVariants as heard
 use Rattle.dfu_host.specs.declared.seen.Seen.{Seen}
 use Rattle.dfu_host.specs.declared.seen.Seen.TheVariants as seen
 use Rattle.dfu_host.specs.Table as table
-use Rattle.dfu_host.specs.Wire.{Hears}
+use Rattle.dfu_host.specs.Wire.{Hears, NeedsRoom, Reads}
 use Rattle.dfu_host.specs.Host.{HostState, after}
 use Rattle.dfu_host.specs.Uploading.{TakesPart}
 use Rattle.dfu_host.specs.Keeping.{Keeps, RefusedRoom}
@@ -22,6 +24,15 @@ fetches : (g : Goal) → IsFetch g → goal_of g ≡ table.ToFetch
 fetches (goal.Load payload) is = elim is [ ]
 fetches (goal.Fetch bytes) is = refl
 
+-- What is heard of a part answers the UPLOAD that asked for it.
+pub reads_part : (t : Task) (k : ℕ) (part : List ℕ) (word : Heard) → k < 65535 → (word ≡ heard.Part (length part)) ⊎ (word ≡ heard.NoRoom) → RefusedRoom t (phase.Fetch k) part word
+    → Reads (request.Upload (k % 65536) t.transfer) part (heard_of part word)
+reads_part t k part word less (inl e) room = inl (ap (heard_of part) e)
+reads_part t k part word less (inr e) room =
+    let needs : RefusedRoom t (phase.Fetch k) part heard.NoRoom = subst (RefusedRoom t (phase.Fetch k) part) e room in
+    let same : k ≡ k % 65536 = sym (mod-eq_of_lt (omega (arith, less))) in
+    inr (ap (heard_of part) e, subst (λ (n : ℕ). NeedsRoom t.transfer n (length part)) same needs.1)
+
 -- A part that was asked for is taken as it is, or there was no memory for it, and it needed some.
 pub takes_part : (t : Task) (p : Progress) (what : Seen) (word : Heard) (h' : HostState) → Hears (table.deed (task_of t) (phase_of (memory_of t.goal) p.phase)) what (heard_of (part_of what) word)
     → RefusedRoom t p.phase (part_of what) word → h' ≡ after (state_of t p) (heard_of (part_of what) word) → TakesPart (state_of t p) (phase_of (memory_of t.goal) p.phase) what h'
@@ -32,7 +43,7 @@ takes_part t p what word h' hears room same = by_phase p.phase what word hears r
     by_phase (phase.Fetch k) (seen.Bytes bytes) (heard.Part len) hears room same = inl same
     by_phase (phase.Fetch k) (seen.Bytes bytes) heard.NoRoom hears room same = inr (same, fetches t.goal room.0, room.1)
     by_phase (phase.Fetch k) (seen.Bytes bytes) word (inl e) room same = absurd cc
-    by_phase (phase.Fetch k) (seen.Bytes bytes) word (inr e) room same = absurd cc
+    by_phase (phase.Fetch k) (seen.Bytes bytes) word (inr (e, needs)) room same = absurd cc
     by_phase phase what word hears room same = tt
 
 -- A session that goes on in the memory that this was kept in goes on from where it stood.

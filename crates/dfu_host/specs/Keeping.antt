@@ -6,7 +6,7 @@ use Rattle.dfu_host.specs.declared.heard.Heard.{Heard}
 use Rattle.dfu_host.specs.declared.heard.Heard.TheVariants as heard
 use Rattle.dfu_host.specs.declared.task.Task.{Task}
 use Rattle.dfu_host.specs.Goals.{IsFetch}
-use Rattle.dfu_host.specs.Uploading.{is_kept, NeedsRoom}
+use Rattle.dfu_host.specs.Wire.{is_kept, NeedsRoom}
 use Rattle.dfu_host.specs.View.{kept_at}
 
 -- A part as it was heard: of its length, and where it is kept it joined what was kept by then.

@@ -1,5 +1,5 @@
 -- When an upload is refused, how it begins, what it keeps, and how it ends early.
-use Rattle.std.specs.Prelude.{◌≡◌, ◌⊎◌, ℕ, suc, ◌<◌, ◌==◌, nat_lt, ◌&&◌, ◌||◌, max, not, Bool, false, IsTrue, List, [], ◌∷◌, length, find, Option}
+use Rattle.std.specs.Prelude.{◌≡◌, ◌⊎◌, ℕ, ◌==◌, max, not, Bool, false, List, [], ◌∷◌, length, find, Option}
 use Rattle.dfu_wire.specs.declared.functionals.Functional.{Functional}
 use Rattle.dfu_host.specs.declared.limits.Limits.{Limits}
 use Rattle.dfu_host.specs.declared.fault.HostFault.{HostFault}
@@ -7,6 +7,7 @@ use Rattle.dfu_host.specs.declared.fault.HostFault.TheVariants as fault
 use Rattle.dfu_host.specs.declared.seen.Seen.{Seen}
 use Rattle.dfu_host.specs.declared.seen.Seen.TheVariants as seen
 use Rattle.dfu_host.specs.Table.{Phase, ToFetch, Find, Fetch, LastUploaded, OverUploaded, Part, NoRoom}
+use Rattle.dfu_host.specs.Wire.{NeedsRoom}
 use Rattle.dfu_host.specs.Host.{HostState, after}
 
 -- The condition of each refusal of an upload.
@@ -37,15 +38,6 @@ started functional limits = record {
   actions = max 1 limits.actions;
   restarts = limits.restarts;
 }
-
--- A part is kept that is shorter than a block, which makes it the last, or full, but for the last full one that numbers can tell apart.
-abbrev pub is_kept : (t k length : ℕ) → Bool
-is_kept t k length = nat_lt length t || ((length == t) && not (suc k == 65535))
-
--- A part needs memory that is kept, and has a byte.
-pub record NeedsRoom (t k length : ℕ) : Type 0 where
-  pub kept : IsTrue (is_kept t k length)
-  pub some : 0 < length
 
 -- Where a part was asked for, bytes are taken as the part, or there was no memory for them: that is so in uploads alone, and they needed some.
 abbrev pub TakesPart : HostState → Phase → Seen → HostState → Type 0

@@ -1,5 +1,5 @@
 -- What of the host's table goes over the wire: its actions as setups, and what is seen as what is understood.
-use Rattle.std.specs.Prelude.{◌≡◌, ◌≢◌, ◌⊎◌, ℕ, List, [], ◌∷◌}
+use Rattle.std.specs.Prelude.{◌≡◌, ◌≢◌, ◌⊎◌, ℕ, suc, ◌<◌, ◌==◌, nat_lt, ◌&&◌, ◌||◌, not, Bool, IsTrue, List, [], ◌∷◌, length}
 use Rattle.dfu_wire.specs.declared.setups.Setup.{Setup}
 use Rattle.dfu_wire.specs.declared.states.State.{State}
 use Rattle.dfu_wire.specs.declared.requests.Request.{Request}
@@ -41,11 +41,21 @@ ReadsState bytes (StateIs state) = bytes ≡ state_byte state ∷ []
 ReadsState bytes Nothing = (state : State) → bytes ≢ state_byte state ∷ []
 ReadsState bytes heard = ⊥
 
--- Bytes that answer a request: to UPLOAD they are a part, for which there may be no memory; a request without an answer has none.
+-- Part k of an upload is kept where it is shorter than a block, which makes it the last, or where it is full, but for the full one that is one too many.
+abbrev pub is_kept : (t k length : ℕ) → Bool
+is_kept t k length = nat_lt length t || ((length == t) && not (suc k == 65535))
+
+-- A part needs memory that is kept, and has a byte.
+pub record NeedsRoom (t k length : ℕ) : Type 0 where
+  pub kept : IsTrue (is_kept t k length)
+  pub some : 0 < length
+
+-- Bytes that answer a request: to UPLOAD they are a part, or, where that part needs memory, there may have been none for it; where a request has no
+-- answer of bytes, it is as if nothing came. The number in an UPLOAD is that of the part, since only the parts 0 to 65,534 are asked for.
 abbrev pub Reads : Request → List ℕ → Heard → Type 0
 Reads (request.GetStatus len) bytes heard = ReadsStatus bytes heard
 Reads (request.GetState len) bytes heard = ReadsState bytes heard
-Reads (request.Upload block len) bytes heard = (heard ≡ Part bytes) ⊎ (heard ≡ NoRoom)
+Reads (request.Upload block len) bytes heard = (heard ≡ Part bytes) ⊎ ((heard ≡ NoRoom) × NeedsRoom len block (length bytes))
 Reads q bytes heard = heard ≡ Nothing
 
 -- Bytes that come of an action: where the action is no request, it is as if nothing came.

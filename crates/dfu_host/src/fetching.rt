@@ -4,8 +4,8 @@ ghost use Rattle.std.specs.Prelude.{◌≡◌, ◌⊎◌, ◌+◌, ◌<◌, List
 ghost use Rattle.dfu_host.specs.Goals.{capacity_of, memory_of};
 ghost use Rattle.dfu_host.specs.Keeping.{Joined, Keeps, RefusedRoom};
 ghost use Rattle.dfu_host.specs.Table as table;
-ghost use Rattle.dfu_host.specs.Uploading.{is_kept};
 ghost use Rattle.dfu_host.specs.View.{IsWithin, heard_of, kept_at, phase_of, task_of};
+ghost use Rattle.dfu_host.specs.Wire.{is_kept};
 
 use crate::goal::Goal;
 use crate::heard::Heard;

@@ -161,7 +161,7 @@ reply_heard (request.GetState len) body reply a out heard i f says h = elim f [ 
 reply_heard (request.Upload block len) body (Data bytes) a out heard i f says h =
     elim (heard_bytes (Send (request.Upload block len) body) a out heard says.0 h) [
       | inl part ↦ (true, part ∙ ap Part says.1)
-      | inr none ↦ (false, none)
+      | inr (none, needs) ↦ (false, none)
     ]
 reply_heard (request.Upload block len) body Stall a out heard i f says h = (true, heard_stall (Send (request.Upload block len) body) a out heard says.0 h)
 reply_heard (request.Upload block len) body reply a out heard i f says h = elim f [ ]

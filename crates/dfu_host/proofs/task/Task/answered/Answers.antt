@@ -1,3 +1,4 @@
+use Rattle.dfu_host.proofs.Parts.{reads_part}
 use Rattle.dfu_host.proofs.task.Task.answered.Goals as goal
 
 pub returns-in-Find-clause-room : goal.returns-in-Find-clause-room
@@ -5,3 +6,6 @@ returns-in-Find-clause-room c = c.status_in.ensures.room c.args.self.now c.args.
 
 pub returns-in-Ask-clause-room : goal.returns-in-Ask-clause-room
 returns-in-Ask-clause-room c = c.state_in.ensures.room c.args.self.now c.args.phase c.args.bytes.now
+
+pub returns-in-Fetch-clause-hears : goal.returns-in-Fetch-clause-hears
+returns-in-Fetch-clause-hears c = rw c.in-Fetch.is (reads_part c.args.self.now c.in-Fetch.number c.args.bytes.now c.keep.result c.keep.ensures.within.1 c.keep.ensures.heard c.keep.ensures.room)
