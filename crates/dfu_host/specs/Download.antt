@@ -1,13 +1,13 @@
 -- When a download is refused, and how it begins.
-use Rattle.std.specs.Prelude.{ℕ, ◌==◌, ◌&&◌, ◌||◌, max, not, Bool, List, [], ◌∷◌, length, find, Option}
+use Rattle.std.specs.Prelude.{ℕ, ◌==◌, ◌&&◌, ◌||◌, not, Bool, List, [], ◌∷◌, length, find, Option}
 use Rattle.dfu_wire.specs.declared.functionals.Functional.{Functional}
 use Rattle.dfu_suffix.specs.declared.ids.Ids.{Ids}
 use Rattle.dfu_suffix.specs.Grammar.{Content}
 use Rattle.dfu_host.specs.declared.limits.Limits.{Limits}
 use Rattle.dfu_host.specs.declared.fault.HostFault.{HostFault}
 use Rattle.dfu_host.specs.declared.fault.HostFault.TheVariants as fault
-use Rattle.dfu_host.specs.Table.{ToLoad, Find}
-use Rattle.dfu_host.specs.Host.{HostState}
+use Rattle.dfu_host.specs.Table.{ToLoad, Task}
+use Rattle.dfu_host.specs.Host.{HostState, begun}
 
 -- An identifier of a file goes with a device that has the same; FFFFh goes with every device.
 abbrev pub goes_with : (file device : ℕ) → Bool
@@ -33,17 +33,14 @@ download_faults = fault.EmptyPayload ∷ fault.WrongTarget ∷ fault.CannotDownl
 abbrev pub first_fault : Content → Functional → Ids → Option HostFault
 first_fault file functional device = find (is_refused file functional device) download_faults
 
--- A download that begins: in phase Find, with its budget of at least one action.
+-- A download that begins: its task is to load the file's payload, and all else goes by the descriptor and the limits.
 abbrev pub started : Content → Functional → Limits → HostState
-started file functional limits = record {
-  task = record {
-    goal = ToLoad file.payload;
-    transfer = functional.transfer;
-    tolerant = functional.tolerant;
-    will_detach = functional.will_detach;
-    detach_ms = functional.detach_ms;
-  };
-  phase = Find;
-  actions = max 1 limits.actions;
-  restarts = limits.restarts;
-}
+started file functional limits =
+    let task : Task = record {
+      goal = ToLoad file.payload;
+      transfer = functional.transfer;
+      tolerant = functional.tolerant;
+      will_detach = functional.will_detach;
+      detach_ms = functional.detach_ms;
+    } in
+    begun task limits.actions limits.restarts

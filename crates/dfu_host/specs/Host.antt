@@ -1,5 +1,5 @@
 -- A host as one value, what it does, and what one more thing seen makes of it.
-use Rattle.std.specs.Prelude.{◌≡◌, ℕ, zero, suc, pred, List, [], ◌∷◌}
+use Rattle.std.specs.Prelude.{◌≡◌, ℕ, zero, suc, pred, max, List, [], ◌∷◌}
 use Rattle.dfu_host.specs.declared.report.Report.TheVariants as report
 use Rattle.dfu_host.specs.declared.action.Action.{Action}
 use Rattle.dfu_host.specs.declared.seen.Seen.{Seen}
@@ -13,11 +13,21 @@ pub record HostState : Type 0 where
   pub actions : ℕ
   pub restarts : ℕ
 
+-- A session that begins: in phase Find, with a budget of at least one action.
+abbrev pub begun : Task → (actions restarts : ℕ) → HostState
+begun task actions restarts = record { task = task; phase = Find; actions = max 1 actions; restarts = restarts }
+
 -- The host is done.
 abbrev pub IsOver : Phase → Type 0
 IsOver (Over r) = Unit {0}
 IsOver (OverUploaded kept) = Unit {0}
 IsOver phase = ⊥
+
+-- The host is not done.
+abbrev pub IsOn : Phase → Type 0
+IsOn (Over r) = ⊥
+IsOn (OverUploaded kept) = ⊥
+IsOn phase = Unit {0}
 
 -- The budget: a host that is not done and has no action left gives up.
 abbrev pub budgeted : (left : ℕ) → Phase → Phase

@@ -1,14 +1,14 @@
 -- When an upload is refused, how it begins, what it keeps, and how it ends early.
-use Rattle.std.specs.Prelude.{◌≡◌, ◌⊎◌, ℕ, ◌==◌, max, not, Bool, false, List, [], ◌∷◌, length, find, Option}
+use Rattle.std.specs.Prelude.{◌≡◌, ◌⊎◌, ℕ, ◌==◌, not, Bool, false, List, [], ◌∷◌, length, find, Option}
 use Rattle.dfu_wire.specs.declared.functionals.Functional.{Functional}
 use Rattle.dfu_host.specs.declared.limits.Limits.{Limits}
 use Rattle.dfu_host.specs.declared.fault.HostFault.{HostFault}
 use Rattle.dfu_host.specs.declared.fault.HostFault.TheVariants as fault
 use Rattle.dfu_host.specs.declared.seen.Seen.{Seen}
 use Rattle.dfu_host.specs.declared.seen.Seen.TheVariants as seen
-use Rattle.dfu_host.specs.Table.{Phase, ToFetch, Find, Fetch, LastUploaded, OverUploaded, Part, NoRoom}
+use Rattle.dfu_host.specs.Table.{Task, Phase, ToFetch, Fetch, LastUploaded, OverUploaded, Part, NoRoom}
 use Rattle.dfu_host.specs.Wire.{NeedsRoom}
-use Rattle.dfu_host.specs.Host.{HostState, after}
+use Rattle.dfu_host.specs.Host.{HostState, begun, after}
 
 -- The condition of each refusal of an upload.
 abbrev pub is_refused : Functional → HostFault → Bool
@@ -24,20 +24,17 @@ upload_faults = fault.CannotUpload ∷ fault.BadDescriptor ∷ []
 abbrev pub first_fault : Functional → Option HostFault
 first_fault functional = find (is_refused functional) upload_faults
 
--- An upload that begins: in phase Find, with its budget of at least one action.
+-- An upload that begins: its task is to fetch, and all else goes by the descriptor and the limits.
 abbrev pub started : Functional → Limits → HostState
-started functional limits = record {
-  task = record {
-    goal = ToFetch;
-    transfer = functional.transfer;
-    tolerant = functional.tolerant;
-    will_detach = functional.will_detach;
-    detach_ms = functional.detach_ms;
-  };
-  phase = Find;
-  actions = max 1 limits.actions;
-  restarts = limits.restarts;
-}
+started functional limits =
+    let task : Task = record {
+      goal = ToFetch;
+      transfer = functional.transfer;
+      tolerant = functional.tolerant;
+      will_detach = functional.will_detach;
+      detach_ms = functional.detach_ms;
+    } in
+    begun task limits.actions limits.restarts
 
 -- Where a part was asked for, bytes are taken as the part, or there was no memory for them: that is so in uploads alone, and they needed some.
 abbrev pub TakesPart : HostState → Phase → Seen → HostState → Type 0
