@@ -1,37 +1,15 @@
 -- What becomes of a session that its caller gives up.
-use Rattle.std.proofs.Common.{◌≡◌, refl, sym, ap, ◌∙◌, subst}
+use Rattle.std.specs.Prelude.{◌≡◌}
 use Rattle.dfu_host.specs.declared.report.Report.TheVariants as report
 use Rattle.dfu_host.specs.declared.seen.Seen.{Seen}
-use Rattle.dfu_host.specs.Table.{Phase, Over, OverUploaded, GiveUp, Heard, Restarted}
-use Rattle.dfu_host.specs.Host.{HostState, IsOver, after_phase, aborted_in, aborted, HostRow}
-use Rattle.dfu_host.specs.Budget.{takes_in, takes_left}
+use Rattle.dfu_host.specs.Table.{Over}
+use Rattle.dfu_host.specs.Host.{HostState, IsOn, aborted, HostRow}
+use Rattle.dfu_host.specs.Budget.{takes_left}
 
 -- After an abort of a session that is not done the next `take` ends it, and whatever is seen, its report is Aborted.
 abbrev pub EndsAborted : Type 0
-EndsAborted = (h h' : HostState) (seen : Seen) → (IsOver h.phase → ⊥) → HostRow (aborted h) seen h' → h'.phase ≡ Over report.Aborted
+EndsAborted = (h h' : HostState) (seen : Seen) → IsOn h.phase → HostRow (aborted h) seen h' → h'.phase ≡ Over report.Aborted
 
 -- An abort spends no action.
 abbrev pub SpendsNothing : Type 0
 SpendsNothing = (h : HostState) → takes_left (aborted h) ≡ takes_left h
-
-gives_up : (h : HostState) (phase : Phase) → (IsOver phase → ⊥) → (aborted_in h phase).phase ≡ GiveUp
-gives_up h (Over r) on = absurd (on tt)
-gives_up h (OverUploaded kept) on = absurd (on tt)
-gives_up h phase on = refl
-
-then_ends : (h : HostState) (heard : Heard) → (after_phase h GiveUp heard).phase ≡ Over report.Aborted
-then_ends h Restarted = refl
-then_ends h heard = refl
-
-pub ends_aborted : EndsAborted
-ends_aborted h h' seen on step =
-    ap (λ (z : HostState). z.phase) step.same
-    ∙ subst (λ (p : Phase). (after_phase (aborted h) p step.heard).phase ≡ Over report.Aborted) (sym (gives_up h h.phase on)) (then_ends (aborted h) step.heard)
-
-spent_in : (h : HostState) (phase : Phase) → takes_in phase h.actions ≡ takes_left h → takes_left (aborted_in h phase) ≡ takes_in phase h.actions
-spent_in h (Over r) e = sym e
-spent_in h (OverUploaded kept) e = sym e
-spent_in h phase e = refl
-
-pub spends_nothing : SpendsNothing
-spends_nothing h = spent_in h h.phase refl

@@ -1,18 +1,18 @@
 -- The budget of actions: a host is done in time, and stays done.
-use Rattle.std.proofs.Common.{◌≡◌, ◌↔◌, ℕ, zero, suc, pred, ◌≤◌, max, Bool, true, false, if◌then◌else◌, IsTrue, List, [], ◌∷◌, length, refl, sym, ◌∙◌, subst, arith}
+use Rattle.std.specs.Prelude.{◌≡◌, ℕ, ◌≤◌, max, Bool, true, false, List, length}
 use Rattle.dfu_host.specs.declared.action.Action.{Action}
 use Rattle.dfu_host.specs.declared.action.Action.TheVariants as action
 use Rattle.dfu_host.specs.declared.seen.Seen.{Seen}
-use Rattle.dfu_host.specs.Table.{Task, Phase, Enter, Over, OverUploaded, GiveUp, Find, Deed, Send, Wait, Reset, Done, deed, Heard, Restarted, row}
-use Rattle.dfu_host.specs.Wire.{Spells}
-use Rattle.dfu_host.specs.Host.{HostState, IsOver, budgeted, restarted, told, after_phase, Act, HostRow, HostRows, seen_all, sees}
+use Rattle.dfu_host.specs.Table.{Phase, Over, OverUploaded}
+use Rattle.dfu_host.specs.Host.{HostState, IsOver, HostRows}
 
--- How often a host takes what is seen, at most, until it is done: as often as it has actions left, and once at least.
+-- How often a host in this phase takes what is seen, at most, until it is done: as often as it has actions left, and once at least.
 abbrev pub takes_in : Phase → (actions : ℕ) → ℕ
 takes_in (Over r) actions = 0
 takes_in (OverUploaded kept) actions = 0
 takes_in phase actions = max 1 actions
 
+-- How often a host takes what is seen, at most, until it is done.
 abbrev pub takes_left : HostState → ℕ
 takes_left h = takes_in h.phase h.actions
 
@@ -28,91 +28,3 @@ DoneInTime = (h h' : HostState) (seens : List Seen) → HostRows h seens h' → 
 -- A host that is done stays as it is, whatever is seen.
 abbrev pub StaysDone : Type 0
 StaysDone = (h h' : HostState) (seens : List Seen) → HostRows h seens h' → IsOver h.phase → h' ≡ h
-
-over_stays : (h : HostState) (phase : Phase) (heard : Heard) → IsOver phase → after_phase h phase heard ≡ h
-over_stays h (Over r) heard over = refl
-over_stays h (OverUploaded kept) heard over = refl
-over_stays h phase heard over = elim over [ ]
-
--- One `take` leaves a host that is done as it is.
-pub row_over : (h h' : HostState) (seen : Seen) → HostRow h seen h' → IsOver h.phase → h' ≡ h
-row_over h h' seen step over = step.same ∙ over_stays h h.phase step.heard over
-
-pub stays_done : StaysDone
-stays_done h h' [] seen_all over = refl
-stays_done h h' (seen ∷ more) (sees {mid = mid} step rows) over =
-    let e : mid ≡ h = row_over h mid seen step over in
-    stays_done mid h' more rows (subst (λ (z : HostState). IsOver z.phase) (sym e) over) ∙ e
-
--- What one action leaves of the budget.
-takes_spent : (left : ℕ) (phase : Phase) → takes_in (budgeted left phase) left ≤ left
-takes_spent left (Over r) = omega arith
-takes_spent left (OverUploaded kept) = omega arith
-takes_spent zero phase = omega arith
-takes_spent (suc left) Find = omega arith
-takes_spent (suc left) phase = omega arith
-
-takes_told : (h : HostState) (phase : Phase) (heard : Heard) → takes_left (told h phase heard) ≤ pred h.actions
-takes_told h phase Restarted = takes_restarted phase h.restarts
-  where
-    takes_restarted : (phase : Phase) (restarts : ℕ) → takes_left (restarted h phase restarts) ≤ pred h.actions
-    takes_restarted GiveUp restarts = omega arith
-    takes_restarted phase zero = omega arith
-    takes_restarted phase (suc restarts) = takes_spent (pred h.actions) Find
-takes_told h phase heard = takes_spent (pred h.actions) (row h.task phase heard)
-
-takes_after : (h : HostState) (phase : Phase) (heard : Heard) → takes_in phase h.actions ≡ takes_left h → takes_left (after_phase h phase heard) ≤ pred (takes_in phase h.actions)
-takes_after h (Over r) heard e = omega (arith, e)
-takes_after h (OverUploaded kept) heard e = omega (arith, e)
-takes_after h Find heard e = omega (arith, takes_told h Find heard)
-takes_after h phase heard e = omega (arith, takes_told h phase heard)
-
--- One `take` brings a host nearer to its end.
-pub row_takes : (h h' : HostState) (seen : Seen) → HostRow h seen h' → takes_left h' ≤ pred (takes_left h)
-row_takes h h' seen step = rw step.same (takes_after h h.phase step.heard refl)
-
-takes_none : (phase : Phase) (actions : ℕ) → takes_in phase actions ≡ 0 → IsOver phase
-takes_none (Over r) actions e = tt
-takes_none (OverUploaded kept) actions e = tt
-takes_none Find actions e = absurd (omega (arith, e))
-takes_none phase actions e = absurd (omega (arith, e))
-
-takes_some : (phase : Phase) (actions : ℕ) → takes_in phase actions ≤ max 1 actions
-takes_some (Over r) actions = omega arith
-takes_some (OverUploaded kept) actions = omega arith
-takes_some Find actions = omega arith
-takes_some phase actions = omega arith
-
-rows_take : (h h' : HostState) (seens : List Seen) → HostRows h seens h' → takes_left h ≤ length seens → takes_left h' ≡ 0
-rows_take h h' [] seen_all l = omega (arith, l)
-rows_take h h' (seen ∷ more) (sees {mid = mid} step rows) l = rows_take mid h' more rows (omega (arith, l, row_takes h mid seen step))
-
-pub done_in_time : DoneInTime
-done_in_time h h' seens rows l =
-    takes_none h'.phase h'.actions (rows_take h h' seens rows (omega (arith, l, takes_some h.phase h.actions)))
-
--- A deed that is the report.
-abbrev pub tells : Deed → Bool
-tells (Done r) = true
-tells d = false
-
-spelled_done : (d : Deed) (a : Action) → Spells d a → is_done a ≡ tells d
-spelled_done (Done r) (action.Done given) h = refl
-spelled_done (Wait ms) (action.Wait given) h = refl
-spelled_done Reset action.Reset h = refl
-spelled_done (Send q body) (action.Send setup given) h = refl
-spelled_done d a h = elim h [ ]
-
-entering_tells : (b : Bool) (ms : ℕ) → tells (if b then Wait ms else Reset) ≡ false
-entering_tells true ms = refl
-entering_tells false ms = refl
-
-tells_in : (task : Task) (phase : Phase) (actions : ℕ) → IsTrue (tells (deed task phase)) ↔ (takes_in phase actions ≡ 0)
-tells_in task (Over r) actions = (λ h. refl, λ e. refl)
-tells_in task (OverUploaded kept) actions = (λ h. refl, λ e. refl)
-tells_in task Enter actions = rw (entering_tells task.will_detach (max 1 task.detach_ms)) (λ h. absurd cc, λ e. absurd (omega (arith, e)))
-tells_in task phase actions = (λ h. absurd cc, λ e. absurd (omega (arith, e)))
-
--- A host asks to be told no more exactly where it is done.
-pub act_done : (h : HostState) (a : Action) → Act h a → IsTrue (is_done a) ↔ (takes_left h ≡ 0)
-act_done h a spells = rw (spelled_done (deed h.task h.phase) a spells) (tells_in h.task h.phase h.actions)

@@ -1,4 +1,4 @@
-use Rattle.dfu_host.specs.Aborting.{ends_aborted, spends_nothing}
+use Rattle.dfu_host.proofs.Aborting.{ends_aborted, spends_nothing}
 use Rattle.dfu_host.proofs.laws.abort_ends_the_session.Goals as goal
 
 pub returns : goal.returns

@@ -1,4 +1,4 @@
-use Rattle.dfu_host.specs.Installing.{only_confirmed}
+use Rattle.dfu_host.proofs.Installing.{only_confirmed}
 use Rattle.dfu_host.proofs.laws.installed_once_confirmed.Goals as goal
 
 pub returns : goal.returns

@@ -1,5 +1,5 @@
 use Rattle.dfu_host.specs.Host.{Act}
-use Rattle.dfu_host.specs.Budget.{act_done}
+use Rattle.dfu_host.proofs.Budget.{act_done}
 use Rattle.dfu_host.proofs.host.Host.next.Goals as goal
 
 pub returns : goal.returns

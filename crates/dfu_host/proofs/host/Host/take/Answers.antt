@@ -1,6 +1,6 @@
 use Rattle.std.proofs.Common.{◌≡◌, arith}
 use Rattle.dfu_host.specs.Host.{HostRow, after}
-use Rattle.dfu_host.specs.Budget.{row_takes, row_over}
+use Rattle.dfu_host.proofs.Budget.{row_takes, row_over}
 use Rattle.dfu_host.specs.Uploading.{TakesPart}
 use Rattle.dfu_host.specs.View.{heard_of, part_of, state_of}
 use Rattle.dfu_host.proofs.Parts.{takes_part, next_state}
