@@ -90,7 +90,7 @@ impl Task<'_> {
         }
     }
 
-    /// The last reset, with the whole image kept.
+    /// The last reset, with all parts kept.
     pub(crate) fn after_last_uploaded(&self, heard: Heard) -> Phase
         ensures next { (memory part : List ℕ) → phase_of memory result ≡ table.row (task_of self.now) (table.LastUploaded memory) (heard_of part heard) }
         ensures within { IsWithin self.now result }

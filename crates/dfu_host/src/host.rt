@@ -160,9 +160,9 @@ impl<'f> Host<'f> {
         }
     }
 
-    /// What an upload keeps: the image, once the host is done with `Uploaded`. Before that, the
-    /// parts that came since the fetching last began; and nothing in a download, or after the
-    /// session went back to find the device, was given up or ended in another way.
+    /// What an upload keeps: all that was fetched, once the host is done with `Uploaded`. Before
+    /// that, the parts that came since the fetching last began; and nothing in a download, or after
+    /// the session went back to find the device, was given up or ended in another way.
     pub fn uploaded(&self) -> &[u8]
         ensures { result.now ≡ kept_in self.now.phase }
     {

@@ -42,7 +42,8 @@ pub fn installed_once_confirmed()
 {}
 
 /// Whatever is seen, an upload that fetches part k has kept k full parts, and one that ends as
-/// Uploaded keeps fewer bytes than 65,535 full parts have. No other session ends so.
+/// Uploaded keeps fewer bytes than 65,535 full parts have. No other session keeps anything or ends
+/// so.
 pub fn upload_counts_its_parts()
     ensures { StaysCounted }
 {}

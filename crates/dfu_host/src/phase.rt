@@ -46,12 +46,12 @@ pub(crate) enum Phase {
     Fetch(u16),
     /// The last reset, and then the report.
     Last(Report),
-    /// The last reset, with the whole image kept.
+    /// The last reset, with all that was fetched kept.
     LastUploaded,
     /// The caller gave the session up: leave the transfer, and end.
     GiveUp,
     /// The session is over.
     Over(Report),
-    /// The session is over, with the whole image kept.
+    /// The session is over, with all that was fetched kept.
     OverUploaded,
 }

@@ -23,7 +23,8 @@ pub enum Report {
     Refused(Code),
     /// The device was restarted more often than the limits allow.
     RestartsSpent,
-    /// The whole image was fetched. Of uploads alone.
+    /// The parts came up to one that is shorter than the transfer size, which is the last. Of
+    /// uploads alone.
     Uploaded,
     /// The image has more blocks than block numbers can tell apart. Of uploads alone.
     TooManyBlocks,

@@ -27,29 +27,29 @@ Fits t answer = FitsIn t answer.report answer.gave
 
 -- a session that goes on is counted, and one that ends gives what is counted
 
-settled_counted : (h : HostState) (phase : Phase) → h.phase ≡ phase → IsCounted h.task.transfer phase → IsCountedIn (settled h phase).session
+settled_counted : (h : HostState) (phase : Phase) → h.phase ≡ phase → IsCounted h.task phase → IsCountedIn (settled h phase).session
 settled_counted h (Over r) e c = tt
 settled_counted h (OverUploaded kept) e c = tt
-settled_counted h phase e c = subst (λ (p : Phase). IsCounted h.task.transfer p) (sym e) c
+settled_counted h phase e c = subst (λ (p : Phase). IsCounted h.task p) (sym e) c
 
-over_fits : (t : ℕ) (r : Report) → IsCounted t (Over r) → FitsIn t (Some r) None
-over_fits t Uploaded c = elim c [ ]
-over_fits t r c = tt
+over_fits : (task : Task) (r : Report) → IsCounted task (Over r) → FitsIn task.transfer (Some r) None
+over_fits task Uploaded c = elim c [ ]
+over_fits task r c = tt
 
-settled_fits : (t : ℕ) (h : HostState) (phase : Phase) → IsCounted t phase → Fits t (settled h phase).answer
-settled_fits t h (Over r) c = over_fits t r c
-settled_fits t h (OverUploaded kept) c = c
-settled_fits t h phase c = tt
+settled_fits : (task : Task) (h : HostState) (phase : Phase) → IsCounted task phase → Fits task.transfer (settled h phase).answer
+settled_fits task h (Over r) c = over_fits task r c
+settled_fits task h (OverUploaded kept) c = c.1
+settled_fits task h phase c = tt
 
 -- a host that took something
-pub after_counted_in : (h : HostState) (heard : Heard) → 0 < h.task.transfer → IsCounted h.task.transfer h.phase → IsCountedIn (Hosted (after h heard))
-after_counted_in h heard some c = subst (λ (task : Task). IsCounted task.transfer (after h heard).phase) (sym (after_same_task h heard)) (after_stays h heard some c)
+pub after_counted_in : (h : HostState) (heard : Heard) → 0 < h.task.transfer → IsCounted h.task h.phase → IsCountedIn (Hosted (after h heard))
+after_counted_in h heard some c = subst (λ (task : Task). IsCounted task (after h heard).phase) (sym (after_same_task h heard)) (after_stays h heard some c)
 
 took_counted : (h : HostState) (heard : Heard) → IsSized (Hosted h) → IsCountedIn (Hosted h) → IsCountedIn (took h heard).session
 took_counted h heard some c = settled_counted (after h heard) (after h heard).phase refl (after_counted_in h heard some c)
 
 took_fits : (h : HostState) (heard : Heard) → IsSized (Hosted h) → IsCountedIn (Hosted h) → Fits h.task.transfer (took h heard).answer
-took_fits h heard some c = settled_fits h.task.transfer (after h heard) (after h heard).phase (after_stays h heard some c)
+took_fits h heard some c = settled_fits h.task (after h heard) (after h heard).phase (after_stays h heard some c)
 
 told_counted : (session : Session) → IsSized session → IsCountedIn session → IsCountedIn (told session).session
 told_counted Nobody some c = tt

@@ -33,10 +33,10 @@ abbrev pub IsOnIn : Session → Type 0
 IsOnIn Nobody = Unit {0}
 IsOnIn (Hosted h) = IsOn h.phase
 
--- What a live session keeps is counted in full parts.
+-- What a live session keeps is counted in full parts, and nothing is kept but in an upload.
 abbrev pub IsCountedIn : Session → Type 0
 IsCountedIn Nobody = Unit {0}
-IsCountedIn (Hosted h) = IsCounted h.task.transfer h.phase
+IsCountedIn (Hosted h) = IsCounted h.task h.phase
 
 -- A live session sends blocks of at least one byte.
 abbrev pub IsSized : Session → Type 0
