@@ -44,7 +44,7 @@ phase_of memory phase.GiveUp = table.GiveUp
 phase_of memory (phase.Over report) = table.Over report
 phase_of memory phase.OverUploaded = table.OverUploaded memory
 
--- What a phase needs of its task: a block that there is, a payload to close, or an image to fetch, in parts that numbers can tell apart.
+-- What a phase needs of its task: a block that there is, a payload to close, or an image to fetch, of which the parts 0 to 65,534 are asked for.
 abbrev pub IsWithin : Task → Phase → Type 0
 IsWithin t (phase.Block n) = n * t.transfer < length (payload_of t.goal)
 IsWithin t (phase.Ask n) = n * t.transfer < length (payload_of t.goal)

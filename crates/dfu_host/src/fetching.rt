@@ -13,8 +13,7 @@ use crate::phase::Phase;
 use crate::report::Report;
 use crate::task::Task;
 
-/// After so many full parts an upload ends without its image: a part's number has 16 bits, and no
-/// number is used twice.
+/// After so many full parts an upload ends without its image. The limit is this project's own.
 const MOST_PARTS: u16 = 65_535;
 
 impl Task<'_> {

@@ -26,7 +26,7 @@ pub enum Report {
     /// The parts came up to one that is shorter than the transfer size, which is the last. Of
     /// uploads alone.
     Uploaded,
-    /// The image has more blocks than block numbers can tell apart. Of uploads alone.
+    /// 65,535 full parts came, which is more than an upload takes. Of uploads alone.
     TooManyBlocks,
     /// There was no memory for a part of the image. Of uploads alone.
     NoMemory,
