@@ -131,22 +131,25 @@ module _ (p : List ℕ) (t : ℕ) where
   unfolding blocks
   block_is n h = block_in (length p) t p n h
 
-  -- There is a block n exactly where the payload goes past n times t.
+  -- Where there is a block n, the payload goes past n times t.
   pub block_starts : (n : ℕ) → n < length (blocks p t) → n * t < length p
   unfolding blocks
   block_starts n h = starts_in (length p) t p n h
 
+  -- Where the payload goes past n times t, there is a block n.
   pub block_counts : (n : ℕ) → 0 < t → n * t < length p → n < length (blocks p t)
   unfolding blocks
   block_counts n ht h = counted_in (length p) t p n ht (omega arith) h
 
-  -- Each block has 1 to t bytes.
+  -- Block n has as many bytes as the t bytes at n times t, or as are left there.
   pub block_size : (n : ℕ) → n < length (blocks p t) → length (slice_index_or (blocks p t) n []) ≡ length (take t (drop (n * t) p))
   block_size n h = ap length (block_is n h)
 
+  -- Block n has at most t bytes.
   pub small_block : (n : ℕ) → n < length (blocks p t) → length (slice_index_or (blocks p t) n []) ≤ t
   small_block n h = omega (arith, block_size n h, length-take t (drop (n * t) p))
 
+  -- Block n has at least one byte.
   pub full_block : (n : ℕ) → 0 < t → n < length (blocks p t) → 0 < length (slice_index_or (blocks p t) n [])
   full_block n ht h = omega (arith, block_size n h, length-take t (drop (n * t) p), length-drop (n * t) p, block_starts n h)
 

@@ -81,7 +81,7 @@ pub record HostRow (h : HostState) (seen : Seen) (h' : HostState) : Type 0 where
   pub hears : Hears (deed h.task h.phase) seen heard
   pub same : h' ≡ after h heard
 
--- One after the other.
+-- A host sees these, one after the other, and becomes what each makes of it.
 pub data HostRows : HostState → List Seen → HostState → Type 0 where
   seen_all : {h : HostState} → HostRows h [] h
   sees : {h mid h' : HostState} {seen : Seen} {more : List Seen} → HostRow h seen mid → HostRows mid more h' → HostRows h (seen ∷ more) h'

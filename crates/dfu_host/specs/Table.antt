@@ -75,18 +75,20 @@ abbrev pub start_of : Goal → Phase
 start_of (ToLoad payload) = Block 0
 start_of ToFetch = Fetch 0 []
 
--- The blocks that a session sends.
+-- The blocks of t bytes that a session with this goal sends.
 abbrev pub blocks_of : Goal → ℕ → List (List ℕ)
 blocks_of (ToLoad payload) t = blocks payload t
 blocks_of ToFetch t = []
 
+-- The blocks of a session, cut by its transfer size.
 abbrev pub pieces : Task → List (List ℕ)
 pieces task = blocks_of task.goal task.transfer
 
--- GETSTATUS asks for the whole status, GETSTATE for its one byte.
+-- GETSTATUS asks for the whole status, which has six bytes.
 abbrev pub get_status : Deed
 get_status = Send (request.GetStatus 6) []
 
+-- GETSTATE asks for the one byte of the state.
 abbrev pub get_state : Deed
 get_state = Send (request.GetState 1) []
 

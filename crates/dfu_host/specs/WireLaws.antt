@@ -38,6 +38,7 @@ abbrev pub IsReadOnce : Request → Type 0
 IsReadOnce (request.Upload block len) = ⊥
 IsReadOnce q = Unit {0}
 
+-- An action of which what is seen is understood in one way: any but an UPLOAD.
 abbrev pub IsHeardOnce : Deed → Type 0
 IsHeardOnce (Send q body) = IsReadOnce q
 IsHeardOnce deed = Unit {0}
