@@ -1,5 +1,6 @@
 //! Sessions played by hand, from the tables of the standard and of this project's profile.
 
+mod answers;
 mod dialogue;
 mod files;
 mod phases;
@@ -202,6 +203,21 @@ fn given_up_download_ends_aborted(rt: HostRuntime) -> Result<(), Fail> {
         assert_eq!(rt; host.next(), ABORT);
         host.take(seen);
         assert_eq!(rt; host.next(), Action::Done(Report::Aborted));
+    }
+    Ok(())
+}
+
+#[test]
+fn faults_have_their_texts(rt: HostRuntime) -> Result<(), Fail> {
+    let rows = [
+        (HostFault::EmptyPayload, "the payload is empty"),
+        (HostFault::WrongTarget, "the file is for another device"),
+        (HostFault::CannotDownload, "the device takes no downloads"),
+        (HostFault::CannotUpload, "the device gives no uploads"),
+        (HostFault::BadDescriptor, "the device's transfer size is 0"),
+    ];
+    for (fault, text) in rows {
+        assert_eq!(rt; format!(in rt.alloc(); "{fault}")?.as_str(), text);
     }
     Ok(())
 }

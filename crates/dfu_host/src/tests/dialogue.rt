@@ -65,6 +65,11 @@ pub(crate) const ABORT: Action<'static> = Action::Send {
     body: &[],
 };
 
+pub(crate) const CLEAR: Action<'static> = Action::Send {
+    setup: [0x21, 4, 0, 0, 0, 0, 0, 0],
+    body: &[],
+};
+
 /// UPLOAD of a part with this number, of at most so many bytes.
 pub(crate) fn fetch(number: u16, length: u16) -> Action<'static> {
     let [number_low, number_high] = number.to_le_bytes();

@@ -1,4 +1,4 @@
-//! Each phase of a download, with everything that can be seen in it.
+//! Each phase of a download, with each thing but a valid answer that can be seen in it.
 
 use super::dialogue::{
     AMPLE, APP_IDLE, BUSY, DEVICE, DFU_IDLE, GET_STATE as STATE, GET_STATUS as STATUS, MANIFEST,
@@ -99,7 +99,7 @@ fn try_row(rt: &impl Abort, device: &Functional, row: &Row) -> Result<(), Fail> 
 }
 
 #[test]
-fn every_phase_takes_everything_seen(rt: HostRuntime) -> Result<(), Fail> {
+fn every_phase_takes_what_is_no_answer(rt: HostRuntime) -> Result<(), Fail> {
     for row in FINDING.iter().chain(&SENDING).chain(&ENDING) {
         try_row(&rt, &TOLERANT, row)?;
     }
