@@ -1,5 +1,5 @@
 -- No row leads to Installed but the one where a tolerant device confirms it.
-use Rattle.std.proofs.Common.{◌≡◌, ◌⊎◌, ℕ, zero, suc, nat_lt, ◌==◌, Bool, true, false, cond, List, length, refl, inl, inr}
+use Rattle.std.proofs.Common.{◌≡◌, ℕ, zero, suc, nat_lt, ◌==◌, Bool, true, false, cond, List, length, refl, inl, inr}
 use Rattle.dfu_wire.specs.declared.codes.Code.{Code}
 use Rattle.dfu_wire.specs.declared.codes.Code.TheVariants as code
 use Rattle.dfu_wire.specs.declared.states.State.{State}
