@@ -1,13 +1,13 @@
 -- The table of fates: what an event of the link does to a device and a host, over the device table and the host table.
-use Rattle.std.specs.Prelude.{◌≡◌, ℕ, ◌<◌, max, Bool, false, List, length, Option, Some, None}
+use Rattle.std.specs.Prelude.{◌≡◌, ℕ, ◌<◌, Bool, false, List, length, Option, Some, None}
 use Rattle.dfu_host.specs.declared.report.Report.{Report}
 use Rattle.dfu_host.specs.declared.report.Report.TheVariants.{Uploaded}
 use Rattle.dfu_device.specs.Stage.{Request, Reply, Ack, StatusOf, StateOf, Data, Stall, Profile}
 use Rattle.dfu_device.specs.Table.{Plan, plan}
 use Rattle.dfu_device.specs.Outcome.{Situation, Luck, Works, outcome, handled, elapsed, was_reset, powered}
 use Rattle.dfu_device.specs.Rows.{meant}
-use Rattle.dfu_host.specs.Table.{Goal, ToLoad, ToFetch, Task, Phase, Find, GiveUp, Over, OverUploaded, Deed, Send, Wait, Reset, Done, deed, Heard, Acked, Status, StateIs, Part, NoRoom, Stalled, Nothing, Waited, WasReset, Restarted}
-use Rattle.dfu_host.specs.Host.{HostState, after}
+use Rattle.dfu_host.specs.Table.{Goal, ToLoad, ToFetch, Task, Phase, GiveUp, Over, OverUploaded, Deed, Send, Wait, Reset, Done, deed, Heard, Acked, Status, StateIs, Part, NoRoom, Stalled, Nothing, Waited, WasReset, Restarted}
+use Rattle.dfu_host.specs.Host.{HostState, begun, after}
 use Rattle.dfu_link.specs.Session.{Kind, AnOffer, AnUpload, AnAbort, ATime, ARestart, AGo}
 
 -- The events.
@@ -82,9 +82,9 @@ pub record Played : Type 0 where
 abbrev pub task_for : Profile → Goal → Task
 task_for c goal = record { goal = goal; transfer = c.transfer; tolerant = c.tolerant; will_detach = c.will_detach; detach_ms = c.detach_ms }
 
--- A session begins in phase Find with at least one action.
+-- A session that begins, with the device's task for this goal.
 abbrev pub opened : Profile → Goal → (actions restarts : ℕ) → Session
-opened c goal actions restarts = Hosted (record { task = task_for c goal; phase = Find; actions = max 1 actions; restarts = restarts })
+opened c goal actions restarts = Hosted (begun (task_for c goal) actions restarts)
 
 -- What becomes of a session by what its host takes: it stays live, or it is over with its report.
 pub record Took : Type 0 where
