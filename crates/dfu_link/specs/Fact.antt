@@ -7,6 +7,7 @@ use Rattle.dfu_device.specs.Stage.{Profile, Stage, InApp, Idle, Unwritten, Writt
 use Rattle.dfu_device.specs.Outcome.{Situation}
 use Rattle.dfu_host.specs.Table.{Goal, ToLoad, ToFetch, Task, Phase, Block, Ask, Poll, WaitPoll, Close, AskLast, Manifest, WaitManifest, WaitLast, Fetch, LastUploaded, Last, Over, OverUploaded}
 use Rattle.dfu_host.specs.Host.{HostState}
+pub use Rattle.dfu_host.specs.Host.{IsOn}
 use Rattle.dfu_link.specs.Session.{IsPlain}
 use Rattle.dfu_link.specs.Play.{Session, Nobody, Hosted}
 
@@ -124,12 +125,6 @@ GoalFact c ToFetch phase s = FetchFact phase s
 abbrev pub HasBlocks : Profile → Goal → Type 0
 HasBlocks c (ToLoad p) = 0 < length (blocks p c.transfer)
 HasBlocks c ToFetch = Unit {0}
-
--- The host is not done.
-abbrev pub IsOn : Phase → Type 0
-IsOn (Over report) = ⊥
-IsOn (OverUploaded kept) = ⊥
-IsOn phase = Unit {0}
 
 -- A session's task goes by the device's descriptor.
 pub record GoesBy (c : Profile) (task : Task) : Type 0 where
