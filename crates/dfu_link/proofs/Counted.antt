@@ -3,7 +3,7 @@ use Rattle.std.proofs.Common.{◌≡◌, ℕ, ◌*◌, ◌<◌, List, length, Op
 use Rattle.dfu_host.specs.declared.report.Report.{Report}
 use Rattle.dfu_host.specs.declared.report.Report.TheVariants.{Uploaded}
 use Rattle.dfu_host.specs.Table.{Task, Phase, Over, OverUploaded, Heard, Restarted}
-use Rattle.dfu_host.specs.Host.{HostState, after}
+use Rattle.dfu_host.specs.Host.{HostState, after, aborted_in}
 use Rattle.dfu_host.specs.Counting.{IsCounted, after_stays, after_same_task}
 use Rattle.dfu_device.specs.Stage.{Profile}
 use Rattle.dfu_device.specs.Outcome.{Situation}
@@ -59,9 +59,14 @@ told_fits : (p : Profile) (s : Situation) (session : Session) → SessionFact p 
 told_fits p s Nobody f some c = tt
 told_fits p s (Hosted h) f some c = subst (λ (n : ℕ). Fits n (took h Restarted).answer) f.task_is.transfer (took_fits h Restarted some c)
 
-aborted_counted : (session : Session) → IsCountedIn (aborted session)
-aborted_counted Nobody = tt
-aborted_counted (Hosted h) = tt
+aborted_in_counted : (h : HostState) (phase : Phase) → h.phase ≡ phase → IsCounted h.task phase → IsCountedIn (Hosted (aborted_in h phase))
+aborted_in_counted h (Over r) e c = subst (λ (p : Phase). IsCounted h.task p) (sym e) c
+aborted_in_counted h (OverUploaded kept) e c = subst (λ (p : Phase). IsCounted h.task p) (sym e) c
+aborted_in_counted h phase e c = tt
+
+aborted_counted : (session : Session) → IsCountedIn session → IsCountedIn (aborted session)
+aborted_counted Nobody c = tt
+aborted_counted (Hosted h) c = aborted_in_counted h h.phase refl c
 
 fits_whole : (t : ℕ) (report : Option Report) (gave : Option (List ℕ)) → FitsIn t report gave → ComesWith report gave
 fits_whole t (Some Uploaded) (Some bytes) fits = tt
@@ -91,7 +96,7 @@ fact_on p s (Hosted h) f = f.on
 pub happens_counted : (event : Event) (harm : Harm) (b b' : Bench) (answer : Answered) → IsSized b.session → IsCountedIn b.session → Happens event harm b b' answer → IsCountedIn b'.session
 happens_counted (Offer payload actions restarts) harm b b' answer some c (e, f) = subst (λ (x : Bench). IsCountedIn x.session) (sym e) tt
 happens_counted (UploadIt actions restarts) harm b b' answer some c (e, f) = subst (λ (x : Bench). IsCountedIn x.session) (sym e) tt
-happens_counted AbortIt harm b b' answer some c (e, f) = subst (λ (x : Bench). IsCountedIn x.session) (sym e) (aborted_counted b.session)
+happens_counted AbortIt harm b b' answer some c (e, f) = subst (λ (x : Bench). IsCountedIn x.session) (sym e) (aborted_counted b.session c)
 happens_counted (Go fate) harm b b' answer some c g = subst IsCountedIn (sym g.session) (took_counted g.host g.heard (subst IsSized g.live some) (subst IsCountedIn g.live c))
 happens_counted (Time ms) harm b b' answer some c (e, s, n) = subst IsCountedIn (sym s) c
 happens_counted ResetBus harm b b' answer some c (e, f) = subst (λ (x : Bench). IsCountedIn x.session) (sym e) (told_counted b.session some c)

@@ -14,7 +14,7 @@ use Rattle.dfu_link.specs.Agreement.{pending_of, live_goal, live_of, IsSound, Is
 use Rattle.dfu_link.specs.Fact.{IsIdle, Fetches, FetchFact, GoalFact, IsOn, SessionFact}
 use Rattle.dfu_link.specs.Headline.{Follows, Plays, ends, plays, FollowsAll}
 use Rattle.dfu_link.proofs.Kept.{fact_time}
-use Rattle.dfu_link.proofs.Taking.{shown, restart_taken, restart_plain, stop_fact, goes_by}
+use Rattle.dfu_link.proofs.Taking.{shown, gives_up, restart_taken, restart_plain, stop_fact, goes_by}
 use Rattle.dfu_link.proofs.Saying.{step_live}
 use Rattle.dfu_link.proofs.Acting.{Simulated, go_simulated}
 
@@ -113,7 +113,9 @@ module _ (c : Profile) where
   simulated offers s Nobody up (UploadIt actions again) l k room z a q o f = record { step = uploads; sound = q; offer = tt; fact = record { task_is = goes_by c ToFetch; on = tt; some = tt; fact = tt }; done = λ e. cc }
   simulated offers s (Hosted h) up (UploadIt actions again) l k room z a q o f = elim a [ ]
   simulated offers s Nobody up AbortIt l k room z a q o f = elim a [ ]
-  simulated offers s (Hosted h) up AbortIt l k room z a q o f = record { step = aborts; sound = q; offer = o; fact = record { task_is = f.task_is; on = tt; some = f.some; fact = stop_fact c offers h.task.goal s }; done = λ e. cc }
+  simulated offers s (Hosted h) up AbortIt l k room z a q o f =
+      subst (λ x. Simulated c offers (record { device = s; session = Hosted h }) up (kind_of AbortIt) (record { link = record { device = s; session = Hosted x }; answer = record { report = None; gave = None } }) offers) (sym (gives_up h h.phase f.on))
+      (record { step = aborts; sound = q; offer = o; fact = record { task_is = f.task_is; on = tt; some = f.some; fact = stop_fact c offers h.task.goal s }; done = λ e. cc })
   simulated offers s Nobody up (Go fate) l k room z a q o f = elim a [ ]
   simulated offers s (Hosted h) up (Go fate) l k room z a q o f = go_simulated c z offers s h up fate l k room q o f
   simulated offers s session up (Time ms) l k room z a q o f =

@@ -6,8 +6,8 @@ use Rattle.dfu_device.specs.Stage.{Request, Reply, Ack, StatusOf, StateOf, Data,
 use Rattle.dfu_device.specs.Table.{Plan, plan}
 use Rattle.dfu_device.specs.Outcome.{Situation, Luck, Works, outcome, handled, elapsed, was_reset, powered}
 use Rattle.dfu_device.specs.Rows.{meant}
-use Rattle.dfu_host.specs.Table.{Goal, ToLoad, ToFetch, Task, Phase, GiveUp, Over, OverUploaded, Deed, Send, Wait, Reset, Done, deed, Heard, Acked, Status, StateIs, Part, NoRoom, Stalled, Nothing, Waited, WasReset, Restarted}
-use Rattle.dfu_host.specs.Host.{HostState, begun, after}
+use Rattle.dfu_host.specs.Table.{Goal, ToLoad, ToFetch, Task, Phase, Over, OverUploaded, Deed, Send, Wait, Reset, Done, deed, Heard, Acked, Status, StateIs, Part, NoRoom, Stalled, Nothing, Waited, WasReset, Restarted}
+use Rattle.dfu_host.specs.Host.{HostState, begun, after, aborted as host_aborted}
 use Rattle.dfu_link.specs.Session.{Kind, AnOffer, AnUpload, AnAbort, ATime, ARestart, AGo}
 
 -- The events.
@@ -106,10 +106,10 @@ abbrev pub told : Session → Took
 told Nobody = record { session = Nobody; answer = silent }
 told (Hosted h) = took h Restarted
 
--- An abort makes a live host give up.
+-- An abort reaches a live host, by the host's own rule.
 abbrev pub aborted : Session → Session
 aborted Nobody = Nobody
-aborted (Hosted h) = Hosted (record h { phase = GiveUp })
+aborted (Hosted h) = Hosted (host_aborted h)
 
 -- One action.
 
