@@ -54,7 +54,8 @@ fn stop_text<W: Write>(alloc: Global, fault: ScriptFault, writer: &mut W) -> Exi
 /// Runs the script that the reader gives, and writes what it prints; with Done the last line is
 /// that of the active image. For a script that stopped the line is `refused NAME` with Refused, for
 /// BadLine and LateConfig with the number of the line behind it, or `fault Read` with Fault; what
-/// the lines before printed stands before it.
+/// the lines before printed stands before it. Where the line with a number finds no memory it is
+/// `refused NoMemory`.
 ///
 /// Where the writer fails it answers Fault; a prefix of the text is out, and nothing more is
 /// written.
