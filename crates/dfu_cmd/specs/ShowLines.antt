@@ -12,29 +12,33 @@ use Rattle.dfu_wire.specs.FaultName.{wire_fault_name}
 use Rattle.dfu_suffix.specs.declared.fault.SuffixFault.TheVariants.{NoMemory}
 use Rattle.dfu_cmd.specs.Lines.{fault_line, hex}
 
--- a flag in words
+-- A flag is written as `yes` or `no`.
 abbrev pub yes_no : Bool → List ℕ
 yes_no true = codes "yes"
 yes_no false = codes "no"
 
--- functional download Y upload Y tolerant Y will-detach Y detach N transfer N version HHHH
+-- The line for a descriptor is `functional download Y upload Y tolerant Y will-detach Y detach N transfer N version HHHH`.
 unfoldable pub functional_line : Functional → List ℕ
 functional_line f =
     codes "functional" ++ (codes " download " ++ yes_no f.can_download) ++ (codes " upload " ++ yes_no f.can_upload)
     ++ (codes " tolerant " ++ yes_no f.tolerant) ++ (codes " will-detach " ++ yes_no f.will_detach)
     ++ (codes " detach " ++ decimal f.detach_ms) ++ (codes " transfer " ++ decimal f.transfer) ++ (codes " version " ++ hex 4 f.version) ++ 10 ∷ []
 
--- status CODE poll N state STATE string N
+-- The line for a status is `status CODE poll N state STATE string N`.
 unfoldable pub status_line : StatusFields → ℕ → List ℕ
 status_line s string =
     codes "status" ++ (codes " " ++ code_name s.code) ++ (codes " poll " ++ decimal s.poll_ms) ++ (codes " state " ++ state_name s.state)
     ++ (codes " string " ++ decimal string) ++ 10 ∷ []
 
--- refused NAME
+-- The line for bytes that can't be read is `refused NAME`, with the name of their fault.
 unfoldable pub wire_line : WireFault → List ℕ
 wire_line f = codes "refused " ++ wire_fault_name f ++ 10 ∷ []
 
--- the line for a text that isn't hexadecimal, or where memory ran out
+-- The line for a text that isn't hexadecimal is `refused BadHex`.
+abbrev pub no_hex_line : List ℕ
+no_hex_line = codes "refused BadHex" ++ 10 ∷ []
+
+-- The line for a text whose bytes can't be had says that memory ran out, or that it isn't hexadecimal.
 abbrev pub bad_hex_line : FromHexError → List ℕ
 bad_hex_line hex_error.OutOfMemory = fault_line NoMemory
-bad_hex_line e = codes "refused BadHex" ++ 10 ∷ []
+bad_hex_line e = no_hex_line

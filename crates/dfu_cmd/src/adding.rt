@@ -5,7 +5,7 @@ ghost use Rattle.std.specs.String.{string_bytes};
 ghost use Rattle.dfu_cmd.specs.Adding.{WritesAdd, wrote_line};
 
 use crate::exit::Exit;
-use crate::faults::{fault_exit, fault_line};
+use crate::faults::fault_text;
 use crate::numbers::field;
 use crate::output::write_out;
 use dfu_suffix::{Ids, SuffixFault, add};
@@ -25,11 +25,11 @@ fn wrote_line(alloc: Global, count: u32) -> Result<String, AllocError>
 
 /// Writes to `file` what the reader gives and a suffix for it, and one line to `out`: `wrote N`
 /// with Done, N being the number of bytes in `file`; `refused NAME` with Refused; `fault Read` or
-/// `fault Write`, of `file`, with Fault. After `fault Write` a prefix of the text is in `file`,
-/// after any other line but `wrote N` nothing is. Where the line can't be made for want of memory
-/// it is `refused NoMemory`, and `file` may be whole.
+/// `fault Write`, of `file`, with Fault. After `fault Write` a front of the text is in `file`, not
+/// all of it, and after any other line but `wrote N` nothing is. Where the line can't be made for
+/// want of memory it is `refused NoMemory`, and `file` may be whole.
 ///
-/// Where `out` fails it answers Fault, and a prefix of the line is out.
+/// Where `out` fails it answers Fault, and a front of the line is out, not all of it.
 pub fn add_text<R: Read + Drop, F: Write, W: Write>(
     alloc: Global,
     reader: R,
@@ -42,11 +42,8 @@ pub fn add_text<R: Read + Drop, F: Write, W: Write>(
     match add(alloc, reader, ids, file) {
         Ok(count) => match wrote_line(alloc, count) {
             Ok(line) => write_out(out, line.as_bytes(), Exit::Done),
-            Err(_) => {
-                let line = fault_line(SuffixFault::NoMemory);
-                write_out(out, line.as_bytes(), Exit::Refused)
-            }
+            Err(_) => fault_text(SuffixFault::NoMemory, out),
         },
-        Err(fault) => write_out(out, fault_line(fault).as_bytes(), fault_exit(fault)),
+        Err(fault) => fault_text(fault, out),
     }
 }

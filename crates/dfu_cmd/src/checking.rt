@@ -6,7 +6,7 @@ ghost use Rattle.dfu_cmd.specs.Lines.{ok_line};
 ghost use Rattle.dfu_cmd.specs.Checking.{WritesCheck};
 
 use crate::exit::Exit;
-use crate::faults::{fault_exit, fault_line};
+use crate::faults::fault_text;
 use crate::numbers::{field, hex4, hex8};
 use crate::output::write_out;
 use dfu_suffix::{SuffixFault, Summary, check};
@@ -40,19 +40,16 @@ fn ok_line(alloc: Global, summary: &Summary) -> Result<String, AllocError>
 /// PPPP vendor VVVV dfu BBBB crc CCCCCCCC` with Done, `refused NAME` with Refused, or
 /// `fault Read` with Fault. Where an allocation is refused the line is `refused NoMemory`.
 ///
-/// Where the writer fails it answers Fault; a prefix of the line is out, and nothing more is
-/// written.
+/// Where the writer fails it answers Fault; a front of the line is out, not all of it, and nothing
+/// more is written.
 pub fn check_text<R: Read + Drop, W: Write>(alloc: Global, reader: R, writer: &mut W) -> Exit
     ensures { WritesCheck (R.remaining reader) (W.contents writer.old) (W.contents writer.new) result }
 {
     match check(alloc, reader) {
         Ok(summary) => match ok_line(alloc, &summary) {
             Ok(line) => write_out(writer, line.as_bytes(), Exit::Done),
-            Err(_) => {
-                let line = fault_line(SuffixFault::NoMemory);
-                write_out(writer, line.as_bytes(), Exit::Refused)
-            }
+            Err(_) => fault_text(SuffixFault::NoMemory, writer),
         },
-        Err(fault) => write_out(writer, fault_line(fault).as_bytes(), fault_exit(fault)),
+        Err(fault) => fault_text(fault, writer),
     }
 }

@@ -1,7 +1,7 @@
 // The lines for what is refused and for what failed.
 
 ghost use Rattle.std.specs.Prelude.{◌≡◌};
-ghost use Rattle.dfu_cmd.specs.Lines.{fault_line, fault_exit};
+ghost use Rattle.dfu_cmd.specs.Lines.{bad_words_line, fault_line, fault_exit};
 ghost use Rattle.dfu_cmd.specs.Output.{Wrote};
 
 use crate::exit::Exit;
@@ -27,7 +27,7 @@ pub(crate) fn fault_line(fault: SuffixFault) -> &'static str
     }
 }
 
-pub(crate) fn fault_exit(fault: SuffixFault) -> Exit
+fn fault_exit(fault: SuffixFault) -> Exit
     ensures { result ≡ fault_exit fault }
 {
     match fault {
@@ -36,11 +36,19 @@ pub(crate) fn fault_exit(fault: SuffixFault) -> Exit
     }
 }
 
-/// Writes the line of a fault: `fault NAME` for Read and Write, and else `refused NAME`. It answers
-/// Fault for Read and Write, else Refused; where the writer fails, Fault, and a front of the line is
-/// out.
+/// Writes the line of a fault: `fault NAME` for Read and Write, and else `refused NAME`.
+///
+/// It answers Fault for Read and Write, else Refused; where the writer fails, Fault, and a front of
+/// the line is out, not all of it.
 pub fn fault_text<W: Write>(fault: SuffixFault, writer: &mut W) -> Exit
     ensures { Wrote (W.contents writer.old) (W.contents writer.new) (fault_line fault) (fault_exit fault) result }
 {
     write_out(writer, fault_line(fault).as_bytes(), fault_exit(fault))
+}
+
+// Writes the line for words that aren't understood.
+pub(crate) fn bad_words<W: Write>(writer: &mut W) -> Exit
+    ensures { Wrote (W.contents writer.old) (W.contents writer.new) bad_words_line Exit.BadWords result }
+{
+    write_out(writer, b"bad words\n", Exit::BadWords)
 }

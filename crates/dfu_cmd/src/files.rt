@@ -3,7 +3,7 @@
 use crate::adding::add_text;
 use crate::checking::check_text;
 use crate::exit::Exit;
-use crate::faults::fault_text;
+use crate::faults::{bad_words, fault_text};
 use crate::output::write_out;
 use crate::running::run_text;
 use dfu_suffix::{Ids, SuffixFault};
@@ -77,7 +77,7 @@ pub(crate) fn run_add(
         identifier(pid),
         identifier(did),
     ) else {
-        return write_out(&mut out, b"bad words\n", Exit::BadWords);
+        return bad_words(&mut out);
     };
     let ids = Ids {
         device,

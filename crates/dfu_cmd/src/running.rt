@@ -57,8 +57,8 @@ fn stop_text<W: Write>(alloc: Global, fault: ScriptFault, writer: &mut W) -> Exi
 /// the lines before printed stands before it. Where the line with a number finds no memory it is
 /// `refused NoMemory`.
 ///
-/// Where the writer fails it answers Fault; a prefix of the text is out, and nothing more is
-/// written.
+/// Where the writer fails it answers Fault; a front of the text is out, not all of it, and nothing
+/// more is written.
 pub fn run_text<R: Read + Drop, W: Write>(alloc: Global, reader: R, writer: &mut W) -> Exit
     ensures { WritesRun (R.remaining reader) (W.contents writer.old) (W.contents writer.new) result }
 {

@@ -2,10 +2,11 @@
 
 ghost use Rattle.std.specs.Prelude.{◌≡◌, ◌≢◌, codes};
 ghost use Rattle.dfu_cmd.specs.Output.{Wrote};
-ghost use Rattle.dfu_cmd.specs.Showing.{WritesFunctional, WritesStatus, WritesBytes, bad_words_line};
+ghost use Rattle.dfu_cmd.specs.Lines.{bad_words_line};
+ghost use Rattle.dfu_cmd.specs.Showing.{WritesFunctional, WritesStatus, WritesBytes};
 
 use crate::exit::Exit;
-use crate::faults::fault_line;
+use crate::faults::{bad_words, fault_text};
 use crate::output::write_out;
 use crate::show_lines::{bad_hex_line, functional_line, status_line, wire_line};
 use dfu_suffix::SuffixFault;
@@ -19,10 +20,7 @@ fn write_functional<W: Write>(alloc: Global, bytes: &[u8], writer: &mut W) -> Ex
     match Functional::decode(bytes) {
         Ok(functional) => match functional_line(alloc, &functional) {
             Ok(line) => write_out(writer, line.as_bytes(), Exit::Done),
-            Err(_) => {
-                let line = fault_line(SuffixFault::NoMemory);
-                write_out(writer, line.as_bytes(), Exit::Refused)
-            }
+            Err(_) => fault_text(SuffixFault::NoMemory, writer),
         },
         Err(fault) => write_out(writer, wire_line(fault).as_bytes(), Exit::Refused),
     }
@@ -34,10 +32,7 @@ fn write_status<W: Write>(alloc: Global, bytes: &[u8], writer: &mut W) -> Exit
     match Status::decode(bytes) {
         Ok(status) => match status_line(alloc, &status, bytes[5]) {
             Ok(line) => write_out(writer, line.as_bytes(), Exit::Done),
-            Err(_) => {
-                let line = fault_line(SuffixFault::NoMemory);
-                write_out(writer, line.as_bytes(), Exit::Refused)
-            }
+            Err(_) => fault_text(SuffixFault::NoMemory, writer),
         },
         Err(fault) => write_out(writer, wire_line(fault).as_bytes(), Exit::Refused),
     }
@@ -70,8 +65,8 @@ fn show_status<W: Write>(alloc: Global, hex: &str, writer: &mut W) -> Exit
 ///   HHHH`, Y being `yes` or `no`, or `status CODE poll N state STATE string N`, with Done.
 ///
 /// They are looked for in this order. Where an allocation is refused the line is
-/// `refused NoMemory`, with Refused. Where the writer fails it answers Fault, and a prefix of the
-/// line is out.
+/// `refused NoMemory`, with Refused. Where the writer fails it answers Fault, and a front of the
+/// line is out, not all of it.
 pub fn show_text<W: Write>(alloc: Global, kind: &str, hex: &str, writer: &mut W) -> Exit
     ensures functional { kind.now ≡ codes "functional"
         → WritesBytes WritesFunctional hex.now (W.contents writer.old) (W.contents writer.new) result }
@@ -83,6 +78,6 @@ pub fn show_text<W: Write>(alloc: Global, kind: &str, hex: &str, writer: &mut W)
     match kind {
         "functional" => show_functional(alloc, hex, writer),
         "status" => show_status(alloc, hex, writer),
-        _ => write_out(writer, b"bad words\n", Exit::BadWords),
+        _ => bad_words(writer),
     }
 }
