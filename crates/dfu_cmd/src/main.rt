@@ -21,9 +21,9 @@ pub use adding::add_text;
 pub use checking::check_text;
 use dfu_suffix::SuffixFault;
 pub use exit::Exit;
+use faults::bad_words;
 pub use faults::fault_text;
 use files::{run_add, run_check, run_script};
-use output::write_out;
 pub use running::run_text;
 pub use showing::show_text;
 use std::io::{self, ErrorKind};
@@ -50,17 +50,19 @@ fn run_job(rt: &HostRuntime, job: Job) -> Exit {
 }
 
 // The parser's text, which for a mistake ends with how to ask for help.
-fn explain(rt: &HostRuntime, error: &clap::Error) -> io::Result<u8> {
-    rt.print(error)?;
-    Ok(error.exit_code() as u8)
+fn explain(rt: &HostRuntime, error: &clap::Error) -> u8 {
+    match rt.print(error) {
+        Ok(()) => error.exit_code() as u8,
+        Err(_error) => Exit::Fault.status(),
+    }
 }
 
-fn run_words(rt: &HostRuntime, words: &[String]) -> io::Result<u8> {
+fn run_words(rt: &HostRuntime, words: &[String]) -> u8 {
     match job(rt.alloc(), words) {
-        Ok(job) => Ok(run_job(rt, job).status()),
+        Ok(job) => run_job(rt, job).status(),
         Err(fault) => match fault {
             JobFault::Words(error) => explain(rt, &error),
-            JobFault::NoMemory => Ok(no_memory(rt).status()),
+            JobFault::NoMemory => no_memory(rt).status(),
         },
     }
 }
@@ -78,15 +80,15 @@ fn words_of(rt: &HostRuntime) -> io::Result<Vec<String>> {
 // Words that can't be had: one of them isn't text, or there is no memory for them.
 fn refuse_words(rt: &HostRuntime, error: &io::Error) -> Exit {
     match error.kind() {
-        ErrorKind::InvalidData => write_out(&mut io::writer(rt), b"bad words\n", Exit::BadWords),
+        ErrorKind::InvalidData => bad_words(&mut io::writer(rt)),
         _ => no_memory(rt),
     }
 }
 
-fn main(rt: HostRuntime) -> io::Result<ExitCode> {
+fn main(rt: HostRuntime) -> ExitCode {
     let status = match words_of(&rt) {
-        Ok(words) => run_words(&rt, &words)?,
+        Ok(words) => run_words(&rt, &words),
         Err(error) => refuse_words(&rt, &error).status(),
     };
-    Ok(ExitCode::from(status))
+    ExitCode::from(status)
 }
