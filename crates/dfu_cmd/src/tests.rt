@@ -1,9 +1,9 @@
 mod readers;
 mod scripts;
+mod streams;
 
 use crate::{Exit, Job, JobFault, add_text, check_text, job, run_text, show_text};
 use dfu_suffix::Ids;
-use readers::{Failing, Refusing};
 use std::alloc::{AllocError, Global};
 use std::process::Abort;
 use std::test::Fail;
@@ -54,42 +54,6 @@ fn checks_known_files(rt: HostRuntime) {
 }
 
 #[test]
-fn checks_a_reader_that_fails(rt: HostRuntime) {
-    let mut out = Vec::new(rt.alloc());
-    assert_eq!(rt; check_text(rt.alloc(), Failing, &mut out), Exit::Fault);
-    assert_eq!(rt; out.as_slice(), &b"fault Read\n"[..]);
-}
-
-#[test]
-fn runs_a_script_that_cannot_be_read(rt: HostRuntime) {
-    let mut out = Vec::new(rt.alloc());
-    assert_eq!(rt; run_text(rt.alloc(), Failing, &mut out), Exit::Fault);
-    assert_eq!(rt; out.as_slice(), &b"fault Read\n"[..]);
-}
-
-// A writer that refuses after some bytes: a prefix is out, and nothing more is tried.
-#[test]
-fn stops_at_a_writer_that_fails(rt: HostRuntime) {
-    for room in [0usize, 1, 16] {
-        let mut out = Refusing {
-            left: room,
-            calls_after: 0,
-        };
-        assert_eq!(rt;
-            check_text(rt.alloc(), &FOUR_ONES[..15], &mut out),
-            Exit::Fault
-        );
-        assert_eq!(rt; (out.left, out.calls_after), (0, 1), "with room for {room}");
-    }
-    let mut out = Refusing {
-        left: 3,
-        calls_after: 0,
-    };
-    assert_eq!(rt; run_text(rt.alloc(), &b"show\n"[..], &mut out), Exit::Fault);
-    assert_eq!(rt; (out.left, out.calls_after), (0, 1));
-}
-
-#[test]
 fn adds_a_suffix(rt: HostRuntime) {
     let mut file = Vec::new(rt.alloc());
     let mut out = Vec::new(rt.alloc());
@@ -103,6 +67,14 @@ fn adds_a_suffix(rt: HostRuntime) {
     assert_eq!(rt; exit, Exit::Done);
     assert_eq!(rt; file.as_slice(), &DIGITS[..]);
     assert_eq!(rt; out.as_slice(), &b"wrote 25\n"[..]);
+}
+
+// Of a script with no line the line of the image is left.
+#[test]
+fn runs_an_empty_script(rt: HostRuntime) {
+    let mut out = Vec::new(rt.alloc());
+    assert_eq!(rt; run_text(rt.alloc(), &b""[..], &mut out), Exit::Done);
+    assert_eq!(rt; out.as_slice(), &b"image 00\n"[..]);
 }
 
 #[test]

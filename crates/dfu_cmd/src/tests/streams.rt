@@ -1,0 +1,112 @@
+// Readers and writers that fail: what is answered, and what is out.
+
+use crate::tests::readers::{Failing, Refusing};
+use crate::tests::{DIGITS, DIGITS_IDS, FOUR_ONES};
+use crate::{Exit, add_text, check_text, run_text, show_text};
+
+#[test]
+fn checks_a_reader_that_fails(rt: HostRuntime) {
+    let mut out = Vec::new(rt.alloc());
+    assert_eq!(rt; check_text(rt.alloc(), Failing, &mut out), Exit::Fault);
+    assert_eq!(rt; out.as_slice(), &b"fault Read\n"[..]);
+}
+
+#[test]
+fn runs_a_script_that_cannot_be_read(rt: HostRuntime) {
+    let mut out = Vec::new(rt.alloc());
+    assert_eq!(rt; run_text(rt.alloc(), Failing, &mut out), Exit::Fault);
+    assert_eq!(rt; out.as_slice(), &b"fault Read\n"[..]);
+}
+
+// A writer that refuses after some bytes: a front is out, and nothing more is tried.
+#[test]
+fn stops_at_a_writer_that_fails(rt: HostRuntime) {
+    for room in [0usize, 1, 16] {
+        let mut out = Refusing {
+            left: room,
+            calls_after: 0,
+        };
+        assert_eq!(rt;
+            check_text(rt.alloc(), &FOUR_ONES[..15], &mut out),
+            Exit::Fault
+        );
+        assert_eq!(rt; (out.left, out.calls_after), (0, 1), "with room for {room}");
+    }
+    let mut out = Refusing {
+        left: 3,
+        calls_after: 0,
+    };
+    assert_eq!(rt; run_text(rt.alloc(), &b"show\n"[..], &mut out), Exit::Fault);
+    assert_eq!(rt; (out.left, out.calls_after), (0, 1));
+}
+
+#[test]
+fn shows_to_a_writer_that_fails(rt: HostRuntime) {
+    let known = [
+        ("status", "000500000400", 41usize),
+        ("status", "-", 3),
+        ("state", "00", 9),
+    ];
+    for (kind, hex, room) in known {
+        let mut out = Refusing {
+            left: room,
+            calls_after: 0,
+        };
+        assert_eq!(rt;
+            show_text(rt.alloc(), kind, hex, &mut out),
+            Exit::Fault,
+            "{kind} {hex}"
+        );
+        assert_eq!(rt; (out.left, out.calls_after), (0, 1), "{kind} {hex}");
+    }
+}
+
+#[test]
+fn adds_to_a_reader_that_fails(rt: HostRuntime) {
+    let mut file = Vec::new(rt.alloc());
+    let mut out = Vec::new(rt.alloc());
+    let exit = add_text(rt.alloc(), Failing, DIGITS_IDS, &mut file, &mut out);
+    assert_eq!(rt; exit, Exit::Fault);
+    assert_eq!(rt; file.len(), 0);
+    assert_eq!(rt; out.as_slice(), &b"fault Read\n"[..]);
+}
+
+// The file would have 25 bytes.
+#[test]
+fn adds_to_a_file_that_fails(rt: HostRuntime) {
+    let mut file = Refusing {
+        left: 24,
+        calls_after: 0,
+    };
+    let mut out = Vec::new(rt.alloc());
+    let exit = add_text(
+        rt.alloc(),
+        &b"123456789"[..],
+        DIGITS_IDS,
+        &mut file,
+        &mut out,
+    );
+    assert_eq!(rt; exit, Exit::Fault);
+    assert_eq!(rt; (file.left, file.calls_after), (0, 1));
+    assert_eq!(rt; out.as_slice(), &b"fault Write\n"[..]);
+}
+
+// The file is whole, and the line isn't.
+#[test]
+fn adds_with_a_line_that_fails(rt: HostRuntime) {
+    let mut file = Vec::new(rt.alloc());
+    let mut out = Refusing {
+        left: 8,
+        calls_after: 0,
+    };
+    let exit = add_text(
+        rt.alloc(),
+        &b"123456789"[..],
+        DIGITS_IDS,
+        &mut file,
+        &mut out,
+    );
+    assert_eq!(rt; exit, Exit::Fault);
+    assert_eq!(rt; file.as_slice(), &DIGITS[..]);
+    assert_eq!(rt; (out.left, out.calls_after), (0, 1));
+}
