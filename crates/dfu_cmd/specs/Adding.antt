@@ -10,21 +10,21 @@ use Rattle.dfu_cmd.specs.declared.exit.Exit.TheVariants.{Done, Refused}
 use Rattle.dfu_cmd.specs.Lines.{fault_exit, fault_line}
 use Rattle.dfu_cmd.specs.Output.{Wrote}
 
--- wrote N
+-- The line for a file that was made is `wrote N`, with the number of its bytes.
 unfoldable pub wrote_line : ℕ → List ℕ
 wrote_line count = codes "wrote" ++ (codes " " ++ decimal count) ++ 10 ∷ []
 
--- the line for what adding a suffix answered
+-- The line for what adding a suffix answered is that of the number of bytes, or that of the fault.
 abbrev pub added_line : Result ℕ SuffixFault → List ℕ
 added_line (Ok count) = wrote_line count
 added_line (Err f) = fault_line f
 
--- how the command ends for what adding a suffix answered
+-- The command ends with Done where adding a suffix found no fault, and else as the fault says.
 abbrev pub added_exit : Result ℕ SuffixFault → Exit
 added_exit (Ok count) = Done
 added_exit (Err f) = fault_exit f
 
--- the file holds what adding a suffix wrote for all that the reader gave, and the line is that of the answer, or says that memory ran out
+-- The file holds what adding a suffix wrote for all that the reader gave, and the line is that of the answer, or says that memory ran out.
 abbrev pub WritesAdd : Option (List ℕ) → Ids → Option (List ℕ) → Option (List ℕ) → Option (List ℕ) → Option (List ℕ) → Exit → Type 0
 WritesAdd given ids file written old new result =
     (answer : Result ℕ SuffixFault) × IfSome given (λ all. Adds all ids file written answer) × KeepsAtFault file written answer

@@ -9,7 +9,7 @@ use Rattle.dfu_cmd.specs.declared.exit.Exit.TheVariants.{Refused}
 use Rattle.dfu_cmd.specs.Lines.{exit_of, fault_line, line_of}
 use Rattle.dfu_cmd.specs.Output.{Wrote}
 
--- the line is that of the answer for all that the reader gave, or says that memory ran out
+-- The line is that of the answer for all that the reader gave, or says that memory ran out.
 abbrev pub WritesCheck : Option (List ℕ) → Option (List ℕ) → Option (List ℕ) → Exit → Type 0
 WritesCheck given old new result =
     (answer : Result Summary SuffixFault) × IfSome given (λ all. UnlessCut answer (Checks all answer))

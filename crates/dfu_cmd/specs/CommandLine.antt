@@ -6,41 +6,41 @@ use Rattle.clap.specs.declared.builder.ArgAction.TheVariants.{Set}
 use Rattle.dfu_cmd.specs.declared.task.Job.{Job}
 use Rattle.dfu_cmd.specs.declared.task.Job.TheVariants.{Check, Add, Show, Run}
 
--- a positional argument that has to be there
+-- A positional argument that is needed has to be there, with one value.
 abbrev pub needed : Text → Rule
 needed id = record (new_rule id) { required = true; action = Some Set; value_names = 1 }
 
--- an option --ID with a value, and a default where it isn't given
+-- An option `--ID` has a value, and a default where it isn't given.
 abbrev pub option : Text → Text → Rule
 option id default = record (new_rule id) { long = Some id; action = Some Set; defaults = default ∷ [] }
 
--- check FILE
+-- The command `check` takes FILE.
 abbrev pub check_app : App
 check_app = with_rule (new_app (codes "check")) (needed (codes "file"))
 
--- add FILE OUT [--vid XXXX] [--pid XXXX] [--did XXXX], each ffff by default
+-- The command `add` takes FILE, OUT and the options `--vid`, `--pid` and `--did`, each `ffff` by default.
 abbrev pub add_app : App
 add_app =
     with_rule (with_rule (with_rule (with_rule (with_rule (new_app (codes "add")) (needed (codes "file"))) (needed (codes "to")))
     (option (codes "vid") (codes "ffff"))) (option (codes "pid") (codes "ffff"))) (option (codes "did") (codes "ffff"))
 
--- show KIND HEX
+-- The command `show` takes KIND and HEX.
 abbrev pub show_app : App
 show_app = with_rule (with_rule (new_app (codes "show")) (needed (codes "kind"))) (needed (codes "hex"))
 
--- run SCRIPT
+-- The command `run` takes SCRIPT.
 abbrev pub run_app : App
 run_app = with_rule (new_app (codes "run")) (needed (codes "script"))
 
--- dfu with no subcommand yet: it has to get one
+-- The command `dfu` with no subcommand yet has to get one.
 abbrev pub top_app : App
 top_app = record (new_app (codes "dfu")) { top = record (new_app (codes "dfu")).top { subcommand_required = true } }
 
--- dfu, with its subcommands
+-- The whole command `dfu` has the subcommands `check`, `add`, `show` and `run`.
 unfoldable pub dfu_app : App
 dfu_app = with_subcommand (with_subcommand (with_subcommand (with_subcommand top_app check_app.top) add_app.top) show_app.top) run_app.top
 
--- the job is what the subcommand and its arguments state, each text in its own place
+-- The job is what the subcommand and its arguments state, each text in its own place.
 abbrev pub States : Option (Text × List Row) → Job → Type 0
 States None job = ⊥
 States (Some p) (Check file) = (p.0 ≡ codes "check") × (first_of (codes "file") p.1 ≡ Some (string_bytes file))

@@ -3,7 +3,7 @@ use Rattle.std.specs.Prelude.{ℕ}
 use Rattle.dfu_cmd.specs.declared.exit.Exit.{Exit}
 use Rattle.dfu_cmd.specs.declared.exit.Exit.TheVariants.{Done, Refused, BadWords, Fault}
 
--- the exit status of each end of a command
+-- Each end of a command has its exit status, from 0 to 3.
 abbrev pub status_of : Exit → ℕ
 status_of Done = 0
 status_of Refused = 1

@@ -11,11 +11,11 @@ use Rattle.dfu_cmd.specs.declared.exit.Exit.TheVariants.{Done, Refused, Fault}
 use Rattle.dfu_cmd.specs.Lines.{fault_line}
 use Rattle.dfu_cmd.specs.Output.{Wrote}
 
--- a line that names a line of the script by its number, or, where there is no memory for that, the line that says so
+-- A line that names a line of the script by its number is written, or, where there is no memory for that, the line that says so.
 abbrev pub WritesNumber : List ℕ → ℕ → Option (List ℕ) → Option (List ℕ) → Exit → Type 0
 WritesNumber text n old new result = Wrote old new (text ++ decimal n ++ 10 ∷ []) Refused result ⊎ Wrote old new (fault_line suffix.NoMemory) Refused result
 
--- what is written of a script that stopped, behind what it wrote: the line of its fault; and nothing more where the writer failed
+-- What is written of a script that stopped, behind what it wrote, is the line of its fault, and nothing more where the writer failed.
 abbrev pub WritesStop : ScriptFault → Option (List ℕ) → Option (List ℕ) → Exit → Type 0
 WritesStop (BadLine n) old new result = WritesNumber (codes "refused BadLine ") n old new result
 WritesStop (LateConfig n) old new result = WritesNumber (codes "refused LateConfig ") n old new result
@@ -25,7 +25,7 @@ WritesStop NoMemory old new result = Wrote old new (fault_line suffix.NoMemory) 
 WritesStop Read old new result = Wrote old new (fault_line suffix.Read) Fault result
 WritesStop Write old new result = (new ≡ old) × (result ≡ Fault)
 
--- a script ran to its end and that is all that is written, or it stopped and the line of its fault is written behind what it wrote
+-- A script ran to its end and that is all that is written, or it stopped and the line of its fault is written behind what it wrote.
 pub data WritesRun (given old new : Option (List ℕ)) (result : Exit) : Type 0 where
   runs : IfSome given (λ text. WroteRun text old new) → result ≡ Done → WritesRun given old new result
   stops : (mid : Option (List ℕ)) (fault : ScriptFault) → IfSome given (λ text. Falls text old mid fault) → WritesStop fault mid new result → WritesRun given old new result
