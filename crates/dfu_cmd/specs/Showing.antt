@@ -7,7 +7,7 @@ use Rattle.dfu_wire.specs.Status.{StatusFields, IsStatus, FirstStatusFault}
 use Rattle.dfu_wire.specs.declared.functionals.Functional.{Functional}
 use Rattle.dfu_wire.specs.declared.fault.WireFault.{WireFault}
 use Rattle.dfu_cmd.specs.declared.exit.Exit.{Exit}
-use Rattle.dfu_cmd.specs.declared.exit.Exit.TheVariants.{Done, Refused, BadWords}
+use Rattle.dfu_cmd.specs.declared.exit.Exit.TheVariants.{Done, Refused}
 use Rattle.dfu_suffix.specs.declared.fault.SuffixFault.TheVariants.{NoMemory}
 use Rattle.dfu_cmd.specs.Lines.{fault_line}
 use Rattle.dfu_cmd.specs.Output.{Wrote}

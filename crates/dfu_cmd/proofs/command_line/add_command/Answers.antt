@@ -1,7 +1,6 @@
-use Rattle.std.proofs.Common.{◌≡◌, ap₂, ◌∙◌, codes}
+use Rattle.std.proofs.Common.{ap₂, ◌∙◌}
 use Rattle.std.proofs.lemmas.Result.{IfOk-weaker}
-use Rattle.clap.specs.Words.{app_of, rule_of, with_rule}
-use Rattle.dfu_cmd.specs.CommandLine.{needed, option, add_app}
+use Rattle.clap.specs.Words.{with_rule}
 use Rattle.dfu_cmd.proofs.command_line.add_command.Goals as goal
 
 pub returns-clause-app : goal.returns-clause-app

@@ -1,6 +1,6 @@
-use Rattle.std.proofs.Common.{◌≡◌, ap₂, ◌∙◌}
+use Rattle.std.proofs.Common.{ap₂, ◌∙◌}
 use Rattle.std.proofs.lemmas.Result.{IfOk-weaker}
-use Rattle.clap.specs.Words.{App, app_of, with_subcommand}
+use Rattle.clap.specs.Words.{App, with_subcommand}
 use Rattle.dfu_cmd.specs.CommandLine.{dfu_app}
 use Rattle.dfu_cmd.proofs.command_line.dfu_command.Goals as goal
 

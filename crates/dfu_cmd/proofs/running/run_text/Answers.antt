@@ -1,4 +1,3 @@
-use Rattle.std.proofs.Common.{◌≡◌}
 use Rattle.dfu_cmd.specs.Running.{stops}
 use Rattle.dfu_cmd.proofs.running.run_text.Goals as goal
 

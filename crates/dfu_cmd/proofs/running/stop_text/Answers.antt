@@ -1,4 +1,3 @@
-use Rattle.std.proofs.Common.{◌≡◌}
 use Rattle.dfu_cmd.proofs.running.stop_text.Goals as goal
 
 pub returns-in-LateConfig : goal.returns-in-LateConfig
