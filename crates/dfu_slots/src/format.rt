@@ -20,15 +20,16 @@ fn write_pieces<M: Medium>(medium: &mut M, at: u32, bytes: &[u8]) -> Result<(), 
     ensures { (n : ℕ) → length bytes.now ≤ n →
         Series (M.state medium.old) (piece_writes n at bytes.now) result (M.state medium.new) }
 {
-    let len = bytes.len();
-    if len == 0 {
-        return Ok(());
+    let mut place = at;
+    let mut rest = bytes;
+    while !rest.is_empty() {
+        let size = PIECE.min(rest.len());
+        let (piece, left) = rest.split_at(size);
+        program(medium, place, piece)?;
+        place += size as u32;
+        rest = left;
     }
-    let size = PIECE.min(len);
-    match program(medium, at, &bytes[..size]) {
-        Err(failed) => Err(failed),
-        Ok(()) => write_pieces(medium, at + size as u32, &bytes[size..]),
-    }
+    Ok(())
 }
 
 // Closes both gates, the second slot's first.
