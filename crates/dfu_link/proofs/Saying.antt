@@ -27,7 +27,7 @@ step_live uploads e = absurd cc
 step_live aborts e = absurd cc
 step_live passes e = absurd cc
 step_live (passes_installed h) e = absurd cc
-step_live (restarts d s plain) e = absurd (subst OnlyPlain e plain)
+step_live (restarts s plain) e = absurd (subst OnlyPlain e plain)
 step_live (goes b d s) e = sym (ends_live d ∙ begins_live b) ∙ says_live s e
 
 says_up : {tolerant : Bool} {m m' : Machine} {report : Option Report} → Says tolerant m report m' → report ≡ Some Uploaded → m'.up ≡ m'.cur
@@ -43,7 +43,7 @@ step_up uploads e = absurd cc
 step_up aborts e = absurd cc
 step_up passes e = absurd cc
 step_up (passes_installed h) e = absurd cc
-step_up (restarts d s plain) e = absurd (subst OnlyPlain e plain)
+step_up (restarts s plain) e = absurd (subst OnlyPlain e plain)
 step_up (goes b d s) e = says_up s e
 
 -- the active image stays, or becomes one of these
@@ -80,7 +80,7 @@ step_comes uploads = (refl, inl refl)
 step_comes aborts = (refl, inl refl)
 step_comes passes = (refl, inl refl)
 step_comes (passes_installed h) = (refl, inr h)
-step_comes (restarts d s plain) = ((says_same s).0 ∙ (ends_same d).0, inl ((says_same s).1 ∙ (ends_same d).1))
+step_comes (restarts s plain) = ((says_same s).0, inl (says_same s).1)
 step_comes {m = m} {m' = m'} (goes {m1 = m1} b d s) =
     ((says_same s).0 ∙ (ends_same d).0 ∙ (begins_comes b).0, comes_on m.offers m.cur m1.cur m'.cur (begins_comes b).1 ((says_same s).1 ∙ (ends_same d).1))
 

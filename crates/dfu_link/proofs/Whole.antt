@@ -7,9 +7,9 @@ use Rattle.dfu_device.specs.TakenRow.{either_way}
 use Rattle.dfu_host.specs.declared.report.Report.{Report}
 use Rattle.dfu_host.specs.Blocks.{blocks}
 use Rattle.dfu_host.specs.BlockLaws.{block_counts}
-use Rattle.dfu_host.specs.Table.{Goal, ToLoad, ToFetch, Phase, Fetch, LastUploaded, Over, OverUploaded}
-use Rattle.dfu_link.specs.Session.{Machine, Live, NoOne, Ends, drops, says_not, ATime, ARestart, Step, offered, uploads, aborts, passes, passes_installed, restarts, stops, and_then}
-use Rattle.dfu_link.specs.Play.{Event, Offer, UploadIt, AbortIt, Go, Time, ResetBus, Cut, kind_of, Session, Nobody, Hosted, Link, Answered, given, Played, restarted_to, played, IsAllowed, Play}
+use Rattle.dfu_host.specs.Table.{Goal, ToLoad, ToFetch, Phase, Fetch, LastUploaded, Over, OverUploaded, Restarted}
+use Rattle.dfu_link.specs.Session.{Machine, Live, NoOne, Says, says_not, ATime, ARestart, Step, offered, uploads, aborts, passes, passes_installed, restarts, stops, and_then}
+use Rattle.dfu_link.specs.Play.{Event, Offer, UploadIt, AbortIt, Go, Time, ResetBus, Cut, kind_of, Session, Nobody, Hosted, Link, Answered, given, Played, took, restarted_to, played, IsAllowed, Play}
 use Rattle.dfu_link.specs.Agreement.{pending_of, live_goal, live_of, IsSound, IsLiveOffer, Agrees}
 use Rattle.dfu_link.specs.Fact.{IsIdle, Fetches, FetchFact, GoalFact, IsOn, SessionFact}
 use Rattle.dfu_link.specs.Headline.{Follows, Plays, ends, plays, FollowsAll}
@@ -75,10 +75,11 @@ module _ (c : Profile) (offers : List (List ℕ)) where
   restart_simulated : (s : Situation) (next : Stage) (session : Session) (up : List ℕ) → pending_of next ≡ None → IsSound offers next → IsLiveOffer offers session → SessionFact c s session
       → Simulated c offers (record { device = s; session = session }) up ARestart (restarted_to (record { image = s.image; stage = next }) session) offers
   restart_simulated s next Nobody up n q o f =
-      record { step = restarts (subst (λ r. Ends (shown offers s.image (pending_of s.stage) NoOne up) (shown offers s.image r NoOne up)) (sym n) drops) says_not tt; sound = q; offer = tt; fact = tt; done = λ x. cc }
+      record { step = restarts (subst (λ r. Says c.tolerant (shown offers s.image None NoOne up) None (shown offers s.image r NoOne up)) (sym n) says_not) tt; sound = q; offer = tt; fact = tt; done = λ x. cc }
   restart_simulated s next (Hosted h) up n q o f =
+      let taken = took h Restarted in
       let t = restart_taken c offers (record { image = s.image; stage = next }) h up f.on f.task_is o f.some in
-      record { step = restarts (subst (λ r. Ends (shown offers s.image (pending_of s.stage) (live_goal h.task.goal) up) (shown offers s.image r (live_goal h.task.goal) up)) (sym n) drops) t.says (restart_plain c offers h f.on); sound = q; offer = t.offer; fact = t.fact; done = t.done }
+      record { step = restarts (subst (λ r. Says c.tolerant (shown offers s.image r (live_goal h.task.goal) up) taken.answer.report (shown offers s.image (pending_of next) (live_of taken.session) (given taken.answer.gave up))) n t.says) (restart_plain c offers h f.on); sound = q; offer = t.offer; fact = t.fact; done = t.done }
 
   more_sound : (p : List ℕ) (stage : Stage) → IsSound offers stage → IsSound (p ∷ offers) stage
   more_sound p (Closed taken) h = inr h

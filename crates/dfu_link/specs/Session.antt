@@ -43,11 +43,14 @@ pub data Begins (t : ℕ) : Machine → Machine → Type 0 where
   installs : {cur x : List ℕ} {offers : List (List ℕ)} {live : Live} {up : List ℕ} → IsOneOf x offers
       → Begins t (record { cur = cur; offers = offers; pending = Some x; live = live; up = up }) (record { cur = x; offers = offers; pending = None; live = live; up = up })
 
--- Drop, or not: what was pending is forgotten.
+-- Drop: what was pending is forgotten.
+abbrev pub dropped : Machine → Machine
+dropped m = record m { pending = None }
+
+-- Drop, or not.
 pub data Ends : Machine → Machine → Type 0 where
   ends_not : {m : Machine} → Ends m m
-  drops : {cur : List ℕ} {offers : List (List ℕ)} {pending : Option (List ℕ)} {live : Live} {up : List ℕ}
-      → Ends (record { cur = cur; offers = offers; pending = pending; live = live; up = up }) (record { cur = cur; offers = offers; pending = None; live = live; up = up })
+  drops : {m : Machine} → Ends m (dropped m)
 
 -- A report that promises nothing: any but Installed and Uploaded.
 abbrev pub IsPlain : Report → Type 0
@@ -83,7 +86,7 @@ OnlyPlain None = Unit {0}
 OnlyPlain (Some report) = IsPlain report
 
 -- What an event of each kind does. An offer and an upload begin a session where none is live; an abort does nothing yet; time installs what is pending,
--- or nothing; a restart drops, and says at most a plain report; an action of the host takes or installs at most once, then drops or not, then says at most one report.
+-- or nothing; a restart drops, then says at most a plain report; an action of the host takes or installs at most once, then drops or not, then says at most one report.
 pub data Step (tolerant : Bool) (t : ℕ) : Kind → Machine → Option Report → Machine → Type 0 where
   offered : {cur up p : List ℕ} {offers : List (List ℕ)} {pending : Option (List ℕ)}
       → Step tolerant t (AnOffer p) (record { cur = cur; offers = offers; pending = pending; live = NoOne; up = up }) None (record { cur = cur; offers = p ∷ offers; pending = pending; live = Loading p; up = up })
@@ -93,7 +96,7 @@ pub data Step (tolerant : Bool) (t : ℕ) : Kind → Machine → Option Report �
   passes : {m : Machine} → Step tolerant t ATime m None m
   passes_installed : {cur x : List ℕ} {offers : List (List ℕ)} {live : Live} {up : List ℕ} → IsOneOf x offers
       → Step tolerant t ATime (record { cur = cur; offers = offers; pending = Some x; live = live; up = up }) None (record { cur = x; offers = offers; pending = None; live = live; up = up })
-  restarts : {m m1 m' : Machine} {report : Option Report} → Ends m m1 → Says tolerant m1 report m' → OnlyPlain report → Step tolerant t ARestart m report m'
+  restarts : {m m' : Machine} {report : Option Report} → Says tolerant (dropped m) report m' → OnlyPlain report → Step tolerant t ARestart m report m'
   goes : {m m1 m2 m' : Machine} {report : Option Report} → Begins t m m1 → Ends m1 m2 → Says tolerant m2 report m' → Step tolerant t AGo m report m'
 
 -- What was reported, as a list.
