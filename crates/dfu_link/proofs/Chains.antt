@@ -1,6 +1,8 @@
 -- A run step by step, with what each step ensures.
 use Rattle.std.proofs.Common.{◌≡◌, ◌⊎◌, inl, inr, ℕ, zero, suc, ◌+◌, ◌<◌, ◌≤◌, List, [], ◌∷◌, ◌++◌, length, take, drop, map, get_or, Option, Result, Ok, Err, refl, sym, ap, ◌∙◌, subst, arith, append_assoc}
 use Rattle.std.proofs.lemmas.List.{take_all, length-map}
+use Rattle.dfu_slots.specs.Medium.{MediumState}
+use Rattle.dfu_slots.specs.Image.{Active}
 use Rattle.dfu_device.specs.Stage.{Profile}
 use Rattle.dfu_device.specs.Setting.{Setting}
 use Rattle.dfu_device.specs.Shown.{Shown, profile_of, profile}
@@ -9,11 +11,11 @@ use Rattle.dfu_link.specs.declared.event.Event.{Event as GivenEvent}
 use Rattle.dfu_link.specs.declared.fault.LinkFault.{LinkFault}
 use Rattle.dfu_link.specs.declared.fault.LinkFault.TheVariants as fault
 use Rattle.dfu_link.specs.Session.{Machine, IsOneOf, Kind, Legal, stops, and_then, said}
-use Rattle.dfu_link.specs.Play.{Event, kind_of, Link, Answered, given}
-use Rattle.dfu_link.specs.Agreement.{Agrees}
+use Rattle.dfu_link.specs.Play.{Event, kind_of, Answered, given}
+use Rattle.dfu_link.specs.Agreement.{AgreesOn}
 use Rattle.dfu_link.specs.Headline.{offers_after}
 use Rattle.dfu_link.proofs.Saying.{only_offered}
-use Rattle.dfu_link.specs.Bytes.{Bench, link_of}
+use Rattle.dfu_link.specs.Bytes.{Bench}
 use Rattle.dfu_link.specs.Giving.{Gives}
 use Rattle.dfu_link.specs.Comes.{Happening, happening, IsRefused, Comes, refuses, happens, shown_as, gave_of, LinkState, linked, HasCome}
 use Rattle.dfu_link.specs.Following.{IsFollowed}
@@ -24,7 +26,7 @@ use Rattle.dfu_link.specs.FollowingRun.{AreMeant, IsFollowedRun}
 -- what came of one event that was not refused
 pub record Stepped (w : LinkState) (h : Happening) (w' : LinkState) (report : Option Report) : Type 0 where
   pub play : HasCome w h w' (Ok report)
-  pub legal : (m : Machine) → Agrees (link_of w.bench) w.up m → IsFollowed w h w' report m
+  pub legal : (m : Machine) → AgreesOn w.bench w.up m → IsFollowed w h w' report m
   pub sure : IsSure w.bench h w'.bench report
   pub gives : Gives w w' (Ok report)
 
@@ -53,26 +55,26 @@ pub same_profile : (w w' : Shown) → IsSame w w' → profile w' ≡ profile w
 same_profile w w' same = λ k. profile_of (same.config k) (same.room k)
 
 -- the active image after a legal run
-active_after : (w w' : Link) (up up' : List ℕ) (c : Profile) (m after : Machine) (kinds : List Kind) (reports : List Report) → Agrees w up m → Agrees w' up' after → Legal c.tolerant c.transfer m kinds reports after
-    → (w'.device.image ≡ w.device.image) ⊎ IsOneOf w'.device.image (offers_after kinds m.offers)
-active_after w w' up up' c m after kinds reports a d legal = elim ((only_offered c.tolerant c.transfer m after kinds reports legal).1) [
-  | inl same ↦ inl (sym d.cur ∙ (same ∙ a.cur))
-  | inr one ↦ inr (subst (λ (x : List ℕ). IsOneOf x (offers_after kinds m.offers)) d.cur one)
+active_after : (before : MediumState) (c : Profile) (m after : Machine) (kinds : List Kind) (reports : List Report) → Active before m.cur → Legal c.tolerant c.transfer m kinds reports after
+    → Active before after.cur ⊎ IsOneOf after.cur (offers_after kinds m.offers)
+active_after before c m after kinds reports active legal = elim ((only_offered c.tolerant c.transfer m after kinds reports legal).1) [
+  | inl same ↦ inl (subst (λ (image : List ℕ). Active before image) (sym same) active)
+  | inr one ↦ inr one
 ]
 
-follows_run : {b b' : LinkState} {hs : List Happening} {reports : List Report} (m : Machine) (events : List Event) (after : Machine) → Agrees (link_of b.bench) b.up m → AreMeant b.bench.device.config hs events
-    → Legal (profile b.bench.device).tolerant (profile b.bench.device).transfer m (map kind_of events) reports after → Agrees (link_of b'.bench) b'.up after → IsFollowedRun b hs reports b' m
-follows_run {b = b} {b' = b'} {reports = reports} m events after a meant legal d = record {
+follows_run : {b b' : LinkState} {hs : List Happening} {reports : List Report} (m : Machine) (events : List Event) (after : Machine) → AgreesOn b.bench b.up m → AreMeant b.bench.device.config hs events
+    → Legal (profile b.bench.device).tolerant (profile b.bench.device).transfer m (map kind_of events) reports after → AgreesOn b'.bench b'.up after → IsFollowedRun b hs reports b' m
+follows_run {b = b} {reports = reports} m events after a meant legal d = record {
   events = events;
   meant = meant;
   after = after;
   legal = legal;
   agrees = d;
-  active = active_after (link_of b.bench) (link_of b'.bench) b.up b'.up (profile b.bench.device) m after (map kind_of events) reports a d legal;
+  active = active_after b.bench.device.slots.medium (profile b.bench.device) m after (map kind_of events) reports a.active legal;
 }
 
 -- a chain is a legal run
-pub chain_follows : {b b' : LinkState} {hs : List Happening} {reports : List Report} → Chain b hs reports b' → (m : Machine) → Agrees (link_of b.bench) b.up m → IsFollowedRun b hs reports b' m
+pub chain_follows : {b b' : LinkState} {hs : List Happening} {reports : List Report} → Chain b hs reports b' → (m : Machine) → AgreesOn b.bench b.up m → IsFollowedRun b hs reports b' m
 chain_follows no_more m agrees = follows_run m [] m agrees tt stops agrees
 chain_follows {b = b} (one_more {mid = mid} {hs = hs} {reports = reports} s more) m agrees =
     let f = s.legal m agrees in

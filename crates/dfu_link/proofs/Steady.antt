@@ -1,6 +1,7 @@
 -- What holds of a link between events is kept by each, and the session machine follows.
 use Rattle.std.proofs.Common.{◌≡◌, ◌⊎◌, ℕ, ◌<◌, List, [], ◌∷◌, Option, Some, None, Result, Ok, Err, refl, sym, ap, ◌∙◌, subst, inl, inr}
 use Rattle.dfu_slots.specs.Medium.Fuse.{Whole}
+use Rattle.dfu_slots.specs.Image.{Active}
 use Rattle.dfu_device.specs.Stage.{Profile, Stage, Closed, Committing}
 use Rattle.dfu_device.specs.Shown.{Shown, profile, situation}
 use Rattle.dfu_host.specs.declared.report.Report.{Report}
@@ -8,12 +9,12 @@ use Rattle.dfu_host.specs.declared.report.Report.TheVariants.{Uploaded}
 use Rattle.dfu_device.specs.Setting.{Setting}
 use Rattle.dfu_host.specs.Table.{Goal, ToLoad, ToFetch}
 use Rattle.dfu_link.specs.declared.fault.LinkFault.{LinkFault}
-use Rattle.dfu_link.specs.Session.{Machine}
+use Rattle.dfu_link.specs.Session.{Machine, Loading}
 use Rattle.dfu_link.specs.Play.{Pass, CutIn, Fail, Event, Offer, UploadIt, AbortIt, Go, Time, ResetBus, Session, Nobody, Hosted, Link, Answered, given, IsAllowed}
-use Rattle.dfu_link.specs.Agreement.{pending_of, live_of, IsSound, IsGoalOffer, IsLiveOffer, Agrees, NothingClosed, SomeAgrees, FreshAgrees}
+use Rattle.dfu_link.specs.Agreement.{pending_of, live_of, IsSound, IsGoalOffer, IsLiveOffer, Agrees, AgreesOn, NothingClosed, SomeAgrees, FreshAgrees, LinkAgreesOn}
 use Rattle.dfu_link.specs.Fact.{SessionFact}
 use Rattle.dfu_link.specs.Headline.{Follows}
-use Rattle.dfu_link.specs.Bytes.{Harm, Bench, link_of, Happens, BytePlay}
+use Rattle.dfu_link.specs.Bytes.{Harm, Bench, link_of, ShowsActive, Happens, BytePlay}
 use Rattle.dfu_link.specs.Understood.{Shows}
 use Rattle.dfu_link.specs.Comes.{Happening, Offers, Uploads, Aborts, Goes, Passes, Resets, harm_of, Means, Comes, refuses, happens, shown_as, gave_of, LinkState, linked, HasCome}
 use Rattle.dfu_link.specs.Standing.{IsSized, IsSteady}
@@ -80,6 +81,11 @@ fresh_agrees w none still = record {
   offered = subst (λ (s : Session). IsLiveOffer [] s) (sym none) tt;
 }
 
+-- The machine's active image is that of the medium's bytes.
+
+pub agrees_on : LinkAgreesOn
+agrees_on b up m shows agrees = record { active = subst (λ (image : List ℕ). Active b.device.slots.medium image) (sym agrees.cur) shows; agrees = agrees }
+
 -- The transfer size, where it is needed.
 
 sizes : (w : Shown) (session : Session) (h : Happening) (event : Event) → Means w.config h event → SessionFact (profile w) (situation w) session → IsSized session → Sizes (profile w) session event
@@ -134,22 +140,22 @@ comes_steady {b = b} {b' = b'} {h = h} steady (happens {event = event} {answer =
 pub come_steady : {w w' : LinkState} {h : Happening} {result : Result (Option Report) LinkFault} → IsSteady w.bench → HasCome w h w' result → IsSteady w'.bench
 come_steady steady x = comes_steady steady x.comes
 
-comes_follow : {b b' : Bench} {h : Happening} {answer : Result Answered LinkFault} (up : List ℕ) → IsSteady b → Comes b h b' answer → AllFollow (linked b up) h (linked b' (given (gave_of answer) up)) (shown_as answer)
-comes_follow up steady (refuses why) = refl
-comes_follow {b = b} {b' = b'} {h = h} up steady (happens {event = event} {answer = answer} means play) = λ m agrees.
-    let f = follows_play b b' h event (harm_of h) answer up m steady means play agrees in
+comes_follow : {b b' : Bench} {h : Happening} {answer : Result Answered LinkFault} (up : List ℕ) → IsSteady b → ShowsActive b' → Comes b h b' answer → AllFollow (linked b up) h (linked b' (given (gave_of answer) up)) (shown_as answer)
+comes_follow up steady shows (refuses why) = refl
+comes_follow {b = b} {b' = b'} {h = h} up steady shows (happens {event = event} {answer = answer} means play) = λ m agrees.
+    let f = follows_play b b' h event (harm_of h) answer up m steady means play agrees.agrees in
     record {
       event = event;
       means = means;
       after = f.after;
       step = f.step;
-      agrees = f.agrees;
-      installed = f.installed;
+      agrees = agrees_on b' (given answer.gave up) f.after shows f.agrees;
+      installed = λ e. let x = f.installed e in (x.0, x.1 ∙ ap Loading (sym f.agrees.cur));
     }
 
-pub come_follow : {w w' : LinkState} {h : Happening} {result : Result (Option Report) LinkFault} → IsSteady w.bench → HasCome w h w' result → AllFollow w h w' result
-come_follow {w = w} {w' = w'} {h = h} {result = result} steady x =
-    let follow = comes_follow w.up steady x.comes in
+pub come_follow : {w w' : LinkState} {h : Happening} {result : Result (Option Report) LinkFault} → IsSteady w.bench → ShowsActive w'.bench → HasCome w h w' result → AllFollow w h w' result
+come_follow {w = w} {w' = w'} {h = h} {result = result} steady shows x =
+    let follow = comes_follow w.up steady shows x.comes in
     subst (λ (up : List ℕ). AllFollow w h (linked w'.bench up) result) (sym x.up_is) (subst (λ (r : Result (Option Report) LinkFault). AllFollow w h (linked w'.bench (given (gave_of x.answer) w.up)) r) (sym x.told) follow)
 
 -- What an upload gives.

@@ -1,9 +1,11 @@
 -- What a link shows of the session machine.
 use Rattle.std.specs.Prelude.{◌≡◌, ℕ, List, [], ◌++◌, Option, Some, None}
+use Rattle.dfu_slots.specs.Image.{Active}
 use Rattle.dfu_device.specs.Stage.{Stage, Unwritten, Written, Writing, Ready, Closed, Committing}
 use Rattle.dfu_host.specs.Table.{Goal, ToLoad, ToFetch}
 use Rattle.dfu_link.specs.Session.{IsOneOf, Machine, Live, NoOne, Loading, Fetching}
 use Rattle.dfu_link.specs.Play.{Link, Session, Nobody, Hosted}
+use Rattle.dfu_link.specs.Bytes.{Bench, link_of, ShowsActive}
 
 -- What is pending: the bytes taken, where the device takes an image and has not put it in place.
 abbrev pub pending_of : Stage → Option (List ℕ)
@@ -51,6 +53,11 @@ pub record Agrees (w : Link) (up : List ℕ) (m : Machine) : Type 0 where
   pub sound : IsSound m.offers w.device.stage
   pub offered : IsLiveOffer m.offers w.session
 
+-- A bench agrees with a session machine: the link that it shows does, and the machine's active image is the active image of the medium's bytes.
+pub record AgreesOn (b : Bench) (up : List ℕ) (m : Machine) : Type 0 where
+  pub active : Active b.device.slots.medium m.cur
+  pub agrees : Agrees (link_of b) up m
+
 -- No bytes are closed, which a host asked to be put in place.
 abbrev pub NothingClosed : Stage → Type 0
 NothingClosed (Closed taken) = ⊥
@@ -68,3 +75,7 @@ SomeAgrees = (w : Link) (up : List ℕ) → (m : Machine) × Agrees w up m
 -- Where no session is live and no bytes are closed, one agrees to which nothing was offered.
 abbrev pub FreshAgrees : Type 0
 FreshAgrees = (w : Link) → w.session ≡ Nobody → NothingClosed w.device.stage → Agrees w [] (fresh w)
+
+-- A bench that shows the active image of its medium's bytes agrees with each machine that its link agrees with.
+abbrev pub LinkAgreesOn : Type 0
+LinkAgreesOn = (b : Bench) (up : List ℕ) (m : Machine) → ShowsActive b → Agrees (link_of b) up m → AgreesOn b up m

@@ -4,6 +4,7 @@ use Rattle.dfu_wire.specs.declared.requests.Request.{Request as Asked}
 use Rattle.dfu_slots.specs.Medium.{Fuse}
 use Rattle.dfu_slots.specs.Medium.Fuse.{Whole, Armed}
 use Rattle.dfu_slots.specs.Seen.{fused}
+use Rattle.dfu_slots.specs.Image.{Active}
 use Rattle.dfu_device.specs.declared.answer.Answer.{Answer}
 use Rattle.dfu_device.specs.declared.answer.Answer.TheVariants as answer
 use Rattle.dfu_device.specs.Stage.{InApp}
@@ -84,9 +85,13 @@ pub record Bench : Type 0 where
   pub device : Shown
   pub session : Session
 
--- The link that a bench shows: the active image is that of the medium's bytes.
+-- The link that a bench shows: the image is read from the medium's bytes.
 abbrev pub link_of : Bench → Link
 link_of b = record { device = situation b.device; session = b.session }
+
+-- The image that a bench shows is the active image of its medium's bytes.
+abbrev pub ShowsActive : Bench → Type 0
+ShowsActive b = Active b.device.slots.medium (link_of b).device.image
 
 -- The host's next action on a bench.
 pub record Goes (h : Session) (fate : Fate) (harm : Harm) (b b' : Bench) (answer : Answered) : Type 0 where

@@ -7,7 +7,7 @@ use Rattle.dfu_device.specs.Stage.{Profile, InApp}
 use Rattle.dfu_device.specs.Outcome.{Luck, Works}
 use Rattle.dfu_link.specs.Play.{Pass, Offer, Go, Nobody, Link, Answered, silent, played}
 
--- A pass over a medium that works leads from one link to another with this answer, whatever else might have been chosen.
+-- A pass over a medium that works leads from one link to another with this answer, whatever the medium's second luck and the memory are.
 abbrev pub PassesTo : Profile → Link → Link → Answered → Type 0
 PassesTo c w w' answer = (other : Luck) (room : Bool) → played c w (Go Pass) Works other room ≡ record { link = w'; answer = answer }
 
@@ -26,8 +26,8 @@ pub record InstalledAfter (c : Profile) (w : Link) (count : ℕ) (payload : List
   pub quiet : Quietly c w (count - 1) before
   pub last : PassesTo c before (resting payload) (record { report = Some Installed; gave = None })
 
--- A tolerant device that can download, in appIDLE; a payload that fits; actions for a clean run at least: after the offer,
--- exactly as many passes as a clean run has end in Installed.
+-- A tolerant device that can download, in appIDLE; a payload with at least the fewest bytes and at most the room; actions for a clean run at least: after the
+-- offer, exactly as many passes as a clean run has end in Installed.
 abbrev pub CleanRun : Type 0
 CleanRun = (c : Profile) (image payload : List ℕ) (actions restarts : ℕ) → c.tolerant ≡ true → c.can_download ≡ true → 0 < c.transfer
     → 0 < length payload → c.least ≤ length payload → length payload ≤ c.capacity → clean (length (blocks payload c.transfer)) c.busy c.manifest ≤ actions

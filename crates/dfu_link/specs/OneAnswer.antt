@@ -1,4 +1,4 @@
--- That an event has one answer, as statements.
+-- That an event has one meaning, as statements.
 use Rattle.std.specs.Prelude.{◌≡◌}
 use Rattle.dfu_device.specs.Setting.{Setting}
 use Rattle.dfu_link.specs.declared.fault.LinkFault.{LinkFault}
@@ -14,6 +14,6 @@ OneRefusal = (b : Bench) (h : Happening) (fault other : LinkFault) → IsRefused
 abbrev pub RefusedIsNoPlay : Type 0
 RefusedIsNoPlay = (b : Bench) (h : Happening) (fault : LinkFault) (event : Event) → IsRefused b h fault → Means b.device.config h event → IsAllowed b.session event → ⊥
 
--- What happens means one event: a file that is offered has one payload.
+-- What happens means one event; so a file that is offered has one payload.
 abbrev pub OneEvent : Type 0
 OneEvent = (s : Setting) (h : Happening) (event other : Event) → Means s h event → Means s h other → event ≡ other

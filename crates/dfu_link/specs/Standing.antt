@@ -7,7 +7,7 @@ use Rattle.dfu_host.specs.Counting.{IsCounted}
 use Rattle.dfu_host.specs.Uploading.{kept_in}
 use Rattle.dfu_link.specs.Play.{Session, Nobody, Hosted}
 use Rattle.dfu_link.specs.Fact.{IsOn, SessionFact}
-use Rattle.dfu_link.specs.Bytes.{Bench}
+use Rattle.dfu_link.specs.Bytes.{Bench, ShowsActive}
 use Rattle.dfu_link.specs.Comes.{LinkState}
 
 -- The session of a host, or of none.
@@ -49,3 +49,8 @@ pub record IsSteady (b : Bench) : Type 0 where
   pub unarmed : b.device.slots.medium.fuse ≡ Whole
   pub sized : IsSized b.session
   pub counted : IsCountedIn b.session
+
+-- What holds of a world between events: its bench is steady, and shows the active image of its medium's bytes.
+pub record Holds (b : Bench) : Type 0 where
+  pub steady : IsSteady b
+  pub active : ShowsActive b

@@ -14,7 +14,7 @@ pub record IsSame (w w' : Shown) : Type 0 where
   pub config : w'.config ≡ w.config
   pub room : room_of w'.slots ≡ room_of w.slots
 
--- Nothing is cut and nothing fails in the event.
+-- The event is no action of the host in which the power is cut or a write fails.
 abbrev pub IsHarmless : Event → Type 0
 IsHarmless (Go CutIn) = ⊥
 IsHarmless (Go Fail) = ⊥

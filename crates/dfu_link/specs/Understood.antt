@@ -16,7 +16,7 @@ use Rattle.dfu_link.specs.Play.{Event, Answered, given, Play, heard_as, remember
 use Rattle.dfu_link.specs.Agreement.{Agrees}
 use Rattle.dfu_link.specs.Fact.{SessionFact}
 use Rattle.dfu_link.specs.Headline.{FollowsAll}
-use Rattle.dfu_link.specs.Bytes.{HearsAnswer, Harm, Bench, link_of, BytePlay}
+use Rattle.dfu_link.specs.Bytes.{HearsAnswer, Harm, Bench, link_of, ShowsActive, BytePlay}
 
 -- What a device answers to a request of a host, in bytes, is heard as what the device meant; a part of an upload may find no memory.
 abbrev pub Understood : Type 0
@@ -47,5 +47,5 @@ BytesHeadline = (b b' : Bench) (up up' : List ℕ) (m : Machine) (events : List 
 
 -- The image of the link that a bench shows is the active image of the bytes of its medium, where they have one; and they have no other.
 abbrev pub ImageShown : Type 0
-ImageShown = (b : Bench) → (HasImage b.device.slots.medium → Active b.device.slots.medium (link_of b).device.image)
+ImageShown = (b : Bench) → (HasImage b.device.slots.medium → ShowsActive b)
     × ((image : List ℕ) → Active b.device.slots.medium image → image ≡ (link_of b).device.image)

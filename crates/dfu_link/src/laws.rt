@@ -1,6 +1,6 @@
 //! Laws of plays: each function does nothing, and its contract is the law.
 
-ghost use Rattle.dfu_link.specs.Agreement.{SomeAgrees, FreshAgrees};
+ghost use Rattle.dfu_link.specs.Agreement.{SomeAgrees, FreshAgrees, LinkAgreesOn};
 ghost use Rattle.dfu_link.specs.CleanRun.{CleanRun};
 ghost use Rattle.dfu_link.specs.Giving.{UploadsGive, RestIsSteady};
 ghost use Rattle.dfu_link.specs.Headline.{Headline, OnlyOffered, Simulation};
@@ -35,10 +35,12 @@ pub fn only_offered()
 {}
 
 /// Agreement is no empty word: some session machine agrees with each link, and where no session is
-/// live and no bytes are closed, one to which nothing was offered.
+/// live and no bytes are closed, one to which nothing was offered. Where the image that is shown is
+/// the active image of the medium's bytes, such a machine agrees on them too.
 pub fn machine_agrees()
     ensures some { SomeAgrees }
     ensures fresh { FreshAgrees }
+    ensures on { LinkAgreesOn }
 {}
 
 /// What goes over the wire is understood: what a device answers to a request of a host, in bytes,
@@ -54,7 +56,8 @@ pub fn bytes_show()
     ensures headline { BytesHeadline }
 {}
 
-/// What comes of an event is one thing: it is refused as one fault, or it is a play of one event.
+/// An event has one meaning: it is refused as one fault and is then no play, or it means one event.
+/// What a play leads to is said by `sure` of `World::step`.
 pub fn one_answer()
     ensures fault { OneRefusal }
     ensures no_play { RefusedIsNoPlay }

@@ -3,7 +3,7 @@
 ghost use Rattle.std.specs.Prelude.{◌≡◌, [], IfOk, IfErr};
 ghost use Rattle.dfu_slots.specs.Medium.Fuse.{Whole};
 ghost use Rattle.dfu_link.specs.Play.{Nobody};
-ghost use Rattle.dfu_link.specs.Bytes.{armed};
+ghost use Rattle.dfu_link.specs.Bytes.{armed, ShowsActive};
 ghost use Rattle.dfu_link.specs.Comes.{happening, HasCome, IsLive};
 ghost use Rattle.dfu_link.specs.Following.{AllFollow};
 ghost use Rattle.dfu_link.specs.Sure.{AllSure};
@@ -32,23 +32,26 @@ pub struct World<'f, M: Faulty + Drop> {
 
 impl<'f, M: Faulty + Drop> Model for World<'f, M> {
     ghost use Rattle.dfu_link.specs.Comes.{LinkState};
-    ghost use Rattle.dfu_link.specs.Standing.{bench_of, link_state, IsSteady};
+    ghost use Rattle.dfu_link.specs.Standing.{bench_of, link_state, Holds};
 
     ghost Value = { LinkState };
 
     ghost view = { λ w. link_state w.device w.host w.gave };
 
-    ghost invariant = { λ w. IsSteady (bench_of w.device w.host) };
+    ghost invariant = { λ w. Holds (bench_of w.device w.host) };
 }
 
 impl<'f, M: Faulty + Drop> World<'f, M> {
     /// A link to a device, with no session and nothing uploaded. It disarms the device's medium,
     /// and keeps the allocator for uploads to come.
     pub fn new(alloc: Global, device: Device<M>) -> World<'f, M>
-        ensures { result ≡ record { bench = record { device = armed device Whole; session = Nobody }; up = [] } }
+        ensures link { result ≡ record { bench = record { device = armed device Whole; session = Nobody }; up = [] } }
+        ensures active { ShowsActive result.bench }
     {
         let mut device = device;
         device.disarm();
+        // The store says that its medium has an active image.
+        let _ = device.slots().capacity();
         World {
             alloc,
             device,
@@ -67,21 +70,25 @@ impl<'f, M: Faulty + Drop> World<'f, M> {
     ///
     /// 1. `HostBusy`: an offer or an upload while a session is live.
     /// 2. `NoHost`: an abort or an action while no session is live.
-    /// 3. `BadOffer`: an offer of a file that isn't one, or that isn't for the device; an upload
-    ///    from a device that can't upload, or whose transfer size is 0.
+    /// 3. `BadOffer`: of an offer, the fault of `dfu_suffix::read`, else that of `Host::download`; of
+    ///    an upload, that of `Host::upload`.
     pub fn step(&mut self, event: Event<'f>) -> Result<Option<Report>, LinkFault>
         ensures play { HasCome self.old (happening event.entry) self.new result }
         ensures legal { AllFollow self.old (happening event.entry) self.new result }
         ensures sure { AllSure self.old.bench (happening event.entry) self.new.bench result }
         ensures gives { Gives self.old self.new result }
+        ensures active { ShowsActive self.new.bench }
     {
-        play(
+        let told = play(
             self.alloc,
             &mut self.device,
             &mut self.host,
             &mut self.gave,
             event,
-        )
+        );
+        // The store says that its medium has an active image.
+        let _ = self.device.slots().capacity();
+        told
     }
 
     /// What the last session gave that reported Uploaded: the device's active image at that time.
@@ -97,7 +104,8 @@ impl<'f, M: Faulty + Drop> World<'f, M> {
 
     /// The device.
     pub fn device(&self) -> &Device<M>
-        ensures { result.now ≡ self.now.bench.device }
+        ensures device { result.now ≡ self.now.bench.device }
+        ensures active { ShowsActive self.now.bench }
     {
         &self.device
     }

@@ -1,5 +1,5 @@
-use Rattle.dfu_link.proofs.Steady.{some_agrees, fresh_agrees}
+use Rattle.dfu_link.proofs.Steady.{some_agrees, fresh_agrees, agrees_on}
 use Rattle.dfu_link.proofs.laws.machine_agrees.Goals as goal
 
 pub returns : goal.returns
-returns g = record { some = some_agrees; fresh = fresh_agrees }
+returns g = record { some = some_agrees; fresh = fresh_agrees; on = agrees_on }

@@ -42,7 +42,7 @@ returns-in_err-play_deed-in-Some-Do-clause-fault g c =
     let new = g.W.Write.contents c.play_deed.new.writer in
     let d = deed_of c.in-Some-Do.deed in
     let says = c.in-Some-Do.ensures ∙ ap (λ (s : Line). Some (said_of s)) c.in-Some-Do.field-0-is in
-    let starts : c.new-world.result.bench ≡ at_rest c.args.device = ap (λ (x : LinkState). x.bench) c.new-world.ensures ∙ rest_starts c.args.device c.requires in
+    let starts : c.new-world.result.bench ≡ at_rest c.args.device = ap (λ (x : LinkState). x.bench) c.new-world.ensures.link ∙ rest_starts c.args.device c.requires in
     let broken : HasBroken (at_rest c.args.device) (events_of c.args.limits.now d) old new = subst (λ (b : Bench). HasBroken b (events_of c.args.limits.now d) old new) starts c.in_err-play_deed-in-Some-Do.ensures.err in
     rw (p.1, p.2) (write_falls (point c.args.limits.now (at_rest c.args.device)) c.args.lines.now.number c.args.line.now (lines_of c.args.lines.now.rest.now) old new _ (in_events says broken) c.in_err-play_deed-in-Some-Do.ensures.fault)
 
@@ -59,7 +59,7 @@ returns-in_err-after-in-Some-Do-clause-fault g c =
     let b' = c.play_deed.new.world.bench in
     let rest = lines_of c.args.lines.now.rest.now in
     let says = c.in-Some-Do.ensures ∙ ap (λ (s : Line). Some (said_of s)) c.in-Some-Do.field-0-is in
-    let starts : c.new-world.result.bench ≡ b = ap (λ (x : LinkState). x.bench) c.new-world.ensures ∙ rest_starts c.args.device c.requires in
+    let starts : c.new-world.result.bench ≡ b = ap (λ (x : LinkState). x.bench) c.new-world.ensures.link ∙ rest_starts c.args.device c.requires in
     let played : HasPlayed b (events_of l d) old b' mid = subst (λ (x : Bench). HasPlayed x (events_of l d) old b' mid) starts c.in_ok-play_deed-in-Some-Do.ensures.ok in
     let one = move_one (point l b) (point l b') k (k + 1) c.args.line.now rest old mid refl (step_plays l b b' c.args.line.now old mid d says played) in
     rw (p.1, p.2) (falls_after (point l b) (point l b') k (k + 1) (c.args.line.now ∷ rest) rest old mid new _ one c.in_err-after-in-Some-Do.ensures.fault)
@@ -99,7 +99,7 @@ returns-in_ok-after-in-Some-Do-clause-ok g c =
     let b' = c.play_deed.new.world.bench in
     let rest = lines_of c.args.lines.now.rest.now in
     let says = c.in-Some-Do.ensures ∙ ap (λ (s : Line). Some (said_of s)) c.in-Some-Do.field-0-is in
-    let starts : c.new-world.result.bench ≡ b = ap (λ (x : LinkState). x.bench) c.new-world.ensures ∙ rest_starts c.args.device c.requires in
+    let starts : c.new-world.result.bench ≡ b = ap (λ (x : LinkState). x.bench) c.new-world.ensures.link ∙ rest_starts c.args.device c.requires in
     let played : HasPlayed b (events_of l d) old b' mid = subst (λ (x : Bench). HasPlayed x (events_of l d) old b' mid) starts c.in_ok-play_deed-in-Some-Do.ensures.ok in
     let one = move_one (point l b) (point l b') k (k + 1) c.args.line.now rest old mid refl (step_plays l b b' c.args.line.now old mid d says played) in
     follows_after (point l b) (point l b') k (k + 1) (c.follow.new.lines.number + 1) (c.args.line.now ∷ rest) rest (lines_of c.follow.new.lines.rest.now) old mid new c.in_ok-after-in-Some-Do.after (point c.follow.new.limits) one c.in_ok-after-in-Some-Do.ensures.ok

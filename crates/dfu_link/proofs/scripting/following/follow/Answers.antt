@@ -24,7 +24,7 @@ returns-in-None-clause-ok g c =
     let l = c.lines.limits in
     let b = c.lines.world.bench in
     let m : Moves p k lines old (point l b) k1 [] mid = subst (λ (ls : List (List ℕ)). Moves p k lines old (point l b) k1 ls mid) (c.in-None.ensures.next).0 c.lines.invariant.moves in
-    let told : Appends mid new (image_line b.device) = subst (λ (d : Shown). Appends mid new (image_line d)) (c.device.ensures ∙ ap (λ (x : LinkState). x.bench.device) (c.in-Err.ensures.err).1) c.in_ok-write_image-in-None.ensures.ok in
+    let told : Appends mid new (image_line b.device) = subst (λ (d : Shown). Appends mid new (image_line d)) (c.device.ensures.device ∙ ap (λ (x : LinkState). x.bench.device) (c.in-Err.ensures.err).1) c.in_ok-write_image-in-None.ensures.ok in
     ends_now p (point l b) k k1 lines old mid new m told
 
 pub lines-preserved : goal.lines-preserved

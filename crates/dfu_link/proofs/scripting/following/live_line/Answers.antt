@@ -41,5 +41,5 @@ returns-in-Some-Show-clause-ok g c =
     let new = g.W.Write.contents c.write_show.new.writer in
     let b = c.args.world.now.bench in
     on_ok_map c.write_show.result (Appends old new (show_line c.device.result.now)) (Steps (point l b) c.args.line.now old (point l b) new)
-    (λ told. step_shows l b c.args.line.now old new (c.in-Some-Show.ensures ∙ ap (λ (s : Line). Some (said_of s)) c.in-Some-Show.field-0-is) (rw c.device.ensures at told))
+    (λ told. step_shows l b c.args.line.now old new (c.in-Some-Show.ensures ∙ ap (λ (s : Line). Some (said_of s)) c.in-Some-Show.field-0-is) (rw c.device.ensures.device at told))
     c.write_show.ensures.ok
