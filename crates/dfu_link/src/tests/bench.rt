@@ -51,7 +51,7 @@ pub(crate) const USUAL: Setup = Setup {
 };
 
 /// How many bytes a medium has whose slots have room for so many: up to 2^24, else none.
-fn medium_len(capacity: u32) -> u32 {
+pub(crate) fn medium_len(capacity: u32) -> u32 {
     if capacity > 0x100_0000 {
         return 0;
     }
@@ -66,6 +66,17 @@ pub(crate) fn world<'f>(alloc: Global, setup: Setup) -> Result<World<'f, SimMedi
 /// A link to a device with this image.
 pub(crate) fn world_of<'f>(
     alloc: Global,
+    setup: Setup,
+    image: &[u8],
+) -> Result<World<'f, SimMedium>, Fail> {
+    let medium = SimMedium::new(alloc, medium_len(setup.capacity))?;
+    world_on(alloc, medium, setup, image)
+}
+
+/// A link to a device with this image on this medium, which has the length for it.
+pub(crate) fn world_on<'f>(
+    alloc: Global,
+    medium: SimMedium,
     setup: Setup,
     image: &[u8],
 ) -> Result<World<'f, SimMedium>, Fail> {
@@ -90,7 +101,6 @@ pub(crate) fn world_of<'f>(
         setup.busy_ms,
         setup.manifest_ms,
     )?;
-    let medium = SimMedium::new(alloc, medium_len(setup.capacity))?;
     match Slots::format(medium, image) {
         Ok(slots) => Ok(World::new(alloc, Device::start(config, slots))),
         Err((fault, _)) => Err(fault)?,

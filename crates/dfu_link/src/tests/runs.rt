@@ -7,21 +7,19 @@ ghost use Rattle.dfu_link.specs.CleanRun.{resting};
 ghost use Rattle.dfu_link.specs.Running.{happenings};
 ghost use Rattle.dfu_link.specs.CleanInstall.{CanInstall, clean_passes, offer_and_passes};
 
-use super::bench::{AMPLE, Setup, USUAL, W, offer, pass, play, world};
+use super::bench::{
+    AMPLE, Setup, UPLOAD, USUAL, W, medium_len, offer, pass, play, world, world_on,
+};
 use crate::{Event, Fate, LinkFault, World, run};
 use dfu_host::Report;
-use dfu_slots::Faulty;
+use dfu_slots::{Faulty, NoMemory, SimMedium};
 use dfu_suffix::Crc;
 use std::alloc::{AllocError, Global};
 use std::test::Fail;
 
 /// An offer and the passes of a clean download. Where all of it came, the payload is the active
 /// image of a device in appIDLE, and that was reported.
-fn installs<'f, M: Faulty + Drop>(
-    world: &mut World<'f, M>,
-    alloc: Global,
-    events: &[Event<'f>],
-) -> bool
+fn installs<'f, M: Faulty>(world: &mut World<'f, M>, alloc: Global, events: &[Event<'f>]) -> bool
     ensures { (file payload : List ℕ) (limits : Limits) → CanInstall world.old.bench file limits payload
         → happenings events.now ≡ offer_and_passes file limits (clean_passes world.old.bench.device.config payload)
         → IsTrue result → link_of world.new.bench ≡ resting payload }
@@ -59,6 +57,29 @@ fn a_run_stops_at_the_first_refusal(rt: HostRuntime) -> Result<(), Fail> {
     Ok(())
 }
 
+/// Where memory is ample the run reports. Where an allocation is refused, there is no medium; or the
+/// run stops before its first event with no report, and the link stands as before.
+#[test]
+fn refused_allocation_in_a_run(rt: HostRuntime) -> Result<(), Fail> {
+    let mut events = [PASS; 14];
+    events[0] = offer(&W).event;
+    let medium = match SimMedium::new(rt.alloc(), medium_len(USUAL.capacity)) {
+        Ok(medium) => medium,
+        Err(NoMemory) => return Ok(()),
+    };
+    let mut world = world_on(rt.alloc(), medium, USUAL, &[0])?;
+    match run(&mut world, rt.alloc(), &events) {
+        Ok(reports) => assert_eq!(rt; reports.as_slice(), [Report::Installed].as_slice()),
+        Err(stop) => {
+            assert_eq!(rt; stop.fault, LinkFault::NoMemory);
+            assert_eq!(rt; stop.at, 0);
+            assert!(rt; stop.reports.is_empty());
+            assert_eq!(rt; world.step(PASS), Err(LinkFault::NoHost));
+        }
+    }
+    Ok(())
+}
+
 /// A file of so many zeros, for every device.
 fn zeros(alloc: Global, len: usize) -> Result<Vec<u8>, AllocError> {
     let mut bytes = vec![in alloc; 0u8; len]?;
@@ -89,5 +110,12 @@ fn block_numbers_wrap(rt: HostRuntime) -> Result<(), Fail> {
         Some(Report::Installed),
     );
     assert_eq!(rt; world.device().slots().active_len(), 65_537);
+    play(
+        &rt,
+        &mut world,
+        &[UPLOAD, pass(65_539)],
+        Some(Report::TooManyBlocks),
+    );
+    assert!(rt; world.uploaded().is_empty());
     Ok(())
 }

@@ -10,7 +10,7 @@ use std::test::Fail;
 
 const INSTALLED: &str = "report installed\nimage ffffffff\n";
 
-// Downloads to devices of several kinds.
+/// Downloads to devices of several kinds.
 #[rattlefmt::skip]
 #[test]
 fn scripts_install(rt: HostRuntime) -> Result<(), Fail> {
@@ -35,7 +35,7 @@ fn scripts_install(rt: HostRuntime) -> Result<(), Fail> {
     Ok(())
 }
 
-// Losses, doublings, waits and resets.
+/// Losses, doublings, waits and resets.
 #[rattlefmt::skip]
 #[test]
 fn scripts_go_on_after_losses(rt: HostRuntime) -> Result<(), Fail> {
@@ -61,7 +61,7 @@ fn scripts_go_on_after_losses(rt: HostRuntime) -> Result<(), Fail> {
     Ok(())
 }
 
-// Uploads, and sessions that are given up.
+/// Uploads, and sessions that are given up.
 #[rattlefmt::skip]
 #[test]
 fn scripts_upload_and_give_up(rt: HostRuntime) -> Result<(), Fail> {
@@ -86,7 +86,7 @@ fn scripts_upload_and_give_up(rt: HostRuntime) -> Result<(), Fail> {
     Ok(())
 }
 
-// A refused event prints a line, and the script goes on.
+/// A refused event prints a line, and the script goes on.
 #[rattlefmt::skip]
 #[test]
 fn scripts_go_on_after_refusals(rt: HostRuntime) -> Result<(), Fail> {
@@ -108,7 +108,7 @@ fn scripts_go_on_after_refusals(rt: HostRuntime) -> Result<(), Fail> {
     Ok(())
 }
 
-// Faults come at their line, after the text of the lines before.
+/// Faults come at their line, after the text of the lines before.
 #[rattlefmt::skip]
 #[test]
 fn scripts_fall_at_a_line(rt: HostRuntime) -> Result<(), Fail> {

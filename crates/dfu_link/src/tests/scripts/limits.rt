@@ -1,11 +1,11 @@
-// Words, numbers and lines at the ends of their ranges.
+//! Words, numbers and lines at the ends of their ranges.
 
 use crate::{ScriptFault, script};
 use std::alloc::Global;
 use std::process::Abort;
 use std::test::Fail;
 
-// Lines that are understood, alone in a script.
+/// Lines that are understood, alone in a script.
 #[test]
 fn lines_of_the_language(rt: HostRuntime) -> Result<(), Fail> {
     let lines = [
@@ -39,7 +39,7 @@ fn lines_of_the_language(rt: HostRuntime) -> Result<(), Fail> {
     Ok(())
 }
 
-// A line that is none of the language stops the script, and nothing is out.
+/// A line that is none of the language stops the script, and nothing is out.
 fn is_bad(rt: &impl Abort, alloc: Global, line: &str) {
     let mut seen = Vec::new(alloc);
     assert_eq!(rt;
@@ -109,7 +109,7 @@ fn lines_of_no_language(rt: HostRuntime) {
     }
 }
 
-// A line has up to 65,536 bytes, also where it says nothing.
+/// A line has up to 65,536 bytes, also where it says nothing.
 #[test]
 fn long_lines(rt: HostRuntime) -> Result<(), Fail> {
     for first in [b' ', b'#'] {
@@ -133,7 +133,7 @@ fn long_lines(rt: HostRuntime) -> Result<(), Fail> {
     Ok(())
 }
 
-// An image is printed whole, whatever its length, and so is what was uploaded.
+/// An image is printed whole, whatever its length, and so is what was uploaded.
 #[test]
 fn images_of_each_length(rt: HostRuntime) -> Result<(), Fail> {
     for bytes in [0usize, 1, 255, 256, 257, 512, 700] {

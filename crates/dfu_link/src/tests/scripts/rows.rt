@@ -1,17 +1,17 @@
-// The text of a row.
+//! The text of a row.
 
 use std::alloc::{AllocError, Global};
 
-// Payload FFFFFFFFh, identifiers FFFFh.
+/// Payload FFFFFFFFh, identifiers FFFFh.
 const FOUR_ONES: &[u8] = b"ffffffffffffffffffff00015546441071c8510c";
 
-// The same payload, identifiers 0000h.
+/// The same payload, identifiers 0000h.
 const NO_IDS: &[u8] = b"ffffffff00000000000000015546441037bd063c";
 
-// No payload.
+/// No payload.
 const EMPTY: &[u8] = b"ffffffffffff000155464410e1f17b88";
 
-// Payload '123456789', vendor 1209h, product 0001h, device 0100h.
+/// Payload '123456789', vendor 1209h, product 0001h, device 0100h.
 const DIGITS: &[u8] = b"313233343536373839000101000912000155464410621c70fe";
 
 /// In a row `/` ends a line, and W, Z, E and N are the digits of these files.

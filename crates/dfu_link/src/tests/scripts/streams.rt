@@ -1,11 +1,11 @@
-// Readers and writers that cut what they give and take, or fail.
+//! Readers and writers that cut what they give and take, or fail.
 
 use super::rows::text_of;
 use crate::{ScriptFault, script};
 use std::io::{self, ErrorKind, Read, Write};
 use std::test::Fail;
 
-// Gives so many line ends, at most `step` at a call, and then fails or is at its end.
+/// Gives so many line ends, and then fails or is at its end.
 #[derive(Drop)]
 struct Blank {
     left: usize,
@@ -24,7 +24,7 @@ impl Read for Blank {
     }
 }
 
-// Takes so many bytes, and then fails.
+/// Takes so many bytes, and then fails.
 #[derive(Drop)]
 struct Narrow {
     taken: Vec<u8>,
@@ -47,7 +47,7 @@ impl Write for Narrow {
     }
 }
 
-// Takes the first 128 bytes, and takes no memory for them.
+/// Takes the first 128 bytes, and takes no memory for them.
 #[derive(Drop)]
 struct Fixed {
     bytes: [u8; 128],
@@ -70,8 +70,8 @@ impl Write for Fixed {
     }
 }
 
-// Where memory is ample the whole text is out. Where an allocation is refused, it is NoMemory: of
-// the text, the image or the medium with nothing out, of an offered file with the lines before.
+/// Where memory is ample the whole text is out. Where an allocation is refused, it is NoMemory: of
+/// the text, the image or the medium with nothing out, of an offered file with the lines before.
 #[test]
 fn refused_allocation_in_a_script(rt: HostRuntime) {
     let text = b"show\noffer ffffffffffffffffffff00015546441071c8510c\ngo pass 13\n";
@@ -91,7 +91,7 @@ fn refused_allocation_in_a_script(rt: HostRuntime) {
     }
 }
 
-// Where a part of an upload finds no memory, the session ends, and the script goes on.
+/// Where a part of an upload finds no memory, the session ends, and the script goes on.
 #[test]
 fn refused_allocation_in_an_upload(rt: HostRuntime) {
     let mut fixed = Fixed {
@@ -133,7 +133,7 @@ fn texts_have_a_limit(rt: HostRuntime) -> Result<(), Fail> {
     Ok(())
 }
 
-// Wherever the writer fails, a front of the text is out.
+/// Wherever the writer fails, a front of the text is out.
 #[test]
 fn writers_fail_anywhere(rt: HostRuntime) -> Result<(), Fail> {
     let text = text_of(
