@@ -13,8 +13,8 @@ pub enum LinkFault {
     /// A session is to be given up or an action is to go while none is live.
     #[error("no session is live")]
     NoHost,
-    /// The file that is offered, while no session is live, is no DFU file or is not for the device;
-    /// or the device, whose image is to be uploaded, gives none.
+    /// While no session is live: of an offer, the fault of `dfu_suffix::read`, else that of
+    /// `Host::download`; of an upload, that of `Host::upload`.
     #[error("the session is refused: {0}")]
     BadOffer(OfferFault),
     /// There was no memory for a report. Of `run` alone.

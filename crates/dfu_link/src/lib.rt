@@ -1,7 +1,8 @@
 //! The link of a host and a device of USB device firmware upgrade (USB DFU 1.1): what each event
 //! makes of both, and the laws that hold whatever events come.
 //!
-//! A `World` takes one event, `run` a list of them. No call but `run` takes memory.
+//! A `World` takes one event, `run` a list of them, `script` a text. Memory is taken by `step` for
+//! the parts of an upload, by `run` for its reports too, and by `script`.
 #![tactic(auto)]
 
 mod event;

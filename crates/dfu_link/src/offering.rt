@@ -11,7 +11,7 @@ use dfu_slots::Medium;
 use dfu_suffix::read;
 
 /// A host that is to install a file on a device.
-pub(crate) fn begin<'f, M: Medium + Drop>(
+pub(crate) fn begin<'f, M: Medium>(
     device: &Device<M>,
     file: &'f [u8],
     limits: Limits,

@@ -61,7 +61,7 @@ fn restart<'f>(host: &mut Option<Host<'f>>, gave: &mut Option<Host<'f>>) -> Opti
 }
 
 /// A file is offered.
-fn offer<'f, M: Medium + Drop>(
+fn offer<'f, M: Medium>(
     device: &Device<M>,
     host: &mut Option<Host<'f>>,
     file: &'f [u8],
@@ -98,7 +98,7 @@ fn abort(host: &mut Option<Host<'_>>) -> Result<Option<Report>, LinkFault>
 }
 
 /// The host takes its next action.
-fn go<'f, M: Medium + Drop>(
+fn go<'f, M: Medium>(
     device: &mut Device<M>,
     host: &mut Option<Host<'f>>,
     gave: &mut Option<Host<'f>>,
@@ -115,7 +115,7 @@ fn go<'f, M: Medium + Drop>(
 }
 
 /// An event comes. A refused one changes nothing.
-pub(crate) fn play<'f, M: Medium + Drop>(
+pub(crate) fn play<'f, M: Medium>(
     alloc: Global,
     device: &mut Device<M>,
     host: &mut Option<Host<'f>>,

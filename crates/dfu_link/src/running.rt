@@ -13,8 +13,8 @@ use dfu_host::Report;
 use dfu_slots::Faulty;
 use std::alloc::Global;
 
-/// Where a run stopped: before the event `at`, which was refused or for whose report there was no
-/// memory. `reports` are those of the events before it.
+/// Where a run stopped: before the event `at`, counted from 0, which was refused or for whose report
+/// there was no memory. `reports` are those of the events before it.
 #[derive(Debug, Drop)]
 pub struct Stop {
     pub fault: LinkFault,
@@ -39,7 +39,7 @@ fn note(reports: &mut Vec<Report>, report: Option<Report>)
 ///
 /// `Stop` where an event is refused, with its fault, or where there is no memory for a report,
 /// `NoMemory`. The link then stands as before that event.
-pub fn run<'f, M: Faulty + Drop>(
+pub fn run<'f, M: Faulty>(
     world: &mut World<'f, M>,
     alloc: Global,
     events: &[Event<'f>],

@@ -15,7 +15,7 @@ use dfu_slots::Medium;
 
 /// A request goes to the device by its fate. What comes back is the device's answer, with its
 /// bytes in `out`, or nothing.
-fn send<M: Medium + Drop>(
+fn send<M: Medium>(
     device: &mut Device<M>,
     setup: &[u8; 8],
     body: &[u8],
@@ -49,7 +49,7 @@ fn send<M: Medium + Drop>(
 }
 
 /// A wait of the host: with Slip another time passes in its place.
-fn wait<M: Medium + Drop>(device: &mut Device<M>, ms: u32, fate: Fate)
+fn wait<M: Medium>(device: &mut Device<M>, ms: u32, fate: Fate)
     ensures { Waits ms (fate_of fate) device.old device.new Waited }
 {
     match fate {
@@ -59,7 +59,7 @@ fn wait<M: Medium + Drop>(device: &mut Device<M>, ms: u32, fate: Fate)
 }
 
 /// A reset of the bus by the host: with Slip a time passes after it.
-fn reset_bus<M: Medium + Drop>(device: &mut Device<M>, fate: Fate)
+fn reset_bus<M: Medium>(device: &mut Device<M>, fate: Fate)
     ensures { Resets (fate_of fate) device.old device.new WasReset }
 {
     device.usb_reset();
@@ -81,7 +81,7 @@ fn tell(host: &mut Host<'_>, answer: Option<Answer>, out: &[u8])
 }
 
 /// The next action of a host that is not done, by its fate.
-pub(crate) fn act<M: Medium + Drop>(device: &mut Device<M>, host: &mut Host<'_>, fate: Fate)
+pub(crate) fn act<M: Medium>(device: &mut Device<M>, host: &mut Host<'_>, fate: Fate)
     requires { IsOn host.old.phase }
     ensures { HasActed host.old (fate_of fate) device.old device.new host.new }
 {

@@ -10,7 +10,7 @@ use dfu_slots::Medium;
 use std::alloc::Global;
 
 /// An upload is to begin. Its host takes no memory yet, and keeps the allocator.
-pub(crate) fn upload<M: Medium + Drop>(
+pub(crate) fn upload<M: Medium>(
     alloc: Global,
     device: &Device<M>,
     host: &mut Option<Host<'_>>,

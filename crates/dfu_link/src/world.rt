@@ -22,7 +22,7 @@ use std::marker::Model;
 ///
 /// Contracts see it as a `LinkState`. Only `step` takes memory, and only in an upload.
 #[derive(Drop)]
-pub struct World<'f, M: Faulty + Drop> {
+pub struct World<'f, M: Faulty> {
     alloc: Global,
     device: Device<M>,
     host: Option<Host<'f>>,
@@ -30,7 +30,7 @@ pub struct World<'f, M: Faulty + Drop> {
     gave: Option<Host<'f>>,
 }
 
-impl<'f, M: Faulty + Drop> Model for World<'f, M> {
+impl<'f, M: Faulty> Model for World<'f, M> {
     ghost use Rattle.dfu_link.specs.Comes.{LinkState};
     ghost use Rattle.dfu_link.specs.Standing.{bench_of, link_state, Holds};
 
@@ -41,7 +41,7 @@ impl<'f, M: Faulty + Drop> Model for World<'f, M> {
     ghost invariant = { λ w. Holds (bench_of w.device w.host) };
 }
 
-impl<'f, M: Faulty + Drop> World<'f, M> {
+impl<'f, M: Faulty> World<'f, M> {
     /// A link to a device, with no session and nothing uploaded. It disarms the device's medium,
     /// and keeps the allocator for uploads to come.
     pub fn new(alloc: Global, device: Device<M>) -> World<'f, M>

@@ -1,4 +1,4 @@
-// Bytes as hexadecimal text.
+//! Bytes as hexadecimal text.
 
 ghost use Rattle.std.specs.Prelude.{◌≡◌, ◌≤◌, ◌++◌, ◌∷◌, [], length, OnOk, OnErr, IfErr};
 ghost use Rattle.std.specs.Io.KnownBytes.{Appends};
@@ -10,10 +10,10 @@ use crate::scripting::fault::ScriptFault;
 use crate::scripting::output::{write_out, write_two};
 use std::io::Write;
 
-// How many bytes are printed at once.
+/// How many bytes are printed at once.
 const PIECE: usize = 256;
 
-// Writes at most 256 bytes as digits.
+/// Writes at most 256 bytes as digits.
 pub(crate) fn write_digits<W: Write>(writer: &mut W, bytes: &[u8]) -> Result<(), ScriptFault>
     requires { length bytes.now ≤ 256 }
     ensures ok { OnOk result (Appends (W.contents writer.old) (W.contents writer.new) (encode_lower bytes.now)) }
@@ -28,7 +28,7 @@ pub(crate) fn write_digits<W: Write>(writer: &mut W, bytes: &[u8]) -> Result<(),
     write_out(writer, &digits[..2 * len])
 }
 
-// Writes bytes as digits, piece by piece.
+/// Writes bytes as digits, piece by piece.
 fn write_all_digits<W: Write>(writer: &mut W, bytes: &[u8]) -> Result<(), ScriptFault>
     ensures ok { OnOk result (Appends (W.contents writer.old) (W.contents writer.new) (encode_lower bytes.now)) }
     ensures err { OnErr result (Broke (W.contents writer.old) (W.contents writer.new) (encode_lower bytes.now)) }
@@ -44,7 +44,7 @@ fn write_all_digits<W: Write>(writer: &mut W, bytes: &[u8]) -> Result<(), Script
     Ok(())
 }
 
-// Writes bytes as they are printed, and ends the line.
+/// Writes bytes as they are printed, and ends the line.
 pub(crate) fn write_bytes<W: Write>(writer: &mut W, bytes: &[u8]) -> Result<(), ScriptFault>
     ensures ok { OnOk result (Appends (W.contents writer.old) (W.contents writer.new) (hex_text bytes.now ++ 10 ∷ [])) }
     ensures err { OnErr result (Broke (W.contents writer.old) (W.contents writer.new) (hex_text bytes.now ++ 10 ∷ [])) }

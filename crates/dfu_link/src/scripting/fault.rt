@@ -1,4 +1,4 @@
-// How a script ends before its last line is out.
+//! How a script ends before its last line is out.
 
 use thiserror::Error;
 

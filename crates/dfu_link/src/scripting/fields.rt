@@ -1,5 +1,5 @@
-// Fields of a line: each is the first word that is left, read, with what is left of the line after
-// it.
+//! Fields of a line: each is the first word that is left, read, with what is left of the line after
+//! it.
 
 ghost use Rattle.std.specs.Prelude.{◌≤◌, Some, None, IfSome};
 ghost use Rattle.dfu_link.specs.Words.{Reads, words_of, ends};
@@ -10,7 +10,7 @@ use crate::scripting::hex_text::HexText;
 use crate::scripting::line::Line;
 use crate::scripting::words::{hex_text, number, pair, quad, word_at};
 
-// A number.
+/// A number.
 #[tactic(auto, unfolding(crate::specs::Lines::number_at))]
 pub(crate) fn number_at(line: &[u8]) -> Option<(u32, &[u8])>
     ensures { Reads (λ x. (x.0, words_of x.1.now)) result (number_at (words_of line.now)) }
@@ -20,7 +20,7 @@ pub(crate) fn number_at(line: &[u8]) -> Option<(u32, &[u8])>
     Some((n, rest))
 }
 
-// A number of at most `most`.
+/// A number of at most `most`.
 #[tactic(auto, unfolding(crate::specs::Lines::small_at), using(std::proofs::lemmas::Bool::Decides::nat_tests))]
 pub(crate) fn small_at(line: &[u8], most: u32) -> Option<(u32, &[u8])>
     ensures read { Reads (λ x. (x.0, words_of x.1.now)) result (small_at most (words_of line.now)) }
@@ -30,7 +30,7 @@ pub(crate) fn small_at(line: &[u8], most: u32) -> Option<(u32, &[u8])>
     if n <= most { Some((n, rest)) } else { None }
 }
 
-// A number of at most 65,535.
+/// A number of at most 65,535.
 #[tactic(auto, using(std::proofs::lemmas::Bool::Decides::nat_tests))]
 pub(crate) fn short_at(line: &[u8]) -> Option<(u16, &[u8])>
     ensures { Reads (λ x. (x.0, words_of x.1.now)) result (small_at 65535 (words_of line.now)) }
@@ -39,7 +39,7 @@ pub(crate) fn short_at(line: &[u8]) -> Option<(u16, &[u8])>
     Some((n as u16, rest))
 }
 
-// Hexadecimal text.
+/// Hexadecimal text.
 #[tactic(auto, unfolding(crate::specs::Lines::hex_at))]
 pub(crate) fn hex_at(line: &[u8]) -> Option<(HexText<'_>, &[u8])>
     ensures { Reads (λ x. (hex_bytes x.0, words_of x.1.now)) result (hex_at (words_of line.now)) }
@@ -49,7 +49,7 @@ pub(crate) fn hex_at(line: &[u8]) -> Option<(HexText<'_>, &[u8])>
     Some((text, rest))
 }
 
-// Four hexadecimal digits.
+/// Four hexadecimal digits.
 #[tactic(auto, unfolding(crate::specs::Lines::quad_at))]
 pub(crate) fn quad_at(line: &[u8]) -> Option<(u16, &[u8])>
     ensures { Reads (λ x. (x.0, words_of x.1.now)) result (quad_at (words_of line.now)) }
@@ -59,7 +59,7 @@ pub(crate) fn quad_at(line: &[u8]) -> Option<(u16, &[u8])>
     Some((n, rest))
 }
 
-// The attributes of a functional descriptor: two hexadecimal digits, 00 to 0f.
+/// The attributes of a functional descriptor: two hexadecimal digits, 00 to 0f.
 #[tactic(auto, unfolding(crate::specs::Lines::attributes_at), using(std::proofs::lemmas::Bool::Decides::nat_tests))]
 pub(crate) fn attributes_at(line: &[u8]) -> Option<(u8, &[u8])>
     ensures { Reads (λ x. (x.0, words_of x.1.now)) result (attributes_at (words_of line.now)) }
@@ -69,7 +69,7 @@ pub(crate) fn attributes_at(line: &[u8]) -> Option<(u8, &[u8])>
     if n <= 15 { Some((n, rest)) } else { None }
 }
 
-// What the line says, where no further word is left.
+/// What the line says, where no further word is left.
 pub(crate) fn ended<'l>(said: Line<'l>, rest: &[u8]) -> Option<Line<'l>>
     ensures { Reads said_of result (ends (said_of said.entry) (words_of rest.now)) }
 {

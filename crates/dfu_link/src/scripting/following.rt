@@ -1,4 +1,4 @@
-// The lines of a script once the device is started.
+//! The lines of a script once the device is started.
 
 ghost use Rattle.std.specs.Prelude.{◌+◌, ◌≤◌, ◌∷◌, length, OnOk, IfOk, IfErr};
 ghost use Rattle.dfu_link.specs.Words.{lines_of};
@@ -20,8 +20,8 @@ use dfu_slots::Faulty;
 use std::alloc::Global;
 use std::io::Write;
 
-// Does a line while a session is live.
-fn live_line<'f, M: Faulty + Drop, W: Write>(
+/// Does a line while a session is live.
+fn live_line<'f, M: Faulty, W: Write>(
     world: &mut World<'f, M>,
     line: &[u8],
     number: u32,
@@ -45,9 +45,9 @@ fn live_line<'f, M: Faulty + Drop, W: Write>(
     }
 }
 
-// Does lines until no session is live, and gives the device back; or all that are left, and then
-// writes the line of the image.
-fn follow<'f, M: Faulty + Drop, W: Write>(
+/// Does lines until no session is live, and gives the device back; or all that are left, and then
+/// writes the line of the image.
+fn follow<'f, M: Faulty, W: Write>(
     world: World<'f, M>,
     lines: &mut Lines<'_>,
     limits: &mut Limits,
@@ -73,9 +73,9 @@ fn follow<'f, M: Faulty + Drop, W: Write>(
     }
 }
 
-// Does a line while no session is live, and those after it until the session that it begins is
-// over. The device is given back, unless all lines were done first.
-fn act<M: Faulty + Drop, W: Write>(
+/// Does a line while no session is live, and those after it until the session that it begins is
+/// over. The device is given back, unless all lines were done first.
+fn act<M: Faulty, W: Write>(
     alloc: Global,
     device: Device<M>,
     line: &[u8],
@@ -110,8 +110,8 @@ fn act<M: Faulty + Drop, W: Write>(
     }
 }
 
-// Does the lines from `first` on, and then writes the line of the image.
-pub(crate) fn run_on<M: Faulty + Drop, W: Write>(
+/// Does the lines from `first` on, and then writes the line of the image.
+pub(crate) fn run_on<M: Faulty, W: Write>(
     alloc: Global,
     device: Device<M>,
     first: Option<&[u8]>,

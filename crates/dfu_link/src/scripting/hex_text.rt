@@ -1,9 +1,9 @@
-// Hexadecimal text.
+//! Hexadecimal text.
 
 ghost use Rattle.std.specs.Prelude.{IsTrue, is_some};
 ghost use Rattle.dfu_link.specs.Words.{bytes_of};
 
-// Hexadecimal text that stands for bytes, so that decoding it can only fail for want of memory.
+/// Hexadecimal text that stands for bytes, so that decoding it can only fail for want of memory.
 #[derive(Clone, Copy)]
 pub(crate) struct HexText<'l> {
     pub text: &'l [u8],

@@ -1,9 +1,9 @@
-// The words that a line or a fate begins with.
+//! The words that a line or a fate begins with.
 
 ghost use Rattle.std.specs.Prelude.{◌≡◌};
 ghost use Rattle.dfu_link.specs.Keywords.{keyword_of, fate_keyword_of};
 
-// The first word of a line.
+/// The first word of a line.
 #[derive(Clone, Copy, Debug, PartialEq, Eq)]
 pub(crate) enum Keyword {
     Ids,
@@ -20,7 +20,7 @@ pub(crate) enum Keyword {
     Show,
 }
 
-// The word after `go`.
+/// The word after `go`.
 #[derive(Clone, Copy, Debug, PartialEq, Eq)]
 pub(crate) enum FateKeyword {
     Pass,

@@ -1,4 +1,4 @@
-// What a line says.
+//! What a line says.
 
 ghost use Rattle.std.specs.Prelude.{◌≤◌};
 
@@ -7,7 +7,7 @@ use crate::scripting::hex_text::HexText;
 use dfu_suffix::Ids;
 use dfu_wire::Functional;
 
-// How many bytes an image may have.
+/// How many bytes an image may have.
 #[derive(Clone, Copy)]
 pub(crate) struct Room {
     pub bytes: u32,
@@ -15,52 +15,52 @@ pub(crate) struct Room {
     ghost most: { bytes ≤ 1048576 },
 }
 
-// What a configuration line sets.
+/// What a configuration line sets.
 #[derive(Clone, Copy)]
 pub(crate) enum Setting<'l> {
-    // Who the device is.
+    /// Who the device is.
     Ids(Ids),
-    // What its functional descriptor says, and what `Config::new` takes beside it.
+    /// What its functional descriptor says, and what `Config::new` takes beside it.
     Device {
         functional: Functional,
         least: u32,
         busy_ms: u32,
         manifest_ms: u32,
     },
-    // How many bytes an image may have.
+    /// How many bytes an image may have.
     Capacity(Room),
-    // The image that the device has at first.
+    /// The image that the device has at first.
     Image(HexText<'l>),
 }
 
-// The events of a line.
+/// The events of a line.
 #[derive(Clone, Copy)]
 pub(crate) enum Deed<'l> {
-    // A file is offered.
+    /// A file is offered.
     Offer(HexText<'l>),
-    // An upload begins.
+    /// An upload begins.
     Upload,
-    // The session is given up.
+    /// The session is given up.
     Abort,
-    // The host takes its next action, so often with this fate.
+    /// The host takes its next action, so often with this fate.
     Go { fate: Fate, times: u32 },
-    // So many milliseconds pass.
+    /// So many milliseconds pass.
     Time(u32),
-    // The bus is reset.
+    /// The bus is reset.
     Reset,
 }
 
-// What a line says.
+/// What a line says.
 #[derive(Clone, Copy)]
 pub(crate) enum Line<'l> {
-    // Nothing: it has no words, or is a comment.
+    /// Nothing: it has no words, or is a comment.
     Blank,
-    // A configuration line.
+    /// A configuration line.
     Set(Setting<'l>),
-    // The limits of later sessions.
+    /// The limits of later sessions.
     Limits { actions: u32, restarts: u16 },
-    // An event line.
+    /// An event line.
     Do(Deed<'l>),
-    // `show`.
+    /// `show`.
     Show,
 }

@@ -1,4 +1,4 @@
-// What stands after the first word of a line.
+//! What stands after the first word of a line.
 
 ghost use Rattle.std.specs.Prelude.{◌≡◌, None};
 ghost use Rattle.dfu_link.specs.Words.{Reads, words_of, ends};
@@ -16,7 +16,7 @@ use crate::scripting::words::word_at;
 use dfu_suffix::Ids;
 use dfu_wire::Functional;
 
-// `ids VVVV PPPP DDDD`.
+/// `ids VVVV PPPP DDDD`.
 #[tactic(auto, unfolding(crate::specs::Lines::ids_of))]
 pub(crate) fn ids(line: &[u8]) -> Option<Line<'_>>
     ensures { Reads said_of result (ids_of (words_of line.now)) }
@@ -32,7 +32,7 @@ pub(crate) fn ids(line: &[u8]) -> Option<Line<'_>>
     ended(Line::Set(Setting::Ids(ids)), rest)
 }
 
-// The functional descriptor with these attributes (USB DFU 1.1, section 4.1.3).
+/// The functional descriptor with these attributes (USB DFU 1.1, section 4.1.3).
 fn functional(attributes: u8, detach_ms: u16, transfer: u16) -> Functional
     ensures { result ≡ functional_of attributes detach_ms transfer }
 {
@@ -47,7 +47,7 @@ fn functional(attributes: u8, detach_ms: u16, transfer: u16) -> Functional
     }
 }
 
-// `device FF DETACH TRANSFER LEAST BUSY MANIFEST`.
+/// `device FF DETACH TRANSFER LEAST BUSY MANIFEST`.
 #[tactic(auto, unfolding(crate::specs::Lines::device_of))]
 pub(crate) fn device(line: &[u8]) -> Option<Line<'_>>
     ensures { Reads said_of result (device_of (words_of line.now)) }
@@ -68,7 +68,7 @@ pub(crate) fn device(line: &[u8]) -> Option<Line<'_>>
     ended(said, rest)
 }
 
-// `capacity N`.
+/// `capacity N`.
 #[tactic(auto, unfolding(crate::specs::Lines::capacity_of), using(std::proofs::lemmas::Bool::Decides::nat_tests))]
 pub(crate) fn capacity(line: &[u8]) -> Option<Line<'_>>
     ensures { Reads said_of result (capacity_of (words_of line.now)) }
@@ -81,7 +81,7 @@ pub(crate) fn capacity(line: &[u8]) -> Option<Line<'_>>
     }
 }
 
-// `image HEX`.
+/// `image HEX`.
 #[tactic(auto, unfolding(crate::specs::Lines::image_of))]
 pub(crate) fn image(line: &[u8]) -> Option<Line<'_>>
     ensures { Reads said_of result (image_of (words_of line.now)) }
@@ -90,7 +90,7 @@ pub(crate) fn image(line: &[u8]) -> Option<Line<'_>>
     ended(Line::Set(Setting::Image(image)), rest)
 }
 
-// `limits A R`.
+/// `limits A R`.
 #[tactic(auto, unfolding(crate::specs::Lines::limits_of))]
 pub(crate) fn limits(line: &[u8]) -> Option<Line<'_>>
     ensures { Reads said_of result (limits_of (words_of line.now)) }
@@ -100,7 +100,7 @@ pub(crate) fn limits(line: &[u8]) -> Option<Line<'_>>
     ended(Line::Limits { actions, restarts }, rest)
 }
 
-// `offer HEX`.
+/// `offer HEX`.
 #[tactic(auto, unfolding(crate::specs::Lines::offer_of))]
 pub(crate) fn offer(line: &[u8]) -> Option<Line<'_>>
     ensures { Reads said_of result (offer_of (words_of line.now)) }
@@ -109,7 +109,7 @@ pub(crate) fn offer(line: &[u8]) -> Option<Line<'_>>
     ended(Line::Do(Deed::Offer(file)), rest)
 }
 
-// `time MS`.
+/// `time MS`.
 #[tactic(auto, unfolding(crate::specs::Lines::time_of))]
 pub(crate) fn time(line: &[u8]) -> Option<Line<'_>>
     ensures { Reads said_of result (time_of (words_of line.now)) }
@@ -118,7 +118,7 @@ pub(crate) fn time(line: &[u8]) -> Option<Line<'_>>
     ended(Line::Do(Deed::Time(ms)), rest)
 }
 
-// `go pass N`.
+/// `go pass N`.
 #[tactic(auto, unfolding(crate::specs::Lines::pass_of), using(std::proofs::lemmas::Bool::Decides::nat_tests))]
 fn pass(line: &[u8]) -> Option<Line<'_>>
     ensures { Reads said_of result (pass_of (words_of line.now)) }
@@ -132,14 +132,14 @@ fn pass(line: &[u8]) -> Option<Line<'_>>
     }
 }
 
-// One action.
+/// One action.
 fn once(fate: Fate, rest: &[u8]) -> Option<Line<'_>>
     ensures { Reads said_of result (ends (Does (Go (fate_of fate) 1)) (words_of rest.now)) }
 {
     ended(Line::Do(Deed::Go { fate, times: 1 }), rest)
 }
 
-// `go slip MS`.
+/// `go slip MS`.
 #[tactic(auto, unfolding(crate::specs::Lines::slip_of))]
 fn slip(line: &[u8]) -> Option<Line<'_>>
     ensures { Reads said_of result (slip_of (words_of line.now)) }
@@ -148,7 +148,7 @@ fn slip(line: &[u8]) -> Option<Line<'_>>
     once(Fate::Slip(ms), rest)
 }
 
-// The fate of an action, by its word.
+/// The fate of an action, by its word.
 fn by_fate(keyword: FateKeyword, rest: &[u8]) -> Option<Line<'_>>
     ensures { Reads said_of result (by_fate keyword (words_of rest.now)) }
 {
@@ -162,7 +162,7 @@ fn by_fate(keyword: FateKeyword, rest: &[u8]) -> Option<Line<'_>>
     }
 }
 
-// `go` with a fate.
+/// `go` with a fate.
 #[tactic(auto, unfolding(crate::specs::Lines::go_of))]
 pub(crate) fn go(line: &[u8]) -> Option<Line<'_>>
     ensures { Reads said_of result (go_of (words_of line.now)) }

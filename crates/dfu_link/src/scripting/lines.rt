@@ -1,10 +1,10 @@
-// The lines of a text.
+//! The lines of a text.
 
 ghost use Rattle.std.specs.Prelude.{◌≡◌, ◌+◌, ◌<◌, ◌≤◌, ◌∷◌, [], length, Some, None, MatchOption};
 ghost use Rattle.std.specs.List.{position};
 ghost use Rattle.dfu_link.specs.Words.{lines_of, is_newline};
 
-// The text that is left, and how many lines came before it.
+/// The text that is left, and how many lines came before it.
 #[derive(Clone, Copy)]
 pub(crate) struct Lines<'t> {
     pub rest: &'t [u8],
@@ -12,14 +12,14 @@ pub(crate) struct Lines<'t> {
     ghost bounded: { number + length rest.now ≤ 16777216 },
 }
 
-// Where the line ends.
+/// Where the line ends.
 fn newline_at(text: &[u8]) -> Option<usize>
     ensures { result ≡ position is_newline text.now }
 {
     text.iter().position(|byte| *byte == b'\n')
 }
 
-// The next line, without its 0Ah.
+/// The next line, without its 0Ah.
 pub(crate) fn next_line<'t>(lines: &mut Lines<'t>) -> Option<&'t [u8]>
     ensures shrinks { length lines.new.rest.now ≤ length lines.old.rest.now }
     ensures next { MatchOption result ((lines_of lines.old.rest.now ≡ []) × (lines_of lines.new.rest.now ≡ []) × (lines.new.number ≡ lines.old.number))

@@ -1,4 +1,4 @@
-// Text for a writer.
+//! Text for a writer.
 
 ghost use Rattle.std.specs.Prelude.{◌≡◌, ◌++◌, OnOk, OnErr, IfErr};
 ghost use Rattle.std.specs.Io.KnownBytes.{Appends};
@@ -7,8 +7,8 @@ ghost use Rattle.dfu_link.specs.Writing.{Broke};
 use crate::scripting::fault::ScriptFault;
 use std::io::Write;
 
-// Writes the whole text, or answers Write at the first error of the writer, and where it takes
-// nothing of what is left.
+/// Writes the whole text, or answers Write at the first error of the writer, and where it takes
+/// nothing of what is left.
 pub(crate) fn write_out<W: Write>(writer: &mut W, text: &[u8]) -> Result<(), ScriptFault>
     ensures ok { OnOk result (Appends (W.contents writer.old) (W.contents writer.new) text.now) }
     ensures err { OnErr result (Broke (W.contents writer.old) (W.contents writer.new) text.now) }
@@ -28,7 +28,7 @@ pub(crate) fn write_out<W: Write>(writer: &mut W, text: &[u8]) -> Result<(), Scr
     Ok(())
 }
 
-// Writes two texts, one after the other.
+/// Writes two texts, one after the other.
 pub(crate) fn write_two<W: Write>(
     writer: &mut W,
     first: &str,
@@ -42,7 +42,7 @@ pub(crate) fn write_two<W: Write>(
     write_out(writer, last.as_bytes())
 }
 
-// Writes three texts, one after the other.
+/// Writes three texts, one after the other.
 pub(crate) fn write_three<W: Write>(
     writer: &mut W,
     first: &str,

@@ -1,4 +1,4 @@
-// The events of an event line, played.
+//! The events of an event line, played.
 
 ghost use Rattle.std.specs.Prelude.{◌≡◌, OnOk, OnErr, IfOk, IfErr, replicate};
 ghost use Rattle.dfu_link.specs.Comes.{happening, IsLive};
@@ -19,8 +19,8 @@ use dfu_slots::Faulty;
 use std::alloc::Global;
 use std::io::Write;
 
-// Lets the same event come so many times, and writes what is printed of each.
-fn play<'f, M: Faulty + Drop, W: Write>(
+/// Lets the same event come so many times, and writes what is printed of each.
+fn play<'f, M: Faulty, W: Write>(
     world: &mut World<'f, M>,
     event: Event<'f>,
     times: u32,
@@ -37,7 +37,7 @@ fn play<'f, M: Faulty + Drop, W: Write>(
     Ok(())
 }
 
-// The file that is offered. Other events have none.
+/// The file that is offered. Other events have none.
 pub(crate) fn file_of(alloc: Global, deed: Deed<'_>) -> Result<Vec<u8>, ScriptFault>
     ensures ok { IfOk result (λ v. v.items ≡ file_bytes (deed_of deed.entry)) }
     ensures fault { IfErr result (λ f. FindsNoRoom (deed_of deed.entry) f) }
@@ -48,8 +48,8 @@ pub(crate) fn file_of(alloc: Global, deed: Deed<'_>) -> Result<Vec<u8>, ScriptFa
     }
 }
 
-// Plays the events of a line, and writes what is printed of them.
-pub(crate) fn play_deed<'f, M: Faulty + Drop, W: Write>(
+/// Plays the events of a line, and writes what is printed of them.
+pub(crate) fn play_deed<'f, M: Faulty, W: Write>(
     world: &mut World<'f, M>,
     deed: Deed<'_>,
     file: &'f [u8],
@@ -71,8 +71,8 @@ pub(crate) fn play_deed<'f, M: Faulty + Drop, W: Write>(
     }
 }
 
-// The same while a session is live: an offer is refused whatever its file is.
-pub(crate) fn play_live<'f, M: Faulty + Drop, W: Write>(
+/// The same while a session is live: an offer is refused whatever its file is.
+pub(crate) fn play_live<'f, M: Faulty, W: Write>(
     world: &mut World<'f, M>,
     deed: Deed<'_>,
     limits: Limits,

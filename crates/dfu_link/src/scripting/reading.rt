@@ -1,4 +1,4 @@
-// What a line says, read.
+//! What a line says, read.
 
 ghost use Rattle.std.specs.Prelude.{◌≡◌};
 ghost use Rattle.dfu_link.specs.Words.{Reads, words_of};
@@ -57,7 +57,7 @@ fn words_say(line: &[u8]) -> Option<Line<'_>>
     }
 }
 
-// What a line says, or nothing where it is none of the language. A line over 65,536 bytes is none.
+/// What a line says, or nothing where it is none of the language. A line over 65,536 bytes is none.
 #[tactic(auto, unfolding(crate::specs::Lines::line_of))]
 pub(crate) fn parse(line: &[u8]) -> Option<Line<'_>>
     ensures { Reads said_of result (line_of line.now) }

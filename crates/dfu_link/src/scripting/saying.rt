@@ -1,4 +1,4 @@
-// The lines of reports and of refused events.
+//! The lines of reports and of refused events.
 
 ghost use Rattle.std.specs.Prelude.{◌≡◌, OnOk, OnErr, IfErr};
 ghost use Rattle.std.specs.Io.KnownBytes.{Appends};
@@ -30,7 +30,7 @@ fn say_uploaded<W: Write>(writer: &mut W, bytes: &[u8]) -> Result<(), ScriptFaul
     write_bytes(writer, bytes)
 }
 
-// The line of a report. What was uploaded is shown with Uploaded alone.
+/// The line of a report. What was uploaded is shown with Uploaded alone.
 fn say_report<W: Write>(writer: &mut W, report: Report, uploaded: &[u8]) -> Result<(), ScriptFault>
     ensures ok { OnOk result (Appends (W.contents writer.old) (W.contents writer.new) (report_line report uploaded.now)) }
     ensures err { OnErr result (Broke (W.contents writer.old) (W.contents writer.new) (report_line report uploaded.now)) }
@@ -64,7 +64,7 @@ fn say_refusal<W: Write>(writer: &mut W, fault: LinkFault) -> Result<(), ScriptF
     }
 }
 
-// Writes what is printed of an event, where this was uploaded last.
+/// Writes what is printed of an event, where this was uploaded last.
 pub(crate) fn say<W: Write>(
     writer: &mut W,
     answer: Result<Option<Report>, LinkFault>,

@@ -1,4 +1,4 @@
-// What is set before the first event line or `show`.
+//! What is set before the first event line or `show`.
 
 ghost use Rattle.std.specs.Prelude.{◌≡◌};
 ghost use Rattle.dfu_link.specs.Said.{setting_of};
@@ -11,8 +11,8 @@ use dfu_host::Limits;
 use dfu_suffix::Ids;
 use dfu_wire::Functional;
 
-// What is set: what `Config::new` takes, how many bytes an image may have, the image at first (the
-// byte 00 where there is none), and the limits of sessions.
+/// What is set: what `Config::new` takes, how many bytes an image may have, the image at first (the
+/// byte 00 where there is none), and the limits of sessions.
 #[derive(Clone, Copy)]
 pub(crate) struct Setup<'t> {
     pub ids: Ids,
@@ -25,7 +25,7 @@ pub(crate) struct Setup<'t> {
     pub limits: Limits,
 }
 
-// What holds where no line sets anything else.
+/// What holds where no line sets anything else.
 pub(crate) fn beginning<'t>() -> Setup<'t>
     ensures { stand_of result ≡ beginning }
 {
@@ -56,7 +56,7 @@ pub(crate) fn beginning<'t>() -> Setup<'t>
     }
 }
 
-// Does what a configuration line says.
+/// Does what a configuration line says.
 pub(crate) fn set<'t>(setup: &mut Setup<'t>, setting: Setting<'t>)
     ensures { stand_of setup.new ≡ set (stand_of setup.old) (setting_of setting.entry) }
 {
@@ -81,7 +81,7 @@ pub(crate) fn set<'t>(setup: &mut Setup<'t>, setting: Setting<'t>)
     }
 }
 
-// Sets the limits of sessions.
+/// Sets the limits of sessions.
 pub(crate) fn set_limits(setup: &mut Setup<'_>, limits: Limits)
     ensures { stand_of setup.new ≡ record (stand_of setup.old) { limits = limits } }
 {

@@ -1,4 +1,4 @@
-// The lines of a device: its image, and `show`.
+//! The lines of a device: its image, and `show`.
 
 ghost use Rattle.std.specs.Prelude.{◌≡◌, ◌+◌, ◌≤◌, ◌++◌, ◌∷◌, [], length, slice_range, OnOk, OnErr, IfErr};
 ghost use Rattle.std.specs.Io.KnownBytes.{Appends};
@@ -14,10 +14,10 @@ use dfu_device::Device;
 use dfu_slots::{Medium, Slots};
 use std::io::Write;
 
-// How many bytes of an image are printed at once.
+/// How many bytes of an image are printed at once.
 const PIECE: u32 = 256;
 
-// Writes the bytes of the image from `at` on, so many as fit in a piece of `len` bytes.
+/// Writes the bytes of the image from `at` on, so many as fit in a piece of `len` bytes.
 fn write_piece<M: Medium, W: Write>(
     writer: &mut W,
     slots: &Slots<M>,
@@ -36,7 +36,7 @@ fn write_piece<M: Medium, W: Write>(
     write_digits(writer, &bytes[..len])
 }
 
-// Writes an image as hexadecimal text, piece by piece.
+/// Writes an image as hexadecimal text, piece by piece.
 fn write_pieces<M: Medium, W: Write>(writer: &mut W, slots: &Slots<M>) -> Result<(), ScriptFault>
     ensures ok { OnOk result (Appends (W.contents writer.old) (W.contents writer.new) (encode_lower (image_of slots.now))) }
     ensures err { OnErr result (Broke (W.contents writer.old) (W.contents writer.new) (encode_lower (image_of slots.now))) }
@@ -52,7 +52,7 @@ fn write_pieces<M: Medium, W: Write>(writer: &mut W, slots: &Slots<M>) -> Result
     Ok(())
 }
 
-// Writes the image of a slot store, and ends the line.
+/// Writes the image of a slot store, and ends the line.
 fn write_hex<M: Medium, W: Write>(writer: &mut W, slots: &Slots<M>) -> Result<(), ScriptFault>
     ensures ok { OnOk result (Appends (W.contents writer.old) (W.contents writer.new) (hex_text (image_of slots.now) ++ 10 ∷ [])) }
     ensures err { OnErr result (Broke (W.contents writer.old) (W.contents writer.new) (hex_text (image_of slots.now) ++ 10 ∷ [])) }
@@ -65,8 +65,8 @@ fn write_hex<M: Medium, W: Write>(writer: &mut W, slots: &Slots<M>) -> Result<()
     write_out(writer, b"\n")
 }
 
-// Writes the line of the device's image.
-pub(crate) fn write_image<M: Medium + Drop, W: Write>(
+/// Writes the line of the device's image.
+pub(crate) fn write_image<M: Medium, W: Write>(
     writer: &mut W,
     device: &Device<M>,
 ) -> Result<(), ScriptFault>
@@ -78,11 +78,8 @@ pub(crate) fn write_image<M: Medium + Drop, W: Write>(
     write_hex(writer, device.slots())
 }
 
-// Writes the device's state and its status code.
-fn write_state<M: Medium + Drop, W: Write>(
-    writer: &mut W,
-    device: &Device<M>,
-) -> Result<(), ScriptFault>
+/// Writes the device's state and its status code.
+fn write_state<M: Medium, W: Write>(writer: &mut W, device: &Device<M>) -> Result<(), ScriptFault>
     ensures ok { OnOk result (Appends (W.contents writer.old) (W.contents writer.new) (state_text device.now)) }
     ensures err { OnErr result (Broke (W.contents writer.old) (W.contents writer.new) (state_text device.now)) }
     ensures fault { IfErr result (λ f. f ≡ ScriptFault.Write) }
@@ -93,8 +90,8 @@ fn write_state<M: Medium + Drop, W: Write>(
     write_two(writer, code.name(), " ")
 }
 
-// Writes the line of `show`.
-pub(crate) fn write_show<M: Medium + Drop, W: Write>(
+/// Writes the line of `show`.
+pub(crate) fn write_show<M: Medium, W: Write>(
     writer: &mut W,
     device: &Device<M>,
 ) -> Result<(), ScriptFault>

@@ -1,4 +1,4 @@
-// The start of the device.
+//! The start of the device.
 
 ghost use Rattle.std.specs.Prelude.{◌≡◌, ◌<◌, IfOk, IfErr};
 ghost use Rattle.dfu_link.specs.Said.{hex_bytes};
@@ -16,7 +16,7 @@ use dfu_device::{Config, Device};
 use dfu_slots::{FormatFault, SimMedium, Slots};
 use std::alloc::Global;
 
-// The bytes of a hexadecimal text.
+/// The bytes of a hexadecimal text.
 pub(crate) fn bytes_of(alloc: Global, text: HexText<'_>) -> Result<Vec<u8>, ScriptFault>
     ensures ok { IfOk result (λ v. v.items ≡ hex_bytes text.entry) }
     ensures fault { IfErr result (λ f. f ≡ ScriptFault.NoMemory) }
@@ -30,7 +30,7 @@ pub(crate) fn bytes_of(alloc: Global, text: HexText<'_>) -> Result<Vec<u8>, Scri
     }
 }
 
-// The image at first.
+/// The image at first.
 fn first_image(alloc: Global, text: Option<HexText<'_>>) -> Result<Vec<u8>, ScriptFault>
     ensures ok { IfOk result (λ v. v.items ≡ image_bytes text.entry) }
     ensures fault { IfErr result (λ f. f ≡ ScriptFault.NoMemory) }
@@ -44,7 +44,7 @@ fn first_image(alloc: Global, text: Option<HexText<'_>>) -> Result<Vec<u8>, Scri
     }
 }
 
-// A medium in memory, formatted with the image.
+/// A medium in memory, formatted with the image.
 fn form(alloc: Global, room: Room, image: &[u8]) -> Result<Slots<SimMedium>, ScriptFault>
     ensures ok { IfOk result (λ slots. Formed room.bytes image.now slots) }
     ensures fault { IfErr result (λ f. FormFalls room.bytes image.now f) }
@@ -62,7 +62,7 @@ fn form(alloc: Global, room: Room, image: &[u8]) -> Result<Slots<SimMedium>, Scr
     }
 }
 
-// Starts the device, in appIDLE on a formatted medium in memory.
+/// Starts the device, in appIDLE on a formatted medium in memory.
 pub(crate) fn start(alloc: Global, setup: &Setup<'_>) -> Result<Device<SimMedium>, ScriptFault>
     ensures ok { IfOk result (λ d. Starts (stand_of setup.now) d) }
     ensures unarmed { IfOk result (λ d. IsUnarmed d) }

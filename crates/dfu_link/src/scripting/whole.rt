@@ -1,4 +1,4 @@
-// Whole scripts.
+//! Whole scripts.
 
 ghost use Rattle.std.specs.Prelude.{◌+◌, ◌≤◌, length, OnOk, IfOk, IfErr, IfSome};
 ghost use Rattle.dfu_link.specs.Words.{lines_of};
@@ -19,7 +19,7 @@ use dfu_host::Limits;
 use std::alloc::Global;
 use std::io::{Read, Write};
 
-// Does the lines up to the first event line or `show`, which is given.
+/// Does the lines up to the first event line or `show`, which is given.
 fn configure<'t>(
     setup: &mut Setup<'t>,
     lines: &mut Lines<'t>,
@@ -43,7 +43,7 @@ fn configure<'t>(
     Ok(None)
 }
 
-// Runs a text.
+/// Runs a text.
 fn run_text<W: Write>(alloc: Global, text: &[u8], writer: &mut W) -> Result<(), ScriptFault>
     requires { length text.now ≤ 16777216 }
     ensures ok { OnOk result (WroteRun text.now (W.contents writer.old) (W.contents writer.new)) }
@@ -66,8 +66,9 @@ fn run_text<W: Write>(alloc: Global, text: &[u8], writer: &mut W) -> Result<(), 
 /// # Errors
 ///
 /// `ScriptFault` has them. TooLarge comes once byte 16,777,217 was read, and no read is made after
-/// that; Read at the first error of the reader, with no second try. After them nothing is written.
-/// After BadLine and LateConfig the text of the lines before is written whole.
+/// that; Read at the first error of the reader, with no second try. With these two and BadConfig
+/// nothing is written; with BadLine and LateConfig the text of the lines before, whole; with NoMemory
+/// nothing, or the text of the lines before, whole; with Write a front of the text.
 pub fn script<R: Read + Drop, W: Write>(
     alloc: Global,
     reader: R,

@@ -1,4 +1,4 @@
-// Words of a line, numbers and hexadecimal text.
+//! Words of a line, numbers and hexadecimal text.
 
 ghost use Rattle.std.specs.Prelude.{◌≡◌, ◌↔◌, ◌+◌, ◌*◌, Some, None, IsTrue, is_some};
 ghost use Rattle.std.specs.List.{position, AllPass};
@@ -8,21 +8,21 @@ ghost use Rattle.dfu_link.specs.Said.{hex_bytes};
 
 use crate::scripting::hex_text::HexText;
 
-// Where the first space is.
+/// Where the first space is.
 fn space_at(line: &[u8]) -> Option<usize>
     ensures { result ≡ position is_space line.now }
 {
     line.iter().position(|byte| *byte == b' ')
 }
 
-// Where the first byte is that isn't a space.
+/// Where the first byte is that isn't a space.
 fn start_at(line: &[u8]) -> Option<usize>
     ensures { result ≡ position is_no_space line.now }
 {
     line.iter().position(|byte| *byte != b' ')
 }
 
-// The first word, and the line after it. Nothing where there is no word.
+/// The first word, and the line after it. Nothing where there is no word.
 pub(crate) fn word_at(line: &[u8]) -> Option<(&[u8], &[u8])>
     ensures { Reads (λ x. (x.0.now, words_of x.1.now)) result (first (words_of line.now)) }
 {
@@ -34,7 +34,7 @@ pub(crate) fn word_at(line: &[u8]) -> Option<(&[u8], &[u8])>
     }
 }
 
-// A number of 1 to 10 decimal digits, at most 4,294,967,295.
+/// A number of 1 to 10 decimal digits, at most 4,294,967,295.
 pub(crate) fn number(word: &[u8]) -> Option<u32>
     ensures { Reads (λ n. n) result (number_of word.now) }
 {
@@ -76,7 +76,7 @@ fn is_hex_text(word: &[u8]) -> bool
     word.len() % 2 == 0 && are_digits(word)
 }
 
-// An even number of hexadecimal digits of either case, or `-` for no bytes.
+/// An even number of hexadecimal digits of either case, or `-` for no bytes.
 pub(crate) fn hex_text(word: &[u8]) -> Option<HexText<'_>>
     ensures { Reads hex_bytes result (bytes_of word.now) }
 {
@@ -87,7 +87,7 @@ pub(crate) fn hex_text(word: &[u8]) -> Option<HexText<'_>>
     }
 }
 
-// Four hexadecimal digits.
+/// Four hexadecimal digits.
 pub(crate) fn quad(word: &[u8]) -> Option<u16>
     ensures { Reads (λ n. n) result (quad_of word.now) }
 {
@@ -98,7 +98,7 @@ pub(crate) fn quad(word: &[u8]) -> Option<u16>
     }
 }
 
-// Two hexadecimal digits.
+/// Two hexadecimal digits.
 pub(crate) fn pair(word: &[u8]) -> Option<u8>
     ensures { Reads (λ n. n) result (pair_of word.now) }
 {
