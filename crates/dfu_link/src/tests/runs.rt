@@ -15,6 +15,7 @@ use dfu_host::Report;
 use dfu_slots::{Faulty, NoMemory, SimMedium};
 use dfu_suffix::Crc;
 use std::alloc::{AllocError, Global};
+use std::process::Abort;
 use std::test::Fail;
 
 /// An offer and the passes of a clean download. Where all of it came, the payload is the active
@@ -92,6 +93,17 @@ fn zeros(alloc: Global, len: usize) -> Result<Vec<u8>, AllocError> {
     Ok(bytes)
 }
 
+/// An upload of an image of 65,537 bytes, one byte in each part.
+fn fetches_too_much(rt: &impl Abort, world: &mut World<'_, SimMedium>) {
+    play(
+        rt,
+        world,
+        &[UPLOAD, pass(65_539)],
+        Some(Report::TooManyBlocks),
+    );
+    assert!(rt; world.uploaded().is_empty());
+}
+
 #[test]
 fn block_numbers_wrap(rt: HostRuntime) -> Result<(), Fail> {
     let bytes = zeros(rt.alloc(), 65_537)?;
@@ -110,12 +122,6 @@ fn block_numbers_wrap(rt: HostRuntime) -> Result<(), Fail> {
         Some(Report::Installed),
     );
     assert_eq!(rt; world.device().slots().active_len(), 65_537);
-    play(
-        &rt,
-        &mut world,
-        &[UPLOAD, pass(65_539)],
-        Some(Report::TooManyBlocks),
-    );
-    assert!(rt; world.uploaded().is_empty());
+    fetches_too_much(&rt, &mut world);
     Ok(())
 }
