@@ -11,7 +11,7 @@ use Rattle.dfu_host.specs.Table.{Goal, ToLoad, ToFetch}
 use Rattle.dfu_link.specs.declared.fault.LinkFault.{LinkFault}
 use Rattle.dfu_link.specs.Session.{Machine, Loading}
 use Rattle.dfu_link.specs.Play.{Pass, CutIn, Fail, Event, Offer, UploadIt, AbortIt, Go, Time, ResetBus, Session, Nobody, Hosted, Link, Answered, given, IsAllowed}
-use Rattle.dfu_link.specs.Agreement.{pending_of, live_of, IsSound, IsGoalOffer, IsLiveOffer, Agrees, AgreesOn, NothingClosed, SomeAgrees, FreshAgrees, LinkAgreesOn}
+use Rattle.dfu_link.specs.Agreement.{pending_of, live_of, IsSound, IsGoalOffer, IsLiveOffer, Agrees, NothingClosed, SomeAgrees, FreshAgrees, LinkAgreesOn}
 use Rattle.dfu_link.specs.Fact.{SessionFact}
 use Rattle.dfu_link.specs.Headline.{Follows}
 use Rattle.dfu_link.specs.Bytes.{Harm, Bench, link_of, ShowsActive, Happens, BytePlay}
