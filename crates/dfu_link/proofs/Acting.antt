@@ -5,11 +5,11 @@ use Rattle.dfu_device.specs.Stage.{Profile, state_of}
 use Rattle.dfu_device.specs.Outcome.{Situation, Luck}
 use Rattle.dfu_host.specs.declared.report.Report.TheVariants.{Installed}
 use Rattle.dfu_host.specs.Table.{Goal, ToLoad, ToFetch, Task, Phase, deed}
-use Rattle.dfu_host.specs.Host.{HostState}
+use Rattle.dfu_host.specs.Host.{HostState, IsOn}
 use Rattle.dfu_link.specs.Session.{Machine, Live, Loading, Fetching, Begins, begins_not, takes, installs, Ends, ends_not, drops, Kind, AGo, Step, goes}
 use Rattle.dfu_link.specs.Play.{Fate, Go, Hosted, Link, given, Played, task_for, acted, played}
 use Rattle.dfu_link.specs.Agreement.{pending_of, live_of, IsSound, IsGoalOffer, IsLiveOffer}
-use Rattle.dfu_link.specs.Fact.{GoalFact, HasBlocks, IsOn, HostFact, SessionFact}
+use Rattle.dfu_link.specs.Fact.{GoalFact, HasBlocks, HostFact, SessionFact}
 use Rattle.dfu_link.proofs.Quiet.{Quiet, stays, forgets, commits}
 use Rattle.dfu_link.proofs.Blocks.{Moves, quietly, takes_block, loses_block}
 use Rattle.dfu_link.proofs.Go.{go}

@@ -8,10 +8,11 @@ use Rattle.dfu_host.specs.declared.report.Report.{Report}
 use Rattle.dfu_host.specs.declared.report.Report.TheVariants.{Installed, Unconfirmed}
 use Rattle.dfu_host.specs.Blocks.{blocks}
 use Rattle.dfu_host.specs.Table.{ToLoad, Phase, Find, FindAgain, Detach, Enter, Clear, Quit, WaitFind, ResetFind, Block, Ask, Poll, WaitPoll, Close, AskLast, Manifest, WaitManifest, WaitLast, Trouble, Fetch, LastUploaded, Last, GiveUp, Over, OverUploaded, Wait, Reset, deed, Heard, Waited, WasReset, troubled, polled, manifested, asked, asked_last, on_waited, on_reset, row}
+use Rattle.dfu_host.specs.Host.{IsOn}
 use Rattle.dfu_link.specs.Session.{IsOneOf}
 use Rattle.dfu_link.specs.Play.{Fate, task_for, Passed, sent, waited, bus_reset, acted}
 use Rattle.dfu_link.specs.Agreement.{IsSound}
-use Rattle.dfu_link.specs.Fact.{IsIdle, IsInApp, EndsAs, Fact, IsOn}
+use Rattle.dfu_link.specs.Fact.{IsIdle, IsInApp, EndsAs, Fact}
 use Rattle.dfu_link.proofs.Quiet.{IsQuiet, IsPolite}
 use Rattle.dfu_link.proofs.Kept.{AsksStatus, AsksState}
 use Rattle.dfu_link.proofs.Fates.{IfHeard, IsWaited, IsReset, if_heard, any_heard, Knows, sent_quiet, waited_quiet, bus_reset_quiet, status_knows, state_knows, waited_keeps, reset_keeps}

@@ -9,9 +9,10 @@ use Rattle.dfu_device.specs.Table.{reset_stage}
 use Rattle.dfu_device.specs.Outcome.{Situation, Luck, elapsed}
 use Rattle.dfu_device.specs.TakenRow.{either_way}
 use Rattle.dfu_host.specs.Table.{ToFetch, Phase, Find, FindAgain, Detach, Enter, Clear, Quit, WaitFind, ResetFind, Trouble, Fetch, LastUploaded, GiveUp, Over, OverUploaded, Wait, Reset, deed, Heard, Acked, Status, Stalled, Waited, WasReset, listed, troubled, on_status, on_ack, on_waited, on_reset, row}
+use Rattle.dfu_host.specs.Host.{IsOn}
 use Rattle.dfu_link.specs.Play.{Fate, Slip, CutIn, task_for, Passed, sent, waited, bus_reset, acted}
 use Rattle.dfu_link.specs.Agreement.{pending_of, IsSound}
-use Rattle.dfu_link.specs.Fact.{Fetches, FetchFact, IsOn}
+use Rattle.dfu_link.specs.Fact.{Fetches, FetchFact}
 use Rattle.dfu_link.proofs.Quiet.{Quiet, IsQuiet, IsPolite}
 use Rattle.dfu_link.proofs.Tells.{Tells, ToldBy}
 use Rattle.dfu_link.proofs.Fates.{IfHeard, IsReset, if_heard, any_heard, Knows, sent_quiet, waited_quiet, bus_reset_quiet, status_knows}

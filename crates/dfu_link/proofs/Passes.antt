@@ -3,9 +3,8 @@ use Rattle.std.proofs.Common.{◌≡◌, ℕ, suc, ◌+◌, Bool, true, false, L
 use Rattle.dfu_device.specs.Stage.{Profile, Stage}
 use Rattle.dfu_device.specs.Outcome.{Luck, Works}
 use Rattle.dfu_host.specs.Table.{ToLoad, Phase, Over, OverUploaded, deed, Heard}
-use Rattle.dfu_host.specs.Host.{HostState, budgeted}
+use Rattle.dfu_host.specs.Host.{HostState, IsOn, budgeted}
 use Rattle.dfu_link.specs.Play.{Pass, Hosted, Link, silent, task_for, Took, settled, took, remembered, Passed, acted}
-use Rattle.dfu_link.specs.Fact.{IsOn}
 use Rattle.dfu_link.specs.CleanRun.{PassesTo, Quietly, here, there}
 
 both_ways : {c : Profile} {a b d : Link} {j k : ℕ} → Quietly c a j b → Quietly c b k d → Quietly c a (j + k) d

@@ -7,11 +7,11 @@ use Rattle.dfu_host.specs.declared.report.Report.{Report}
 use Rattle.dfu_host.specs.declared.report.Report.TheVariants.{Installed, Aborted, RestartsSpent, Uploaded}
 use Rattle.dfu_host.specs.Blocks.{blocks}
 use Rattle.dfu_host.specs.Table.{Goal, ToLoad, ToFetch, Task, Phase, Find, Fetch, GiveUp, Over, OverUploaded, Heard, Part, NoRoom, Restarted, row}
-use Rattle.dfu_host.specs.Host.{HostState, budgeted, restarted, after_phase, aborted_in, told as host_told}
+use Rattle.dfu_host.specs.Host.{HostState, IsOn, budgeted, restarted, after_phase, told as host_told}
 use Rattle.dfu_link.specs.Session.{Machine, Live, NoOne, Fetching, IsOneOf, IsPlain, Says, says_not, says_installed, says_uploaded, says_other, OnlyPlain}
 use Rattle.dfu_link.specs.Play.{Nobody, given, task_for, Took, settled, took, remembered}
 use Rattle.dfu_link.specs.Agreement.{pending_of, live_goal, live_of, IsGoalOffer, IsLiveOffer}
-use Rattle.dfu_link.specs.Fact.{IsInApp, EndsAs, Fact, FetchFact, GoalFact, HasBlocks, IsOn, GoesBy, SessionFact}
+use Rattle.dfu_link.specs.Fact.{IsInApp, EndsAs, Fact, FetchFact, GoalFact, HasBlocks, GoesBy, SessionFact}
 use Rattle.dfu_link.proofs.Fates.{IfHeard}
 
 -- the machine that a link shows
@@ -23,12 +23,6 @@ after_on : (h : HostState) (phase : Phase) (heard : Heard) → IsOn phase → af
 after_on h (Over report) heard on = elim on [ ]
 after_on h (OverUploaded kept) heard on = elim on [ ]
 after_on h phase heard on = refl
-
--- a host that is not done and that its caller gives up is in Give up
-pub gives_up : (h : HostState) (phase : Phase) → IsOn phase → aborted_in h phase ≡ record h { phase = GiveUp }
-gives_up h (Over r) on = elim on [ ]
-gives_up h (OverUploaded kept) on = elim on [ ]
-gives_up h phase on = refl
 
 -- a task made by the descriptor goes by it, and is the only one of its goal that does
 pub goes_by : (c : Profile) (goal : Goal) → GoesBy c (task_for c goal)

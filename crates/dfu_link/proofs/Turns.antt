@@ -10,8 +10,8 @@ use Rattle.dfu_host.specs.declared.report.Report.TheVariants.{Installed}
 use Rattle.dfu_host.specs.Blocks.{blocks, first}
 use Rattle.dfu_host.specs.BlockLaws.{first_suc}
 use Rattle.dfu_host.specs.Table.{Phase, Find, Detach, Enter, Block, Poll, WaitPoll, Close, Manifest, WaitManifest, Last, Acked, Status, Waited}
+use Rattle.dfu_host.specs.Host.{IsOn}
 use Rattle.dfu_link.specs.Play.{Pass, heard_as, Passed, waited}
-use Rattle.dfu_link.specs.Fact.{IsOn}
 use Rattle.dfu_link.proofs.Passes.{split, Leads, leads_on, none, one, one_by}
 
 module _ (c : Profile) (p : List ℕ) (again : ℕ) where

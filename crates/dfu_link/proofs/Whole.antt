@@ -7,14 +7,15 @@ use Rattle.dfu_device.specs.TakenRow.{either_way}
 use Rattle.dfu_host.specs.declared.report.Report.{Report}
 use Rattle.dfu_host.specs.Blocks.{blocks}
 use Rattle.dfu_host.specs.BlockLaws.{block_counts}
-use Rattle.dfu_host.specs.Table.{Goal, ToLoad, ToFetch, Phase, Fetch, LastUploaded, Over, OverUploaded, Restarted}
+use Rattle.dfu_host.specs.Table.{Goal, ToLoad, ToFetch, Phase, Fetch, LastUploaded, GiveUp, Over, OverUploaded, Restarted}
+use Rattle.dfu_host.specs.Host.{HostState, IsOn, aborted_in}
 use Rattle.dfu_link.specs.Session.{Machine, Live, NoOne, Says, says_not, ATime, ARestart, Step, offered, uploads, aborts, passes, passes_installed, restarts, stops, and_then}
-use Rattle.dfu_link.specs.Play.{Event, Offer, UploadIt, AbortIt, Go, Time, ResetBus, Cut, kind_of, Session, Nobody, Hosted, Link, Answered, given, Played, took, restarted_to, played, IsAllowed, Play}
+use Rattle.dfu_link.specs.Play.{Event, Offer, UploadIt, AbortIt, Go, Time, ResetBus, Cut, kind_of, Session, Nobody, Hosted, Link, Answered, silent, given, Played, took, restarted_to, played, IsAllowed, Play}
 use Rattle.dfu_link.specs.Agreement.{pending_of, live_goal, live_of, IsSound, IsLiveOffer, Agrees}
-use Rattle.dfu_link.specs.Fact.{IsIdle, Fetches, FetchFact, GoalFact, IsOn, SessionFact}
+use Rattle.dfu_link.specs.Fact.{IsIdle, Fetches, FetchFact, GoalFact, SessionFact}
 use Rattle.dfu_link.specs.Headline.{Follows, Plays, ends, plays, FollowsAll}
 use Rattle.dfu_link.proofs.Kept.{fact_time}
-use Rattle.dfu_link.proofs.Taking.{shown, gives_up, restart_taken, restart_plain, stop_fact, goes_by}
+use Rattle.dfu_link.proofs.Taking.{shown, restart_taken, restart_plain, stop_fact, goes_by}
 use Rattle.dfu_link.proofs.Saying.{step_live}
 use Rattle.dfu_link.proofs.Acting.{Simulated, go_simulated}
 
@@ -102,6 +103,12 @@ all_sized c Nobody (Offer payload actions again) h = h
 all_sized c (Hosted host) (Go fate) h = h
 all_sized c session event h = tt
 
+-- a live host that its caller gives up is in Give up
+gives_up : (h : HostState) (phase : Phase) → IsOn phase → aborted_in h phase ≡ record h { phase = GiveUp }
+gives_up h (Over r) on = elim on [ ]
+gives_up h (OverUploaded kept) on = elim on [ ]
+gives_up h phase on = refl
+
 module _ (c : Profile) where
   some_blocks : (p : List ℕ) → 0 < c.transfer → 0 < length p → 0 < length (blocks p c.transfer)
   some_blocks p sized h = block_counts p c.transfer 0 sized (omega (arith, h))
@@ -115,7 +122,7 @@ module _ (c : Profile) where
   simulated offers s (Hosted h) up (UploadIt actions again) l k room z a q o f = elim a [ ]
   simulated offers s Nobody up AbortIt l k room z a q o f = elim a [ ]
   simulated offers s (Hosted h) up AbortIt l k room z a q o f =
-      subst (λ x. Simulated c offers (record { device = s; session = Hosted h }) up (kind_of AbortIt) (record { link = record { device = s; session = Hosted x }; answer = record { report = None; gave = None } }) offers) (sym (gives_up h h.phase f.on))
+      subst (λ (x : HostState). Simulated c offers (record { device = s; session = Hosted h }) up (kind_of AbortIt) (record { link = record { device = s; session = Hosted x }; answer = silent }) offers) (sym (gives_up h h.phase f.on))
       (record { step = aborts; sound = q; offer = o; fact = record { task_is = f.task_is; on = tt; some = f.some; fact = stop_fact c offers h.task.goal s }; done = λ e. cc })
   simulated offers s Nobody up (Go fate) l k room z a q o f = elim a [ ]
   simulated offers s (Hosted h) up (Go fate) l k room z a q o f = go_simulated c z offers s h up fate l k room q o f

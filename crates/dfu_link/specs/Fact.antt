@@ -6,8 +6,7 @@ use Rattle.dfu_host.specs.Blocks.{blocks, first}
 use Rattle.dfu_device.specs.Stage.{Profile, Stage, InApp, Idle, Unwritten, Written, Writing, Ready, Closed, Complete, Committing, Waiting, Sending, Broken}
 use Rattle.dfu_device.specs.Outcome.{Situation}
 use Rattle.dfu_host.specs.Table.{Goal, ToLoad, ToFetch, Task, Phase, Block, Ask, Poll, WaitPoll, Close, AskLast, Manifest, WaitManifest, WaitLast, Fetch, LastUploaded, Last, Over, OverUploaded}
-use Rattle.dfu_host.specs.Host.{HostState}
-pub use Rattle.dfu_host.specs.Host.{IsOn}
+use Rattle.dfu_host.specs.Host.{HostState, IsOn}
 use Rattle.dfu_link.specs.Session.{IsPlain}
 use Rattle.dfu_link.specs.Play.{Session, Nobody, Hosted}
 

@@ -1,5 +1,5 @@
 -- That a run of a link is a legal run of the session machine.
-use Rattle.std.specs.Prelude.{◌≡◌, ◌⊎◌, List, [], ◌∷◌, take, map, Result, Ok, Err}
+use Rattle.std.specs.Prelude.{◌⊎◌, List, [], ◌∷◌, take, map, Result, Ok, Err}
 use Rattle.std.specs.declared.vec.Vec.{Vec}
 use Rattle.std.specs.declared.alloc.Global.{Global}
 use Rattle.dfu_slots.specs.Image.{Active}

@@ -2,11 +2,11 @@
 use Rattle.std.specs.Prelude.{◌≡◌, ℕ, ◌<◌, List, [], Option, Some, None}
 use Rattle.dfu_slots.specs.Medium.Fuse.{Whole}
 use Rattle.dfu_device.specs.Shown.{Shown, profile, situation}
-use Rattle.dfu_host.specs.Host.{HostState}
+use Rattle.dfu_host.specs.Host.{HostState, IsOn}
 use Rattle.dfu_host.specs.Counting.{IsCounted}
 use Rattle.dfu_host.specs.Uploading.{kept_in}
 use Rattle.dfu_link.specs.Play.{Session, Nobody, Hosted}
-use Rattle.dfu_link.specs.Fact.{IsOn, SessionFact}
+use Rattle.dfu_link.specs.Fact.{SessionFact}
 use Rattle.dfu_link.specs.Bytes.{Bench, ShowsActive}
 use Rattle.dfu_link.specs.Comes.{LinkState}
 

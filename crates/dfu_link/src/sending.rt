@@ -1,8 +1,8 @@
 //! One action of a host, by its fate.
 
 ghost use Rattle.std.specs.Prelude.{◌≡◌};
+ghost use Rattle.dfu_host.specs.Host.{IsOn};
 ghost use Rattle.dfu_host.specs.Table.{Waited, WasReset};
-ghost use Rattle.dfu_link.specs.Fact.{IsOn};
 ghost use Rattle.dfu_link.specs.Bytes.{Waits, Resets};
 ghost use Rattle.dfu_link.specs.Comes.{fate_of};
 ghost use Rattle.dfu_link.specs.Acting.{HasSent, HasHeard, HasActed};
