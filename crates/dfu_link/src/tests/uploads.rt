@@ -54,7 +54,7 @@ fn uploads_go_on_after_losses(rt: HostRuntime) -> Result<(), Fail> {
 }
 
 #[test]
-fn numbers_tell_65_534_full_parts_apart(rt: HostRuntime) -> Result<(), Fail> {
+fn an_upload_takes_65_534_full_parts(rt: HostRuntime) -> Result<(), Fail> {
     let by_one = Setup {
         transfer: 1,
         capacity: 65_534,
