@@ -38,14 +38,15 @@ fn ok_line(alloc: Global, summary: &Summary) -> Result<String, AllocError>
 
 /// Checks what the reader gives, and writes one line: `ok payload P suffix S device DDDD product
 /// PPPP vendor VVVV dfu BBBB crc CCCCCCCC` with Done, `refused NAME` with Refused, or
-/// `fault Read` with Fault. Where an allocation is refused the line is `refused NoMemory`.
+/// `fault Read` with Fault. Memory is taken for the line of a file alone: where that is refused,
+/// the line is `refused NoMemory`.
 ///
 /// Where the writer fails it answers Fault; a front of the line is out, not all of it, and nothing
 /// more is written.
 pub fn check_text<R: Read + Drop, W: Write>(alloc: Global, reader: R, writer: &mut W) -> Exit
     ensures { WritesCheck (R.remaining reader) (W.contents writer.old) (W.contents writer.new) result }
 {
-    match check(alloc, reader) {
+    match check(reader) {
         Ok(summary) => match ok_line(alloc, &summary) {
             Ok(line) => write_out(writer, line.as_bytes(), Exit::Done),
             Err(_) => fault_text(SuffixFault::NoMemory, writer),

@@ -1,5 +1,5 @@
 -- Lists of bytes, and their parts.
-use Rattle.std.proofs.Common.{ℕ, zero, suc, ◌+◌, List, [], ◌∷◌, take, drop, arith}
+use Rattle.std.proofs.Common.{ℕ, zero, suc, ◌+◌, List, [], ◌∷◌, ◌++◌, take, drop, arith}
 use Rattle.std.proofs.lemmas.List.{get_or-drop}
 use Rattle.dfu_suffix.specs.Laws.{AreBytes}
 
@@ -11,3 +11,8 @@ AreBytes-take zero xs f k = omega arith
 AreBytes-take (suc n) [] f k = f k
 AreBytes-take (suc n) (x ∷ xs) f zero = f zero
 AreBytes-take (suc n) (x ∷ xs) f (suc k) = AreBytes-take n xs (λ i. f (suc i)) k
+
+pub AreBytes-append : (xs ys : List ℕ) → AreBytes xs → AreBytes ys → AreBytes (xs ++ ys)
+AreBytes-append [] ys f g k = g k
+AreBytes-append (x ∷ xs) ys f g zero = f zero
+AreBytes-append (x ∷ xs) ys f g (suc k) = AreBytes-append xs ys (λ i. f (suc i)) g k

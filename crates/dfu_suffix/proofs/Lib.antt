@@ -3,7 +3,12 @@ pub mod Shifts
 pub mod Tables
 pub mod NoFault
 pub mod FileLaws
+pub mod ReadLaws
 pub mod GatherLaws
 pub mod LawProofs
+pub mod Windows
+pub mod JudgeLaws
+pub mod CheckLaws
+pub mod StreamLaws
 pub mod WriteLaws
 pub mod AddLaws

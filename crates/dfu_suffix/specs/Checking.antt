@@ -5,7 +5,7 @@ use Rattle.dfu_suffix.specs.Grammar.{IsFile, First, before_crc}
 use Rattle.dfu_suffix.specs.declared.summary.Summary.{Summary}
 use Rattle.dfu_suffix.specs.declared.ids.Ids.{Ids}
 use Rattle.dfu_suffix.specs.declared.fault.SuffixFault.{SuffixFault}
-use Rattle.dfu_suffix.specs.declared.fault.SuffixFault.TheVariants.{NoMemory, Read}
+use Rattle.dfu_suffix.specs.declared.fault.SuffixFault.TheVariants.{Read}
 
 -- This is the summary of the file with this payload, these fields and these extra bytes.
 abbrev pub summary_of : List ℕ → Ids → ℕ → List ℕ → Summary
@@ -18,8 +18,7 @@ pub record Checks (bytes : List ℕ) (answer : Result Summary SuffixFault) : Typ
   pub only : (payload : List ℕ) (ids : Ids) (dfu : ℕ) (extra : List ℕ) → IsFile payload ids dfu extra bytes → answer ≡ Ok (summary_of payload ids dfu extra)
   pub fault : (fault : SuffixFault) → (answer ≡ Err fault) ↔ First fault bytes
 
--- The fact holds, unless the answer is Read or NoMemory.
-abbrev pub UnlessCut : {T : Type 0} → Result T SuffixFault → Type 0 → Type 0
-UnlessCut (Err Read) P = ⊤
-UnlessCut (Err NoMemory) P = ⊤
-UnlessCut r P = P
+-- The fact holds, unless the answer is Read.
+abbrev pub UnlessRead : {T : Type 0} → Result T SuffixFault → Type 0 → Type 0
+UnlessRead (Err Read) P = ⊤
+UnlessRead r P = P

@@ -1,6 +1,7 @@
 pub mod Register
 pub mod Grammar
 pub mod Reading
+pub mod Judging
 pub mod Gathering
 pub mod Checking
 pub mod Adding

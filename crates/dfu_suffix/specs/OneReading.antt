@@ -58,7 +58,7 @@ skip true x o h e = cc
 skip false x o h e = e
 
 -- A test says no where the one number is no less than the other.
-not_less : (a b : ℕ) → b ≤ a → ltb a b ≡ false
+pub not_less : (a b : ℕ) → b ≤ a → ltb a b ≡ false
 not_less a b h = grind (arith, nat_tests)
 
 -- A test says no where two numbers differ.

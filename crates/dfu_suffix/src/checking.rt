@@ -1,42 +1,49 @@
 // Checks of a file that a reader gives.
 
-ghost use Rattle.std.specs.Prelude.{IfSome};
-ghost use Rattle.dfu_suffix.specs.Checking.{Checks, UnlessCut};
+ghost use Rattle.std.specs.Prelude.{◌≢◌, Err, IfSome};
+ghost use Rattle.dfu_suffix.specs.Checking.{Checks, UnlessRead};
+ghost use Rattle.dfu_suffix.specs.declared.fault.SuffixFault.TheVariants.{NoMemory};
 
+use crate::crc::Crc;
 use crate::fault::SuffixFault;
-use crate::fields::u32_at;
-use crate::gather::gather;
-use crate::parse::{MAX_FILE, read};
+use crate::judging::judge;
+use crate::parse::{MAX_FILE, MAX_READS};
 use crate::summary::Summary;
-use std::alloc::Global;
+use crate::window::slide;
 use std::io::Read;
 
-// The summary of a whole file.
-fn summarize(bytes: &[u8]) -> Result<Summary, SuffixFault>
-    ensures { Checks bytes.now result }
-{
-    let file = read(bytes)?;
-    Ok(Summary {
-        payload: file.payload().len() as u32,
-        suffix: file.suffix(),
-        ids: file.ids(),
-        dfu: file.dfu(),
-        crc: u32_at(bytes, bytes.len() - 4),
-    })
-}
-
-/// Checks all that a reader gives, as `read` of those bytes. It gathers them in memory first.
+/// Checks all that a reader gives, as `read` of those bytes. Of these it keeps the register over
+/// them, their count and the last 16, and takes no memory, however many they are.
 ///
 /// # Errors
 ///
-/// TooLarge once byte 16,777,217 was read, and no read is made after that; NoMemory where an
-/// allocation was refused; Read at the first error of the reader, with no second try; else the
-/// fault that `read` answers for the bytes.
-pub fn check<R: Read + Drop>(alloc: Global, reader: R) -> Result<Summary, SuffixFault>
-    // An answer other than Read and NoMemory is Ok exactly for a file of the grammar, with its
-    // summary, and else the first fault of the bytes, however the reader cuts them.
-    ensures { IfSome (R.remaining reader) (λ all. UnlessCut result (Checks all result)) }
+/// TooLarge once byte 16,777,217 was read, and no read is made after that; Read at the first error
+/// of the reader, with no second try; else the fault that `read` answers for the bytes.
+pub fn check<R: Read + Drop>(mut reader: R) -> Result<Summary, SuffixFault>
+    // An answer other than Read is Ok exactly for a file of the grammar, with its summary, and
+    // else the first fault of the bytes, however the reader cuts them.
+    ensures answer { IfSome (R.remaining reader) (λ all. UnlessRead result (Checks all result)) }
+    // It is never that memory ran out, whatever the reader is.
+    ensures memory { result ≢ Err NoMemory }
 {
-    let bytes = gather(alloc, reader, MAX_FILE)?;
-    summarize(&bytes)
+    let mut crc = Crc::new();
+    let mut count: u32 = 0;
+    let mut window = [0u8; 16];
+    let mut buffer = [0u8; 4096];
+    for turn in 0..MAX_READS {
+        match reader.read(&mut buffer) {
+            Ok(0) => return judge(&window, count, crc.value()),
+            Ok(taken) => {
+                if taken > MAX_FILE - count as usize {
+                    return Err(SuffixFault::TooLarge);
+                }
+                let more = &buffer[..taken];
+                count += taken as u32;
+                crc.update(more);
+                slide(&mut window, more);
+            }
+            Err(_) => return Err(SuffixFault::Read),
+        }
+    }
+    unreachable!()
 }

@@ -31,7 +31,7 @@ pub enum SuffixFault {
     /// The file has over 16,777,216 bytes, or would have with the 16 of a suffix.
     #[error("the file with its suffix has over 16777216 bytes")]
     TooLarge,
-    /// An allocation was refused.
+    /// An allocation was refused, in `add`.
     #[error("out of memory")]
     NoMemory,
     /// The reader failed.

@@ -3,9 +3,11 @@
 ghost use Rattle.std.specs.Prelude.{◌≡◌, ◌+◌, ◌-◌, ◌≤◌, length, take, drop};
 ghost use Rattle.byteorder.specs.Endian.{little_number};
 ghost use Rattle.dfu_suffix.specs.Grammar.{tail_of, is_signed};
+ghost use Rattle.dfu_suffix.specs.Reading.{ids_of};
 ghost use Rattle.dfu_suffix.specs.Register.{register};
 
 use crate::crc::Crc;
+use crate::ids::Ids;
 use byteorder::{ByteOrder, LittleEndian};
 
 // The last 16 bytes.
@@ -42,6 +44,18 @@ pub(crate) fn u32_at(bytes: &[u8], at: usize) -> u32
 {
     let (_, field) = bytes.split_at(at);
     LittleEndian::read_u32(field)
+}
+
+// The identifiers in the last 16 bytes.
+pub(crate) fn ids_of(tail: &[u8]) -> Ids
+    requires { length tail.now ≡ 16 }
+    ensures { result ≡ ids_of tail.now }
+{
+    Ids {
+        device: u16_at(tail, 0),
+        product: u16_at(tail, 2),
+        vendor: u16_at(tail, 4),
+    }
 }
 
 // The dwCRC that the file is to have: the register over all but its last four bytes.

@@ -4,12 +4,9 @@ ghost use Rattle.std.specs.Prelude.{◌≤◌, length, IfOk, IfSome};
 ghost use Rattle.dfu_suffix.specs.Gathering.{Gathers};
 
 use crate::fault::SuffixFault;
-use crate::parse::MAX_FILE;
+use crate::parse::MAX_READS;
 use std::alloc::Global;
 use std::io::Read;
-
-// Each turn but the last takes a byte.
-const MAX_TURNS: usize = MAX_FILE + 2;
 
 // All that the reader gives, or TooLarge where that is over `limit`. No read is made after the one
 // that gives the byte past `limit`.
@@ -24,7 +21,7 @@ pub(crate) fn gather<R: Read + Drop>(
 {
     let mut bytes = Vec::new(alloc);
     let mut buffer = [0u8; 4096];
-    for turn in 0..MAX_TURNS {
+    for turn in 0..MAX_READS {
         match reader.read(&mut buffer) {
             Ok(0) => return Ok(bytes),
             Ok(taken) => {

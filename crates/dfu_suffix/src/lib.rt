@@ -13,12 +13,14 @@ mod fields;
 mod file;
 mod gather;
 mod ids;
+mod judging;
 mod laws;
 mod making;
 mod output;
 mod parse;
 mod summary;
 mod table;
+mod window;
 
 pub use adding::add;
 pub use checking::check;

@@ -3,20 +3,23 @@
 ghost use Rattle.std.specs.Prelude.{◌≡◌, ◌+◌, ◌↔◌, ℕ, List, length, Ok, Err, IfOk};
 ghost use Rattle.dfu_suffix.specs.Grammar.{IsFile, First};
 ghost use Rattle.dfu_suffix.specs.Reading.{reading};
+ghost use Rattle.dfu_suffix.specs.declared.ids.Ids.{Ids};
 
 use crate::fault::SuffixFault;
-use crate::fields::{crc_due, is_signed, payload_of, tail, u16_at, u32_at};
+use crate::fields::{crc_due, ids_of, is_signed, payload_of, tail, u16_at, u32_at};
 use crate::file::File;
-use crate::ids::Ids;
 
 // The most bytes that a file has.
 pub(crate) const MAX_FILE: usize = 16_777_216;
+
+// The most reads that a file is worth: each but the last gives a byte.
+pub(crate) const MAX_READS: usize = MAX_FILE + 1;
 
 // The fewest bytes that a suffix has.
 const MIN_SUFFIX: usize = 16;
 
 // The value of bcdDFU in a DfuSe file.
-const DFUSE: u16 = 0x011a;
+pub(crate) const DFUSE: u16 = 0x011a;
 
 // What the bytes say, read from their end, or their first fault.
 #[tactic(auto, using(std::proofs::lemmas::Bool::Decides::nat_tests), unfolding(crate::specs::Reading::reading))]
@@ -44,14 +47,9 @@ fn parse(bytes: &[u8]) -> Result<File<'_>, SuffixFault>
     if u32_at(tail, 12) != crc_due(bytes) {
         return Err(SuffixFault::BadCrc);
     }
-    let ids = Ids {
-        device: u16_at(tail, 0),
-        product: u16_at(tail, 2),
-        vendor: u16_at(tail, 4),
-    };
     Ok(File {
         payload: payload_of(bytes, suffix as usize),
-        ids,
+        ids: ids_of(tail),
         dfu,
         suffix,
     })

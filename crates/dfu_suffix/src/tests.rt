@@ -1,4 +1,5 @@
 mod added;
+mod checked;
 mod files;
 mod readers;
 mod texts;
@@ -6,7 +7,6 @@ mod writers;
 
 use crate::{Crc, Ids, SuffixFault, Summary, check, read};
 use files::{DFUSE, DIGITS, EMPTY, FOUR_ONES, LONG_SUFFIX, NO_IDS};
-use readers::{OneByOne, Zeros};
 use std::test::Fail;
 
 fn register(bytes: &[u8]) -> u32 {
@@ -137,7 +137,7 @@ fn summaries_of_known_files(rt: HostRuntime) {
         (&DIGITS, 9, 16, 0xfe70_1c62),
     ];
     for (bytes, payload, suffix, crc) in known {
-        let Ok(summary) = check(rt.alloc(), bytes) else {
+        let Ok(summary) = check(bytes) else {
             assert!(rt; false, "refused {bytes:?}");
             return;
         };
@@ -175,61 +175,6 @@ fn first_faults_of_known_bytes(rt: HostRuntime) {
     ];
     for (bytes, fault) in known {
         assert_eq!(rt; read(bytes).err(), Some(fault), "reading {bytes:?}");
-        assert_eq!(rt; check(rt.alloc(), bytes), Err(fault), "checking {bytes:?}");
+        assert_eq!(rt; check(bytes), Err(fault), "checking {bytes:?}");
     }
-}
-
-#[test]
-fn one_byte_at_each_read(rt: HostRuntime) {
-    let files: [&[u8]; 7] = [
-        &FOUR_ONES,
-        &NO_IDS,
-        &EMPTY,
-        &LONG_SUFFIX,
-        &DFUSE,
-        &DIGITS,
-        &EMPTY[..15],
-    ];
-    for bytes in files {
-        assert_eq!(rt;
-            check(rt.alloc(), OneByOne(bytes)),
-            summary_by_read(bytes),
-            "of {bytes:?}"
-        );
-    }
-}
-
-// Where memory is ample the answer is the summary; where an allocation is refused, it is NoMemory.
-#[test]
-fn refused_allocation(rt: HostRuntime) {
-    match check(rt.alloc(), &FOUR_ONES[..]) {
-        Ok(summary) => assert_eq!(rt; summary.payload, 4),
-        Err(fault) => assert_eq!(rt; fault, SuffixFault::NoMemory),
-    }
-}
-
-#[test]
-fn reader_that_fails(rt: HostRuntime) {
-    for left in [0usize, 1, 4096, 5000] {
-        let mut zeros = Zeros {
-            left,
-            calls_after: 0,
-        };
-        assert_eq!(rt;
-            check(rt.alloc(), &mut zeros),
-            Err(SuffixFault::Read),
-            "after {left} bytes"
-        );
-        assert_eq!(rt; zeros.calls_after, 1, "tries after {left} bytes");
-    }
-}
-
-#[test]
-fn reader_past_the_limit(rt: HostRuntime) {
-    let mut zeros = Zeros {
-        left: 16_777_217,
-        calls_after: 0,
-    };
-    assert_eq!(rt; check(rt.alloc(), &mut zeros), Err(SuffixFault::TooLarge));
-    assert_eq!(rt; zeros.calls_after, 0);
 }

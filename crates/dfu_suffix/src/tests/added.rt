@@ -1,7 +1,7 @@
 // What `add` writes, and what is out where it fails.
 
 use super::files::{DFUSE, DIGITS, EMPTY, FOUR_ONES, LONG_SUFFIX, NO_IDS};
-use super::readers::{OneByOne, Zeros};
+use super::readers::{Pieces, Zeros};
 use super::with_byte;
 use super::writers::Narrow;
 use crate::{Ids, SuffixFault, add, read};
@@ -100,10 +100,11 @@ fn narrow(rt: &HostRuntime, step: usize, left: usize, fails: bool) -> Narrow {
 #[test]
 fn one_byte_at_each_call(rt: HostRuntime) {
     let mut out = narrow(&rt, 1, 100, true);
-    assert_eq!(rt;
-        add(rt.alloc(), OneByOne(b"123456789"), PRODUCT, &mut out),
-        Ok(25)
-    );
+    let pieces = Pieces {
+        left: b"123456789",
+        step: 1,
+    };
+    assert_eq!(rt; add(rt.alloc(), pieces, PRODUCT, &mut out), Ok(25));
     assert_eq!(rt; out.taken.as_slice(), &DIGITS[..]);
 }
 

@@ -2,21 +2,37 @@
 
 use std::io::{self, ErrorKind, Read};
 
-// Gives one byte at each call.
+// Gives at most `step` bytes at each call.
 #[derive(Drop)]
-pub struct OneByOne<'a>(pub &'a [u8]);
+pub struct Pieces<'a> {
+    pub left: &'a [u8],
+    pub step: usize,
+}
 
-impl<'a> Read for OneByOne<'a> {
+impl<'a> Read for Pieces<'a> {
     fn read(&mut self, buf: &mut [u8]) -> io::Result<usize> {
-        let Some((first, rest)) = self.0.split_first() else {
-            return Ok(0);
-        };
-        let Some(place) = buf.first_mut() else {
-            return Ok(0);
-        };
-        *place = *first;
-        self.0 = rest;
-        Ok(1)
+        let given = self.left.len().min(self.step).min(buf.len());
+        let (front, rest) = self.left.split_at(given);
+        buf[..given].copy_from_slice(front);
+        self.left = rest;
+        Ok(given)
+    }
+}
+
+// Gives pieces at so many calls, and fails at the next one.
+#[derive(Drop)]
+pub struct Failing<'a> {
+    pub pieces: Pieces<'a>,
+    pub calls: usize,
+}
+
+impl<'a> Read for Failing<'a> {
+    fn read(&mut self, buf: &mut [u8]) -> io::Result<usize> {
+        if self.calls == 0 {
+            return Err(io::Error::from(ErrorKind::Interrupted));
+        }
+        self.calls -= 1;
+        self.pieces.read(buf)
     }
 }
 

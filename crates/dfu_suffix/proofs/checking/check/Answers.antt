@@ -1,15 +1,27 @@
-use Rattle.std.proofs.Common.{List, ℕ, subst}
-use Rattle.std.proofs.lemmas.Result.{err_from_is_err_and}
-use Rattle.dfu_suffix.specs.Checking.{Checks}
-use Rattle.dfu_suffix.proofs.LawProofs.{check_all, check_stopped}
+use Rattle.std.proofs.Common.{◌+◌, ◌<◌, ℕ, length, take, ap, arith}
+use Rattle.dfu_suffix.proofs.ReadLaws.{end_here}
+use Rattle.dfu_suffix.proofs.StreamLaws.{seen_more, seen_end, seen_over}
 use Rattle.dfu_suffix.proofs.checking.check.Goals as goal
 
-pub returns : goal.returns
-returns g c =
-    let checked : Checks c.in_ok-bytes.bytes.items c.summarize.result = subst (λ (xs : List ℕ). Checks xs c.summarize.result) c.deref.ensures.value c.summarize.ensures in
-    check_all (g.R.Read.remaining c.args.reader) c.in_ok-bytes.bytes.items c.summarize.result c.in_ok-bytes.ensures.all checked
+pub returns-in-Ok-eq0-clause-answer : goal.returns-in-Ok-eq0-clause-answer
+returns-in-Ok-eq0-clause-answer g c =
+    let room : 0 < length c.read.new.buf = omega arith in
+    let test = c.in-Ok-eq0.field-0-test in
+    let over = end_here (g.R.Read.remaining c.loop-turn.reader) (g.R.Read.remaining c.read.new.self) c.in-Ok-eq0.field-0 c.read.new.buf (omega arith) room c.in-Ok-eq0.ensures.bytes in
+    seen_end _ _ _ _ _ _ _ _ c.loop-turn.invariant over c.judge.ensures.answer c.value.ensures
 
-pub returns-in_err-bytes : goal.returns-in_err-bytes
-returns-in_err-bytes g c =
-    let p = err_from_is_err_and c.from_residual.result c.from_residual.ensures.1 in
-    rw (p.1, p.2) (check_stopped (g.R.Read.remaining c.args.reader) _ c.in_err-bytes.ensures.all)
+pub returns-then-taken-count-clause-answer : goal.returns-then-taken-count-clause-answer
+returns-then-taken-count-clause-answer g c =
+    let p = c.in-Ok.ensures.bytes in
+    let b = c.in-Ok.ensures.bound in
+    let over = c.if-taken-count.true in
+    seen_over _ _ _ _ _ _ _ _ c.loop-turn.invariant p.0 (omega (arith, b.1))
+
+pub loop-turn-preserved : goal.loop-turn-preserved
+loop-turn-preserved g c =
+    let p = c.in-Ok.ensures.bytes in
+    let b = c.in-Ok.ensures.bound in
+    let more = take c.in-Ok.taken c.read.new.buf in
+    let some : 0 < length more = omega (arith, b.1, c.in-Ok.taken-test.1) in
+    seen_more _ _ _ _ _ _ _ _ _ _ more c.loop-turn.invariant p.0 c.slide.ensures.bytes some
+    c.update.ensures.more (ap (λ (n : ℕ). c.loop-turn.count + n) b.1) c.slide.ensures.last (omega (arith, b.1))

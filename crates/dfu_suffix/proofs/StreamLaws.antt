@@ -1,0 +1,64 @@
+-- What a loop over `read` keeps of the bytes that a reader gave.
+use Rattle.std.proofs.Common.{◌≡◌, ℕ, ◌+◌, ◌<◌, ◌≤◌, List, ◌++◌, length, drop, Option, IfSome, Result, Err, sym, ap, ◌∙◌, subst, arith, length-append}
+use Rattle.std.proofs.KnownBytes.{Consumes-trans}
+use Rattle.std.specs.Io.KnownBytes.{Consumes, IsAtEnd}
+use Rattle.dfu_suffix.specs.Register.{register}
+use Rattle.dfu_suffix.specs.Judging.{judged}
+use Rattle.dfu_suffix.specs.Checking.{Checks, UnlessRead}
+use Rattle.dfu_suffix.specs.Laws.{AreBytes}
+use Rattle.dfu_suffix.specs.declared.summary.Summary.{Summary}
+use Rattle.dfu_suffix.specs.declared.fault.SuffixFault.{SuffixFault}
+use Rattle.dfu_suffix.specs.declared.fault.SuffixFault.TheVariants.{TooLarge}
+use Rattle.dfu_suffix.proofs.Bytes.{AreBytes-append}
+use Rattle.dfu_suffix.proofs.CheckLaws.{checks_judged, checks_large, unless_read}
+use Rattle.dfu_suffix.proofs.ReadLaws.{if_some, consumed_all, consumed_length}
+use Rattle.dfu_suffix.proofs.Windows.{window_of, window_more}
+
+-- the reader gave these bytes, a byte at least at each turn, and of them the register, the count and the window are kept
+pub record Kept (old new : Option (List ℕ)) (turn crc count : ℕ) (window seen : List ℕ) : Type 0 where
+  pub given : Consumes old new seen
+  pub bytes : AreBytes seen
+  pub crc_is : crc ≡ register seen
+  pub count_is : count ≡ length seen
+  pub window_is : window ≡ window_of seen
+  pub small : length seen ≤ 16777216
+  pub turns : turn ≤ length seen
+
+-- the reader gave some bytes
+abbrev pub Seen : Option (List ℕ) → Option (List ℕ) → ℕ → ℕ → ℕ → List ℕ → Type 0
+Seen old new turn crc count window = (seen : List ℕ) × Kept old new turn crc count window seen
+
+-- a piece more
+pub seen_more : (old mid new : Option (List ℕ)) (turn crc count crc' count' : ℕ) (window window' more : List ℕ) →
+    Seen old mid turn crc count window → Consumes mid new more → AreBytes more → 0 < length more →
+    ((before : List ℕ) → crc ≡ register before → crc' ≡ register (before ++ more)) →
+    count' ≡ count + length more → window' ≡ drop (length more) (window ++ more) → count + length more ≤ 16777216 →
+    Seen old new (turn + 1) crc' count' window'
+seen_more old mid new turn crc count crc' count' window window' more (seen, k) given bytes some crc_is count_is window_is small = (
+  seen ++ more,
+  record {
+    given = Consumes-trans old mid new seen more k.given given;
+    bytes = AreBytes-append seen more k.bytes bytes;
+    crc_is = crc_is seen k.crc_is;
+    count_is = count_is ∙ (ap (λ (n : ℕ). n + length more) k.count_is ∙ sym (length-append seen more));
+    window_is = window_is ∙ (ap (λ (w : List ℕ). drop (length more) (w ++ more)) k.window_is ∙ window_more seen more);
+    small = omega (arith, length-append seen more, k.count_is);
+    turns = omega (arith, length-append seen more, k.turns);
+  },
+)
+
+-- at the end, what was kept is judged
+pub seen_end : (old new : Option (List ℕ)) (turn crc count value : ℕ) (window : List ℕ) (r : Result Summary SuffixFault) →
+    Seen old new turn crc count window → IsAtEnd new → r ≡ judged window count value → value ≡ crc → IfSome old (λ all. UnlessRead r (Checks all r))
+seen_end old new turn crc count value window r (seen, k) e j v =
+    let same : judged window count value ≡ judged (window_of seen) (length seen) (register seen) =
+    ap (λ (w : List ℕ). judged w count value) k.window_is ∙ (ap (λ (n : ℕ). judged (window_of seen) n value) k.count_is ∙ ap (judged (window_of seen) (length seen)) (v ∙ k.crc_is)) in
+    let checks : Checks seen r = subst (λ (a : Result Summary SuffixFault). Checks seen a) (sym (j ∙ same)) (checks_judged seen k.bytes k.small) in
+    if_some old (λ all. UnlessRead r (Checks all r)) (λ all o. unless_read r (Checks all r) (subst (λ (xs : List ℕ). Checks xs r) (consumed_all old new seen all k.given e o) checks))
+
+-- a piece too many
+pub seen_over : (old mid new : Option (List ℕ)) (turn crc count : ℕ) (window more : List ℕ) →
+    Seen old mid turn crc count window → Consumes mid new more → 16777216 < count + length more → IfSome old (λ all. UnlessRead {T = Summary} (Err TooLarge) (Checks all (Err TooLarge)))
+seen_over old mid new turn crc count window more (seen, k) given over =
+    if_some old (λ all. UnlessRead {T = Summary} (Err TooLarge) (Checks all (Err TooLarge))) (λ all o.
+    checks_large all (omega (arith, k.count_is, length-append seen more, consumed_length old new (seen ++ more) all (Consumes-trans old mid new seen more k.given given) o)))
