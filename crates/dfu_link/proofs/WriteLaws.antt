@@ -1,13 +1,10 @@
 -- What a loop over `write` has put out.
-use Rattle.std.proofs.Common.{◌≡◌, ◌<◌, ℕ, List, [], ◌∷◌, ◌++◌, length, length-append, take, drop, Option, Some, None, sym, ap, ◌∙◌, subst, arith}
-use Rattle.std.proofs.lemmas.List.{append_assoc, take-append-drop, append-nil}
+use Rattle.std.proofs.Common.{◌<◌, ℕ, List, [], ◌++◌, length, length-append, Option, Some, None, sym, ap, ◌∙◌, arith}
+use Rattle.std.proofs.lemmas.List.{append_assoc, append-nil}
 use Rattle.std.specs.Io.KnownBytes.{Appends, Keeps}
 use Rattle.std.specs.Prelude.{Result, Ok, Err, OnErr, OnOk, IfOk}
+use Rattle.dfu_suffix.specs.Progress.{Progress}
 use Rattle.dfu_link.specs.Writing.{Broke}
-
--- a front of the text is out, and the rest is left
-abbrev pub Progress : Option (List ℕ) → Option (List ℕ) → List ℕ → List ℕ → Type 0
-Progress old new text rest = (front : List ℕ) × (text ≡ front ++ rest) × Appends old new front
 
 pub appends_none : (old : Option (List ℕ)) → Appends old old []
 appends_none None = tt
@@ -25,14 +22,7 @@ appends_kept (Some a) None new xs h k = absurd h
 appends_kept (Some a) (Some b) None xs h k = absurd k
 appends_kept (Some a) (Some b) (Some c) xs h k = k ∙ h
 
-pub progress_more : (old mid new : Option (List ℕ)) (text rest : List ℕ) (n : ℕ) → Progress old mid text rest → Appends mid new (take n rest) → Progress old new text (drop n rest)
-progress_more old mid new text rest n p k =
-    (p.0 ++ take n rest, p.1 ∙ (ap (λ (zs : List ℕ). p.0 ++ zs) (sym (take-append-drop n rest)) ∙ sym (append_assoc p.0 (take n rest) (drop n rest))), appends_more old mid new p.0 (take n rest) p.2 k)
-
-pub progress_done : (old new : Option (List ℕ)) (text rest : List ℕ) → Progress old new text rest → length rest ≡ 0 → Appends old new text
-progress_done old new text [] p e = subst (λ (zs : List ℕ). Appends old new zs) (sym (p.1 ∙ append-nil p.0)) p.2
-progress_done old new text (x ∷ rest) p e = absurd (omega (arith, e))
-
+-- the writer failed, or took nothing, when something was left
 pub progress_fault : (old mid new : Option (List ℕ)) (text rest : List ℕ) → Progress old mid text rest → 0 < length rest → Keeps mid new → Broke old new text
 progress_fault old mid new text rest p some k = record { front = p.0; rest = rest; whole = p.1; left = some; told = appends_kept old mid new p.0 p.2 k }
 

@@ -10,5 +10,4 @@ pub mod Windows
 pub mod JudgeLaws
 pub mod CheckLaws
 pub mod StreamLaws
-pub mod WriteLaws
 pub mod AddLaws

@@ -9,3 +9,4 @@ pub mod Making
 pub mod FaultName
 pub mod Laws
 pub mod OneReading
+pub mod Progress

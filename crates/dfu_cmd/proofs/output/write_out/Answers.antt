@@ -1,6 +1,7 @@
 use Rattle.std.proofs.Common.{◌≡◌, ◌<◌, ℕ, List, [], length, take, drop, subst, arith, sym}
 use Rattle.std.specs.Io.KnownBytes.{Appends}
-use Rattle.dfu_cmd.proofs.WriteLaws.{progress_more, progress_fault, keeps_nothing, Progress}
+use Rattle.dfu_suffix.specs.Progress.{Progress, progress_more, keeps_nothing}
+use Rattle.dfu_cmd.proofs.WriteLaws.{wrote_in_part}
 use Rattle.dfu_cmd.proofs.output.write_out.Goals as goal
 
 pub returns-in-Ok-eq0 : goal.returns-in-Ok-eq0
@@ -11,7 +12,7 @@ returns-in-Ok-eq0 g c =
     let mid = g.W.Write.contents c.loop-rest.writer in
     let new = g.W.Write.contents c.write.new.self in
     let none : Appends mid new [] = subst (λ (n : ℕ). Appends mid new (take n c.loop-rest.rest.now)) e c.in-Ok-eq0.ensures.bytes in
-    progress_fault (g.W.Write.contents c.args.writer.now) mid new c.args.text.now c.loop-rest.rest.now c.args.exit c.loop-rest.invariant some none
+    wrote_in_part (g.W.Write.contents c.args.writer.now) mid new c.args.text.now c.loop-rest.rest.now c.args.exit c.loop-rest.invariant some none
 
 pub loop-rest-preserved : goal.loop-rest-preserved
 loop-rest-preserved g c =
@@ -21,4 +22,4 @@ loop-rest-preserved g c =
 pub returns-in-Err : goal.returns-in-Err
 returns-in-Err g c =
     let some : 0 < length c.loop-rest.rest.now = grind (arith, c.loop-rest-test.ensures) in
-    progress_fault (g.W.Write.contents c.args.writer.now) (g.W.Write.contents c.loop-rest.writer) (g.W.Write.contents c.write.new.self) c.args.text.now c.loop-rest.rest.now c.args.exit c.loop-rest.invariant some (keeps_nothing _ _ c.in-Err.ensures.bytes)
+    wrote_in_part (g.W.Write.contents c.args.writer.now) (g.W.Write.contents c.loop-rest.writer) (g.W.Write.contents c.write.new.self) c.args.text.now c.loop-rest.rest.now c.args.exit c.loop-rest.invariant some (keeps_nothing _ _ c.in-Err.ensures.bytes)

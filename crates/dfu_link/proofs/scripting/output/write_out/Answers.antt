@@ -1,6 +1,7 @@
 use Rattle.std.proofs.Common.{◌≡◌, ◌<◌, ℕ, List, length, take, drop, subst, arith, sym}
 use Rattle.std.specs.Io.KnownBytes.{Appends}
-use Rattle.dfu_link.proofs.WriteLaws.{progress_more, progress_fault, keeps_none, Progress}
+use Rattle.dfu_suffix.specs.Progress.{Progress, progress_more}
+use Rattle.dfu_link.proofs.WriteLaws.{progress_fault, keeps_none}
 use Rattle.dfu_link.proofs.scripting.output.write_out.Goals as goal
 
 pub returns-in-Ok-eq0-clause-err : goal.returns-in-Ok-eq0-clause-err

@@ -1,35 +1,25 @@
--- What a loop over `write` has put out.
-use Rattle.std.proofs.Common.{◌≡◌, false, eqb, ℕ, zero, suc, ◌<◌, List, [], ◌∷◌, ◌++◌, length, take, drop, Option, refl, sym, ap, ◌∙◌, subst, arith, length-append}
+-- How far a text is written that is put out piece by piece: the notion, and its laws with their proofs.
+use Rattle.std.proofs.Common.{◌≡◌, ℕ, ◌<◌, List, [], ◌++◌, length, take, drop, Option, refl, sym, ap, ◌∙◌, subst, arith, length-append}
 use Rattle.std.proofs.KnownBytes.{Appends-nil, Appends-trans, Appends-kept}
 use Rattle.std.proofs.lemmas.List.{append_assoc, take-append-drop, take_at, append-nil}
 use Rattle.std.specs.Io.KnownBytes.{Appends, Keeps}
 
--- a front of the text is out, and the rest is left
+-- A front of the text is out, and the rest is left.
 abbrev pub Progress : Option (List ℕ) → Option (List ℕ) → List ℕ → List ℕ → Type 0
 Progress old new text rest = (front : List ℕ) × (text ≡ front ++ rest) × Appends old new front
 
-pub progress_none : (old : Option (List ℕ)) (text : List ℕ) → Progress old old text text
-progress_none old text = ([], refl, Appends-nil old)
-
+-- Once the first bytes of the rest are out too, the bytes behind them are left.
 pub progress_more : (old mid new : Option (List ℕ)) (text rest : List ℕ) (n : ℕ) → Progress old mid text rest → Appends mid new (take n rest) → Progress old new text (drop n rest)
 progress_more old mid new text rest n p k =
     (p.0 ++ take n rest, p.1 ∙ (ap (λ (zs : List ℕ). p.0 ++ zs) (sym (take-append-drop n rest)) ∙ sym (append_assoc p.0 (take n rest) (drop n rest))), Appends-trans old mid new p.0 (take n rest) p.2 k)
 
--- nothing is left
-pub progress_done : (old new : Option (List ℕ)) (text rest : List ℕ) → Progress old new text rest → length rest ≡ 0 → Appends old new text
-progress_done old new text [] p e = subst (λ (zs : List ℕ). Appends old new zs) (sym (p.1 ∙ append-nil p.0)) p.2
-progress_done old new text (x ∷ rest) p e = absurd (omega (arith, e))
-
-pub some_left : (n : ℕ) → eqb n 0 ≡ false → 0 < n
-some_left zero h = cc
-some_left (suc n) h = omega arith
-
--- the writer failed, or took nothing, when something was left
+-- Where something is left, and nothing more came out, a part from the start of the text is out, and not the whole.
 pub progress_stopped : (old mid new : Option (List ℕ)) (text rest : List ℕ) → Progress old mid text rest → 0 < length rest → Appends mid new [] → (k : ℕ) × (k < length text) × Appends old new (take k text)
 progress_stopped old mid new text rest p some k =
     let front : take (length p.0) text ≡ p.0 = ap (take (length p.0)) p.1 ∙ take_at p.0 rest (length p.0) refl in
     let whole : Appends old new (p.0 ++ []) = Appends-trans old mid new p.0 [] p.2 k in
     (length p.0, omega (arith, ap length p.1, length-append p.0 rest), subst (λ (zs : List ℕ). Appends old new zs) (append-nil p.0 ∙ sym front) whole)
 
-pub appends_kept : (mid new : Option (List ℕ)) → Keeps mid new → Appends mid new []
-appends_kept mid new k = Appends-kept mid mid new [] (Appends-nil mid) k
+-- Where nothing changed, nothing came out.
+pub keeps_nothing : (mid new : Option (List ℕ)) → Keeps mid new → Appends mid new []
+keeps_nothing mid new k = Appends-kept mid mid new [] (Appends-nil mid) k
