@@ -1,7 +1,6 @@
 -- Each event, put together: a play with its bytes, or a refusal.
-use Rattle.std.proofs.Common.{◌≡◌, ◌↔◌, ℕ, ◌+◌, ◌<◌, ◌==◌, not, cond, is_some, Bool, true, false, List, length, Option, Some, None, Result, Ok, Err, refl, sym, ap, ◌∙◌, subst, arith}
+use Rattle.std.proofs.Common.{◌≡◌, ◌↔◌, ℕ, ◌+◌, ◌<◌, ◌==◌, not, cond, is_some, Bool, true, false, List, length, Option, Some, None, Result, Ok, Err, refl, ap, ◌∙◌, subst, arith}
 use Rattle.std.proofs.lemmas.Bool.Decides.{nat_tests}
-use Rattle.dfu_slots.specs.Medium.{Fuse}
 use Rattle.dfu_slots.specs.Medium.Fuse.{Whole}
 use Rattle.dfu_suffix.specs.Grammar.{Content, IsFile}
 use Rattle.dfu_device.specs.Setting.{Setting}
@@ -14,40 +13,15 @@ use Rattle.dfu_host.specs.declared.fault.HostFault.{HostFault}
 use Rattle.dfu_host.specs.declared.limits.Limits.{Limits}
 use Rattle.dfu_host.specs.declared.report.Report.{Report}
 use Rattle.dfu_host.specs.Host.{HostState}
-use Rattle.dfu_host.specs.Table.{deed}
-use Rattle.dfu_link.specs.declared.fate.Fate.{Fate as GivenFate}
-use Rattle.dfu_link.specs.declared.fate.Fate.TheVariants as fate
 use Rattle.dfu_link.specs.declared.fault.LinkFault.TheVariants as fault
 use Rattle.dfu_link.specs.declared.fault.OfferFault.{OfferFault}
 use Rattle.dfu_link.specs.declared.fault.OfferFault.TheVariants as offer_fault
-use Rattle.dfu_link.specs.Play.{Fate, Offer, Go, Time, ResetBus, Session, Nobody, Hosted, given, silent, told, took, settled, IsAllowed}
-use Rattle.dfu_link.specs.Bytes.{Harm, fuse_of, armed, bus_was_reset, Acts, after_fate}
-use Rattle.dfu_link.specs.Comes.{Offers, Goes, Passes, Resets, unharmed, fate_of, IsOffered, IsBadOffer, refuses, happens, HasCome, HasComeAlone}
+use Rattle.dfu_link.specs.Play.{Fate, Offer, Go, Time, ResetBus, Cut, Session, Nobody, Hosted, given, silent, told, took, settled, IsAllowed}
+use Rattle.dfu_link.specs.Bytes.{Harm, powered_up, bus_was_reset}
+use Rattle.dfu_link.specs.Comes.{Offers, Goes, Passes, Resets, Cuts, IsOffered, IsBadOffer, refuses, happens, HasCome, HasComeAlone}
 use Rattle.dfu_link.specs.Standing.{session_of, given_by, bench_of, link_state, IsSized, IsCountedIn}
-use Rattle.dfu_link.specs.Acting.{HasActed, ended, HasBegun}
-use Rattle.dfu_link.proofs.Acts.{acts_whole}
+use Rattle.dfu_link.specs.Acting.{HasGone, ended, HasBegun}
 use Rattle.dfu_link.proofs.Counted.{took_whole, told_whole}
-
--- a medium that is not armed is armed with nothing
-unarmed_is : (w : Shown) → w.slots.medium.fuse ≡ Whole → armed w Whole ≡ w
-unarmed_is w e = λ i. record w { slots = record { medium = record w.slots.medium { fuse = sym e i } } }
-
--- the fates of this code harm no write and cut no power
-mild_fuse : (f : GivenFate) → fuse_of (fate_of f) unharmed ≡ Whole
-mild_fuse fate.Pass = refl
-mild_fuse fate.LostOut = refl
-mild_fuse fate.LostBack = refl
-mild_fuse fate.Twice = refl
-mild_fuse fate.TwiceLostBack = refl
-mild_fuse (fate.Slip ms) = refl
-
-mild_after : (f : GivenFate) (w : Shown) → after_fate (fate_of f) w ≡ armed w Whole
-mild_after fate.Pass w = refl
-mild_after fate.LostOut w = refl
-mild_after fate.LostBack w = refl
-mild_after fate.Twice w = refl
-mild_after fate.TwiceLostBack w = refl
-mild_after (fate.Slip ms) w = refl
 
 time_allowed : (s : Session) (ms : ℕ) → IsAllowed s (Time ms)
 time_allowed Nobody ms = tt
@@ -56,6 +30,10 @@ time_allowed (Hosted h) ms = tt
 reset_allowed : (s : Session) → IsAllowed s ResetBus
 reset_allowed Nobody = tt
 reset_allowed (Hosted h) = tt
+
+cut_allowed : (s : Session) → IsAllowed s Cut
+cut_allowed Nobody = tt
+cut_allowed (Hosted h) = tt
 
 -- time that passes
 pub time_comes : (ms : ℕ) (w w' : Shown) (host gave : Option HostState) → w.slots.medium.fuse ≡ Whole → Elapses ms w w' → HasCome (link_state w host gave) (Passes ms) (link_state w' host gave) (Ok None)
@@ -78,29 +56,40 @@ reset_comes w w' host host' gave gave' report sized counted e device session kep
   told = ap Ok says;
 }
 
+-- a cut of the power, not in an action of the host
+pub cut_comes : (w w' : Shown) (host host' gave gave' : Option HostState) (report : Option Report) → IsSized (session_of host) → IsCountedIn (session_of host) → w.slots.medium.fuse ≡ Whole → w' ≡ powered_up w → session_of host' ≡ (told (session_of host)).session
+    → given_by gave' ≡ given (told (session_of host)).answer.gave (given_by gave) → report ≡ (told (session_of host)).answer.report → HasCome (link_state w host gave) Cuts (link_state w' host' gave') (Ok report)
+cut_comes w w' host host' gave gave' report sized counted e device session kept says = record {
+  answer = Ok (told (session_of host)).answer;
+  whole = told_whole (session_of host) sized counted;
+  up_is = kept;
+  comes = happens {event = Cut} tt (record { allowed = cut_allowed (session_of host); unarmed = e; happens = ((λ i. record { device = device i; session = session i }), refl) });
+  told = ap Ok says;
+}
+
 -- the host's next action
-pub go_comes : (f : GivenFate) (w w' : Shown) (h h' : HostState) (host' gave gave' : Option HostState) (report : Option Report) → IsSized (Hosted h) → IsCountedIn (Hosted h) → w.slots.medium.fuse ≡ Whole → HasActed h (fate_of f) w w' h'
+pub go_comes : (fate : Fate) (harm : Harm) (w w' : Shown) (h h' : HostState) (host' gave gave' : Option HostState) (report : Option Report) → IsSized (Hosted h) → IsCountedIn (Hosted h) → w.slots.medium.fuse ≡ Whole → HasGone h fate harm w w' h'
     → session_of host' ≡ (ended (Hosted h')).session → given_by gave' ≡ given (ended (Hosted h')).answer.gave (given_by gave) → report ≡ (ended (Hosted h')).answer.report
-    → HasCome (link_state w (Some h) gave) (Goes (fate_of f) unharmed) (link_state w' host' gave') (Ok report)
-go_comes f w w' h h' host' gave gave' report sized counted e acted session kept says = record {
-  answer = Ok (took h acted.heard).answer;
-  whole = took_whole h acted.heard sized counted;
-  up_is = kept ∙ ap (λ (x : HostState). given (settled x x.phase).answer.gave (given_by gave)) acted.same;
-  comes = happens {event = Go (fate_of f)} refl (record {
+    → HasCome (link_state w (Some h) gave) (Goes fate harm) (link_state w' host' gave') (Ok report)
+go_comes fate harm w w' h h' host' gave gave' report sized counted e gone session kept says = record {
+  answer = Ok (took h gone.acted.heard).answer;
+  whole = took_whole h gone.acted.heard sized counted;
+  up_is = kept ∙ ap (λ (x : HostState). given (settled x x.phase).answer.gave (given_by gave)) gone.acted.same;
+  comes = happens {event = Go fate} refl (record {
     allowed = tt;
     unarmed = e;
     happens = record {
       host = h;
       live = refl;
-      last = w';
-      heard = acted.heard;
-      acts = subst (λ (x : Shown). Acts (deed h.task h.phase) (fate_of f) x w' acted.heard) (sym (ap (λ (x : Fuse). armed w x) (mild_fuse f) ∙ unarmed_is w e)) acted.acts;
-      device = sym (mild_after f w' ∙ unarmed_is w' (acts_whole (deed h.task h.phase) (fate_of f) w w' acted.heard e acted.acts));
-      session = session ∙ ap (λ (x : HostState). (settled x x.phase).session) acted.same;
+      last = gone.last;
+      heard = gone.acted.heard;
+      acts = gone.acted.acts;
+      device = gone.device;
+      session = session ∙ ap (λ (x : HostState). (settled x x.phase).session) gone.acted.same;
       answered = refl;
     };
   });
-  told = ap Ok (says ∙ ap (λ (x : HostState). (settled x x.phase).answer.report) acted.same);
+  told = ap Ok (says ∙ ap (λ (x : HostState). (settled x x.phase).answer.report) gone.acted.same);
 }
 
 -- an action where no session is live

@@ -4,7 +4,7 @@ use Rattle.dfu_link.specs.Lines.{line_of}
 use Rattle.dfu_link.specs.ScriptRun.{Stand, Point, events_of}
 use Rattle.std.specs.Prelude.{Result, Ok, Err, OnErr, IfErr}
 use Rattle.dfu_link.specs.Play.{Nobody}
-use Rattle.dfu_link.specs.Said.{Deed, Offer, Upload, Abort, Go, Time, Reset, Setting, Does, Sets}
+use Rattle.dfu_link.specs.Said.{Deed, Offer, Setting, Does, Sets}
 use Rattle.dfu_link.specs.Falls.{HasBroken, BreaksIn, in_events, LineFalls, NextFalls, RunFalls, SettingFalls}
 use Rattle.dfu_link.specs.Moving.{Moves, Prepared, FindsNoRoom}
 use Rattle.dfu_link.specs.declared.scripting.fault.ScriptFault.{ScriptFault}
@@ -64,11 +64,7 @@ late_config_falls p k line lines old s e = falls_first p k line lines old old (L
 -- There is no memory for the file that the first line offers.
 pub offer_falls : (p : Point) (k : ℕ) (line : List ℕ) (lines : List (List ℕ)) (old : Option (List ℕ)) (d : Deed) (f : ScriptFault) → line_of line ≡ Some (Does d) → p.at.session ≡ Nobody → FindsNoRoom d f → RunFalls p k (line ∷ lines) old old f
 offer_falls p k line lines old (Offer file) f e free is = subst (λ (g : ScriptFault). RunFalls p k (line ∷ lines) old old g) (sym is) (falls_first p k line lines old old NoMemory (record { file = file; says = e }, free, refl))
-offer_falls p k line lines old Upload f e free is = absurd is
-offer_falls p k line lines old Abort f e free is = absurd is
-offer_falls p k line lines old (Go fate times) f e free is = absurd is
-offer_falls p k line lines old (Time ms) f e free is = absurd is
-offer_falls p k line lines old Reset f e free is = absurd is
+offer_falls p k line lines old d f e free is = elim is [ ]
 
 -- The writer fails in the first line.
 pub write_falls : (p : Point) (k : ℕ) (line : List ℕ) (lines : List (List ℕ)) (old new : Option (List ℕ)) (f : ScriptFault) → BreaksIn p line old new → f ≡ Write → RunFalls p k (line ∷ lines) old new f

@@ -10,8 +10,8 @@ use Rattle.dfu_device.specs.Setting.{Setting}
 use Rattle.dfu_link.specs.declared.fault.LinkFault.TheVariants as fault
 use Rattle.dfu_link.specs.declared.fault.OfferFault.{OfferFault}
 use Rattle.dfu_link.specs.declared.fault.OfferFault.TheVariants as offer_fault
-use Rattle.dfu_link.specs.Play.{Offer, UploadIt, AbortIt, Go, Time, ResetBus, Session, Nobody, Hosted, IsAllowed}
-use Rattle.dfu_link.specs.Comes.{Offers, Uploads, Aborts, Goes, Passes, Resets, IsOffered, IsBadOffer, CanGive, IsBadUpload, IsLive}
+use Rattle.dfu_link.specs.Play.{Offer, UploadIt, AbortIt, Go, Time, ResetBus, Cut, Session, Nobody, Hosted, IsAllowed}
+use Rattle.dfu_link.specs.Comes.{Offers, Uploads, Aborts, Goes, Passes, Resets, Cuts, IsOffered, IsBadOffer, CanGive, IsBadUpload, IsLive}
 use Rattle.dfu_link.specs.OneAnswer.{OneRefusal, RefusedIsNoPlay, OneEvent}
 
 -- the faults of a download go by the payload and the identifiers alone
@@ -71,6 +71,7 @@ one_refusal b (Goes fate harm) fault.NoHost other x y = elim y [ ]
 one_refusal b (Goes fate harm) why other x y = elim x [ ]
 one_refusal b (Passes ms) why other x y = elim x [ ]
 one_refusal b Resets why other x y = elim x [ ]
+one_refusal b Cuts why other x y = elim x [ ]
 
 -- No play.
 
@@ -101,6 +102,7 @@ refused_no_play b (Goes fate harm) fault.NoHost event x m a = elim m [ ]
 refused_no_play b (Goes fate harm) why event x m a = elim x [ ]
 refused_no_play b (Passes ms) why event x m a = elim x [ ]
 refused_no_play b Resets why event x m a = elim x [ ]
+refused_no_play b Cuts why event x m a = elim x [ ]
 
 -- One event.
 
@@ -125,3 +127,6 @@ one_event s (Passes ms) event other m n = elim m [ ]
 one_event s Resets ResetBus ResetBus m n = refl
 one_event s Resets ResetBus other m n = elim n [ ]
 one_event s Resets event other m n = elim m [ ]
+one_event s Cuts Cut Cut m n = refl
+one_event s Cuts Cut other m n = elim n [ ]
+one_event s Cuts event other m n = elim m [ ]

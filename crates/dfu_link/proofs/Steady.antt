@@ -10,13 +10,13 @@ use Rattle.dfu_device.specs.Setting.{Setting}
 use Rattle.dfu_host.specs.Table.{Goal, ToLoad, ToFetch}
 use Rattle.dfu_link.specs.declared.fault.LinkFault.{LinkFault}
 use Rattle.dfu_link.specs.Session.{Machine, Loading}
-use Rattle.dfu_link.specs.Play.{Pass, CutIn, Fail, Event, Offer, UploadIt, AbortIt, Go, Time, ResetBus, Session, Nobody, Hosted, Link, Answered, given, IsAllowed}
+use Rattle.dfu_link.specs.Play.{Pass, CutIn, Fail, Event, Offer, UploadIt, AbortIt, Go, Time, ResetBus, Cut, Session, Nobody, Hosted, Link, Answered, given, IsAllowed}
 use Rattle.dfu_link.specs.Agreement.{pending_of, live_of, IsSound, IsGoalOffer, IsLiveOffer, Agrees, NothingClosed, SomeAgrees, FreshAgrees, LinkAgreesOn}
 use Rattle.dfu_link.specs.Fact.{SessionFact}
 use Rattle.dfu_link.specs.Headline.{Follows}
 use Rattle.dfu_link.specs.Bytes.{Harm, Bench, link_of, ShowsActive, Happens, BytePlay}
 use Rattle.dfu_link.specs.Understood.{Shows}
-use Rattle.dfu_link.specs.Comes.{Happening, Offers, Uploads, Aborts, Goes, Passes, Resets, harm_of, Means, Comes, refuses, happens, shown_as, gave_of, LinkState, linked, HasCome}
+use Rattle.dfu_link.specs.Comes.{Happening, Offers, Uploads, Aborts, Goes, Passes, Resets, Cuts, harm_of, Means, Comes, refuses, happens, shown_as, gave_of, LinkState, linked, HasCome}
 use Rattle.dfu_link.specs.Standing.{IsSized, IsSteady}
 use Rattle.dfu_link.specs.Following.{AllFollow}
 use Rattle.dfu_link.specs.Giving.{Gives, UploadsGive, RestIsSteady}
@@ -93,6 +93,7 @@ sizes w Nobody (Offers file limits) (Offer payload actions restarts) m f z = has
 sizes w Nobody (Goes fate harm) (Offer payload actions restarts) m f z = elim m [ ]
 sizes w Nobody (Passes ms) (Offer payload actions restarts) m f z = elim m [ ]
 sizes w Nobody Resets (Offer payload actions restarts) m f z = elim m [ ]
+sizes w Nobody Cuts (Offer payload actions restarts) m f z = elim m [ ]
 sizes w Nobody (Uploads limits) (Offer payload actions restarts) m f z = elim m [ ]
 sizes w Nobody Aborts (Offer payload actions restarts) m f z = elim m [ ]
 sizes w (Hosted host) h (Go fate) m f z = subst (λ (n : ℕ). 0 < n) f.task_is.transfer z
@@ -107,6 +108,7 @@ sized_or_none w Nobody (Uploads limits) (UploadIt actions restarts) harm b' answ
 sized_or_none w Nobody Aborts AbortIt harm b' answer m f z a x = elim a [ ]
 sized_or_none w Nobody (Passes ms) (Time n) harm b' answer m f z a x = inr x.1
 sized_or_none w Nobody Resets ResetBus harm b' answer m f z a x = inr (ap (λ (b : Bench). b.session) x.0)
+sized_or_none w Nobody Cuts Cut harm b' answer m f z a x = inr (ap (λ (b : Bench). b.session) x.0)
 sized_or_none w Nobody (Goes fate harm2) (Go g) harm b' answer m f z a x = elim a [ ]
 sized_or_none w Nobody h event harm b' answer m f z a x = elim m [ ]
 

@@ -1,5 +1,5 @@
 -- What comes to a link, and what it answers.
-use Rattle.std.specs.Prelude.{◌≡◌, ℕ, ◌+◌, List, [], length, Option, Some, None, Result, Ok, Err}
+use Rattle.std.specs.Prelude.{◌≡◌, ℕ, ◌+◌, List, [], length, take, Option, Some, None, Result, Ok, Err}
 use Rattle.dfu_suffix.specs.declared.ids.Ids.{Ids}
 use Rattle.dfu_suffix.specs.Grammar.{Content, IsFile, First}
 use Rattle.dfu_host.specs.declared.limits.Limits.{Limits}
@@ -16,7 +16,7 @@ use Rattle.dfu_link.specs.declared.fault.LinkFault.{LinkFault}
 use Rattle.dfu_link.specs.declared.fault.LinkFault.TheVariants as link_fault
 use Rattle.dfu_link.specs.declared.fault.OfferFault.{OfferFault}
 use Rattle.dfu_link.specs.declared.fault.OfferFault.TheVariants as offer_fault
-use Rattle.dfu_link.specs.Play.{Fate, Pass, LostOut, LostBack, Twice, TwiceLostBack, Slip, Event, Offer, UploadIt, AbortIt, Go, Time, ResetBus, Session, Nobody, Hosted, Answered, given}
+use Rattle.dfu_link.specs.Play.{Fate, Pass, LostOut, LostBack, Twice, TwiceLostBack, Slip, CutIn, Fail, Event, Offer, UploadIt, AbortIt, Go, Time, ResetBus, Cut, Session, Nobody, Hosted, Answered, given}
 use Rattle.dfu_link.specs.Bytes.{Harm, Bench, BytePlay}
 
 -- An event, as its caller gives it.
@@ -27,10 +27,15 @@ pub data Happening : Type 0 where
   Goes : Fate → Harm → Happening
   Passes : (ms : ℕ) → Happening
   Resets : Happening
+  Cuts : Happening
 
 -- No write is harmed.
 abbrev pub unharmed : Harm
 unharmed = record { writes = 0; tear = [] }
+
+-- A write is harmed after so many that work, and leaves the front of this tear, of which a medium keeps at most 4,096 bytes.
+abbrev pub harmed : (writes : ℕ) (tear : List ℕ) → Harm
+harmed writes tear = record { writes = writes; tear = take 4096 tear }
 
 -- The fate that a caller names.
 abbrev pub fate_of : GivenFate → Fate
@@ -40,15 +45,24 @@ fate_of fate.LostBack = LostBack
 fate_of fate.Twice = Twice
 fate_of fate.TwiceLostBack = TwiceLostBack
 fate_of (fate.Slip ms) = Slip ms
+fate_of (fate.Cut writes tear) = CutIn
+fate_of (fate.Fail writes tear) = Fail
+
+-- How the fate that a caller names harms a write.
+abbrev pub harm_in : GivenFate → Harm
+harm_in (fate.Cut writes tear) = harmed writes tear.now
+harm_in (fate.Fail writes tear) = harmed writes tear.now
+harm_in f = unharmed
 
 -- What happens, of the event that a caller names.
 abbrev pub happening : GivenEvent → Happening
 happening (event.Offer file limits) = Offers file.now limits
 happening (event.Upload limits) = Uploads limits
 happening event.Abort = Aborts
-happening (event.Go f) = Goes (fate_of f) unharmed
+happening (event.Go f) = Goes (fate_of f) (harm_in f)
 happening (event.Time ms) = Passes ms
 happening event.Reset = Resets
+happening event.Cut = Cuts
 
 -- How a write is harmed in what happens.
 abbrev pub harm_of : Happening → Harm
@@ -91,6 +105,7 @@ Means s Aborts AbortIt = Unit {0}
 Means s (Goes f harm) (Go g) = g ≡ f
 Means s (Passes ms) (Time n) = n ≡ ms
 Means s Resets ResetBus = Unit {0}
+Means s Cuts Cut = Unit {0}
 Means s h e = ⊥
 
 -- A session is live.

@@ -6,6 +6,7 @@ pub mod Headline
 pub mod CleanRun
 pub mod Bytes
 pub mod Understood
+pub mod Power
 pub mod Comes
 pub mod Giving
 pub mod Running

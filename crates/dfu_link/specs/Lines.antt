@@ -2,6 +2,7 @@
 use Rattle.std.specs.Prelude.{ℕ, Bool, false, length, ◌==◌, List, [], ◌∷◌, Option, Some, None, nat_le, if◌then◌else◌}
 use Rattle.dfu_link.specs.Words.{◌>>=◌, guard, bytes_of, number_of, quad_of, pair_of, first, ends, words_of}
 use Rattle.dfu_link.specs.Play.{Pass, LostOut, LostBack, Twice, TwiceLostBack, Slip}
+use Rattle.dfu_link.specs.Comes.{unharmed}
 use Rattle.dfu_link.specs.Said.{Said, Blank, Sets, LimitsTo, Does, Show, TheIds, TheDevice, TheCapacity, TheImage, Offer, Upload, Abort, Go, Time, Reset, functional_of}
 use Rattle.dfu_link.specs.Keywords.{keyword_of, fate_keyword_of}
 use Rattle.dfu_link.specs.declared.scripting.keywords.Keyword.{Keyword}
@@ -91,21 +92,21 @@ time_of words = do
 unfoldable pub pass_of : List (List ℕ) → Option Said
 pass_of words = do
   times ← small_at 1000000 words
-  if nat_le 1 times.0 then ends (Does (Go Pass times.0)) times.1 else None
+  if nat_le 1 times.0 then ends (Does (Go Pass unharmed times.0)) times.1 else None
 
 -- After `go slip`: the milliseconds.
 unfoldable pub slip_of : List (List ℕ) → Option Said
 slip_of words = do
   ms ← number_at words
-  ends (Does (Go (Slip ms.0) 1)) ms.1
+  ends (Does (Go (Slip ms.0) unharmed 1)) ms.1
 
 -- After the word of a fate.
 abbrev pub by_fate : FateKeyword → List (List ℕ) → Option Said
 by_fate fate.Pass words = pass_of words
-by_fate fate.LostOut words = ends (Does (Go LostOut 1)) words
-by_fate fate.LostBack words = ends (Does (Go LostBack 1)) words
-by_fate fate.Twice words = ends (Does (Go Twice 1)) words
-by_fate fate.TwiceLostBack words = ends (Does (Go TwiceLostBack 1)) words
+by_fate fate.LostOut words = ends (Does (Go LostOut unharmed 1)) words
+by_fate fate.LostBack words = ends (Does (Go LostBack unharmed 1)) words
+by_fate fate.Twice words = ends (Does (Go Twice unharmed 1)) words
+by_fate fate.TwiceLostBack words = ends (Does (Go TwiceLostBack unharmed 1)) words
 by_fate fate.Slip words = slip_of words
 
 -- After `go`: a fate.

@@ -4,7 +4,8 @@ use Rattle.dfu_suffix.specs.declared.ids.Ids.{Ids}
 use Rattle.dfu_wire.specs.declared.functionals.Functional.{Functional}
 use Rattle.dfu_link.specs.Words.{bytes_of}
 use Rattle.dfu_link.specs.Play.{Fate}
-use Rattle.dfu_link.specs.Comes.{fate_of}
+use Rattle.dfu_link.specs.Bytes.{Harm}
+use Rattle.dfu_link.specs.Comes.{fate_of, harm_in}
 use Rattle.dfu_link.specs.declared.scripting.hex_text.HexText.{HexText}
 use Rattle.dfu_link.specs.declared.scripting.line.Line as lines
 use Rattle.dfu_link.specs.declared.scripting.line.Line.TheVariants as line
@@ -36,12 +37,12 @@ pub data Setting : Type 0 where
   TheCapacity : ℕ → Setting
   TheImage : List ℕ → Setting
 
--- The events of a line: a file is offered, an upload begins, the session is given up, the host takes so many actions of one fate, time passes, or the bus is reset.
+-- The events of a line: a file is offered, an upload begins, the session is given up, the host takes so many actions of one fate, which harm a write alike, time passes, or the bus is reset.
 pub data Deed : Type 0 where
   Offer : (file : List ℕ) → Deed
   Upload : Deed
   Abort : Deed
-  Go : Fate → (times : ℕ) → Deed
+  Go : Fate → Harm → (times : ℕ) → Deed
   Time : (ms : ℕ) → Deed
   Reset : Deed
 
@@ -65,7 +66,7 @@ abbrev pub deed_of : deeds.Deed → Deed
 deed_of (deed.Offer text) = Offer (hex_bytes text)
 deed_of deed.Upload = Upload
 deed_of deed.Abort = Abort
-deed_of (deed.Go f times) = Go (fate_of f) times
+deed_of (deed.Go f times) = Go (fate_of f) (harm_in f) times
 deed_of (deed.Time ms) = Time ms
 deed_of deed.Reset = Reset
 

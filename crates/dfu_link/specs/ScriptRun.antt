@@ -11,7 +11,7 @@ use Rattle.dfu_device.specs.Setting.{Setting as DeviceSetting}
 use Rattle.dfu_device.specs.Shown.{Shown}
 use Rattle.dfu_link.specs.Play.{Nobody, Answered}
 use Rattle.dfu_link.specs.Bytes.{Bench}
-use Rattle.dfu_link.specs.Comes.{Happening, Offers, Uploads, Aborts, Goes, Passes, Resets, unharmed, Comes}
+use Rattle.dfu_link.specs.Comes.{Happening, Offers, Uploads, Aborts, Goes, Passes, Resets, Comes}
 use Rattle.dfu_link.specs.declared.fault.LinkFault.{LinkFault}
 use Rattle.dfu_link.specs.Texts.{answer_line, image_line, show_line}
 use Rattle.dfu_link.specs.Words.{lines_of}
@@ -102,7 +102,7 @@ abbrev pub events_of : Limits → Deed → List Happening
 events_of limits (Offer file) = Offers file limits ∷ []
 events_of limits Upload = Uploads limits ∷ []
 events_of limits Abort = Aborts ∷ []
-events_of limits (Go fate times) = replicate times (Goes fate unharmed)
+events_of limits (Go fate harm times) = replicate times (Goes fate harm)
 events_of limits (Time ms) = Passes ms ∷ []
 events_of limits Reset = Resets ∷ []
 

@@ -3,9 +3,9 @@
 use crate::fate::Fate;
 use dfu_host::Limits;
 
-/// What happens to a link.
+/// What happens to a link. A file lasts as long as its session, a tear as long as the event.
 #[derive(Clone, Copy, Debug, PartialEq, Eq)]
-pub enum Event<'f> {
+pub enum Event<'f, 't> {
     /// A whole DFU file (USB DFU 1.1, appendix B) is offered to the device; the session that
     /// begins may last for so long.
     Offer { file: &'f [u8], limits: Limits },
@@ -14,9 +14,11 @@ pub enum Event<'f> {
     /// The session that is live is given up.
     Abort,
     /// The host takes its next action.
-    Go(Fate),
+    Go(Fate<'t>),
     /// So many milliseconds pass between the host's actions.
     Time(u32),
     /// The bus is reset, not by the host.
     Reset,
+    /// The power is cut between the host's actions, and comes back: the device starts again.
+    Cut,
 }

@@ -2,8 +2,13 @@
 
 /// What becomes of one action of the host: a request, a wait or a reset of the bus. Losses and
 /// doublings are of requests alone: a wait and a reset pass with them.
+///
+/// `Cut` and `Fail` harm a write of the medium. After `writes` writes that work comes the one that
+/// is harmed: it fails, and leaves the first bytes of `tear` at the front of its range and the old
+/// bytes in the rest of it. Of `tear` at most 4,096 bytes count. Where the action makes no such
+/// write, none is harmed.
 #[derive(Clone, Copy, Debug, PartialEq, Eq)]
-pub enum Fate {
+pub enum Fate<'t> {
     /// It goes as it should.
     Pass,
     /// The request is lost: the device doesn't see it, and the host hears nothing.
@@ -16,4 +21,9 @@ pub enum Fate {
     TwiceLostBack,
     /// So many milliseconds pass after the request or the reset, and in place of those of a wait.
     Slip(u32),
+    /// The power is cut in it, and comes back: from the harmed write on no write reaches the medium,
+    /// the device starts again, and the host hears of the restart and of no answer.
+    Cut { writes: u32, tear: &'t [u8] },
+    /// It goes as it should, but for the harmed write.
+    Fail { writes: u32, tear: &'t [u8] },
 }

@@ -5,9 +5,10 @@ ghost use Rattle.dfu_link.specs.CleanRun.{CleanRun};
 ghost use Rattle.dfu_link.specs.Giving.{UploadsGive, RestIsSteady};
 ghost use Rattle.dfu_link.specs.Headline.{Headline, OnlyOffered, Simulation};
 ghost use Rattle.dfu_link.specs.OneAnswer.{OneEvent, OneRefusal, RefusedIsNoPlay};
+ghost use Rattle.dfu_link.specs.Power.{PowerComesBack};
 ghost use Rattle.dfu_link.specs.Understood.{ImageShown, BytesHeadline, BytesShow, Understood};
 
-use dfu_slots::shown_image_is_active;
+use dfu_slots::{refused_has_no_image, shown_image_is_active};
 
 /// Each play of an event, from a link that agrees with a session machine, is one legal step of it.
 /// Agreement and the phase fact hold again, and Installed is reported only in appIDLE with exactly
@@ -76,4 +77,12 @@ pub fn image_shown()
     ensures { ImageShown }
 {
     shown_image_is_active();
+}
+
+/// The power comes back: where a bench shows the active image of its medium's bytes, as that of a
+/// `World` always does, `Device::power_on` is not refused on that medium.
+pub fn power_comes_back()
+    ensures { PowerComesBack }
+{
+    refused_has_no_image();
 }

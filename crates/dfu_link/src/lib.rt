@@ -5,12 +5,15 @@
 //! the parts of an upload, by `run` for its reports too, and by `script`.
 #![tactic(auto)]
 
+mod back;
 mod event;
 mod fate;
 mod fault;
+mod going;
 mod laws;
 mod offering;
 mod play;
+mod port;
 mod running;
 mod scripting;
 mod sending;
@@ -22,7 +25,7 @@ pub use fate::Fate;
 pub use fault::{LinkFault, OfferFault};
 pub use laws::{
     bytes_show, clean_run, headline, image_shown, machine_agrees, one_answer, only_offered,
-    simulation, understood, uploads_give_the_image,
+    power_comes_back, simulation, understood, uploads_give_the_image,
 };
 pub use running::{Stop, run};
 pub use scripting::{ScriptFault, script};

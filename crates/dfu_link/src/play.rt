@@ -3,18 +3,19 @@
 ghost use Rattle.std.specs.Prelude.{◌≡◌};
 ghost use Rattle.dfu_link.specs.Play.{given, told, aborted};
 ghost use Rattle.dfu_link.specs.Standing.{session_of, given_by, bench_of, link_state, IsOnIn, IsSized, IsCountedIn, IsSteady};
-ghost use Rattle.dfu_link.specs.Comes.{Offers, Goes, unharmed, fate_of, happening, HasCome, HasComeAlone};
+ghost use Rattle.dfu_link.specs.Comes.{Offers, Goes, fate_of, harm_in, happening, HasCome, HasComeAlone};
 ghost use Rattle.dfu_link.specs.Acting.{report_of, ended, abort_told};
 
 use crate::event::Event;
 use crate::fate::Fate;
 use crate::fault::LinkFault;
+use crate::going::carry_out;
 use crate::offering::begin;
-use crate::sending::act;
+use crate::port::Port;
 use crate::uploading::upload;
 use dfu_device::Device;
 use dfu_host::{Action, Host, Limits, Report, Seen};
-use dfu_slots::Medium;
+use dfu_slots::{Faulty, Medium};
 use std::alloc::Global;
 
 /// The report of a host that is done.
@@ -98,44 +99,48 @@ fn abort(host: &mut Option<Host<'_>>) -> Result<Option<Report>, LinkFault>
 }
 
 /// The host takes its next action.
-fn go<'f, M: Medium>(
-    device: &mut Device<M>,
+fn go<'f, M: Faulty>(
+    port: &mut Port<M>,
     host: &mut Option<Host<'f>>,
     gave: &mut Option<Host<'f>>,
-    fate: Fate,
+    fate: Fate<'_>,
 ) -> Result<Option<Report>, LinkFault>
-    requires { IsSteady (bench_of device.old host.old) }
-    ensures { HasCome (link_state device.old host.old gave.old) (Goes (fate_of fate) unharmed) (link_state device.new host.new gave.new) result }
+    requires { IsSteady (bench_of port.old host.old) }
+    ensures { HasCome (link_state port.old host.old gave.old) (Goes (fate_of fate.entry) (harm_in fate.entry)) (link_state port.new host.new gave.new) result }
 {
     match host {
         None => return Err(LinkFault::NoHost),
-        Some(live) => act(device, live, fate),
+        Some(live) => carry_out(port, live, fate),
     }
     Ok(end(host, gave))
 }
 
 /// An event comes. A refused one changes nothing.
-pub(crate) fn play<'f, M: Medium>(
+pub(crate) fn play<'f, M: Faulty>(
     alloc: Global,
-    device: &mut Device<M>,
+    port: &mut Port<M>,
     host: &mut Option<Host<'f>>,
     gave: &mut Option<Host<'f>>,
-    event: Event<'f>,
+    event: Event<'f, '_>,
 ) -> Result<Option<Report>, LinkFault>
-    requires { IsSteady (bench_of device.old host.old) }
-    ensures { HasCome (link_state device.old host.old gave.old) (happening event.entry) (link_state device.new host.new gave.new) result }
+    requires { IsSteady (bench_of port.old host.old) }
+    ensures { HasCome (link_state port.old host.old gave.old) (happening event.entry) (link_state port.new host.new gave.new) result }
 {
     match event {
-        Event::Offer { file, limits } => offer(device, host, file, limits),
-        Event::Upload { limits } => upload(alloc, device, host, limits),
+        Event::Offer { file, limits } => offer(port.device(), host, file, limits),
+        Event::Upload { limits } => upload(alloc, port.device(), host, limits),
         Event::Abort => abort(host),
-        Event::Go(fate) => go(device, host, gave, fate),
+        Event::Go(fate) => go(port, host, gave, fate),
         Event::Time(ms) => {
-            device.elapse(ms);
+            port.elapse(ms);
             Ok(None)
         }
         Event::Reset => {
-            device.usb_reset();
+            port.usb_reset();
+            Ok(restart(host, gave))
+        }
+        Event::Cut => {
+            port.power_cycle();
             Ok(restart(host, gave))
         }
     }

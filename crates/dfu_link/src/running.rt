@@ -42,7 +42,7 @@ fn note(reports: &mut Vec<Report>, report: Option<Report>)
 pub fn run<'f, M: Faulty>(
     world: &mut World<'f, M>,
     alloc: Global,
-    events: &[Event<'f>],
+    events: &[Event<'f, '_>],
 ) -> Result<Vec<Report>, Stop>
     ensures runs { HasRun world.old (happenings events.now) world.new result }
     ensures legal { AllFollowRun world.old (happenings events.now) world.new result }

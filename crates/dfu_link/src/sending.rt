@@ -2,102 +2,123 @@
 
 ghost use Rattle.std.specs.Prelude.{◌≡◌};
 ghost use Rattle.dfu_host.specs.Host.{IsOn};
-ghost use Rattle.dfu_host.specs.Table.{Waited, WasReset};
-ghost use Rattle.dfu_link.specs.Bytes.{Waits, Resets};
 ghost use Rattle.dfu_link.specs.Comes.{fate_of};
-ghost use Rattle.dfu_link.specs.Acting.{HasSent, HasHeard, HasActed};
+ghost use Rattle.dfu_link.specs.Acting.{HasSent, HasWaited, HasReset, HasHeard, HasActed};
 
+use crate::back::Back;
 use crate::fate::Fate;
+use crate::port::Port;
 use arrayvec::ArrayVec;
-use dfu_device::{Answer, Device};
+use dfu_device::Answer;
 use dfu_host::{Action, Host, Seen};
-use dfu_slots::Medium;
+use dfu_slots::Faulty;
 
-/// A request goes to the device by its fate. What comes back is the device's answer, with its
-/// bytes in `out`, or nothing.
-fn send<M: Medium>(
-    device: &mut Device<M>,
+/// A request goes to the device by its fate. Where an answer comes back, its bytes stand in `out`.
+fn send<M: Faulty>(
+    port: &mut Port<M>,
     setup: &[u8; 8],
     body: &[u8],
-    fate: Fate,
+    fate: Fate<'_>,
     out: &mut ArrayVec<u8, 4096>,
-) -> Option<Answer>
-    ensures { HasSent setup.now body.now (fate_of fate) device.old result out.new.items device.new }
+) -> Back
+    ensures { HasSent setup.now body.now (fate_of fate.entry) port.old result out.new.items port.new }
 {
     match fate {
-        Fate::Pass => Some(device.handle(setup, body, out)),
-        Fate::LostOut => None,
+        Fate::Pass => Back::Answered(port.handle(setup, body, out)),
+        Fate::LostOut => Back::Lost,
         Fate::LostBack => {
-            let _ = device.handle(setup, body, out);
-            None
+            let _ = port.handle(setup, body, out);
+            Back::Lost
         }
         Fate::Twice => {
-            let _ = device.handle(setup, body, out);
-            Some(device.handle(setup, body, out))
+            let _ = port.handle(setup, body, out);
+            Back::Answered(port.handle(setup, body, out))
         }
         Fate::TwiceLostBack => {
-            let _ = device.handle(setup, body, out);
-            let _ = device.handle(setup, body, out);
-            None
+            let _ = port.handle(setup, body, out);
+            let _ = port.handle(setup, body, out);
+            Back::Lost
         }
         Fate::Slip(ms) => {
-            let answer = device.handle(setup, body, out);
-            device.elapse(ms);
-            Some(answer)
+            let answer = port.handle(setup, body, out);
+            port.elapse(ms);
+            Back::Answered(answer)
         }
+        Fate::Cut { .. } => {
+            let _ = port.handle(setup, body, out);
+            Back::Restarted
+        }
+        Fate::Fail { .. } => Back::Answered(port.handle(setup, body, out)),
     }
 }
 
 /// A wait of the host: with Slip another time passes in its place.
-fn wait<M: Medium>(device: &mut Device<M>, ms: u32, fate: Fate)
-    ensures { Waits ms (fate_of fate) device.old device.new Waited }
+fn wait<M: Faulty>(port: &mut Port<M>, ms: u32, fate: Fate<'_>) -> Seen<'static>
+    ensures { HasWaited ms (fate_of fate.entry) port.old result port.new }
 {
     match fate {
-        Fate::Slip(other) => device.elapse(other),
-        _ => device.elapse(ms),
+        Fate::Slip(other) => {
+            port.elapse(other);
+            Seen::Waited
+        }
+        Fate::Cut { .. } => {
+            port.elapse(ms);
+            Seen::Restarted
+        }
+        _ => {
+            port.elapse(ms);
+            Seen::Waited
+        }
     }
 }
 
 /// A reset of the bus by the host: with Slip a time passes after it.
-fn reset_bus<M: Medium>(device: &mut Device<M>, fate: Fate)
-    ensures { Resets (fate_of fate) device.old device.new WasReset }
+fn reset_bus<M: Faulty>(port: &mut Port<M>, fate: Fate<'_>) -> Seen<'static>
+    ensures { HasReset (fate_of fate.entry) port.old result port.new }
 {
-    device.usb_reset();
-    if let Fate::Slip(ms) = fate {
-        device.elapse(ms);
+    port.usb_reset();
+    match fate {
+        Fate::Slip(ms) => {
+            port.elapse(ms);
+            Seen::WasReset
+        }
+        Fate::Cut { .. } => Seen::Restarted,
+        _ => Seen::WasReset,
     }
 }
 
-/// Tells the host of an answer, or of none.
-fn tell(host: &mut Host<'_>, answer: Option<Answer>, out: &[u8])
-    ensures { HasHeard host.old answer out.now host.new }
+/// Tells the host what came back of its request.
+fn tell(host: &mut Host<'_>, back: Back, out: &[u8])
+    ensures { HasHeard host.old back out.now host.new }
 {
-    match answer {
-        Some(Answer::Ack) => host.take(Seen::Ack),
-        Some(Answer::Bytes) => host.take(Seen::Bytes(out)),
-        Some(Answer::Stall) => host.take(Seen::Stall),
-        None => host.take(Seen::Nothing),
+    match back {
+        Back::Answered(Answer::Ack) => host.take(Seen::Ack),
+        Back::Answered(Answer::Bytes) => host.take(Seen::Bytes(out)),
+        Back::Answered(Answer::Stall) => host.take(Seen::Stall),
+        Back::Lost => host.take(Seen::Nothing),
+        Back::Restarted => host.take(Seen::Restarted),
     }
 }
 
-/// The next action of a host that is not done, by its fate.
-pub(crate) fn act<M: Medium>(device: &mut Device<M>, host: &mut Host<'_>, fate: Fate)
+/// The next action of a host that is not done, by its fate. Who cuts or fails a write has armed the
+/// medium for it.
+pub(crate) fn act<M: Faulty>(port: &mut Port<M>, host: &mut Host<'_>, fate: Fate<'_>)
     requires { IsOn host.old.phase }
-    ensures { HasActed host.old (fate_of fate) device.old device.new host.new }
+    ensures { HasActed host.old (fate_of fate.entry) port.old port.new host.new }
 {
     match host.next() {
         Action::Send { setup, body } => {
             let mut out = ArrayVec::new();
-            let answer = send(device, &setup, body, fate, &mut out);
-            tell(host, answer, out.as_slice());
+            let back = send(port, &setup, body, fate, &mut out);
+            tell(host, back, out.as_slice());
         }
         Action::Wait(ms) => {
-            wait(device, ms, fate);
-            host.take(Seen::Waited);
+            let seen = wait(port, ms, fate);
+            host.take(seen);
         }
         Action::Reset => {
-            reset_bus(device, fate);
-            host.take(Seen::WasReset);
+            let seen = reset_bus(port, fate);
+            host.take(seen);
         }
         Action::Done(_) => unreachable!(),
     }

@@ -12,6 +12,7 @@ ghost use Rattle.dfu_link.specs.Giving.{Gives};
 use crate::event::Event;
 use crate::fault::LinkFault;
 use crate::play::play;
+use crate::port::Port;
 use dfu_device::Device;
 use dfu_host::{Host, Report};
 use dfu_slots::Faulty;
@@ -24,7 +25,7 @@ use std::marker::Model;
 #[derive(Drop)]
 pub struct World<'f, M: Faulty> {
     alloc: Global,
-    device: Device<M>,
+    port: Port<M>,
     host: Option<Host<'f>>,
     // The host of the last session that reported Uploaded, if one did.
     gave: Option<Host<'f>>,
@@ -36,9 +37,9 @@ impl<'f, M: Faulty> Model for World<'f, M> {
 
     ghost Value = { LinkState };
 
-    ghost view = { λ w. link_state w.device w.host w.gave };
+    ghost view = { λ w. link_state w.port w.host w.gave };
 
-    ghost invariant = { λ w. Holds (bench_of w.device w.host) };
+    ghost invariant = { λ w. Holds (bench_of w.port w.host) };
 }
 
 impl<'f, M: Faulty> World<'f, M> {
@@ -54,7 +55,7 @@ impl<'f, M: Faulty> World<'f, M> {
         let _ = device.slots().capacity();
         World {
             alloc,
-            device,
+            port: Port::new(device),
             host: None,
             gave: None,
         }
@@ -69,10 +70,10 @@ impl<'f, M: Faulty> World<'f, M> {
     /// A refused event changes nothing. The faults, in the order in which they are looked for:
     ///
     /// 1. `HostBusy`: an offer or an upload while a session is live.
-    /// 2. `NoHost`: an abort or an action while no session is live.
+    /// 2. `NoHost`: an abort or an action, whatever its fate, while no session is live.
     /// 3. `BadOffer`: of an offer, the fault of `dfu_suffix::read`, else that of `Host::download`; of
     ///    an upload, that of `Host::upload`.
-    pub fn step(&mut self, event: Event<'f>) -> Result<Option<Report>, LinkFault>
+    pub fn step(&mut self, event: Event<'f, '_>) -> Result<Option<Report>, LinkFault>
         ensures play { HasCome self.old (happening event.entry) self.new result }
         ensures legal { AllFollow self.old (happening event.entry) self.new result }
         ensures sure { AllSure self.old.bench (happening event.entry) self.new.bench result }
@@ -81,13 +82,13 @@ impl<'f, M: Faulty> World<'f, M> {
     {
         let told = play(
             self.alloc,
-            &mut self.device,
+            &mut self.port,
             &mut self.host,
             &mut self.gave,
             event,
         );
         // The store says that its medium has an active image.
-        let _ = self.device.slots().capacity();
+        let _ = self.port.device().slots().capacity();
         told
     }
 
@@ -107,7 +108,7 @@ impl<'f, M: Faulty> World<'f, M> {
         ensures device { result.now ≡ self.now.bench.device }
         ensures active { ShowsActive self.now.bench }
     {
-        &self.device
+        self.port.device()
     }
 
     /// The device back, without what was uploaded. Where a session is live, the link back as it is.
@@ -118,7 +119,7 @@ impl<'f, M: Faulty> World<'f, M> {
         ensures unarmed { IfOk result (λ device. device.slots.medium.fuse ≡ Whole) }
     {
         match self.host {
-            None => Ok(self.device),
+            None => Ok(self.port.into_device()),
             Some(_) => Err(self),
         }
     }

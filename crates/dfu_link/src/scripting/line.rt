@@ -43,7 +43,7 @@ pub(crate) enum Deed<'l> {
     /// The session is given up.
     Abort,
     /// The host takes its next action, so often with this fate.
-    Go { fate: Fate, times: u32 },
+    Go { fate: Fate<'l>, times: u32 },
     /// So many milliseconds pass.
     Time(u32),
     /// The bus is reset.

@@ -2,7 +2,7 @@
 
 ghost use Rattle.std.specs.Prelude.{◌≡◌, None};
 ghost use Rattle.dfu_link.specs.Words.{Reads, words_of, ends};
-ghost use Rattle.dfu_link.specs.Comes.{fate_of};
+ghost use Rattle.dfu_link.specs.Comes.{fate_of, harm_in};
 ghost use Rattle.dfu_link.specs.Said.{said_of, Go, Does, functional_of};
 ghost use Rattle.dfu_link.specs.Lines.{small_at, ids_of, device_of, capacity_of, image_of, limits_of, offer_of, time_of, pass_of, slip_of, by_fate, go_of};
 
@@ -133,8 +133,8 @@ fn pass(line: &[u8]) -> Option<Line<'_>>
 }
 
 /// One action.
-fn once(fate: Fate, rest: &[u8]) -> Option<Line<'_>>
-    ensures { Reads said_of result (ends (Does (Go (fate_of fate) 1)) (words_of rest.now)) }
+fn once<'l>(fate: Fate<'l>, rest: &[u8]) -> Option<Line<'l>>
+    ensures { Reads said_of result (ends (Does (Go (fate_of fate.entry) (harm_in fate.entry) 1)) (words_of rest.now)) }
 {
     ended(Line::Do(Deed::Go { fate, times: 1 }), rest)
 }

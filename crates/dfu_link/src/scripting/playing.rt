@@ -22,7 +22,7 @@ use std::io::Write;
 /// Lets the same event come so many times, and writes what is printed of each.
 fn play<'f, M: Faulty, W: Write>(
     world: &mut World<'f, M>,
-    event: Event<'f>,
+    event: Event<'f, '_>,
     times: u32,
     writer: &mut W,
 ) -> Result<(), ScriptFault>

@@ -109,12 +109,12 @@ pub(crate) fn world_on<'f>(
 
 /// An event that comes so many times.
 #[derive(Clone, Copy)]
-pub(crate) struct Turn<'f> {
-    pub(crate) event: Event<'f>,
+pub(crate) struct Turn<'f, 't> {
+    pub(crate) event: Event<'f, 't>,
     pub(crate) times: usize,
 }
 
-pub(crate) fn offer(file: &[u8]) -> Turn<'_> {
+pub(crate) fn offer(file: &[u8]) -> Turn<'_, 'static> {
     Turn {
         event: Event::Offer {
             file,
@@ -124,19 +124,19 @@ pub(crate) fn offer(file: &[u8]) -> Turn<'_> {
     }
 }
 
-pub(crate) const UPLOAD: Turn<'static> = Turn {
+pub(crate) const UPLOAD: Turn<'static, 'static> = Turn {
     event: Event::Upload { limits: AMPLE },
     times: 1,
 };
 
-pub(crate) fn go(fate: Fate) -> Turn<'static> {
+pub(crate) fn go(fate: Fate<'_>) -> Turn<'static, '_> {
     Turn {
         event: Event::Go(fate),
         times: 1,
     }
 }
 
-pub(crate) fn pass(times: usize) -> Turn<'static> {
+pub(crate) fn pass(times: usize) -> Turn<'static, 'static> {
     Turn {
         event: Event::Go(Fate::Pass),
         times,
@@ -148,7 +148,7 @@ pub(crate) fn pass(times: usize) -> Turn<'static> {
 pub(crate) fn play<'f>(
     rt: &impl Abort,
     world: &mut World<'f, SimMedium>,
-    turns: &[Turn<'f>],
+    turns: &[Turn<'f, '_>],
     last: Option<Report>,
 ) {
     for (number, turn) in turns.iter().enumerate() {

@@ -6,14 +6,14 @@ use dfu_host::{Limits, Report};
 use dfu_wire::{Code, State};
 use std::test::Fail;
 
-fn time(ms: u32) -> Turn<'static> {
+fn time(ms: u32) -> Turn<'static, 'static> {
     Turn {
         event: Event::Time(ms),
         times: 1,
     }
 }
 
-const RESET: Turn<'static> = Turn {
+const RESET: Turn<'static, 'static> = Turn {
     event: Event::Reset,
     times: 1,
 };

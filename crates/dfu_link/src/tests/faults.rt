@@ -12,7 +12,7 @@ use std::test::Fail;
 fn refused(
     rt: &impl Abort,
     world: &mut World<'static, SimMedium>,
-    event: Event<'static>,
+    event: Event<'static, 'static>,
     fault: LinkFault,
 ) {
     match world.step(event) {
@@ -21,7 +21,7 @@ fn refused(
     }
 }
 
-fn offered(file: &'static [u8]) -> Event<'static> {
+fn offered(file: &'static [u8]) -> Event<'static, 'static> {
     Event::Offer {
         file,
         limits: AMPLE,

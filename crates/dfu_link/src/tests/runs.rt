@@ -20,7 +20,11 @@ use std::test::Fail;
 
 /// An offer and the passes of a clean download. Where all of it came, the payload is the active
 /// image of a device in appIDLE, and that was reported.
-fn installs<'f, M: Faulty>(world: &mut World<'f, M>, alloc: Global, events: &[Event<'f>]) -> bool
+fn installs<'f, M: Faulty>(
+    world: &mut World<'f, M>,
+    alloc: Global,
+    events: &[Event<'f, '_>],
+) -> bool
     ensures { (file payload : List ℕ) (limits : Limits) → CanInstall world.old.bench file limits payload
         → happenings events.now ≡ offer_and_passes file limits (clean_passes world.old.bench.device.config payload)
         → IsTrue result → link_of world.new.bench ≡ resting payload }
@@ -31,7 +35,7 @@ fn installs<'f, M: Faulty>(world: &mut World<'f, M>, alloc: Global, events: &[Ev
     }
 }
 
-const PASS: Event<'static> = Event::Go(Fate::Pass);
+const PASS: Event<'static, 'static> = Event::Go(Fate::Pass);
 
 #[test]
 fn a_run_stops_at_the_first_refusal(rt: HostRuntime) -> Result<(), Fail> {

@@ -8,7 +8,7 @@ use std::test::Fail;
 
 const EIGHT: [u8; 8] = [0, 1, 2, 3, 4, 5, 6, 7];
 
-const ABORT: Turn<'static> = Turn {
+const ABORT: Turn<'static, 'static> = Turn {
     event: Event::Abort,
     times: 1,
 };

@@ -1,4 +1,4 @@
-use Rattle.dfu_link.proofs.Events.{time_comes, reset_comes}
+use Rattle.dfu_link.proofs.Events.{time_comes, reset_comes, cut_comes}
 use Rattle.dfu_link.proofs.Uploads.{abort_comes}
 use Rattle.dfu_link.proofs.play.play.Goals as goal
 
@@ -10,3 +10,6 @@ returns-in-Reset g c = rw c.in-Reset.is (reset_comes _ _ _ _ c.args.gave.now c.r
 
 pub returns-in-Abort : goal.returns-in-Abort
 returns-in-Abort g c = rw c.in-Abort.is (abort_comes _ _ _ c.args.gave.now _ c.requires.unarmed c.abort.ensures.session c.abort.ensures.told)
+
+pub returns-in-Cut : goal.returns-in-Cut
+returns-in-Cut g c = rw c.in-Cut.is (cut_comes _ _ _ _ c.args.gave.now c.restart-in-Cut.new.gave _ c.requires.sized c.requires.counted c.requires.unarmed c.power_cycle.ensures c.restart-in-Cut.ensures.session c.restart-in-Cut.ensures.given c.restart-in-Cut.ensures.report)

@@ -1,4 +1,4 @@
-use Rattle.dfu_link.proofs.Acts.{sent_out, sent_lost, sent_unheard, sent_twice, sent_twice_unheard, sent_late}
+use Rattle.dfu_link.proofs.Acts.{sent_out, sent_lost, sent_unheard, sent_twice, sent_twice_unheard, sent_late, sent_cut, sent_failing}
 use Rattle.dfu_link.proofs.sending.send.Goals as goal
 
 pub returns-in-Pass : goal.returns-in-Pass
@@ -18,3 +18,9 @@ returns-in-TwiceLostBack g c = rw c.in-TwiceLostBack.is (sent_twice_unheard _ c.
 
 pub returns-in-Slip : goal.returns-in-Slip
 returns-in-Slip g c = rw c.in-Slip.is (sent_late c.handle-answer.ensures.row c.elapse.ensures.row)
+
+pub returns-in-Cut : goal.returns-in-Cut
+returns-in-Cut g c = rw c.in-Cut.is (sent_cut _ c.handle-in-Cut.ensures.row)
+
+pub returns-in-Fail : goal.returns-in-Fail
+returns-in-Fail g c = rw c.in-Fail.is (sent_failing c.handle-in-Fail.ensures.row)
