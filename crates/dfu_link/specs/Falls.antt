@@ -10,7 +10,7 @@ use Rattle.dfu_link.specs.Comes.{Happening}
 use Rattle.dfu_link.specs.Writing.{Broke}
 use Rattle.dfu_link.specs.Texts.{image_line, show_line}
 use Rattle.dfu_link.specs.Words.{lines_of}
-use Rattle.dfu_link.specs.Said.{Setting, Deed, Offer, Sets, Does, Show}
+use Rattle.dfu_link.specs.Said.{Setting, Deed, Offer, HasTear, Sets, Does, Show}
 use Rattle.dfu_link.specs.Lines.{line_of}
 use Rattle.dfu_link.specs.ScriptRun.{Stand, beginning, Prepares, Starts, at_rest, AllCome, Point, point, events_of, LinesRun, SetsUp}
 use Rattle.dfu_link.specs.declared.scripting.fault.ScriptFault.{ScriptFault}
@@ -41,12 +41,17 @@ pub record IsOffer (line : List ℕ) : Type 0 where
   pub file : List ℕ
   pub says : line_of line ≡ Some (Does (Offer file))
 
--- How line k falls once the device is started: it is none of the language, or a configuration line, or a file that is offered finds no memory, and then nothing
--- of it is out; or the writer fails in it.
+-- A line needs memory: for the file that it offers while no session is live, or for the tear that it brings.
+pub data NeedsMemory (p : Point) (line : List ℕ) : Type 0 where
+  for_file : IsOffer line → p.at.session ≡ Nobody → NeedsMemory p line
+  for_tear : {deed : Deed} → line_of line ≡ Some (Does deed) → HasTear deed → NeedsMemory p line
+
+-- How line k falls once the device is started: it is none of the language, or a configuration line, or finds no memory that it needs, and then nothing of it
+-- is out; or the writer fails in it.
 abbrev pub LineFalls : Point → ℕ → List ℕ → Option (List ℕ) → Option (List ℕ) → ScriptFault → Type 0
 LineFalls p k line old new (BadLine n) = (n ≡ k) × (line_of line ≡ None) × (new ≡ old)
 LineFalls p k line old new (LateConfig n) = (n ≡ k) × IsSetting line × (new ≡ old)
-LineFalls p k line old new NoMemory = IsOffer line × (p.at.session ≡ Nobody) × (new ≡ old)
+LineFalls p k line old new NoMemory = NeedsMemory p line × (new ≡ old)
 LineFalls p k line old new Write = BreaksIn p line old new
 LineFalls p k line old new fault = ⊥
 

@@ -20,6 +20,7 @@ keyword_of w =
     else if bytes_eq w (codes "go") then Some key.Go
     else if bytes_eq w (codes "time") then Some key.Time
     else if bytes_eq w (codes "reset") then Some key.Reset
+    else if bytes_eq w (codes "cut") then Some key.Cut
     else if bytes_eq w (codes "show") then Some key.Show
     else None
 
@@ -32,4 +33,6 @@ fate_keyword_of w =
     else if bytes_eq w (codes "twice") then Some fate.Twice
     else if bytes_eq w (codes "twicelostback") then Some fate.TwiceLostBack
     else if bytes_eq w (codes "slip") then Some fate.Slip
+    else if bytes_eq w (codes "cut") then Some fate.Cut
+    else if bytes_eq w (codes "fail") then Some fate.Fail
     else None

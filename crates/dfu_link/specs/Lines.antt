@@ -1,9 +1,9 @@
 -- The grammar of a line: its fields, its forms, and what each form says.
 use Rattle.std.specs.Prelude.{ℕ, Bool, false, length, ◌==◌, List, [], ◌∷◌, Option, Some, None, nat_le, if◌then◌else◌}
 use Rattle.dfu_link.specs.Words.{◌>>=◌, guard, bytes_of, number_of, quad_of, pair_of, first, ends, words_of}
-use Rattle.dfu_link.specs.Play.{Pass, LostOut, LostBack, Twice, TwiceLostBack, Slip}
-use Rattle.dfu_link.specs.Comes.{unharmed}
-use Rattle.dfu_link.specs.Said.{Said, Blank, Sets, LimitsTo, Does, Show, TheIds, TheDevice, TheCapacity, TheImage, Offer, Upload, Abort, Go, Time, Reset, functional_of}
+use Rattle.dfu_link.specs.Play.{Fate, Pass, LostOut, LostBack, Twice, TwiceLostBack, Slip, CutIn, Fail}
+use Rattle.dfu_link.specs.Comes.{unharmed, harmed}
+use Rattle.dfu_link.specs.Said.{Said, Blank, Sets, LimitsTo, Does, Show, TheIds, TheDevice, TheCapacity, TheImage, Offer, Upload, Abort, Go, Time, Reset, Cut, functional_of}
 use Rattle.dfu_link.specs.Keywords.{keyword_of, fate_keyword_of}
 use Rattle.dfu_link.specs.declared.scripting.keywords.Keyword.{Keyword}
 use Rattle.dfu_link.specs.declared.scripting.keywords.Keyword.TheVariants as key
@@ -100,6 +100,13 @@ slip_of words = do
   ms ← number_at words
   ends (Does (Go (Slip ms.0) unharmed 1)) ms.1
 
+-- After `go cut` and `go fail`: how many writes work, and the tear.
+unfoldable pub harmed_of : Fate → List (List ℕ) → Option Said
+harmed_of f words = do
+  writes ← number_at words
+  tear ← hex_at writes.1
+  ends (Does (Go f (harmed writes.0 tear.0) 1)) tear.1
+
 -- After the word of a fate.
 abbrev pub by_fate : FateKeyword → List (List ℕ) → Option Said
 by_fate fate.Pass words = pass_of words
@@ -108,6 +115,8 @@ by_fate fate.LostBack words = ends (Does (Go LostBack unharmed 1)) words
 by_fate fate.Twice words = ends (Does (Go Twice unharmed 1)) words
 by_fate fate.TwiceLostBack words = ends (Does (Go TwiceLostBack unharmed 1)) words
 by_fate fate.Slip words = slip_of words
+by_fate fate.Cut words = harmed_of CutIn words
+by_fate fate.Fail words = harmed_of Fail words
 
 -- After `go`: a fate.
 unfoldable pub go_of : List (List ℕ) → Option Said
@@ -129,6 +138,7 @@ by_keyword key.Abort words = ends (Does Abort) words
 by_keyword key.Go words = go_of words
 by_keyword key.Time words = time_of words
 by_keyword key.Reset words = ends (Does Reset) words
+by_keyword key.Cut words = ends (Does Cut) words
 by_keyword key.Show words = ends Show words
 
 -- A line is a comment where its first word begins with `#`.

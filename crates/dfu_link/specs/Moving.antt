@@ -7,7 +7,7 @@ use Rattle.dfu_device.specs.Shown.{Shown}
 use Rattle.dfu_link.specs.Bytes.{Bench}
 use Rattle.dfu_link.specs.Comes.{Happening}
 use Rattle.dfu_link.specs.Texts.{image_line}
-use Rattle.dfu_link.specs.Said.{Deed, Offer, Said}
+use Rattle.dfu_link.specs.Said.{Deed, Offer, HasTear, Said}
 use Rattle.dfu_link.specs.Lines.{line_of}
 use Rattle.dfu_link.specs.ScriptRun.{Stand, Prepares, at_rest, AllCome, Point, Acts, LinesRun}
 use Rattle.dfu_link.specs.declared.scripting.fault.ScriptFault.{ScriptFault}
@@ -78,3 +78,7 @@ number_of_first (Some line) taken = taken
 abbrev pub FindsNoRoom : Deed → ScriptFault → Type 0
 FindsNoRoom (Offer file) fault = fault ≡ NoMemory
 FindsNoRoom deed fault = ⊥
+
+-- There is no memory for the tear that a line brings.
+abbrev pub FindsNoTear : Deed → ScriptFault → Type 0
+FindsNoTear deed fault = HasTear deed × (fault ≡ NoMemory)

@@ -3,10 +3,12 @@ use Rattle.std.specs.Prelude.{ℕ, ◌/◌, ◌%◌, ◌==◌, List, [], unwrap_
 use Rattle.dfu_suffix.specs.declared.ids.Ids.{Ids}
 use Rattle.dfu_wire.specs.declared.functionals.Functional.{Functional}
 use Rattle.dfu_link.specs.Words.{bytes_of}
-use Rattle.dfu_link.specs.Play.{Fate}
+use Rattle.dfu_link.specs.Play.{Fate, CutIn, Fail}
 use Rattle.dfu_link.specs.Bytes.{Harm}
-use Rattle.dfu_link.specs.Comes.{fate_of, harm_in}
+use Rattle.dfu_link.specs.Comes.{harmed, fate_of, harm_in}
 use Rattle.dfu_link.specs.declared.scripting.hex_text.HexText.{HexText}
+use Rattle.dfu_link.specs.declared.scripting.line.Harm as harms
+use Rattle.dfu_link.specs.declared.scripting.line.Harm.TheVariants as harm
 use Rattle.dfu_link.specs.declared.scripting.line.Line as lines
 use Rattle.dfu_link.specs.declared.scripting.line.Line.TheVariants as line
 use Rattle.dfu_link.specs.declared.scripting.line.Setting as settings
@@ -37,7 +39,7 @@ pub data Setting : Type 0 where
   TheCapacity : ℕ → Setting
   TheImage : List ℕ → Setting
 
--- The events of a line: a file is offered, an upload begins, the session is given up, the host takes so many actions of one fate, which harm a write alike, time passes, or the bus is reset.
+-- The events of a line: a file is offered, an upload begins, the session is given up, the host takes so many actions of one fate, which harm a write alike, time passes, the bus is reset, or the power is cut.
 pub data Deed : Type 0 where
   Offer : (file : List ℕ) → Deed
   Upload : Deed
@@ -45,6 +47,13 @@ pub data Deed : Type 0 where
   Go : Fate → Harm → (times : ℕ) → Deed
   Time : (ms : ℕ) → Deed
   Reset : Deed
+  Cut : Deed
+
+-- A line harms a write, and so brings a tear.
+abbrev pub HasTear : Deed → Type 0
+HasTear (Go CutIn h times) = Unit {0}
+HasTear (Go Fail h times) = Unit {0}
+HasTear d = ⊥
 
 -- What a line says: nothing, a setting, the limits of later sessions, events, or that the device is to be shown.
 pub data Said : Type 0 where
@@ -61,14 +70,26 @@ setting_of (setting.Device functional least busy manifest) = TheDevice functiona
 setting_of (setting.Capacity room) = TheCapacity room.bytes
 setting_of (setting.Image text) = TheImage (hex_bytes text)
 
+-- The fate of an action in which a write is harmed like this.
+abbrev pub harm_fate : harms.Harm → Fate
+harm_fate harm.Cut = CutIn
+harm_fate harm.Fail = Fail
+
 -- The events of a line as the code has it.
 abbrev pub deed_of : deeds.Deed → Deed
 deed_of (deed.Offer text) = Offer (hex_bytes text)
 deed_of deed.Upload = Upload
 deed_of deed.Abort = Abort
 deed_of (deed.Go f times) = Go (fate_of f) (harm_in f) times
+deed_of (deed.GoHarmed h writes text) = Go (harm_fate h) (harmed writes (hex_bytes text)) 1
 deed_of (deed.Time ms) = Time ms
 deed_of deed.Reset = Reset
+deed_of deed.Cut = Cut
+
+-- The tear that a line as the code has it brings; others bring none.
+abbrev pub tear_bytes : deeds.Deed → List ℕ
+tear_bytes (deed.GoHarmed h writes text) = hex_bytes text
+tear_bytes d = []
 
 -- What a line as the code has it says.
 abbrev pub said_of : lines.Line → Said

@@ -11,11 +11,11 @@ use Rattle.dfu_device.specs.Setting.{Setting as DeviceSetting}
 use Rattle.dfu_device.specs.Shown.{Shown}
 use Rattle.dfu_link.specs.Play.{Nobody, Answered}
 use Rattle.dfu_link.specs.Bytes.{Bench}
-use Rattle.dfu_link.specs.Comes.{Happening, Offers, Uploads, Aborts, Goes, Passes, Resets, Comes}
+use Rattle.dfu_link.specs.Comes.{Happening, Offers, Uploads, Aborts, Goes, Passes, Resets, Cuts, Comes}
 use Rattle.dfu_link.specs.declared.fault.LinkFault.{LinkFault}
 use Rattle.dfu_link.specs.Texts.{answer_line, image_line, show_line}
 use Rattle.dfu_link.specs.Words.{lines_of}
-use Rattle.dfu_link.specs.Said.{Setting, TheIds, TheDevice, TheCapacity, TheImage, Deed, Offer, Upload, Abort, Go, Time, Reset, Said, Blank, Sets, LimitsTo, Does, Show, functional_of}
+use Rattle.dfu_link.specs.Said.{Setting, TheIds, TheDevice, TheCapacity, TheImage, Deed, Offer, Upload, Abort, Go, Time, Reset, Cut, Said, Blank, Sets, LimitsTo, Does, Show, functional_of}
 use Rattle.dfu_link.specs.Lines.{line_of}
 
 -- What is set before the first event line or `show`: the device, how many bytes an image may have, the image at first, and the limits of sessions.
@@ -105,6 +105,7 @@ events_of limits Abort = Aborts ∷ []
 events_of limits (Go fate harm times) = replicate times (Goes fate harm)
 events_of limits (Time ms) = Passes ms ∷ []
 events_of limits Reset = Resets ∷ []
+events_of limits Cut = Cuts ∷ []
 
 -- What a line does once the device is started, and what it prints. A configuration line has no place there.
 pub data Acts : Point → Said → List ℕ → Point → Type 0 where

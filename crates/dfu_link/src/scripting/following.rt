@@ -10,7 +10,7 @@ ghost use Rattle.dfu_link.specs.Moving.{Steps, Ends, Follows, IsUnarmed, with_fi
 use crate::scripting::fault::ScriptFault;
 use crate::scripting::line::Line;
 use crate::scripting::lines::{Lines, next_line};
-use crate::scripting::playing::{file_of, play_deed, play_live};
+use crate::scripting::playing::{file_of, play_deed, play_live, tear_of};
 use crate::scripting::reading::parse;
 use crate::scripting::showing::{write_image, write_show};
 use crate::world::World;
@@ -22,6 +22,7 @@ use std::io::Write;
 
 /// Does a line while a session is live.
 fn live_line<'f, M: Faulty, W: Write>(
+    alloc: Global,
     world: &mut World<'f, M>,
     line: &[u8],
     number: u32,
@@ -40,7 +41,11 @@ fn live_line<'f, M: Faulty, W: Write>(
             *limits = Limits { actions, restarts };
             Ok(())
         }
-        Some(Line::Do(deed)) => play_live(world, deed, *limits, writer),
+        Some(Line::Do(deed)) => {
+            let torn = tear_of(alloc, deed)?;
+            play_live(world, deed, &torn, *limits, writer)?;
+            Ok(())
+        }
         Some(Line::Show) => write_show(writer, world.device()),
     }
 }
@@ -48,6 +53,7 @@ fn live_line<'f, M: Faulty, W: Write>(
 /// Does lines until no session is live, and gives the device back; or all that are left, and then
 /// writes the line of the image.
 fn follow<'f, M: Faulty, W: Write>(
+    alloc: Global,
     world: World<'f, M>,
     lines: &mut Lines<'_>,
     limits: &mut Limits,
@@ -68,7 +74,7 @@ fn follow<'f, M: Faulty, W: Write>(
                 write_image(writer, world.device())?;
                 return Ok(None);
             }
-            Some(line) => live_line(&mut world, line, lines.number, limits, writer)?,
+            Some(line) => live_line(alloc, &mut world, line, lines.number, limits, writer)?,
         }
     }
 }
@@ -102,9 +108,10 @@ fn act<M: Faulty, W: Write>(
         }
         Some(Line::Do(deed)) => {
             let file = file_of(alloc, deed)?;
+            let torn = tear_of(alloc, deed)?;
             let mut world = World::new(alloc, device);
-            play_deed(&mut world, deed, &file, *limits, writer)?;
-            let after = follow(world, lines, limits, writer)?;
+            play_deed(&mut world, deed, &file, &torn, *limits, writer)?;
+            let after = follow(alloc, world, lines, limits, writer)?;
             Ok(after)
         }
     }

@@ -17,6 +17,7 @@ pub(crate) enum Keyword {
     Go,
     Time,
     Reset,
+    Cut,
     Show,
 }
 
@@ -29,6 +30,8 @@ pub(crate) enum FateKeyword {
     Twice,
     TwiceLostBack,
     Slip,
+    Cut,
+    Fail,
 }
 
 #[tactic(auto, unfolding(crate::specs::Keywords::keyword_of))]
@@ -57,6 +60,8 @@ pub(crate) fn read_keyword(word: &[u8]) -> Option<Keyword>
         Some(Keyword::Time)
     } else if word == b"reset".as_slice() {
         Some(Keyword::Reset)
+    } else if word == b"cut".as_slice() {
+        Some(Keyword::Cut)
     } else if word == b"show".as_slice() {
         Some(Keyword::Show)
     } else {
@@ -80,6 +85,10 @@ pub(crate) fn read_fate(word: &[u8]) -> Option<FateKeyword>
         Some(FateKeyword::TwiceLostBack)
     } else if word == b"slip".as_slice() {
         Some(FateKeyword::Slip)
+    } else if word == b"cut".as_slice() {
+        Some(FateKeyword::Cut)
+    } else if word == b"fail".as_slice() {
+        Some(FateKeyword::Fail)
     } else {
         None
     }

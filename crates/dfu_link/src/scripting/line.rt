@@ -33,6 +33,13 @@ pub(crate) enum Setting<'l> {
     Image(HexText<'l>),
 }
 
+/// What harms a write in an action of the host: the power is cut in it, or the write fails.
+#[derive(Clone, Copy)]
+pub(crate) enum Harm {
+    Cut,
+    Fail,
+}
+
 /// The events of a line.
 #[derive(Clone, Copy)]
 pub(crate) enum Deed<'l> {
@@ -43,11 +50,23 @@ pub(crate) enum Deed<'l> {
     /// The session is given up.
     Abort,
     /// The host takes its next action, so often with this fate.
-    Go { fate: Fate<'l>, times: u32 },
+    Go {
+        fate: Fate<'l>,
+        times: u32,
+    },
+    /// The host takes its next action: after so many writes that work one is harmed, and leaves the
+    /// front of this tear.
+    GoHarmed {
+        harm: Harm,
+        writes: u32,
+        tear: HexText<'l>,
+    },
     /// So many milliseconds pass.
     Time(u32),
     /// The bus is reset.
     Reset,
+    /// The power is cut.
+    Cut,
 }
 
 /// What a line says.

@@ -3,15 +3,15 @@
 ghost use Rattle.std.specs.Prelude.{◌≡◌, None};
 ghost use Rattle.dfu_link.specs.Words.{Reads, words_of, ends};
 ghost use Rattle.dfu_link.specs.Comes.{fate_of, harm_in};
-ghost use Rattle.dfu_link.specs.Said.{said_of, Go, Does, functional_of};
-ghost use Rattle.dfu_link.specs.Lines.{small_at, ids_of, device_of, capacity_of, image_of, limits_of, offer_of, time_of, pass_of, slip_of, by_fate, go_of};
+ghost use Rattle.dfu_link.specs.Said.{said_of, Go, Does, functional_of, harm_fate};
+ghost use Rattle.dfu_link.specs.Lines.{small_at, ids_of, device_of, capacity_of, image_of, limits_of, offer_of, time_of, pass_of, slip_of, harmed_of, by_fate, go_of};
 
 use crate::fate::Fate;
 use crate::scripting::fields::{
     attributes_at, ended, hex_at, number_at, quad_at, short_at, small_at,
 };
 use crate::scripting::keywords::{FateKeyword, read_fate};
-use crate::scripting::line::{Deed, Line, Room, Setting};
+use crate::scripting::line::{Deed, Harm, Line, Room, Setting};
 use crate::scripting::words::word_at;
 use dfu_suffix::Ids;
 use dfu_wire::Functional;
@@ -148,6 +148,17 @@ fn slip(line: &[u8]) -> Option<Line<'_>>
     once(Fate::Slip(ms), rest)
 }
 
+/// `go cut W HEX` and `go fail W HEX`.
+#[tactic(auto, unfolding(crate::specs::Lines::harmed_of))]
+fn harmed(harm: Harm, line: &[u8]) -> Option<Line<'_>>
+    ensures { Reads said_of result (harmed_of (harm_fate harm) (words_of line.now)) }
+{
+    let (writes, rest) = number_at(line)?;
+    let (tear, rest) = hex_at(rest)?;
+    let deed = Deed::GoHarmed { harm, writes, tear };
+    ended(Line::Do(deed), rest)
+}
+
 /// The fate of an action, by its word.
 fn by_fate(keyword: FateKeyword, rest: &[u8]) -> Option<Line<'_>>
     ensures { Reads said_of result (by_fate keyword (words_of rest.now)) }
@@ -159,6 +170,8 @@ fn by_fate(keyword: FateKeyword, rest: &[u8]) -> Option<Line<'_>>
         FateKeyword::Twice => once(Fate::Twice, rest),
         FateKeyword::TwiceLostBack => once(Fate::TwiceLostBack, rest),
         FateKeyword::Slip => slip(rest),
+        FateKeyword::Cut => harmed(Harm::Cut, rest),
+        FateKeyword::Fail => harmed(Harm::Fail, rest),
     }
 }
 

@@ -1,16 +1,17 @@
 //! The events of an event line, played.
 
 ghost use Rattle.std.specs.Prelude.{◌≡◌, OnOk, OnErr, IfOk, IfErr, replicate};
-ghost use Rattle.dfu_link.specs.Comes.{happening, IsLive};
-ghost use Rattle.dfu_link.specs.Said.{Deed, deed_of};
+ghost use Rattle.dfu_link.specs.Comes.{harmed, fate_of, harm_in, happening, IsLive};
+ghost use Rattle.dfu_link.specs.Said.{Deed, harm_fate, deed_of, tear_bytes};
 ghost use Rattle.dfu_link.specs.ScriptRun.{events_of};
 ghost use Rattle.dfu_link.specs.Falls.{HasBroken};
-ghost use Rattle.dfu_link.specs.Moving.{HasPlayed, file_bytes, FindsNoRoom};
+ghost use Rattle.dfu_link.specs.Moving.{HasPlayed, file_bytes, FindsNoRoom, FindsNoTear};
 
 use crate::event::Event;
+use crate::fate::Fate;
 use crate::fault::LinkFault;
 use crate::scripting::fault::ScriptFault;
-use crate::scripting::line::Deed;
+use crate::scripting::line::{Deed, Harm};
 use crate::scripting::saying::say;
 use crate::scripting::starting::bytes_of;
 use crate::world::World;
@@ -48,15 +49,39 @@ pub(crate) fn file_of(alloc: Global, deed: Deed<'_>) -> Result<Vec<u8>, ScriptFa
     }
 }
 
+/// The tear of a write that is harmed. Other events have none.
+pub(crate) fn tear_of(alloc: Global, deed: Deed<'_>) -> Result<Vec<u8>, ScriptFault>
+    ensures ok { IfOk result (λ v. v.items ≡ tear_bytes deed.entry) }
+    ensures fault { IfErr result (λ f. FindsNoTear (deed_of deed.entry) f) }
+{
+    match deed {
+        Deed::GoHarmed { tear, .. } => bytes_of(alloc, tear),
+        _ => Ok(Vec::new(alloc)),
+    }
+}
+
+/// The fate of an action in which a write is harmed.
+fn harmed(harm: Harm, writes: u32, tear: &[u8]) -> Fate<'_>
+    ensures fate { fate_of result ≡ harm_fate harm }
+    ensures harm { harm_in result ≡ harmed writes tear.now }
+{
+    match harm {
+        Harm::Cut => Fate::Cut { writes, tear },
+        Harm::Fail => Fate::Fail { writes, tear },
+    }
+}
+
 /// Plays the events of a line, and writes what is printed of them.
 pub(crate) fn play_deed<'f, M: Faulty, W: Write>(
     world: &mut World<'f, M>,
     deed: Deed<'_>,
     file: &'f [u8],
+    torn: &[u8],
     limits: Limits,
     writer: &mut W,
 ) -> Result<(), ScriptFault>
-    requires { file.now ≡ file_bytes (deed_of deed) }
+    requires file { file.now ≡ file_bytes (deed_of deed) }
+    requires tear { torn.now ≡ tear_bytes deed }
     ensures ok { OnOk result (HasPlayed world.old.bench (events_of limits (deed_of deed.entry)) (W.contents writer.old) world.new.bench (W.contents writer.new)) }
     ensures err { OnErr result (HasBroken world.old.bench (events_of limits (deed_of deed.entry)) (W.contents writer.old) (W.contents writer.new)) }
     ensures fault { IfErr result (λ f. f ≡ ScriptFault.Write) }
@@ -66,8 +91,12 @@ pub(crate) fn play_deed<'f, M: Faulty, W: Write>(
         Deed::Upload => play(world, Event::Upload { limits }, 1, writer),
         Deed::Abort => play(world, Event::Abort, 1, writer),
         Deed::Go { fate, times } => play(world, Event::Go(fate), times, writer),
+        Deed::GoHarmed { harm, writes, .. } => {
+            play(world, Event::Go(harmed(harm, writes, torn)), 1, writer)
+        }
         Deed::Time(ms) => play(world, Event::Time(ms), 1, writer),
         Deed::Reset => play(world, Event::Reset, 1, writer),
+        Deed::Cut => play(world, Event::Cut, 1, writer),
     }
 }
 
@@ -75,16 +104,18 @@ pub(crate) fn play_deed<'f, M: Faulty, W: Write>(
 pub(crate) fn play_live<'f, M: Faulty, W: Write>(
     world: &mut World<'f, M>,
     deed: Deed<'_>,
+    torn: &[u8],
     limits: Limits,
     writer: &mut W,
 ) -> Result<(), ScriptFault>
-    requires { IsLive world.old.bench.session }
+    requires live { IsLive world.old.bench.session }
+    requires tear { torn.now ≡ tear_bytes deed }
     ensures ok { OnOk result (HasPlayed world.old.bench (events_of limits (deed_of deed.entry)) (W.contents writer.old) world.new.bench (W.contents writer.new)) }
     ensures err { OnErr result (HasBroken world.old.bench (events_of limits (deed_of deed.entry)) (W.contents writer.old) (W.contents writer.new)) }
     ensures fault { IfErr result (λ f. f ≡ ScriptFault.Write) }
 {
     match deed {
         Deed::Offer(_) => say(writer, Err(LinkFault::HostBusy), &[]),
-        _ => play_deed(world, deed, &[], limits, writer),
+        _ => play_deed(world, deed, &[], torn, limits, writer),
     }
 }

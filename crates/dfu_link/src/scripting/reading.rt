@@ -29,6 +29,7 @@ fn by_keyword(keyword: Keyword, rest: &[u8]) -> Option<Line<'_>>
         Keyword::Go => go(rest),
         Keyword::Time => time(rest),
         Keyword::Reset => ended(Line::Do(Deed::Reset), rest),
+        Keyword::Cut => ended(Line::Do(Deed::Cut), rest),
         Keyword::Show => ended(Line::Show, rest),
     }
 }

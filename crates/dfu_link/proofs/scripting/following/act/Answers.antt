@@ -9,7 +9,7 @@ use Rattle.dfu_link.specs.Falls.{HasBroken, in_events, in_show}
 use Rattle.dfu_link.specs.Moving.{HasPlayed}
 use Rattle.dfu_link.specs.declared.scripting.line.Line.{Line}
 use Rattle.dfu_link.proofs.MoveLaws.{step_blank, step_limits, step_plays, step_shows, move_one, follows_after, rest_starts}
-use Rattle.dfu_link.proofs.FallLaws.{bad_line_falls, late_config_falls, offer_falls, write_falls, falls_after}
+use Rattle.dfu_link.proofs.FallLaws.{bad_line_falls, late_config_falls, offer_falls, first_tear_falls, write_falls, falls_after}
 use Rattle.dfu_link.proofs.scripting.following.act.Goals as goal
 
 pub returns-in-None-clause-fault : goal.returns-in-None-clause-fault
@@ -34,6 +34,13 @@ returns-in_err-file-in-Some-Do-clause-fault g c =
     let old = g.W.Write.contents c.args.writer.now in
     let says = c.in-Some-Do.ensures ∙ ap (λ (s : Line). Some (said_of s)) c.in-Some-Do.field-0-is in
     rw (p.1, p.2) (offer_falls (point c.args.limits.now (at_rest c.args.device)) c.args.lines.now.number c.args.line.now (lines_of c.args.lines.now.rest.now) old (deed_of c.in-Some-Do.deed) _ says refl c.in_err-file-in-Some-Do.ensures.fault)
+
+pub returns-in_err-torn-in-Some-Do-clause-fault : goal.returns-in_err-torn-in-Some-Do-clause-fault
+returns-in_err-torn-in-Some-Do-clause-fault g c =
+    let p = err_from_is_err_and c.from_residual-in_err-torn-in-Some-Do.result c.from_residual-in_err-torn-in-Some-Do.ensures.1 in
+    let old = g.W.Write.contents c.args.writer.now in
+    let says = c.in-Some-Do.ensures ∙ ap (λ (s : Line). Some (said_of s)) c.in-Some-Do.field-0-is in
+    rw (p.1, p.2) (first_tear_falls (point c.args.limits.now (at_rest c.args.device)) c.args.lines.now.number c.args.line.now (lines_of c.args.lines.now.rest.now) old (deed_of c.in-Some-Do.deed) _ says c.in_err-torn-in-Some-Do.ensures.fault)
 
 pub returns-in_err-play_deed-in-Some-Do-clause-fault : goal.returns-in_err-play_deed-in-Some-Do-clause-fault
 returns-in_err-play_deed-in-Some-Do-clause-fault g c =

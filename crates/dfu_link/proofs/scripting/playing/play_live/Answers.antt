@@ -18,7 +18,7 @@ returns-in-Offer-clause-ok g c =
     let new = g.W.Write.contents c.say.new.writer in
     let b = c.args.world.now.bench in
     on_ok_map c.say.result (Appends old new (answer_line (Err HostBusy))) (HasPlayed b (events_of c.args.limits (deed_of c.args.deed)) old b new)
-    (λ told. subst (λ (d : Deed). HasPlayed b (events_of c.args.limits (deed_of d)) old b new) (sym c.in-Offer.is) (busy_plays b (hex_bytes c.in-Offer.field-0) c.args.limits old new c.requires told))
+    (λ told. subst (λ (d : Deed). HasPlayed b (events_of c.args.limits (deed_of d)) old b new) (sym c.in-Offer.is) (busy_plays b (hex_bytes c.in-Offer.field-0) c.args.limits old new c.requires.live told))
     c.say.ensures.ok
 
 pub returns-in-Offer-clause-err : goal.returns-in-Offer-clause-err
@@ -27,5 +27,5 @@ returns-in-Offer-clause-err g c =
     let new = g.W.Write.contents c.say.new.writer in
     let b = c.args.world.now.bench in
     on_err_map c.say.result (Broke old new (answer_line (Err HostBusy))) (HasBroken b (events_of c.args.limits (deed_of c.args.deed)) old new)
-    (λ broke. subst (λ (d : Deed). HasBroken b (events_of c.args.limits (deed_of d)) old new) (sym c.in-Offer.is) (busy_broken b (hex_bytes c.in-Offer.field-0) c.args.limits old new c.requires broke))
+    (λ broke. subst (λ (d : Deed). HasBroken b (events_of c.args.limits (deed_of d)) old new) (sym c.in-Offer.is) (busy_broken b (hex_bytes c.in-Offer.field-0) c.args.limits old new c.requires.live broke))
     c.say.ensures.err
