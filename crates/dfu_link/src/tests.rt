@@ -1,6 +1,7 @@
 //! Links played by events, from the tables of the standard and of this project's profile.
 
 mod bench;
+mod cuts;
 mod fates;
 mod faults;
 mod runs;

@@ -61,6 +61,55 @@ fn scripts_go_on_after_losses(rt: HostRuntime) -> Result<(), Fail> {
     Ok(())
 }
 
+/// Power that is cut, in an action and between actions.
+#[rattlefmt::skip]
+#[test]
+fn scripts_lose_their_power(rt: HostRuntime) -> Result<(), Fail> {
+    let rows = [
+        ("offer W / go pass 10 / go cut 1 a5", "report restarts-spent\nimage ffffffff\n"),
+        ("offer W / go pass 10 / go cut 1 00", "report restarts-spent\nimage 00\n"),
+        ("offer W / go pass 10 / go cut 0 ffff", "report restarts-spent\nimage 00\n"),
+        ("offer W / go pass 10 / go cut 2 -", "report restarts-spent\nimage ffffffff\n"),
+        ("limits 100 1 / offer W / go pass 6 / go cut 0 aabb / go pass 13", INSTALLED),
+        ("offer W / go pass 13 / offer N / go pass 6 / go cut 0 a5", "report installed\nreport restarts-spent\nimage ffffffff\n"),
+        ("offer W / go pass 13 / offer N / go pass 6 / go cut 0 00", "report installed\nreport restarts-spent\nimage ffffffff\n"),
+        ("limits 100 1 / upload / go pass 4 / go cut 0 - / go pass 6", "report uploaded 00\nimage 00\n"),
+        ("limits 100 1 / offer W / go pass 7 / cut / go pass 13", INSTALLED),
+        ("offer W / go pass 10 / cut", "report restarts-spent\nimage 00\n"),
+        ("offer W / go pass 4 / abort / cut", "report aborted\nimage 00\n"),
+        ("cut / show / go cut 0 a5 / offer W / go pass 12 / cut / cut", "state appIDLE status OK image 00\nrefused NoHost\nreport restarts-spent\nimage ffffffff\n"),
+    ];
+    for (row, out) in rows {
+        let text = text_of(rt.alloc(), row)?;
+        let mut seen = Vec::new(rt.alloc());
+        assert_eq!(rt; script(rt.alloc(), text.as_slice(), &mut seen), Ok(()), "of {row}");
+        assert_eq!(rt; seen.as_slice(), out.as_bytes(), "of {row}");
+    }
+    Ok(())
+}
+
+/// Writes that fail.
+#[rattlefmt::skip]
+#[test]
+fn scripts_go_on_after_failed_writes(rt: HostRuntime) -> Result<(), Fail> {
+    let rows = [
+        ("offer W / go pass 10 / go fail 1 a5 / go pass 1", "report refused errPROG\nimage ffffffff\n"),
+        ("offer W / go pass 10 / go fail 1 00 / go pass 1", "report refused errPROG\nimage 00\n"),
+        ("offer W / go pass 6 / go fail 0 aa / go pass 1 / offer W / go pass 12", "report refused errWRITE\nreport installed\nimage ffffffff\n"),
+        ("offer W / go pass 13 / offer N / go pass 6 / go fail 0 a5 / go pass 1", "report installed\nreport refused errWRITE\nimage ffffffff\n"),
+        ("offer W / go pass 10 / go fail 1 a5 / go pass 1 / offer N / go pass 16", "report refused errPROG\nreport installed\nimage 313233343536373839\n"),
+        ("offer W / go pass 5 / go fail 0 00 / go pass 7", INSTALLED),
+        ("go fail 0 -", "refused NoHost\nimage 00\n"),
+    ];
+    for (row, out) in rows {
+        let text = text_of(rt.alloc(), row)?;
+        let mut seen = Vec::new(rt.alloc());
+        assert_eq!(rt; script(rt.alloc(), text.as_slice(), &mut seen), Ok(()), "of {row}");
+        assert_eq!(rt; seen.as_slice(), out.as_bytes(), "of {row}");
+    }
+    Ok(())
+}
+
 /// Uploads, and sessions that are given up.
 #[rattlefmt::skip]
 #[test]

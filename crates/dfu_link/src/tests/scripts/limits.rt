@@ -26,6 +26,7 @@ fn lines_of_the_language(rt: HostRuntime) -> Result<(), Fail> {
         "time 4294967295",
         "time 0000000001",
         "reset",
+        "  cut  ",
     ];
     for line in lines {
         let mut seen = Vec::new(rt.alloc());
@@ -100,7 +101,17 @@ fn lines_of_no_language(rt: HostRuntime) {
         "go pass 1000001",
         "go lostout 1",
         "go slip",
+        "go cut",
+        "go cut 1",
+        "go cut a5",
+        "go cut 1 a",
+        "go cut -1 a5",
+        "go cut 1 a5 0",
+        "go fail 1",
+        "go fail 4294967296 -",
+        "go fail 1 a5a",
         "reset 1",
+        "cut 1",
         "upload 1",
         "abort now",
     ];

@@ -91,6 +91,25 @@ fn refused_allocation_in_a_script(rt: HostRuntime) {
     }
 }
 
+/// Where a tear finds no memory, the script falls at its line, also where no session is live.
+#[test]
+fn refused_allocation_of_a_tear(rt: HostRuntime) {
+    let whole = b"state appIDLE status OK image 00\nrefused NoHost\nimage 00\n";
+    let mut fixed = Fixed {
+        bytes: [0; 128],
+        len: 0,
+    };
+    let result = script(rt.alloc(), b"show\ngo cut 0 a5\n".as_slice(), &mut fixed);
+    let out = fixed.bytes.get(..fixed.len);
+    match result {
+        Ok(()) => assert_eq!(rt; out, whole.get(..)),
+        Err(fault) => {
+            assert_eq!(rt; fault, ScriptFault::NoMemory);
+            assert!(rt; fixed.len == 0 || out == whole.get(..33));
+        }
+    }
+}
+
 /// Where a part of an upload finds no memory, the session ends, and the script goes on.
 #[test]
 fn refused_allocation_in_an_upload(rt: HostRuntime) {
