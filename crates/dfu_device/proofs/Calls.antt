@@ -1,10 +1,11 @@
 -- The calls of the slot store that write a block.
-use Rattle.std.proofs.Common.{◌≡◌, inl, inr, ◌==◌, Bool, true, false, if◌then◌else◌, ℕ, ◌+◌, ◌≤◌, ◌<◌, List, [], ◌∷◌, ◌++◌, length, take, drop, refl, sym, ◌∙◌, ap, subst, arith, length-append, Result, Ok, Err, OnOk}
+use Rattle.std.proofs.Common.{◌≡◌, inl, inr, ◌==◌, Bool, true, false, if◌then◌else◌, ℕ, ◌+◌, ◌≤◌, ◌<◌, List, [], ◌∷◌, ◌++◌, length, take, drop, refl, sym, ◌∙◌, ap, subst, arith, length-append, Result, Ok, Err, OnOk, OnErr, is_ok}
 use Rattle.std.proofs.lemmas.Grind.{common_steps}
 use Rattle.std.proofs.lemmas.List.{length-take-le, take_at}
 use Rattle.std.proofs.lemmas.Bool.{cond-false, ne_eqb}
-use Rattle.dfu_slots.specs.Medium.{written}
-use Rattle.dfu_slots.specs.Seen.{SlotsState, spare_of, room_of, is_shaped, Call, Begin, Put, DidCall, Called}
+use Rattle.dfu_slots.specs.Medium.{Rose, written}
+use Rattle.dfu_slots.specs.Seen.{SlotsState, spare_of, is_begun, room_of, is_shaped, Call, Begin, Put, DidCall, Called}
+use Rattle.dfu_device.specs.Inside.{is_put}
 use Rattle.dfu_device.specs.Rows.{block_calls}
 
 pub called_one : (s now : SlotsState) (call : Call) (ok : Bool) → DidCall s call ok now → Called s (call ∷ []) ok now
@@ -38,8 +39,18 @@ front_written l n new fits =
 pub fits_spare : (s : SlotsState) (n : ℕ) → is_shaped s ≡ true → n ≤ room_of s → n ≤ length (spare_of s)
 fits_spare s n shape fits = grind (arith, common_steps)
 
-pub spare_put : {T E : Type 0} (result : Result T E) (s here now : SlotsState) (n : ℕ) (block : List ℕ) → spare_of here ≡ spare_of s → n ≤ length (spare_of s)
+pub spare_put : {T E : Type 0} (result : Result T E) (s here now : SlotsState) (n : ℕ) (block : List ℕ) → take n (spare_of here) ≡ take n (spare_of s) → n ≤ length (spare_of here)
     → OnOk result (spare_of now ≡ written (spare_of here) n block) → OnOk result (take (n + length block) (spare_of now) ≡ take n (spare_of s) ++ block)
 spare_put (Ok x) s here now n block same fits put =
-    ap (λ (l : List ℕ). take (n + length block) l) (put ∙ ap (λ (l : List ℕ). written l n block) same) ∙ front_written (spare_of s) n block fits
+    ap (λ (l : List ℕ). take (n + length block) l) put ∙ front_written (spare_of here) n block fits ∙ ap (λ (l : List ℕ). l ++ block) same
 spare_put (Err e) s here now n block same fits put = tt
+
+-- so many bytes are put in the spare that was closed
+pub put_on : {T E : Type 0} (result : Result T E) (here now : SlotsState) (n : ℕ) → is_begun here ≡ true → OnOk result (is_begun now ≡ is_begun here) → OnOk result (now.put_end ≡ n) → OnOk result (is_put n now ≡ true)
+put_on (Ok x) here now n begun shut end = grind (arith, common_steps)
+put_on (Err e) here now n begun shut end = tt
+
+-- the count of failures rose, also from what it was before
+pub rose_since : {T E : Type 0} (result : Result T E) (before mid now : ℕ) → before ≤ mid → (is_ok result ≡ false → Rose mid now) → OnErr result (Rose before now)
+rose_since (Ok x) before mid now le rose = tt
+rose_since (Err e) before mid now le rose = omega (arith, le, rose refl)

@@ -1,24 +1,25 @@
 -- The call of the slot store that puts an image in place.
-use Rattle.std.proofs.Common.{◌≡◌, ◌⊎◌, inl, inr, Bool, true, false, IsTrue, ℕ, ◌≤◌, List, [], ◌∷◌, length, take, refl, sym, subst, arith}
+use Rattle.std.proofs.Common.{◌≡◌, ◌⊎◌, ◌&&◌, inl, inr, Bool, true, false, IsTrue, ℕ, ◌+◌, ◌≤◌, ◌<◌, ◌==◌, ◌||◌, nat_le, nat_lt, List, [], ◌∷◌, length, take, refl, sym, subst, arith}
 use Rattle.std.proofs.lemmas.Grind.{common_steps}
 use Rattle.std.proofs.lemmas.List.{length-take-le}
 use Rattle.dfu_wire.specs.declared.codes.Code.TheVariants.{Prog}
-use Rattle.dfu_slots.specs.Seen.{SlotsState, image_of, spare_of, is_begun, room_of, Commit, DidCall, Called}
+use Rattle.dfu_slots.specs.Seen.{SlotsState, image_of, spare_of, is_begun, room_of, is_shaped, Commit, DidCall, Called}
 use Rattle.dfu_device.specs.Setting.{Setting}
 use Rattle.dfu_device.specs.declared.mode.Mode.{Mode}
 use Rattle.dfu_device.specs.declared.mode.Mode.TheVariants as mode
-use Rattle.dfu_device.specs.Inside.{shows, stage_of, is_sound}
+use Rattle.dfu_device.specs.Inside.{shows, stage_of, is_put, is_sound}
 use Rattle.dfu_device.specs.Rows.{Committed, FailedCommit}
 use Rattle.dfu_device.proofs.Calls.{called_one}
 
--- what is closed stands in the closed spare, within its room
+-- what is closed was put in the closed spare, within its room
 pub record IsReady (s : SlotsState) (n : ℕ) : Type 0 where
   pub begun : is_begun s ≡ true
+  pub end : s.put_end ≡ n
   pub room : n ≤ room_of s
   pub spare : n ≤ length (spare_of s)
 
 pub closed_ready : (b n : ℕ) (s : SlotsState) → IsTrue (is_sound (mode.Closed n) b s) → IsReady s n
-closed_ready b n s sound = record { begun = grind (arith, common_steps); room = grind (arith, common_steps); spare = grind (arith, common_steps) }
+closed_ready b n s sound = record { begun = grind (arith, common_steps); end = grind (arith, common_steps); room = grind (arith, common_steps); spare = grind (arith, common_steps) }
 
 pub committing_ready : (b n passed : ℕ) (s : SlotsState) → IsTrue (is_sound (mode.Committing n passed) b s) → IsReady s n
 committing_ready b n passed s sound = closed_ready b n s sound
@@ -33,6 +34,34 @@ commit_calls s now n ok fits d =
 
 rested : (m : Mode) → (m ≡ mode.Idle) ⊎ (m ≡ mode.Complete) ⊎ (m ≡ mode.Waiting) → (xs ys : List ℕ) → stage_of m xs ys ≡ stage_of m [] []
 rested m three xs ys = elim three [ inl e ↦ rw e refl | inr other ↦ elim other [ inl e ↦ rw e refl | inr e ↦ rw e refl ] ]
+
+shaped_sound : (s : SlotsState) → is_shaped s ≡ true → IsTrue (is_shaped s && true)
+shaped_sound s shape = grind (arith, common_steps)
+
+pub rested_sound : (m : Mode) (b : ℕ) (s : SlotsState) → (m ≡ mode.Idle) ⊎ (m ≡ mode.Complete) ⊎ (m ≡ mode.Waiting) → is_shaped s ≡ true → IsTrue (is_sound m b s)
+rested_sound m b s three shape =
+    let sound : IsTrue (is_shaped s && true) = shaped_sound s shape in
+    elim three [ inl e ↦ subst (λ (k : Mode). IsTrue (is_sound k b s)) (sym e) sound | inr other ↦ elim other [ inl e ↦ subst (λ (k : Mode). IsTrue (is_sound k b s)) (sym e) sound | inr e ↦ subst (λ (k : Mode). IsTrue (is_sound k b s)) (sym e) sound ] ]
+
+all_put : (n : ℕ) (s : SlotsState) → 0 < n → n ≤ room_of s → is_shaped s ≡ true → is_put n s ≡ true → IsTrue (is_shaped s && (nat_lt 0 n && (nat_le n (room_of s) && is_put n s)))
+all_put n s some room shape put = grind (arith, common_steps)
+
+pub written_sound : (m : Mode) (b n number : ℕ) (s : SlotsState) → (m ≡ mode.Written n number) ⊎ (m ≡ mode.Ready n number) → 0 < n → n ≤ room_of s → is_shaped s ≡ true → is_put n s ≡ true → IsTrue (is_sound m b s)
+written_sound m b n number s either some room shape put =
+    let sound : IsTrue (is_shaped s && (nat_lt 0 n && (nat_le n (room_of s) && is_put n s))) = all_put n s some room shape put in
+    elim either [ inl e ↦ subst (λ (k : Mode). IsTrue (is_sound k b s)) (sym e) sound | inr e ↦ subst (λ (k : Mode). IsTrue (is_sound k b s)) (sym e) sound ]
+
+-- a block that is not written has bytes, and finds room behind those written
+pub record FindsRoom (s : SlotsState) (n b : ℕ) : Type 0 where
+  pub some : 0 < b
+  pub room : n + b ≤ room_of s
+
+room_found : (n b : ℕ) (s : SlotsState) → IsTrue (is_shaped s && (nat_lt 0 b && (nat_le (n + b) (room_of s) && ((n == 0) || is_put n s)))) → FindsRoom s n b
+room_found n b s sound = record { some = grind (arith, common_steps); room = grind (arith, common_steps) }
+
+pub block_room : (m : Mode) (b n number : ℕ) (s : SlotsState) → ((passed : ℕ) × (m ≡ mode.Writing n number passed)) ⊎ (m ≡ mode.Unwritten n number) → IsTrue (is_sound m b s) → FindsRoom s n b
+block_room m b n number s (inl (passed, e)) sound = room_found n b s (subst (λ (k : Mode). IsTrue (is_sound k b s)) e sound)
+block_room m b n number s (inr e) sound = room_found n b s (subst (λ (k : Mode). IsTrue (is_sound k b s)) e sound)
 
 pub committed : (config : Setting) (s now : SlotsState) (next : Mode) (block : List ℕ) (n : ℕ) → IsReady s n → DidCall s (Commit n) true now → image_of now ≡ take n (spare_of s) → room_of now ≡ room_of s
     → (next ≡ mode.Idle) ⊎ (next ≡ mode.Complete) ⊎ (next ≡ mode.Waiting) → Committed (take n (spare_of s)) config s (stage_of next [] []) (shows config now next block)

@@ -20,7 +20,7 @@ use Rattle.dfu_device.specs.Kept.{KeepsImage, RowKeeps, ErrorKeeps}
 -- The image.
 
 done_keeps : (p : Plan) (len : ℕ) (w : Shown) (a : Answer) (out : List ℕ) (w' : Shown) → CallsFor (written_in w.stage) (taken_of (situation w)) p → Done p len w a out w' → KeepsImage w w'
-done_keeps (Sure reply stage) len w a out w' only (says, is) = inl (ap (λ (z : Shown). z.slots) is)
+done_keeps (Sure reply stage) len w a out w' only (says, is) = inl (inl (ap (λ (z : Shown). z.slots) is))
 done_keeps (Writes before block reply stage bad) len w a out w' only (inl (says, h)) = inr (inl (record {
   before = before;
   block = block;
@@ -60,8 +60,8 @@ setup_calls w p q body = either_way (CallsFor (written_in w.stage) (taken_of (si
 pub image_kept : RowKeeps
 image_kept w (Transfer setup body) a out w' (handled_as p q reads asks done) = done_keeps (setup_plan w p q body) (asked_length q) w a out w' (setup_calls w p q body) done
 image_kept w (Passing ms) a out w' (is, none, row) = done_keeps (time_plan (profile w) w.stage ms) 0 w answer.Ack [] w' (time_leads (profile w) (image_of w.slots) w.stage ms).0 row
-image_kept w BusReset a out w' (is, none, same) = inl (ap (λ (z : Shown). z.slots) same)
-image_kept w PowerOn a out w' (is, none, same) = inl (ap (λ (z : Shown). z.slots) same)
+image_kept w BusReset a out w' (is, none, same) = inl (inl (ap (λ (z : Shown). z.slots) same))
+image_kept w PowerOn a out w' (is, none, same) = inl (inr (ap (λ (z : Shown). z.slots) same))
 
 -- Plans that call nothing.
 
@@ -83,9 +83,9 @@ error_sure c i code r = tt
 
 pub error_keeps : ErrorKeeps
 error_keeps code w (Transfer setup body) a out w' at (handled_as p q reads asks done) =
-    sure_keeps (setup_plan w p q body) (asked_length q) w a out w'
-    (either_way IsSure (is_served p q body) _ _ (subst (λ (st : Stage). IsSure (plan (profile w) (image_of w.slots) st (meant q body))) (sym at) (error_sure (profile w) (image_of w.slots) code (meant q body))) tt) done
+    inl (sure_keeps (setup_plan w p q body) (asked_length q) w a out w'
+    (either_way IsSure (is_served p q body) _ _ (subst (λ (st : Stage). IsSure (plan (profile w) (image_of w.slots) st (meant q body))) (sym at) (error_sure (profile w) (image_of w.slots) code (meant q body))) tt) done)
 error_keeps code w (Passing ms) a out w' at (is, none, row) =
-    sure_keeps (time_plan (profile w) w.stage ms) 0 w answer.Ack [] w' (subst (λ (st : Stage). IsSure (time_plan (profile w) st ms)) (sym at) tt) row
-error_keeps code w BusReset a out w' at (is, none, same) = ap (λ (z : Shown). z.slots) same
-error_keeps code w PowerOn a out w' at (is, none, same) = ap (λ (z : Shown). z.slots) same
+    inl (sure_keeps (time_plan (profile w) w.stage ms) 0 w answer.Ack [] w' (subst (λ (st : Stage). IsSure (time_plan (profile w) st ms)) (sym at) tt) row)
+error_keeps code w BusReset a out w' at (is, none, same) = inl (ap (λ (z : Shown). z.slots) same)
+error_keeps code w PowerOn a out w' at (is, none, same) = inr (ap (λ (z : Shown). z.slots) same)

@@ -12,18 +12,20 @@ either_ok : {A B C : Type 0} (ok : Bool) → (ok ≡ true → A) → (ok ≡ fal
 either_ok true a b f g = f (a refl)
 either_ok false a b f g = g (b refl)
 
+-- a time that is reached is tested so
+reached : (a b : ℕ) → a ≤ b → nat_le a b ≡ true
+reached a b le = grind (arith, le, common_steps)
+
 pub commit_late : (config : Setting) (s : SlotsState) (t : List ℕ) (passed ms : ℕ) (w' : Shown) (next : Stage) (ok : Bool)
     → (ms ≡ 0 → ⊥) → config.manifest_ms ≤ passed + ms → next ≡ (if config.functional.tolerant then Complete else Waiting)
     → (ok ≡ true → Committed t config s next w') → (ok ≡ false → FailedCommit t config s w')
     → Elapses ms (record { config = config; slots = s; stage = Committing t passed }) w'
 commit_late config s t passed ms w' next ok some late is good bad =
-    let e : nat_le config.manifest_ms (passed + ms) ≡ true = grind (arith, late, common_steps) in
-    rw (ne_eqb ms 0 some, e, ← is) (either_ok ok good bad (λ g. inl ((refl, refl), g)) (λ b. inr ((refl, refl), b)))
+    rw (ne_eqb ms 0 some, reached config.manifest_ms (passed + ms) late, ← is) (either_ok ok good bad (λ g. inl ((refl, refl), g)) (λ b. inr ((refl, refl), b)))
 
 pub write_late : (config : Setting) (s : SlotsState) (t block : List ℕ) (number passed ms : ℕ) (w' : Shown) (ok : Bool)
     → (ms ≡ 0 → ⊥) → config.busy_ms ≤ passed + ms
     → (ok ≡ true → WroteBlock t block config s (Written (t ++ block) number) w') → (ok ≡ false → FailedBlock t block config s w')
     → Elapses ms (record { config = config; slots = s; stage = Writing t block number passed }) w'
 write_late config s t block number passed ms w' ok some late good bad =
-    let e : nat_le config.busy_ms (passed + ms) ≡ true = grind (arith, late, common_steps) in
-    rw (ne_eqb ms 0 some, e) (either_ok ok good bad (λ g. inl ((refl, refl), g)) (λ b. inr ((refl, refl), b)))
+    rw (ne_eqb ms 0 some, reached config.busy_ms (passed + ms) late) (either_ok ok good bad (λ g. inl ((refl, refl), g)) (λ b. inr ((refl, refl), b)))

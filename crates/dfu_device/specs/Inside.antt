@@ -27,15 +27,19 @@ stage_of (mode.Broken code) spare block = Broken code
 abbrev pub shows : Setting → SlotsState → Mode → List ℕ → Shown
 shows config slots m block = record { config = config; slots = slots; stage = stage_of m (spare_of slots) block }
 
--- a block that is not written has bytes and finds room behind those written, and the spare is closed once some are written;
--- where all is written, there is some of it, within the room of the closed spare
+-- so many bytes were put in the closed spare, and no more
+abbrev pub is_put : ℕ → SlotsState → Bool
+is_put written s = is_begun s && (s.put_end == written)
+
+-- a block that is not written has bytes and finds room behind those written, and these were put in the spare, if there are any;
+-- where all is written, there is some of it, within the room, and it was put in the spare
 abbrev pub is_filled : Mode → ℕ → SlotsState → Bool
-is_filled (mode.Unwritten written number) block s = nat_lt 0 block && (nat_le (written + block) (room_of s) && ((written == 0) || is_begun s))
-is_filled (mode.Writing written number passed) block s = nat_lt 0 block && (nat_le (written + block) (room_of s) && ((written == 0) || is_begun s))
-is_filled (mode.Written written number) block s = nat_lt 0 written && (nat_le written (room_of s) && is_begun s)
-is_filled (mode.Ready written number) block s = nat_lt 0 written && (nat_le written (room_of s) && is_begun s)
-is_filled (mode.Closed written) block s = nat_lt 0 written && (nat_le written (room_of s) && is_begun s)
-is_filled (mode.Committing written passed) block s = nat_lt 0 written && (nat_le written (room_of s) && is_begun s)
+is_filled (mode.Unwritten written number) block s = nat_lt 0 block && (nat_le (written + block) (room_of s) && ((written == 0) || is_put written s))
+is_filled (mode.Writing written number passed) block s = nat_lt 0 block && (nat_le (written + block) (room_of s) && ((written == 0) || is_put written s))
+is_filled (mode.Written written number) block s = nat_lt 0 written && (nat_le written (room_of s) && is_put written s)
+is_filled (mode.Ready written number) block s = nat_lt 0 written && (nat_le written (room_of s) && is_put written s)
+is_filled (mode.Closed written) block s = nat_lt 0 written && (nat_le written (room_of s) && is_put written s)
+is_filled (mode.Committing written passed) block s = nat_lt 0 written && (nat_le written (room_of s) && is_put written s)
 is_filled m block s = true
 
 -- what is true of the fields of every machine

@@ -2,7 +2,7 @@
 use Rattle.std.specs.Prelude.{◌≡◌, ◌⊎◌, ℕ, Bool, true, false, List, [], ◌∷◌, ◌++◌, length}
 use Rattle.dfu_wire.specs.declared.codes.Code.{Code}
 use Rattle.dfu_wire.specs.declared.codes.Code.TheVariants.{Write as ErrWrite, Prog as ErrProg}
-use Rattle.dfu_slots.specs.Seen.{image_of, Commit, Called}
+use Rattle.dfu_slots.specs.Seen.{store_on, image_of, Commit, Called}
 use Rattle.dfu_device.specs.declared.answer.Answer.{Answer}
 use Rattle.dfu_device.specs.Stage.{Broken}
 use Rattle.dfu_device.specs.Shown.{Shown, situation, written_in}
@@ -27,9 +27,13 @@ pub record PutInPlace (w w' : Shown) : Type 0 where
   pub image : ok ≡ true → image_of w'.slots ≡ taken_of (situation w)
   pub failed : ok ≡ false → (w'.stage ≡ Broken ErrProg) × ((image_of w'.slots ≡ image_of w.slots) ⊎ (image_of w'.slots ≡ taken_of (situation w)))
 
+-- the slot store stays as it is, or it was opened again on its medium
+abbrev pub StaysStored : Shown → Shown → Type 0
+StaysStored w w' = (w'.slots ≡ w.slots) ⊎ (w'.slots ≡ store_on w.slots.medium)
+
 -- nothing of the slot store was called, so that the image stays; or the last block taken was written; or the bytes taken were committed
 abbrev pub KeepsImage : Shown → Shown → Type 0
-KeepsImage w w' = (w'.slots ≡ w.slots) ⊎ WroteOn w w' ⊎ PutInPlace w w'
+KeepsImage w w' = StaysStored w w' ⊎ WroteOn w w' ⊎ PutInPlace w w'
 
 -- each row calls the slot store for the bytes taken or not at all, and changes the image only by a commit of them
 abbrev pub RowKeeps : Type 0
@@ -37,4 +41,4 @@ RowKeeps = (w : Shown) (cause : Cause) (a : Answer) (out : List ℕ) (w' : Shown
 
 -- in dfuERROR no row calls anything of the slot store, so that the image stays
 abbrev pub ErrorKeeps : Type 0
-ErrorKeeps = (code : Code) (w : Shown) (cause : Cause) (a : Answer) (out : List ℕ) (w' : Shown) → w.stage ≡ Broken code → Row w cause a out w' → w'.slots ≡ w.slots
+ErrorKeeps = (code : Code) (w : Shown) (cause : Cause) (a : Answer) (out : List ℕ) (w' : Shown) → w.stage ≡ Broken code → Row w cause a out w' → StaysStored w w'

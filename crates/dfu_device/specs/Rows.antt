@@ -9,7 +9,7 @@ use Rattle.dfu_wire.specs.Request.{Asks}
 use Rattle.dfu_wire.specs.Status.{IsStatus}
 use Rattle.dfu_wire.specs.State.{state_byte}
 use Rattle.dfu_slots.specs.Medium.{Rose}
-use Rattle.dfu_slots.specs.Seen.{SlotsState, image_of, room_of, Call, Begin, Put, Commit, Called}
+use Rattle.dfu_slots.specs.Seen.{SlotsState, store_on, image_of, room_of, Call, Begin, Put, Commit, Called}
 use Rattle.dfu_device.specs.declared.answer.Answer.{Answer}
 use Rattle.dfu_device.specs.declared.answer.Answer.TheVariants as answer
 use Rattle.dfu_device.specs.Stage.{Request, Detach, Dnload, Upload, GetStatus, ClrStatus, GetState, Abort, OtherRequest, Reply, Ack, StatusOf, StateOf, Data, Stall, Stage, InApp, Broken}
@@ -130,9 +130,10 @@ pub data Cause : Type 0 where
   BusReset : Cause
   PowerOn : Cause
 
--- a row of the device table: from a device by a cause to an answer and a device. Only a setup is answered, which is written as Ack elsewhere
+-- a row of the device table: from a device by a cause to an answer and a device. Only a setup is answered, which is written as Ack elsewhere;
+-- power that goes leaves the medium alone
 abbrev pub Row : Shown → Cause → Answer → List ℕ → Shown → Type 0
 Row w (Transfer setup body) a out w' = Handles setup body w a out w'
 Row w (Passing ms) a out w' = (a ≡ answer.Ack) × (out ≡ []) × Elapses ms w w'
 Row w BusReset a out w' = (a ≡ answer.Ack) × (out ≡ []) × (w' ≡ record w { stage = reset_stage w.stage })
-Row w PowerOn a out w' = (a ≡ answer.Ack) × (out ≡ []) × (w' ≡ record w { stage = InApp })
+Row w PowerOn a out w' = (a ≡ answer.Ack) × (out ≡ []) × (w' ≡ record { config = w.config; slots = store_on w.slots.medium; stage = InApp })

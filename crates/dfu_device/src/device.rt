@@ -52,7 +52,8 @@ impl<M: Medium> Device<M> {
     /// The first fault of the medium, with the medium as it was. One comes exactly where the medium
     /// has no active image; they are looked for in this order:
     ///
-    /// 1. `WrongSize`: its length is not 2 * (32 + C) with C from 1 to 16,777,216.
+    /// 1. `WrongSize`: its length is not 2 * (2 * G + C) with C from 1 to 16,777,216 and a multiple of
+    ///    the unit's size; G is 16, or the unit's size where that is more.
     /// 2. `NoImage`: neither slot's gate is open.
     /// 3. `TwoImages`: both are, and neither generation is the other's plus 1 modulo 256.
     /// 4. `BadHeader`: the active slot's header is not well formed.

@@ -2,11 +2,11 @@
 
 ghost use Rattle.std.specs.Prelude.{◌≡◌, ◌<◌, ◌≤◌, ◌+◌, ◌++◌, ◌^◌, ◌⊎◌, ℕ, length, take, List, [], true, false, if◌then◌else◌, OnOk, OnErr, is_ok};
 ghost use Rattle.dfu_slots.specs.Medium.{Rose};
-ghost use Rattle.dfu_slots.specs.Seen.{image_of, spare_of, is_begun, room_of, is_shaped, Called};
+ghost use Rattle.dfu_slots.specs.Seen.{image_of, spare_of, room_of, is_shaped, Called};
 ghost use Rattle.dfu_device.specs.Stage.{StateOf, Written, Ready, Broken, state_of, poll_of, status_of};
 ghost use Rattle.dfu_device.specs.Table.{block_plan};
 ghost use Rattle.dfu_device.specs.Shown.{profile};
-ghost use Rattle.dfu_device.specs.Inside.{stage_of};
+ghost use Rattle.dfu_device.specs.Inside.{is_put, stage_of};
 ghost use Rattle.dfu_device.specs.Rows.{Answers, Done, WroteBlock, FailedBlock, Committed, FailedCommit, block_calls};
 ghost use Rattle.dfu_device.specs.View.{shown};
 
@@ -66,7 +66,7 @@ impl<M: Medium> Machine<M> {
 
     /// Takes a block of a download behind the bytes written, if its length and its number are right.
     pub fn take_block(&mut self, written: u32, expected: u16, number: u16, body: &[u8]) -> Answer
-        requires fits { (written ≡ 0) ⊎ ((0 < written) × (written ≤ room_of self.old.slots) × (is_begun self.old.slots ≡ true)) }
+        requires fits { (written ≡ 0) ⊎ ((0 < written) × (written ≤ room_of self.old.slots) × (is_put written self.old.slots ≡ true)) }
         requires some { 0 < length body.now }
         ensures row { Done (block_plan (profile (shown self.old)) (take written (spare_of self.old.slots)) expected number body.now) 0 (shown self.old) result [] (shown self.new) }
     {
@@ -138,7 +138,7 @@ impl<M: Medium> Machine<M> {
 
 /// Writes a block behind the bytes written, the first one after a `begin`.
 fn put_block<M: Medium>(slots: &mut Slots<M>, written: u32, block: &[u8]) -> Result<(), PutFault>
-    requires begun { (written ≡ 0) ⊎ (is_begun slots.old ≡ true) }
+    requires put { (written ≡ 0) ⊎ (is_put written slots.old ≡ true) }
     requires shape { is_shaped slots.old ≡ true }
     requires room { written + length block.now ≤ room_of slots.old }
     requires some { 0 < length block.now }
@@ -147,7 +147,7 @@ fn put_block<M: Medium>(slots: &mut Slots<M>, written: u32, block: &[u8]) -> Res
     ensures room { room_of slots.new ≡ room_of slots.old }
     ensures image { image_of slots.new ≡ image_of slots.old }
     ensures calls { Called slots.old (block_calls (take written (spare_of slots.old)) block.now) (is_ok result) slots.new }
-    ensures begun { OnOk result (is_begun slots.new ≡ true) }
+    ensures put { OnOk result (is_put (written + length block.now) slots.new ≡ true) }
     ensures spare { OnOk result (take (written + length block.now) (spare_of slots.new) ≡ take written (spare_of slots.old) ++ block.now) }
     ensures err { OnErr result (Rose slots.old.medium.failures slots.new.medium.failures) }
 {

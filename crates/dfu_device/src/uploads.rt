@@ -1,6 +1,6 @@
 //! How a device sends its active image to the host, a piece for each UPLOAD (USB DFU 1.1, section 6.2).
 
-ghost use Rattle.std.specs.Prelude.{◌≡◌, ◌≤◌, ◌<◌, ◌+◌, ◌^◌, ℕ, List, [], length, take, drop};
+ghost use Rattle.std.specs.Prelude.{◌≡◌, ◌≤◌, ◌<◌, ◌+◌, ◌^◌, ℕ, List, [], length, take, drop, slice_range};
 ghost use Rattle.dfu_slots.specs.Seen.{image_of};
 ghost use Rattle.dfu_device.specs.Stage.{Sending};
 ghost use Rattle.dfu_device.specs.Table.{upload_plan};
@@ -12,7 +12,7 @@ use crate::Answer;
 use crate::machine::Machine;
 use crate::mode::Mode;
 use arrayvec::ArrayVec;
-use dfu_slots::Medium;
+use dfu_slots::{Medium, Slots};
 use dfu_wire::{Code, Request};
 
 impl<M: Medium> Machine<M> {
@@ -83,11 +83,21 @@ impl<M: Medium> Machine<M> {
         let rest = self.slots.active_len().saturating_sub(place);
         let count = rest.min(len as u32) as u16;
         if count > 0 {
-            let mut buffer = [0; 4096];
-            let piece = &mut buffer[..count as usize];
-            self.slots.read_active(place, piece);
-            let _ = out.try_extend_from_slice(piece);
+            copy_image(&self.slots, place, count, out);
         }
         count
     }
+}
+
+/// Copies so many bytes of the active image, from `place` on.
+fn copy_image<M: Medium>(slots: &Slots<M>, place: u32, count: u16, out: &mut ArrayVec<u8, 4096>)
+    requires within { place + count ≤ length (image_of slots.now) }
+    requires most { count ≤ 4096 }
+    requires out { out.old.items ≡ [] }
+    ensures { out.new.items ≡ slice_range (image_of slots.now) place (place + count) }
+{
+    let mut buffer = [0; 4096];
+    let piece = &mut buffer[..count as usize];
+    slots.read_active(place, piece);
+    let _ = out.try_extend_from_slice(piece);
 }

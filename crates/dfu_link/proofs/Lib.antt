@@ -3,6 +3,7 @@ pub mod Tells
 pub mod Kept
 pub mod Fates
 pub mod Next
+pub mod Blank
 pub mod Blocks
 pub mod Go
 pub mod Fetch
@@ -13,6 +14,7 @@ pub mod Whole
 pub mod Passes
 pub mod Turns
 pub mod Clean
+pub mod Reserved
 pub mod Saying
 pub mod Replies
 pub mod Projected

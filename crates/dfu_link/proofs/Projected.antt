@@ -3,7 +3,7 @@ use Rattle.std.proofs.Common.{◌≡◌, ℕ, Bool, true, List, refl, sym, ap, �
 use Rattle.dfu_wire.specs.declared.requests.Request.{Request as Asked}
 use Rattle.dfu_slots.specs.Medium.{Fuse}
 use Rattle.dfu_slots.specs.Medium.Fuse.{Whole}
-use Rattle.dfu_slots.specs.Seen.{image_of, image_fused, room_fused}
+use Rattle.dfu_slots.specs.Seen.{image_of, image_fused, image_restarted, room_fused, room_restarted}
 use Rattle.dfu_device.specs.declared.answer.Answer.{Answer}
 use Rattle.dfu_device.specs.Stage.{Profile, InApp, Reply}
 use Rattle.dfu_device.specs.Table.{plan}
@@ -121,10 +121,10 @@ armed_goes d fate fuse w w' heard x =
     (subst (λ (c : Profile). Went fuse c (situation (armed w fuse)) d fate w' heard) (armed_profile w fuse) x)
 
 powered_situation : (w : Shown) → situation (powered_up w) ≡ powered (situation w)
-powered_situation w = λ k. record { image = image_fused w.slots Whole k; stage = InApp }
+powered_situation w = λ k. record { image = image_restarted w.slots Whole k; stage = InApp }
 
 powered_profile : (w : Shown) → profile (powered_up w) ≡ profile w
-powered_profile w = λ k. record (profile w) { capacity = room_fused w.slots Whole k }
+powered_profile w = λ k. record (profile w) { capacity = room_restarted w.slots Whole k }
 
 after_situation : (fate : Fate) (w : Shown) → situation (after_fate fate w) ≡ ending fate w
 after_situation CutIn w = powered_situation w

@@ -3,7 +3,7 @@ use Rattle.std.specs.Prelude.{◌≡◌, ℕ, true, false, List}
 use Rattle.dfu_wire.specs.declared.requests.Request.{Request as Asked}
 use Rattle.dfu_slots.specs.Medium.{Fuse}
 use Rattle.dfu_slots.specs.Medium.Fuse.{Whole, Armed}
-use Rattle.dfu_slots.specs.Seen.{fused}
+use Rattle.dfu_slots.specs.Seen.{fused, restarted}
 use Rattle.dfu_slots.specs.Image.{Active}
 use Rattle.dfu_device.specs.declared.answer.Answer.{Answer}
 use Rattle.dfu_device.specs.declared.answer.Answer.TheVariants as answer
@@ -31,9 +31,9 @@ fuse_of fate harm = Whole
 abbrev pub armed : Shown → Fuse → Shown
 armed w fuse = record w { slots = fused w.slots fuse }
 
--- A device after its power went and came back: its medium is not armed.
+-- A device after its power went and came back: its medium is not armed, and what was put there is forgotten.
 abbrev pub powered_up : Shown → Shown
-powered_up w = record { config = w.config; slots = fused w.slots Whole; stage = InApp }
+powered_up w = record { config = w.config; slots = restarted w.slots Whole; stage = InApp }
 
 -- A device after a reset of the bus.
 abbrev pub bus_was_reset : Shown → Shown

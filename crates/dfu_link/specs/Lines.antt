@@ -1,9 +1,11 @@
 -- The grammar of a line: its fields, its forms, and what each form says.
 use Rattle.std.specs.Prelude.{ℕ, Bool, false, length, ◌==◌, List, [], ◌∷◌, Option, Some, None, nat_le, if◌then◌else◌}
+use Rattle.dfu_slots.specs.declared.unit.Unit.{Unit as WriteUnit}
+use Rattle.dfu_slots.specs.declared.unit.Unit.TheVariants.{Byte, U16, U64, U256}
 use Rattle.dfu_link.specs.Words.{◌>>=◌, guard, bytes_of, number_of, quad_of, pair_of, first, ends, words_of}
 use Rattle.dfu_link.specs.Play.{Fate, Pass, LostOut, LostBack, Twice, TwiceLostBack, Slip, CutIn, Fail}
 use Rattle.dfu_link.specs.Comes.{unharmed, harmed}
-use Rattle.dfu_link.specs.Said.{Said, Blank, Sets, LimitsTo, Does, Show, TheIds, TheDevice, TheCapacity, TheImage, Offer, Upload, Abort, Go, Time, Reset, Cut, functional_of}
+use Rattle.dfu_link.specs.Said.{Said, Blank, Sets, LimitsTo, Does, Show, TheIds, TheDevice, TheUnit, TheCapacity, TheImage, Offer, Upload, Abort, Go, Time, Reset, Cut, functional_of}
 use Rattle.dfu_link.specs.Keywords.{keyword_of, fate_keyword_of}
 use Rattle.dfu_link.specs.declared.scripting.keywords.Keyword.{Keyword}
 use Rattle.dfu_link.specs.declared.scripting.keywords.Keyword.TheVariants as key
@@ -56,6 +58,22 @@ device_of words = do
   busy ← number_at least.1
   manifest ← number_at busy.1
   ends (Sets (TheDevice (functional_of attributes.0 detach.0 transfer.0) least.0 busy.0 manifest.0)) manifest.1
+
+-- The unit of so many bytes.
+abbrev pub unit_named : ℕ → Option WriteUnit
+unit_named n =
+    if n == 1 then Some Byte
+    else if n == 16 then Some U16
+    else if n == 64 then Some U64
+    else if n == 256 then Some U256
+    else None
+
+-- After `unit`: how many bytes the medium writes at a time, 1, 16, 64 or 256.
+unfoldable pub unit_of : List (List ℕ) → Option Said
+unit_of words = do
+  n ← number_at words
+  unit ← unit_named n.0
+  ends (Sets (TheUnit unit)) n.1
 
 -- After `capacity`: a number from 1 to 1,048,576.
 unfoldable pub capacity_of : List (List ℕ) → Option Said
@@ -129,6 +147,7 @@ go_of words = do
 abbrev pub by_keyword : Keyword → List (List ℕ) → Option Said
 by_keyword key.Ids words = ids_of words
 by_keyword key.Device words = device_of words
+by_keyword key.Unit words = unit_of words
 by_keyword key.Capacity words = capacity_of words
 by_keyword key.Image words = image_of words
 by_keyword key.Limits words = limits_of words

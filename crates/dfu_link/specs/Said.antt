@@ -2,6 +2,7 @@
 use Rattle.std.specs.Prelude.{ℕ, ◌/◌, ◌%◌, ◌==◌, List, [], unwrap_or}
 use Rattle.dfu_suffix.specs.declared.ids.Ids.{Ids}
 use Rattle.dfu_wire.specs.declared.functionals.Functional.{Functional}
+use Rattle.dfu_slots.specs.declared.unit.Unit.{Unit as WriteUnit}
 use Rattle.dfu_link.specs.Words.{bytes_of}
 use Rattle.dfu_link.specs.Play.{Fate, CutIn, Fail}
 use Rattle.dfu_link.specs.Bytes.{Harm}
@@ -36,6 +37,7 @@ functional_of attributes detach transfer = record {
 pub data Setting : Type 0 where
   TheIds : Ids → Setting
   TheDevice : Functional → (least busy manifest : ℕ) → Setting
+  TheUnit : WriteUnit → Setting
   TheCapacity : ℕ → Setting
   TheImage : List ℕ → Setting
 
@@ -67,6 +69,7 @@ pub data Said : Type 0 where
 abbrev pub setting_of : settings.Setting → Setting
 setting_of (setting.Ids ids) = TheIds ids
 setting_of (setting.Device functional least busy manifest) = TheDevice functional least busy manifest
+setting_of (setting.Unit unit) = TheUnit unit
 setting_of (setting.Capacity room) = TheCapacity room.bytes
 setting_of (setting.Image text) = TheImage (hex_bytes text)
 

@@ -2,6 +2,9 @@
 use Rattle.std.specs.Prelude.{◌≡◌, ℕ, ◌+◌, ◌*◌, ◌≤◌, List, [], ◌∷◌, ◌++◌, length, Option, Some, None, Result, replicate}
 use Rattle.std.specs.Io.KnownBytes.{Appends}
 use Rattle.dfu_host.specs.declared.limits.Limits.{Limits}
+use Rattle.dfu_slots.specs.declared.unit.Unit.{Unit as WriteUnit}
+use Rattle.dfu_slots.specs.declared.unit.Unit.TheVariants.{Byte}
+use Rattle.dfu_slots.specs.Units.{gate_size, IsWhole}
 use Rattle.dfu_slots.specs.Medium.{MediumState, AllWrites}
 use Rattle.dfu_slots.specs.Medium.Fuse.{Whole}
 use Rattle.dfu_slots.specs.Seen.{image_of, format_series}
@@ -15,12 +18,13 @@ use Rattle.dfu_link.specs.Comes.{Happening, Offers, Uploads, Aborts, Goes, Passe
 use Rattle.dfu_link.specs.declared.fault.LinkFault.{LinkFault}
 use Rattle.dfu_link.specs.Texts.{answer_line, image_line, show_line}
 use Rattle.dfu_link.specs.Words.{lines_of}
-use Rattle.dfu_link.specs.Said.{Setting, TheIds, TheDevice, TheCapacity, TheImage, Deed, Offer, Upload, Abort, Go, Time, Reset, Cut, Said, Blank, Sets, LimitsTo, Does, Show, functional_of}
+use Rattle.dfu_link.specs.Said.{Setting, TheIds, TheDevice, TheUnit, TheCapacity, TheImage, Deed, Offer, Upload, Abort, Go, Time, Reset, Cut, Said, Blank, Sets, LimitsTo, Does, Show, functional_of}
 use Rattle.dfu_link.specs.Lines.{line_of}
 
--- What is set before the first event line or `show`: the device, how many bytes an image may have, the image at first, and the limits of sessions.
+-- What is set before the first event line or `show`: the device, the unit in which its medium is written, how many bytes an image may have, the image at first, and the limits of sessions.
 pub record Stand : Type 0 where
   pub device : DeviceSetting
+  pub unit : WriteUnit
   pub capacity : ℕ
   pub image : List ℕ
   pub limits : Limits
@@ -29,6 +33,7 @@ pub record Stand : Type 0 where
 abbrev pub beginning : Stand
 beginning = record {
   device = record { ids = record { device = 0x0100; product = 0x0001; vendor = 0x1209 }; functional = functional_of 7 255 8; least = 1; busy_ms = 5; manifest_ms = 10 };
+  unit = Byte;
   capacity = 64;
   image = 0 ∷ [];
   limits = record { actions = 1000000; restarts = 0 };
@@ -38,6 +43,7 @@ beginning = record {
 abbrev pub set : Stand → Setting → Stand
 set s (TheIds ids) = record s { device = record s.device { ids = ids } }
 set s (TheDevice functional least busy manifest) = record s { device = record s.device { functional = functional; least = least; busy_ms = busy; manifest_ms = manifest } }
+set s (TheUnit unit) = record s { unit = unit }
 set s (TheCapacity n) = record s { capacity = n }
 set s (TheImage bytes) = record s { image = bytes }
 
@@ -65,16 +71,17 @@ abbrev pub IsReady : List (List ℕ) → Type 0
 IsReady [] = Unit {0}
 IsReady (line ∷ lines) = HasToAct (line_of line)
 
--- A blank medium of two slots with room for images of so many bytes. It is not armed.
-abbrev pub blank : ℕ → MediumState
-blank capacity = record { bytes = replicate (2 * (32 + capacity)) 255; failures = 0; fuse = Whole }
+-- A blank medium of two slots that is written in this unit, with room for images of so many bytes. It is not armed.
+abbrev pub blank : WriteUnit → ℕ → MediumState
+blank unit capacity = record { bytes = replicate (2 * (2 * gate_size unit + capacity)) 255; failures = 0; fuse = Whole; unit = unit }
 
--- The device starts: it is allowed, the image fits, and it stands in appIDLE on a blank medium that was formatted with the image.
+-- The device starts: it is allowed, the room has whole units, the image fits, and it stands in appIDLE on a blank medium that was formatted with the image.
 pub record Starts (s : Stand) (d : Shown) : Type 0 where
   pub config : d.config ≡ record s.device { functional = of_this_version s.device.functional }
   pub allowed : IsAllowed d.config
+  pub whole : IsWhole s.unit s.capacity
   pub fits : length s.image ≤ s.capacity
-  pub formatted : AllWrites (blank s.capacity) (format_series (blank s.capacity) s.image) d.slots.medium
+  pub formatted : AllWrites (blank s.unit s.capacity) (format_series (blank s.unit s.capacity) s.image) d.slots.medium
   pub image : image_of d.slots ≡ s.image
   pub stage : d.stage ≡ InApp
 

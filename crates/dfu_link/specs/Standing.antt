@@ -1,6 +1,7 @@
 -- What a link stands on between events, as one value and as a fact.
 use Rattle.std.specs.Prelude.{◌≡◌, ℕ, ◌<◌, false, List, [], Option, Some, None, unwrap_or}
 use Rattle.dfu_slots.specs.Medium.Fuse.{Whole}
+use Rattle.dfu_slots.specs.declared.unit.Unit.TheVariants.{Byte}
 use Rattle.dfu_slots.specs.Seen.{store_on}
 use Rattle.dfu_device.specs.Stage.{InApp}
 use Rattle.dfu_device.specs.Shown.{Shown, profile, situation}
@@ -22,7 +23,7 @@ off_port = record {
     busy_ms = 0;
     manifest_ms = 0;
   };
-  slots = store_on (record { bytes = []; failures = 0; fuse = Whole });
+  slots = store_on (record { bytes = []; failures = 0; fuse = Whole; unit = Byte });
   stage = InApp;
 }
 

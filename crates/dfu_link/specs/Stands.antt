@@ -14,6 +14,7 @@ image_bytes (Some text) = hex_bytes text
 abbrev pub stand_of : Setup → Stand
 stand_of s = record {
   device = record { ids = s.ids; functional = s.functional; least = s.least; busy_ms = s.busy_ms; manifest_ms = s.manifest_ms };
+  unit = s.unit;
   capacity = s.room.bytes;
   image = image_bytes s.image;
   limits = s.limits;

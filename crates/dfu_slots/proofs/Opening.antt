@@ -6,6 +6,7 @@ use Rattle.dfu_slots.specs.Medium.{MediumState}
 use Rattle.dfu_slots.specs.Layout.{slot_size, Slot, slot, HasHeader, ArePlaces}
 use Rattle.dfu_slots.specs.Image.{gate_of, slot_of, IsSized, Counts, IsNewest, HasImage, counts, is_newest, first_is_active, active_at, spare_at}
 use Rattle.dfu_slots.specs.Changes.{FirstCounts, SecondCounts, HasNewest, HasBadHeader}
+use Rattle.dfu_slots.proofs.Whole.{two_slots}
 use Rattle.dfu_slots.proofs.Newest.{counts_from, counts_not, newest_test, newest_from, places_newest, tested_places}
 
 neither : (x y : Slot) → is_newest x y ≡ false → is_newest y x ≡ false → ¬ ((¬ Counts x) × (¬ Counts y)) → Counts x × Counts y
@@ -57,8 +58,9 @@ module _ (m : MediumState) where
         active = record {
           at = active_at g m.bytes;
           spare = spare_at g m.bytes;
+          whole = sized.whole;
           stands = record {
-            sized = sized;
+            sized = two_slots m sized;
             places = tested_places g m.bytes;
             is_active = record {
               newest = newest_from _ _ test;

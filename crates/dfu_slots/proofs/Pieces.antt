@@ -1,11 +1,14 @@
 -- The pieces of an image.
-use Rattle.std.proofs.Common.{◌≡◌, ◌⊎◌, inl, inr, ◌==◌, false, ℕ, zero, suc, ◌+◌, ◌≤◌, ◌<◌, min, List, [], ◌∷◌, ◌++◌, length, take, drop, refl, sym, ◌∙◌, ap, subst, arith, length-drop}
-use Rattle.std.proofs.lemmas.List.{length-take, take_min, drop_all, append_assoc}
-use Rattle.std.proofs.lemmas.Bool.{cases_lt, true≢false}
-use Rattle.dfu_slots.specs.Medium.{MediumState, Write, Wrote, FailedWrite, AllWrites, BrokenWrites}
-use Rattle.dfu_slots.specs.Writes.{piece_writes}
+use Rattle.std.proofs.Common.{◌≡◌, ◌⊎◌, inl, inr, ◌==◌, false, ℕ, zero, suc, ◌+◌, ◌^◌, ◌≤◌, ◌<◌, min, List, [], ◌∷◌, ◌++◌, length, take, drop, replicate, Result, refl, sym, ◌∙◌, ap, subst, arith, length-drop}
+use Rattle.std.proofs.lemmas.List.{length-take, take_min, take_all, drop_all, take-append-le, drop-append-le, append_assoc}
+use Rattle.std.proofs.lemmas.Bool.{cases_lt, true≢false, cond-false, ne_eqb}
+use Rattle.dfu_slots.specs.declared.unit.Unit.{Unit as WriteUnit}
+use Rattle.dfu_slots.specs.Units.{IsWhole, fill_size, filled}
+use Rattle.dfu_slots.specs.Medium.{MediumState, Write, Wrote, FailedWrite, AllWrites, BrokenWrites, Series}
+use Rattle.dfu_slots.specs.Writes.{write_some, piece_writes}
 use Rattle.dfu_slots.proofs.Torn.{written_torn}
-use Rattle.dfu_slots.proofs.Series.{AllInside, all_append, broken_later}
+use Rattle.dfu_slots.proofs.Series.{AllInside, all_append, broken_later, series_after}
+use Rattle.dfu_slots.proofs.Whole.{whole_zero, whole_piece, whole_add, fill_piece, length-filled, filled_fits}
 
 pub pieces_nil : (n at : ℕ) → piece_writes n at [] ≡ []
 pieces_nil zero at = refl
@@ -40,10 +43,6 @@ pieces_first s now n at size bytes is some le failed =
     let step = pieces_step n at bytes size is some le in
     subst (λ (ws : List Write). BrokenWrites s ws now) (sym step.2) (inl failed)
 
-pub pieces_none : (s : MediumState) (n at : ℕ) (bytes : List ℕ) → length bytes ≡ 0 → AllWrites s (piece_writes n at bytes) s
-pieces_none s n at [] none = subst (λ (ws : List Write). AllWrites s ws s) (sym (pieces_nil n at)) refl
-pieces_none s n at (b ∷ bs) none = absurd (omega arith)
-
 -- The pieces up to a place are written, and the rest of the bytes is not.
 pub record WrittenTo (old mid : MediumState) (n at : ℕ) (bytes : List ℕ) (place : ℕ) (rest : List ℕ) : Type 0 where
   pub front : List Write
@@ -56,11 +55,6 @@ pub record WrittenTo (old mid : MediumState) (n at : ℕ) (bytes : List ℕ) (pl
 pub some_left : (n : ℕ) → (n == 0) ≡ false → 0 < n
 some_left zero h = absurd (true≢false h)
 some_left (suc n) h = omega arith
-
--- a piece that is written keeps the length of the medium
-pub wrote_size : (mid now : MediumState) (place size : ℕ) (rest : List ℕ) → place + length rest ≤ length mid.bytes → size ≡ min 4096 (length rest) → Wrote mid place (take size rest) now → length now.bytes ≡ length mid.bytes
-wrote_size mid now place size rest room is wrote =
-    ap (λ (l : List ℕ). length l) wrote.bytes ∙ (written_torn mid.bytes place (take size rest) (omega (arith, room, is, length-take size rest))).size
 
 -- before the first piece nothing is written
 pub written_none : (s : MediumState) (n at : ℕ) (bytes : List ℕ) → length bytes ≤ n → WrittenTo s s n at bytes at bytes
@@ -86,10 +80,20 @@ module _ (old mid now : MediumState) (n at : ℕ) (bytes : List ℕ) (place : �
       subst (λ (ws : List Write). BrokenWrites old ws now) (sym w.pieces)
       (broken_later w.front (piece_writes w.left place rest) old mid now w.all (pieces_first mid now w.left place size rest is some w.enough failed))
 
--- nothing is left
-pub written_all : (old mid : MediumState) (n at : ℕ) (bytes : List ℕ) (place : ℕ) (rest : List ℕ) → length rest ≡ 0 → WrittenTo old mid n at bytes place rest → AllWrites old (piece_writes n at bytes) mid
-written_all old mid n at bytes place rest none w =
-    subst (λ (ws : List Write). AllWrites old ws mid) (sym w.pieces) (all_append w.front (piece_writes w.left place rest) old mid mid w.all (pieces_none mid w.left place rest none))
+-- what is left is no more than one piece
+pub pieces_one : (n at : ℕ) (bytes : List ℕ) → length bytes ≤ 4096 → length bytes ≤ n → piece_writes n at bytes ≡ write_some at bytes
+pieces_one n at [] short le = pieces_nil n at
+pieces_one zero at (b ∷ bs) short le = absurd (omega (arith, le))
+pieces_one (suc n) at (b ∷ bs) short le =
+    ap (λ (l : List ℕ). record { at = at; bytes = l } ∷ piece_writes n (at + 4096) (drop 4096 (b ∷ bs))) (take_all 4096 (b ∷ bs) short)
+    ∙ ap (λ (ws : List Write). record { at = at; bytes = b ∷ bs } ∷ ws) (ap (λ (l : List ℕ). piece_writes n (at + 4096) l) (drop_all 4096 (b ∷ bs) short) ∙ pieces_nil n (at + 4096))
+    ∙ sym (cond-false (length (b ∷ bs) == 0) [] (record { at = at; bytes = b ∷ bs } ∷ []) (ne_eqb (length (b ∷ bs)) 0 (λ e. omega (arith, e))))
+
+pub written_last : {T E : Type 0} (old mid now : MediumState) (n at : ℕ) (bytes : List ℕ) (place : ℕ) (rest : List ℕ) (r : Result T E) → length rest ≤ 4096 → WrittenTo old mid n at bytes place rest
+    → Series mid (write_some place rest) r now → Series old (piece_writes n at bytes) r now
+written_last old mid now n at bytes place rest r short w last =
+    subst (λ (ws : List Write). Series old ws r now) (sym w.pieces)
+    (series_after w.front (piece_writes w.left place rest) old mid now r w.all (subst (λ (ws : List Write). Series mid ws r now) (sym (pieces_one w.left place rest short w.enough)) last))
 
 -- the pieces lie where the bytes go
 pub pieces_inside : (n from to at : ℕ) (bytes : List ℕ) → from ≤ at → at + length bytes ≤ to → AllInside from to (piece_writes n at bytes)
@@ -103,3 +107,76 @@ pieces_inside (suc n) from to at (b ∷ bs) low high = (
     | inr long ↦ pieces_inside n from to (at + 4096) (drop 4096 (b ∷ bs)) (omega arith) (omega (arith, length-drop 4096 (b ∷ bs)))
   ]),
 )
+
+-- The pieces of bytes that are filled up with zeros.
+
+module _ (u : WriteUnit) (bytes : List ℕ) where
+  -- a full piece has none of the zeros
+  pub filled_front : 4096 ≤ length bytes → take 4096 (filled u bytes) ≡ take 4096 bytes
+  filled_front le = take-append-le 4096 bytes (replicate (fill_size u (length bytes)) 0) le
+
+  -- they stand behind the bytes that are left
+  pub filled_back : 4096 ≤ length bytes → drop 4096 (filled u bytes) ≡ filled u (drop 4096 bytes)
+  filled_back le =
+      drop-append-le 4096 bytes (replicate (fill_size u (length bytes)) 0) le
+      ∙ ap (λ (n : ℕ). drop 4096 bytes ++ replicate n 0) (sym (ap (λ (k : ℕ). fill_size u k) (length-drop 4096 bytes) ∙ fill_piece u (length bytes) le))
+
+  -- no more than a piece stays no more than one
+  pub filled_short : length bytes ≤ 4096 → length (filled u bytes) ≤ 4096
+  filled_short le = omega (arith, filled_fits u 0 4096 bytes (whole_zero u) (whole_piece u) (omega (arith, le)))
+
+-- Full pieces of the bytes are written up to a place, and the rest of them is not.
+pub record OnTheWay (old mid : MediumState) (at : ℕ) (bytes : List ℕ) (place : ℕ) (rest : List ℕ) : Type 0 where
+  pub unit : mid.unit ≡ old.unit
+  pub within : place + length (filled old.unit rest) ≤ length mid.bytes
+  pub room : place + length rest < 2 ^ 32
+  pub whole : IsWhole old.unit place
+  pub told : (n : ℕ) → length (filled old.unit bytes) ≤ n → WrittenTo old mid n at (filled old.unit bytes) place (filled old.unit rest)
+
+-- before the first piece
+pub way_begins : (s : MediumState) (at : ℕ) (bytes : List ℕ) → at + length (filled s.unit bytes) ≤ length s.bytes → at + length bytes < 2 ^ 32 → IsWhole s.unit at → OnTheWay s s at bytes at bytes
+way_begins s at bytes within room whole = record { unit = refl; within = within; room = room; whole = whole; told = λ n le. written_none s n at (filled s.unit bytes) le }
+
+module _ (old mid now : MediumState) (at : ℕ) (bytes : List ℕ) (place : ℕ) (rest : List ℕ) (way : OnTheWay old mid at bytes place rest) (long : 4096 < length rest) where
+  abbrev units : List ℕ
+  units = filled old.unit rest
+
+  long_units : 4096 < length units
+  long_units = omega (arith, long, length-filled old.unit rest)
+
+  piece_is : 4096 ≡ min 4096 (length units)
+  piece_is = omega (arith, long_units)
+
+  front : take 4096 rest ≡ take 4096 units
+  front = sym (filled_front old.unit rest (omega (arith, long)))
+
+  -- a full piece is whole and lies in the medium
+  pub piece_fits : place + 4096 ≤ length mid.bytes
+  piece_fits = omega (arith, way.within, long_units)
+
+  -- one piece more
+  pub way_on : Wrote mid place (take 4096 rest) now → OnTheWay old now at bytes (place + 4096) (drop 4096 rest)
+  way_on wrote =
+      let size : length now.bytes ≡ length mid.bytes = ap length wrote.bytes ∙ (written_torn mid.bytes place (take 4096 rest) (omega (arith, piece_fits, length-take 4096 rest))).size in
+      let back = filled_back old.unit rest (omega (arith, long)) in
+      record {
+        unit = wrote.unit ∙ way.unit;
+        within = omega (arith, way.within, size, ap length back, length-drop 4096 units, long_units);
+        room = omega (arith, way.room, length-drop 4096 rest, long);
+        whole = whole_add old.unit place 4096 way.whole (whole_piece old.unit);
+        told = λ n le.
+            subst (λ (l : List ℕ). WrittenTo old now n at (filled old.unit bytes) (place + 4096) l) back
+            (written_more old mid now n at (filled old.unit bytes) place units 4096 piece_is (omega (arith, long_units)) (way.told n le) (subst (λ (l : List ℕ). Wrote mid place l now) front wrote));
+      }
+
+  -- the next piece fails
+  pub way_broken : (n : ℕ) → length (filled old.unit bytes) ≤ n → FailedWrite mid place (take 4096 rest) now → BrokenWrites old (piece_writes n at (filled old.unit bytes)) now
+  way_broken n le failed =
+      written_stopped old mid now n at (filled old.unit bytes) place units 4096 piece_is (omega (arith, long_units)) (way.told n le) (subst (λ (l : List ℕ). FailedWrite mid place l now) front failed)
+
+-- the last piece
+pub way_ends : {T E : Type 0} (old mid now : MediumState) (at : ℕ) (bytes : List ℕ) (place : ℕ) (rest : List ℕ) → OnTheWay old mid at bytes place rest → length rest ≤ 4096
+    → (r : Result T E) → Series mid (write_some place (filled mid.unit rest)) r now → (n : ℕ) → length (filled old.unit bytes) ≤ n → Series old (piece_writes n at (filled old.unit bytes)) r now
+way_ends old mid now at bytes place rest way short r last n le =
+    written_last old mid now n at (filled old.unit bytes) place (filled old.unit rest) r (filled_short old.unit rest short) (way.told n le)
+    (subst (λ (u : WriteUnit). Series mid (write_some place (filled u rest)) r now) way.unit last)

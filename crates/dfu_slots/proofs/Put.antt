@@ -1,69 +1,76 @@
--- What `put` leaves.
-use Rattle.std.proofs.Common.{◌≡◌, inl, ⊎_elim, ◌==◌, ℕ, ◌+◌, ◌*◌, ◌≤◌, List, [], ◌∷◌, length, slice_index, slice_range, Result, Ok, Err, OnOk, sym, ◌∙◌, ap, arith}
-use Rattle.std.proofs.lemmas.List.{nil_from_length}
-use Rattle.std.proofs.lemmas.Bool.{eqb-true}
-use Rattle.dfu_slots.specs.Medium.{MediumState, KeepsOutside, written}
-use Rattle.dfu_slots.specs.Layout.{slot_size, capacity}
-use Rattle.dfu_slots.specs.Image.{ActiveAt, spare_at, spare}
-use Rattle.dfu_slots.specs.Writes.{put_writes}
-use Rattle.dfu_slots.specs.Seen.{SlotsState}
-use Rattle.dfu_slots.specs.Changes.{Changes}
-use Rattle.dfu_slots.specs.declared.fault.PutFault.{PutFault}
-use Rattle.dfu_slots.proofs.Parts.{gate_outside, size_kept}
-use Rattle.dfu_slots.proofs.Newest.{places_are, place_end}
-use Rattle.dfu_slots.proofs.Kept.{data_change}
-use Rattle.dfu_slots.proofs.Series.{AllInside, changes_keep, changes_unless, inside_if}
-use Rattle.dfu_slots.proofs.Within.{written_within, written_nil}
-use Rattle.dfu_slots.proofs.Begun.{same_spare}
+-- The writes of a `put`, and what they leave.
+use Rattle.std.proofs.Common.{◌≡◌, Bool, true, false, if◌then◌else◌, ◌==◌, ℕ, ◌+◌, ◌-◌, ◌≤◌, min, List, ◌++◌, length, take, drop, sym, ◌∙◌, ap, arith, length-append, length-drop, take-append-drop}
+use Rattle.std.proofs.lemmas.List.{length-take-le, take-take}
+use Rattle.dfu_slots.specs.declared.unit.Unit.{Unit as WriteUnit}
+use Rattle.dfu_slots.specs.Units.{unit_size, whole_part}
+use Rattle.dfu_slots.specs.Medium.{MediumState, AllWrites, written}
+use Rattle.dfu_slots.specs.Writes.{write_some, head_size, put_writes, put_rest}
+use Rattle.dfu_slots.proofs.Series.{AllInside, all_parts, some_written, inside_some, inside_append}
+use Rattle.dfu_slots.proofs.Within.{written_written}
 
-module _ {T : Type 0} (g : ℕ) (wide : 16 ≤ g) (s now : SlotsState) (mine other : ℕ) (image : List ℕ) (a : ActiveAt g s.medium.bytes mine other image)
-    (at : ℕ) (new : List ℕ) (fits : at + length new ≤ capacity g s.medium.bytes) (result : Result T PutFault) (changes : Changes s (put_writes g s.medium.bytes at new) result now) where
-  abbrev old : List ℕ
-  old = s.medium.bytes
+choice_le : (b : Bool) (m n k : ℕ) → m ≤ k → n ≤ k → (if b then m else n) ≤ k
+choice_le true m n k x y = x
+choice_le false m n k x y = y
 
-  pub put_place : other ≡ spare_at g old
-  put_place = (places_are g old mine other image a).1
+module _ (u : WriteUnit) (held bytes : List ℕ) where
+  abbrev all : List ℕ
+  all = held ++ bytes
 
-  end : other + slot_size old ≤ length old
-  end = (place_end g old mine other a.sized a.places).1
+  abbrev whole : ℕ
+  whole = whole_part u (length all)
 
-  inside : AllInside (other + 2 * g) (other + slot_size old) (put_writes g old at new)
-  inside = inside_if (other + 2 * g) (other + slot_size old) (length new == 0) [] (record { at = spare_at g old + 2 * g + at; bytes = new } ∷ []) tt
-      (omega (arith, put_place), omega (arith, put_place, fits, a.sized.room), tt)
+  abbrev head : ℕ
+  head = head_size u held bytes
 
-  pub put_outside : KeepsOutside (other + 2 * g) (other + slot_size old) old now.medium.bytes
-  put_outside = changes_keep (other + 2 * g) (other + slot_size old) (put_writes g old at new) s now result end inside changes
+  -- the unit that is written by itself is one of the whole units
+  pub head_le : head ≤ whole
+  head_le = choice_le (length held == 0) 0 (min (unit_size u) whole) whole (omega arith) (omega arith)
 
-  pub put_keeps : ActiveAt g now.medium.bytes mine other image
-  put_keeps = data_change g wide old now.medium.bytes mine other image (other + 2 * g) (other + slot_size old) a put_outside (omega arith) (omega arith)
+  pub whole_le : whole ≤ length all
+  whole_le = omega arith
 
-  pub put_same : spare_at g now.medium.bytes ≡ spare_at g old
-  put_same = same_spare g old now.medium.bytes mine other image a put_keeps
+  -- less than a unit is held back
+  pub rest_length : length (put_rest u held bytes) ≡ length all - whole
+  rest_length = length-drop whole all
 
-  pub put_gate : (spare g now.medium.bytes).gate ≡ (spare g old).gate
-  put_gate =
-      ap (λ (q : ℕ). slice_index now.medium.bytes q) (put_same ∙ sym put_place)
-      ∙ gate_outside g (other + 2 * g) (other + slot_size old) old now.medium.bytes other put_outside (inl (omega arith))
-      ∙ ap (λ (q : ℕ). slice_index old q) put_place
+  front_is : take head all ++ drop head (take whole all) ≡ take whole all
+  front_is = ap (λ (l : List ℕ). l ++ drop head (take whole all)) (sym (take-take head whole all head_le)) ∙ take-append-drop head (take whole all)
 
--- after a `put` that is Ok its bytes stand in the spare's data, and the rest of it is as it was
-pub put_data : {T : Type 0} (g : ℕ) → 16 ≤ g → (s now : SlotsState) (mine other : ℕ) (image : List ℕ) → ActiveAt g s.medium.bytes mine other image
-    → (at : ℕ) (new : List ℕ) → at + length new ≤ capacity g s.medium.bytes → (result : Result T PutFault) → Changes s (put_writes g s.medium.bytes at new) result now
-    → OnOk result ((spare g now.medium.bytes).data_bytes ≡ written (spare g s.medium.bytes).data_bytes at new)
-put_data g wide s now mine other image a at new fits (Err e) changes = tt
-put_data {T} g wide s now mine other image a at new fits (Ok x) all =
-    let old = s.medium.bytes in
-    let p = spare_at g old in
-    let place = put_place {T = T} g wide s now mine other image a at new fits (Ok x) all in
-    let end = (place_end g old mine other a.sized a.places).1 in
-    let same = put_same {T = T} g wide s now mine other image a at new fits (Ok x) all in
-    let size = size_kept (other + 2 * g) (other + slot_size old) old now.medium.bytes (put_outside {T = T} g wide s now mine other image a at new fits (Ok x) all) in
-    ⊎_elim
-    (λ none.
-    let nil : new ≡ [] = nil_from_length new (eqb-true _ _ none.0) in
-    ap (λ (n : SlotsState). (spare g n.medium.bytes).data_bytes) none.1 ∙ sym (ap (λ (l : List ℕ). written (spare g old).data_bytes at l) nil ∙ written_nil (spare g old).data_bytes at))
-    (λ one.
-    let bytes_are : now.medium.bytes ≡ written old (p + 2 * g + at) new = ap (λ (m : MediumState). m.bytes) one.1.2 ∙ one.1.1.bytes in
-    (λ i. slice_range (bytes_are i) (same i + 2 * g) (same i + size i))
-    ∙ written_within old (p + 2 * g) (p + slot_size old) at new (omega (arith, fits, a.sized.room)) (omega (arith, end, place)))
-    (changes_unless {T = T} s now (length new == 0) (record { at = p + 2 * g + at; bytes = new } ∷ []) (Ok x) all)
+  front_length : length (take head all) ≡ head
+  front_length = length-take-le head all (omega (arith, head_le, whole_le))
+
+  whole_length : length (take whole all) ≡ whole
+  whole_length = length-take-le whole all whole_le
+
+  back_length : length (drop head (take whole all)) ≡ whole - head
+  back_length = length-drop head (take whole all) ∙ ap (λ (n : ℕ). n - head) whole_length
+
+  -- the writes lie where the bytes go
+  pub put_inside : (from to at : ℕ) → from ≤ at → at + length all ≤ to → AllInside from to (put_writes u at held bytes)
+  put_inside from to at low high =
+      inside_append from to (write_some at (take head all)) (write_some (at + head) (drop head (take whole all)))
+      (inside_some from to at (take head all) low (omega (arith, high, front_length, head_le, whole_le)))
+      (inside_some from to (at + head) (drop head (take whole all)) (omega (arith, low)) (omega (arith, high, back_length, head_le, whole_le)))
+
+  -- together they are one write of all whole units
+  pub put_written : (s now : MediumState) (at : ℕ) → at + length all ≤ length s.bytes → AllWrites s (put_writes u at held bytes) now → now.bytes ≡ written s.bytes at (take whole all)
+  put_written s now at fits came =
+      let parts = all_parts (write_some at (take head all)) (write_some (at + head) (drop head (take whole all))) s now came in
+      let mid = parts.0 in
+      let one : mid.bytes ≡ written s.bytes at (take head all) = some_written s mid at (take head all) parts.1.first in
+      let two : now.bytes ≡ written mid.bytes (at + head) (drop head (take whole all)) = some_written mid now (at + head) (drop head (take whole all)) parts.1.second in
+      two
+      ∙ (λ i. written (one i) (at + sym front_length i) (drop head (take whole all)))
+      ∙ written_written s.bytes at (take head all) (drop head (take whole all)) (omega (arith, fits, front_length, back_length, head_le, whole_le))
+      ∙ ap (λ (l : List ℕ). written s.bytes at l) front_is
+
+  -- with what is held back behind them, all bytes stand there
+  pub put_joined : (d : List ℕ) (k : ℕ) → k + length all ≤ length d → written (written d k (take whole all)) (k + whole) (put_rest u held bytes) ≡ written d k all
+  put_joined d k fits =
+      (λ i. written (written d k (take whole all)) (k + sym whole_length i) (drop whole all))
+      ∙ written_written d k (take whole all) (drop whole all) (omega (arith, fits, whole_length, rest_length, whole_le))
+      ∙ ap (λ (l : List ℕ). written d k l) (take-append-drop whole all)
+
+  -- and that is the bytes put behind the held ones
+  pub put_behind : (d : List ℕ) (k : ℕ) → k + length all ≤ length d → written d k all ≡ written (written d k held) (k + length held) bytes
+  put_behind d k fits = sym (written_written d k held bytes (omega (arith, fits, length-append held bytes)))

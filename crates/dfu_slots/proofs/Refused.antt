@@ -6,10 +6,11 @@ use Rattle.dfu_slots.specs.Image.{gate_of, slot_of, Counts, HasImage}
 use Rattle.dfu_slots.specs.Changes.{IsOpenFault}
 use Rattle.dfu_slots.specs.declared.fault.OpenFault.{OpenFault}
 use Rattle.dfu_slots.specs.declared.fault.OpenFault.TheVariants.{WrongSize, NoImage, TwoImages, BadHeader}
+use Rattle.dfu_slots.proofs.Whole.{active_sized}
 use Rattle.dfu_slots.proofs.Newest.{places_are, places_newest}
 
 pub no_fault : (fault : OpenFault) (m : MediumState) → IsOpenFault fault m → ¬ HasImage m
-no_fault WrongSize m bad has = bad has.active.stands.sized
+no_fault WrongSize m bad has = bad (active_sized m has.image has.active)
 no_fault NoImage m bad has =
     let a = has.active.stands in
     ⊎_elim (λ p. bad.1 (subst (λ (q : ℕ). Counts (slot_of m q)) p.0 a.is_active.newest.counts)) (λ p. bad.2 (subst (λ (q : ℕ). Counts (slot_of m q)) p.0 a.is_active.newest.counts)) a.places

@@ -1,15 +1,24 @@
 -- What the layers above see of a store with an active image.
-use Rattle.std.proofs.Common.{◌≡◌, ◌==◌, not, true, false, ℕ, ◌-◌, ◌*◌, ◌/◌, List, length, take, drop, refl, sym, ◌∙◌, ap, subst, arith}
+use Rattle.std.proofs.Common.{◌≡◌, ◌==◌, not, true, false, ℕ, ◌-◌, ◌*◌, ◌/◌, ◌^◌, ◌≤◌, nat_le, List, [], length, take, drop, refl, sym, ◌∙◌, ap, subst, arith}
 use Rattle.std.proofs.lemmas.Nat.{from_le_bytes-to_le_bytes_4}
-use Rattle.std.proofs.lemmas.Bool.{ne_eqb, eqb-true, eqb-false, not_from_false, not_from_true, not-true, not-false, eq-eqb}
+use Rattle.std.proofs.lemmas.Bool.{and_from, le-leb, ne_eqb, eqb-true, eqb-false, not_from_false, not_from_true, not-true, not-false, eq-eqb}
+use Rattle.std.proofs.lemmas.List.{nil_from_length}
 use Rattle.std.specs.Int.{w32, from_le_bytes}
-use Rattle.dfu_slots.specs.Medium.{MediumState}
+use Rattle.dfu_slots.specs.declared.unit.Unit.{Unit as WriteUnit}
+use Rattle.dfu_slots.specs.Units.{gate_size, IsWhole}
+use Rattle.dfu_slots.specs.Medium.{MediumState, Fuse, written}
 use Rattle.dfu_slots.specs.Layout.{capacity, slot, OPEN, IsOpen}
-use Rattle.dfu_slots.specs.Image.{gate_of, capacity_of, ActiveAt, Active, HasImage, active_at, spare_at, spare}
-use Rattle.dfu_slots.specs.Seen.{SlotsState, header_length, spare_slot, image_of, spare_of, is_begun, room_of, is_shaped}
+use Rattle.dfu_slots.specs.Image.{gate_of, capacity_of, ActiveAt, Active, HasImage, has_image_fused, active_at, spare_at, spare}
+use Rattle.dfu_slots.specs.Seen.{SlotsState, store_of, store_on, fused, header_length, spare_slot, held_at, image_of, spare_of, is_begun, room_of, is_shaped, image_fused, spare_fused, begun_fused, room_fused}
+use Rattle.dfu_slots.specs.Store.{HasPuts, IsStore}
+use Rattle.dfu_slots.proofs.Torn.{written_torn}
 use Rattle.dfu_slots.proofs.Parts.{data_length}
 use Rattle.dfu_slots.proofs.Newest.{spare_end}
 use Rattle.dfu_slots.proofs.Unique.{active_header, active_fits, image_at}
+use Rattle.dfu_slots.proofs.Within.{written_nil}
+use Rattle.dfu_slots.proofs.Whole.{held_end, zero_part}
+
+-- The image.
 
 -- the active image is what the function gives
 pub image_is : (s : SlotsState) (image : List ℕ) → Active s.medium image → image ≡ image_of s
@@ -28,29 +37,38 @@ image_is s image active =
 pub image_active : (s : SlotsState) → HasImage s.medium → Active s.medium (image_of s)
 image_active s has = subst (λ (l : List ℕ). Active s.medium l) (image_is s has.image has.active) has.active
 
-pub image_has : (s : SlotsState) → Active s.medium (image_of s) → HasImage s.medium
-image_has s active = record { image = image_of s; active = active }
-
--- the same bytes have the same image, whatever the fuse
-pub same_has : (s now : MediumState) → now.bytes ≡ s.bytes → HasImage s → HasImage now
-same_has s now same has = record {
-  image = has.image;
-  active = record { at = has.active.at; spare = has.active.spare; stands = subst (λ (l : List ℕ). ActiveAt (gate_of s) l has.active.at has.active.spare has.image) (sym same) has.active.stands };
+-- an image that stands on a medium of the same unit and the same length is active there
+pub active_on : (m n : MediumState) (at spare : ℕ) (image : List ℕ) → n.unit ≡ m.unit → length n.bytes ≡ length m.bytes → IsWhole m.unit (capacity_of m) → ActiveAt (gate_of m) n.bytes at spare image → Active n image
+active_on m n at spare image unit size whole stands = record {
+  at = at;
+  spare = spare;
+  stands = subst (λ (u : WriteUnit). ActiveAt (gate_size u) n.bytes at spare image) (sym unit) stands;
+  whole = subst (λ (u : WriteUnit). IsWhole u (length n.bytes / 2 - 2 * gate_size u)) (sym unit) (subst (λ (k : ℕ). IsWhole m.unit (k / 2 - 2 * gate_of m)) (sym size) whole);
 }
 
-pub shaped : (s : SlotsState) → HasImage s.medium → is_shaped s ≡ true
-unfolding image_of spare_of room_of
-shaped s has =
-    let g = gate_of s.medium in
-    let bytes = s.medium.bytes in
-    let a = has.active.stands in
-    let sized = a.sized in
-    let spare_is : length (spare g bytes).data_bytes ≡ capacity g bytes = data_length g bytes (spare_at g bytes) (spare_end g bytes sized) (omega (arith, sized.room)) in
-    let fits = active_fits g bytes (active_at g bytes) refl has.active.at has.active.spare has.image a in
-    let same : length has.image ≡ length (image_of s) = ap length (image_is s has.image has.active) in
-    grind (arith, spare_is, fits, same, sized.bound)
+-- What is put.
 
--- What the functions stand for.
+-- where nothing is held, the spare's data is that of the medium
+pub spare_fresh : (m : MediumState) → spare_of (store_on m) ≡ (spare (gate_of m) m.bytes).data_bytes
+unfolding spare_of
+spare_fresh m = written_nil (spare (gate_of m) m.bytes).data_bytes 0
+
+pub spare_is : (s : SlotsState) → spare_of s ≡ written (spare_slot s).data_bytes (held_at s) s.held
+unfolding spare_of
+spare_is s = refl
+
+-- nothing is put on a fresh store
+pub fresh_puts : (m : MediumState) → HasPuts (store_on m)
+fresh_puts m = record { fits = omega arith; part = sym (zero_part m.unit) }
+
+pub fresh_store : (m : MediumState) → HasImage m → IsStore (store_on m)
+fresh_store m has = record { has_image = has; puts = fresh_puts m }
+
+-- a store that holds nothing and whose puts end at 0 is fresh
+pub fresh_is : (m : MediumState) (held : List ℕ) (put_end : ℕ) → held ≡ [] → put_end ≡ 0 → store_of m held put_end ≡ store_on m
+fresh_is m held put_end none zero_is = λ i. store_of m (none i) (zero_is i)
+
+-- The functions that the clauses cite.
 
 pub room_is : (s : SlotsState) (n : ℕ) → n ≡ capacity_of s.medium → n ≡ room_of s
 unfolding room_of
@@ -60,9 +78,37 @@ pub room_capacity : (s : SlotsState) → room_of s ≡ capacity_of s.medium
 unfolding room_of
 room_capacity s = refl
 
-pub room_from : (s now : SlotsState) → length now.medium.bytes ≡ length s.medium.bytes → room_of now ≡ room_of s
+pub room_from : (s now : SlotsState) → now.medium.unit ≡ s.medium.unit → length now.medium.bytes ≡ length s.medium.bytes → room_of now ≡ room_of s
 unfolding room_of
-room_from s now same = ap (λ (n : ℕ). n / 2 - 2 * gate_of s.medium) same
+room_from s now unit size = λ i. size i / 2 - 2 * gate_size (unit i)
+
+pub puts_room : (s : SlotsState) → IsStore s → s.put_end ≤ room_of s
+puts_room s store = omega (arith, room_capacity s, store.puts.fits)
+
+-- where the puts end at 0, nothing is held
+pub puts_nothing : (s : SlotsState) → IsStore s → s.put_end ≡ 0 → s.held ≡ []
+puts_nothing s store none = nil_from_length s.held (omega (arith, held_end s store.puts, none))
+
+spare_length : (s : SlotsState) → IsStore s → length (spare_of s) ≡ room_of s
+spare_length s store =
+    let g = gate_of s.medium in
+    let bytes = s.medium.bytes in
+    let sized = store.has_image.active.stands.sized in
+    let whole : length (spare g bytes).data_bytes ≡ capacity g bytes = data_length g bytes (spare_at g bytes) (spare_end g bytes sized) (omega (arith, sized.room)) in
+    ap length (spare_is s) ∙ (written_torn (spare_slot s).data_bytes (held_at s) s.held (omega (arith, whole, held_end s store.puts, store.puts.fits))).size ∙ whole ∙ sym (room_capacity s)
+
+image_fits : (s : SlotsState) → IsStore s → length (image_of s) ≤ room_of s
+image_fits s store =
+    let a = store.has_image.active in
+    let fits = active_fits (gate_of s.medium) s.medium.bytes (active_at (gate_of s.medium) s.medium.bytes) refl a.at a.spare store.has_image.image a.stands in
+    omega (arith, fits, ap length (image_is s store.has_image.image a), room_capacity s)
+
+pub shaped : (s : SlotsState) → IsStore s → is_shaped s ≡ true
+shaped s store =
+    and_from (length (spare_of s) == room_of s) _ (eq-eqb _ _ (spare_length s store))
+    (and_from (nat_le (room_of s) (2 ^ 24)) _ (le-leb _ _ (omega (arith, room_capacity s, store.has_image.active.stands.sized.bound))) (le-leb _ _ (image_fits s store)))
+
+-- The gate of the spare.
 
 pub begun_closed : (s : SlotsState) → is_begun s ≡ true → ¬ IsOpen (spare_slot s)
 unfolding is_begun
@@ -84,6 +130,23 @@ pub begun_from_gate : (s now : SlotsState) → (spare_slot now).gate ≡ (spare_
 unfolding is_begun
 begun_from_gate s now same = ap (λ (g : ℕ). not (g == OPEN)) same
 
-pub spare_is : (s : SlotsState) → spare_of s ≡ (spare_slot s).data_bytes
-unfolding spare_of
-spare_is s = refl
+-- Another fuse on the medium.
+
+module _ (s : SlotsState) (m : MediumState) (fuse : Fuse) (is : m ≡ record s.medium { fuse = fuse }) where
+  fused_is : store_of m s.held s.put_end ≡ fused s fuse
+  fused_is = ap (λ (x : MediumState). store_of x s.held s.put_end) is
+
+  pub fused_store : IsStore s → IsStore (store_of m s.held s.put_end)
+  fused_store store = subst IsStore (sym fused_is) (record { has_image = has_image_fused s.medium fuse store.has_image; puts = record { fits = store.puts.fits; part = store.puts.part } })
+
+  pub fused_image : image_of (store_of m s.held s.put_end) ≡ image_of s
+  fused_image = ap image_of fused_is ∙ image_fused s fuse
+
+  pub fused_spare : spare_of (store_of m s.held s.put_end) ≡ spare_of s
+  fused_spare = ap spare_of fused_is ∙ spare_fused s fuse
+
+  pub fused_begun : is_begun (store_of m s.held s.put_end) ≡ is_begun s
+  fused_begun = ap is_begun fused_is ∙ begun_fused s fuse
+
+  pub fused_room : room_of (store_of m s.held s.put_end) ≡ room_of s
+  fused_room = ap room_of fused_is ∙ room_fused s fuse

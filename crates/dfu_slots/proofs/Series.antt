@@ -1,16 +1,24 @@
 -- Lists of writes: what they leave outside a range, the count of failures, and their parts.
-use Rattle.std.proofs.Common.{◌≡◌, ◌⊎◌, inl, inr, Bool, true, false, if◌then◌else◌, ℕ, ◌+◌, ◌≤◌, List, [], ◌∷◌, ◌++◌, length, Result, Ok, Err, OnOk, OnErr, IsErr, IsErrOf, IsErrAnd, refl, sym, ap, subst, arith}
-use Rattle.dfu_slots.specs.Medium.{MediumState, Write, KeepsOutside, Torn, Rose, Wrote, FailedWrite, AllWrites, BrokenWrites, Series}
-use Rattle.dfu_slots.specs.Seen.{SlotsState}
+use Rattle.std.proofs.Common.{◌≡◌, ◌⊎◌, inl, inr, ⊎_elim, ◌==◌, Bool, true, false, if◌then◌else◌, ℕ, ◌+◌, ◌≤◌, List, [], ◌∷◌, ◌++◌, length, Result, Ok, Err, OnOk, OnErr, IsErr, IsErrOf, refl, sym, ◌∙◌, ap, subst, arith}
+use Rattle.std.proofs.lemmas.List.{nil_from_length}
+use Rattle.std.proofs.lemmas.Bool.{eqb-true}
+use Rattle.dfu_slots.specs.Medium.{MediumState, Write, KeepsOutside, Torn, Rose, Wrote, FailedWrite, AllWrites, BrokenWrites, Series, written}
+use Rattle.dfu_slots.specs.Writes.{write_some}
+use Rattle.dfu_slots.specs.Seen.{SlotsState, Call, writes_of}
 use Rattle.dfu_slots.specs.Changes.{Changes}
 use Rattle.dfu_slots.specs.declared.fault.PutFault.{PutFault}
 use Rattle.dfu_slots.specs.declared.fault.PutFault.TheVariants.{TooLarge, Failed, NotBegun}
 use Rattle.dfu_slots.proofs.Torn.{written_torn, keeps_wider, keeps_same, keeps_both}
+use Rattle.dfu_slots.proofs.Within.{written_nil}
 
 -- every write of the list lies within this range
 abbrev pub AllInside : ℕ → ℕ → List Write → Type 0
 AllInside from to [] = Unit {0}
 AllInside from to (w ∷ ws) = (from ≤ w.at) × (w.at + length w.bytes ≤ to) × AllInside from to ws
+
+-- all these writes came, or those up to one that failed
+abbrev pub Ends : MediumState → List Write → MediumState → Type 0
+Ends s ws now = AllWrites s ws now ⊎ BrokenWrites s ws now
 
 module _ (from to : ℕ) where
   wrote_keeps : (s now : MediumState) (w : Write) → to ≤ length s.bytes → from ≤ w.at → w.at + length w.bytes ≤ to → Wrote s w.at w.bytes now → KeepsOutside from to s.bytes now.bytes
@@ -33,12 +41,25 @@ module _ (from to : ℕ) where
       let first = wrote_keeps s next w room low high wrote in
       keeps_both from to s.bytes next.bytes now.bytes first (broken_keep ws next now (omega (arith, first.size)) inside more)
 
-  -- so does a change, whatever it answered
-  pub changes_keep : {T : Type 0} (ws : List Write) (s now : SlotsState) (result : Result T PutFault) → to ≤ length s.medium.bytes → AllInside from to ws → Changes s ws result now → KeepsOutside from to s.medium.bytes now.medium.bytes
-  changes_keep ws s now (Ok x) room inside all = all_keep ws s.medium now.medium room inside all
-  changes_keep ws s now (Err Failed) room inside broken = broken_keep ws s.medium now.medium room inside broken
-  changes_keep ws s now (Err TooLarge) room inside same = keeps_same from to s.medium.bytes now.medium.bytes (ap (λ (x : SlotsState). x.medium.bytes) same)
-  changes_keep ws s now (Err NotBegun) room inside same = keeps_same from to s.medium.bytes now.medium.bytes (ap (λ (x : SlotsState). x.medium.bytes) same)
+  -- so do writes that came to their end, or to one that failed
+  pub ends_keep : (ws : List Write) (s now : MediumState) → to ≤ length s.bytes → AllInside from to ws → Ends s ws now → KeepsOutside from to s.bytes now.bytes
+  ends_keep ws s now room inside (inl all) = all_keep ws s now room inside all
+  ends_keep ws s now room inside (inr broken) = broken_keep ws s now room inside broken
+
+-- The unit.
+
+pub all_unit : (ws : List Write) (s now : MediumState) → AllWrites s ws now → now.unit ≡ s.unit
+all_unit [] s now same = ap (λ (m : MediumState). m.unit) same
+all_unit (w ∷ ws) s now (next, wrote, more) = all_unit ws next now more ∙ wrote.unit
+
+pub broken_unit : (ws : List Write) (s now : MediumState) → BrokenWrites s ws now → now.unit ≡ s.unit
+broken_unit [] s now none = absurd none
+broken_unit (w ∷ ws) s now (inl failed) = failed.unit
+broken_unit (w ∷ ws) s now (inr (next, wrote, more)) = broken_unit ws next now more ∙ wrote.unit
+
+pub ends_unit : (ws : List Write) (s now : MediumState) → Ends s ws now → now.unit ≡ s.unit
+ends_unit ws s now (inl all) = all_unit ws s now all
+ends_unit ws s now (inr broken) = broken_unit ws s now broken
 
 -- The count of failures.
 
@@ -54,12 +75,21 @@ broken_rose (w ∷ ws) s now (inr (next, wrote, more)) = omega (arith, wrote.fai
 pub broken_count : (ws : List Write) (s now : MediumState) → BrokenWrites s ws now → s.failures ≤ now.failures
 broken_count ws s now broken = omega (arith, broken_rose ws s now broken)
 
--- a change fails only where the medium did
-pub changes_rose : {T : Type 0} (ws : List Write) (s now : SlotsState) (result : Result T PutFault) → Changes s ws result now → IsErrOf result Failed → Rose s.medium.failures now.medium.failures
-changes_rose ws s now (Ok x) changes is = absurd (cc)
-changes_rose ws s now (Err Failed) broken is = broken_rose ws s.medium now.medium broken
-changes_rose ws s now (Err TooLarge) changes is = absurd (cc)
-changes_rose ws s now (Err NotBegun) changes is = absurd (cc)
+-- A change of the store.
+
+-- a change made its writes, or those up to one that failed, or it left the store as it was
+pub changes_ends : {T : Type 0} (s now : SlotsState) (call : Call) (result : Result T PutFault) → Changes s call result now → Ends s.medium (writes_of s call) now.medium ⊎ (now ≡ s)
+changes_ends s now call (Ok x) worked = inl (inl worked.writes)
+changes_ends s now call (Err Failed) failed = inl (inr failed.writes)
+changes_ends s now call (Err TooLarge) same = inr same
+changes_ends s now call (Err NotBegun) same = inr same
+
+-- it fails only where the medium did
+pub changes_rose : {T : Type 0} (s now : SlotsState) (call : Call) (result : Result T PutFault) → Changes s call result now → IsErrOf result Failed → Rose s.medium.failures now.medium.failures
+changes_rose s now call (Ok x) changes is = absurd (cc)
+changes_rose s now call (Err Failed) failed is = broken_rose (writes_of s call) s.medium now.medium failed.writes
+changes_rose s now call (Err TooLarge) changes is = absurd (cc)
+changes_rose s now call (Err NotBegun) changes is = absurd (cc)
 
 -- a fact that holds whatever was answered
 pub on_err_of : {T E P : Type 0} (result : Result T E) → P → OnErr result P
@@ -69,13 +99,6 @@ on_err_of (Err e) p = p
 pub on_ok_of : {T E P : Type 0} (result : Result T E) → P → OnOk result P
 on_ok_of (Ok x) p = p
 on_ok_of (Err e) p = tt
-
--- a change that answered Failed
-pub changes_broken : {T : Type 0} (s now : SlotsState) (ws : List Write) (result : Result T PutFault) → IsErrAnd result (λ e. e ≡ Failed) → BrokenWrites s.medium ws now.medium → Changes s ws result now
-changes_broken s now ws (Ok x) is broken = absurd is
-changes_broken s now ws (Err Failed) is broken = broken
-changes_broken s now ws (Err TooLarge) is broken = absurd (cc)
-changes_broken s now ws (Err NotBegun) is broken = absurd (cc)
 
 -- a write at a place, and of bytes, that are known by other terms
 pub wrote_there : (s now : MediumState) (p q : ℕ) (x y : List ℕ) → p ≡ q → x ≡ y → Wrote s p x now → Wrote s q y now
@@ -104,6 +127,15 @@ pub series_after : {T E : Type 0} (ws vs : List Write) (s mid now : MediumState)
 series_after ws vs s mid now (Ok x) first second = all_append ws vs s mid now first second
 series_after ws vs s mid now (Err e) first second = broken_later ws vs s mid now first second
 
+-- a series of one write, by what it answered
+pub series_one : {T E : Type 0} (s now : MediumState) (at : ℕ) (bytes : List ℕ) (r : Result T E) → OnOk r (Wrote s at bytes now) → OnErr r (FailedWrite s at bytes now) → Series s (record { at = at; bytes = bytes } ∷ []) r now
+series_one s now at bytes (Ok x) wrote failed = (now, wrote, refl)
+series_one s now at bytes (Err e) wrote failed = inl failed
+
+-- a write that came, and a series after it
+pub series_next : {T E : Type 0} (s mid now : MediumState) (at : ℕ) (bytes : List ℕ) (ws : List Write) (r : Result T E) → Wrote s at bytes mid → Series mid ws r now → Series s (record { at = at; bytes = bytes } ∷ ws) r now
+series_next s mid now at bytes ws r wrote rest = series_after (record { at = at; bytes = bytes } ∷ []) ws s mid now r (mid, wrote, refl) rest
+
 -- a series that an error broke off
 pub series_broken : {T E : Type 0} (ws : List Write) (s now : MediumState) (r : Result T E) → IsErr r → BrokenWrites s ws now → Series s ws r now
 series_broken ws s now (Ok x) is broken = absurd (cc)
@@ -128,23 +160,41 @@ broken_parts (w ∷ ws) vs s now (inr (next, wrote, rest)) = elim (broken_parts 
   | inr late ↦ inr (late.0, record { first = (next, wrote, late.1.first); second = late.1.second })
 ]
 
--- a change by these writes or by none, as a test says
-pub changes_if : {T : Type 0} (s now : SlotsState) (b : Bool) (ws : List Write) (result : Result T PutFault) → Changes s (if b then ws else []) result now → ((b ≡ true) × Changes s ws result now) ⊎ ((b ≡ false) × (now ≡ s))
-changes_if s now true ws result changes = inl (refl, changes)
-changes_if s now false ws (Ok x) same = inr (refl, ap (λ (m : MediumState). record { medium = m }) same)
-changes_if s now false ws (Err Failed) none = absurd none
-changes_if s now false ws (Err TooLarge) same = inr (refl, same)
-changes_if s now false ws (Err NotBegun) same = inr (refl, same)
+-- a series by these writes or by none, as a test says
+pub ends_if : (s now : MediumState) (b : Bool) (ws : List Write) → Ends s (if b then ws else []) now → ((b ≡ true) × Ends s ws now) ⊎ ((b ≡ false) × (now ≡ s))
+ends_if s now true ws ends = inl (refl, ends)
+ends_if s now false ws (inl same) = inr (refl, same)
+ends_if s now false ws (inr none) = absurd none
 
--- and by none or by these
-pub changes_unless : {T : Type 0} (s now : SlotsState) (b : Bool) (ws : List Write) (result : Result T PutFault) → Changes s (if b then [] else ws) result now → ((b ≡ true) × (now ≡ s)) ⊎ ((b ≡ false) × Changes s ws result now)
-changes_unless s now false ws result changes = inr (refl, changes)
-changes_unless s now true ws (Ok x) same = inl (refl, ap (λ (m : MediumState). record { medium = m }) same)
-changes_unless s now true ws (Err Failed) none = absurd none
-changes_unless s now true ws (Err TooLarge) same = inl (refl, same)
-changes_unless s now true ws (Err NotBegun) same = inl (refl, same)
+pub all_if : (s now : MediumState) (b : Bool) (ws : List Write) → AllWrites s (if b then ws else []) now → ((b ≡ true) × AllWrites s ws now) ⊎ ((b ≡ false) × (now ≡ s))
+all_if s now true ws all = inl (refl, all)
+all_if s now false ws same = inr (refl, same)
+
+pub all_unless : (s now : MediumState) (b : Bool) (ws : List Write) → AllWrites s (if b then [] else ws) now → ((b ≡ true) × (now ≡ s)) ⊎ ((b ≡ false) × AllWrites s ws now)
+all_unless s now true ws same = inl (refl, same)
+all_unless s now false ws all = inr (refl, all)
 
 -- a list that a test chooses lies within a range where both do
 pub inside_if : (from to : ℕ) (b : Bool) (ws vs : List Write) → AllInside from to ws → AllInside from to vs → AllInside from to (if b then ws else vs)
 inside_if from to true ws vs a b = a
 inside_if from to false ws vs a b = b
+
+-- two lists lie within a range where each does
+pub inside_append : (from to : ℕ) (ws vs : List Write) → AllInside from to ws → AllInside from to vs → AllInside from to (ws ++ vs)
+inside_append from to [] vs a b = b
+inside_append from to (w ∷ ws) vs (low, high, a) b = (low, high, inside_append from to ws vs a b)
+
+-- A write of some bytes, or of none.
+
+pub some_written : (s now : MediumState) (at : ℕ) (bytes : List ℕ) → AllWrites s (write_some at bytes) now → now.bytes ≡ written s.bytes at bytes
+some_written s now at bytes all =
+    ⊎_elim
+    (λ none. ap (λ (m : MediumState). m.bytes) none.1 ∙ sym (ap (λ (l : List ℕ). written s.bytes at l) (nil_from_length bytes (eqb-true _ _ none.0)) ∙ written_nil s.bytes at))
+    (λ one. ap (λ (m : MediumState). m.bytes) one.1.2 ∙ one.1.1.bytes)
+    (all_unless s now (length bytes == 0) (record { at = at; bytes = bytes } ∷ []) all)
+
+pub some_size : (s now : MediumState) (at : ℕ) (bytes : List ℕ) → at + length bytes ≤ length s.bytes → AllWrites s (write_some at bytes) now → length now.bytes ≡ length s.bytes
+some_size s now at bytes fits all = ap length (some_written s now at bytes all) ∙ (written_torn s.bytes at bytes fits).size
+
+pub inside_some : (from to at : ℕ) (bytes : List ℕ) → from ≤ at → at + length bytes ≤ to → AllInside from to (write_some at bytes)
+inside_some from to at bytes low high = inside_if from to (length bytes == 0) [] (record { at = at; bytes = bytes } ∷ []) tt (low, high, tt)

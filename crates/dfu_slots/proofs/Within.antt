@@ -5,7 +5,7 @@ use Rattle.std.proofs.Math.Seq.{take-append-add}
 use Rattle.dfu_slots.specs.Medium.{written}
 use Rattle.dfu_slots.proofs.Torn.{written_torn, drop_past}
 
-take_past : (xs ys : List ℕ) (n : ℕ) → length xs ≤ n → take n (xs ++ ys) ≡ xs ++ take (n - length xs) ys
+pub take_past : (xs ys : List ℕ) (n : ℕ) → length xs ≤ n → take n (xs ++ ys) ≡ xs ++ take (n - length xs) ys
 take_past xs ys n le = let e : n ≡ length xs + (n - length xs) = omega arith in ap (λ (k : ℕ). take k (xs ++ ys)) e ∙ take-append-add xs ys (n - length xs)
 
 drop_written : (old : List ℕ) (p k : ℕ) (new : List ℕ) → p + k ≤ length old → drop p (written old (p + k) new) ≡ written (drop p old) k new

@@ -1,9 +1,9 @@
 -- What the calls answer and leave.
-use Rattle.std.specs.Prelude.{◌≡◌, ◌≤◌, ◌<◌, ℕ, List, length, Result, Ok, Err}
-use Rattle.dfu_slots.specs.Medium.{MediumState, Write, AllWrites, BrokenWrites}
+use Rattle.std.specs.Prelude.{◌≡◌, ◌≤◌, ◌<◌, ℕ, true, false, List, length, Result, Ok, Err}
+use Rattle.dfu_slots.specs.Medium.{MediumState}
 use Rattle.dfu_slots.specs.Layout.{slot_size, ArePlaces, HasHeader}
 use Rattle.dfu_slots.specs.Image.{slot_of, capacity_of, IsSized, Counts, IsNewest}
-use Rattle.dfu_slots.specs.Seen.{SlotsState}
+use Rattle.dfu_slots.specs.Seen.{SlotsState, Call, Calls}
 use Rattle.dfu_slots.specs.declared.fault.FormatFault.{FormatFault}
 use Rattle.dfu_slots.specs.declared.fault.FormatFault.TheVariants.{WrongSize as NotSized, TooLarge as ImageTooLarge, Failed as FormatFailed}
 use Rattle.dfu_slots.specs.declared.fault.OpenFault.{OpenFault}
@@ -11,12 +11,12 @@ use Rattle.dfu_slots.specs.declared.fault.OpenFault.TheVariants.{WrongSize, NoIm
 use Rattle.dfu_slots.specs.declared.fault.PutFault.{PutFault}
 use Rattle.dfu_slots.specs.declared.fault.PutFault.TheVariants.{TooLarge, Failed, NotBegun}
 
--- Ok: these writes, all of them. Failed: those up to one that failed. Another fault: no write.
-abbrev pub Changes : {T : Type 0} → SlotsState → List Write → Result T PutFault → SlotsState → Type 0
-Changes old writes (Ok _) now = AllWrites old.medium writes now.medium
-Changes old writes (Err Failed) now = BrokenWrites old.medium writes now.medium
-Changes old writes (Err TooLarge) now = now ≡ old
-Changes old writes (Err NotBegun) now = now ≡ old
+-- Ok: the call made all its writes. Failed: those up to one that failed. Another fault: the store is as it was.
+abbrev pub Changes : {T : Type 0} → SlotsState → Call → Result T PutFault → SlotsState → Type 0
+Changes old call (Ok _) now = Calls old call true now
+Changes old call (Err Failed) now = Calls old call false now
+Changes old call (Err TooLarge) now = now ≡ old
+Changes old call (Err NotBegun) now = now ≡ old
 
 -- the medium has a length that two slots can have, and each has room for the image
 pub record CanFormat (m : MediumState) (image : List ℕ) : Type 0 where

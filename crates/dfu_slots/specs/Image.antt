@@ -1,5 +1,6 @@
 -- Which image of a medium is the active one.
-use Rattle.std.specs.Prelude.{◌≡◌, ◌⊎◌, ◌&&◌, ◌||◌, not, ℕ, Bool, List, length, take, if◌then◌else◌, ◌==◌}
+use Rattle.std.specs.Prelude.{◌≡◌, ◌⊎◌, ◌&&◌, ◌||◌, not, ℕ, ◌*◌, ◌^◌, ◌<◌, ◌≤◌, Bool, List, length, take, if◌then◌else◌, ◌==◌}
+use Rattle.dfu_slots.specs.Units.{gate_size, IsWhole}
 use Rattle.dfu_slots.specs.Medium.{MediumState, Fuse}
 use Rattle.dfu_slots.specs.Layout.{Slot, slot, slot_size, HasTwoSlots, capacity, ArePlaces, OPEN, IsOpen, generation, next_generation, HasHeader}
 
@@ -26,7 +27,7 @@ pub record ActiveAt (g : ℕ) (bytes : List ℕ) (at spare : ℕ) (image : List 
 
 -- how many bytes the gate unit and the header unit of a medium have each
 abbrev pub gate_of : MediumState → ℕ
-gate_of m = 16
+gate_of m = gate_size m.unit
 
 -- the slot of a medium that begins at this place
 abbrev pub slot_of : MediumState → ℕ → Slot
@@ -36,15 +37,19 @@ slot_of m at = slot (gate_of m) m.bytes at
 abbrev pub capacity_of : MediumState → ℕ
 capacity_of m = capacity (gate_of m) m.bytes
 
--- the medium has a length that two slots can have
-abbrev pub IsSized : MediumState → Type 0
-IsSized m = HasTwoSlots (gate_of m) m.bytes
+-- the medium has a length that two slots can have, with whole units of data each
+pub record IsSized (m : MediumState) : Type 0 where
+  pub even : length m.bytes ≡ 2 * slot_size m.bytes
+  pub room : 2 * gate_of m < slot_size m.bytes
+  pub bound : capacity_of m ≤ 2 ^ 24
+  pub whole : IsWhole m.unit (capacity_of m)
 
 -- this is the active image of the medium
 pub record Active (m : MediumState) (image : List ℕ) : Type 0 where
   pub at : ℕ
   pub spare : ℕ
   pub stands : ActiveAt (gate_of m) m.bytes at spare image
+  pub whole : IsWhole m.unit (capacity_of m)
 
 -- the medium has an active image
 pub record HasImage (m : MediumState) : Type 0 where
@@ -53,7 +58,7 @@ pub record HasImage (m : MediumState) : Type 0 where
 
 -- which image is active does not depend on the fuse
 pub active_fused : (m : MediumState) (fuse : Fuse) (image : List ℕ) → Active m image → Active (record m { fuse = fuse }) image
-active_fused m fuse image active = record { at = active.at; spare = active.spare; stands = active.stands }
+active_fused m fuse image active = record { at = active.at; spare = active.spare; stands = active.stands; whole = active.whole }
 
 -- nor whether there is one
 pub has_image_fused : (m : MediumState) (fuse : Fuse) → HasImage m → HasImage (record m { fuse = fuse })

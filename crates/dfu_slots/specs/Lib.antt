@@ -1,8 +1,10 @@
+pub mod Units
 pub mod Medium
 pub mod Layout
 pub mod Image
 pub mod Writes
 pub mod Seen
+pub mod Store
 pub mod Changes
 pub mod Sim
 pub mod Unarmed

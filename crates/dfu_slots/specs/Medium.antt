@@ -1,5 +1,6 @@
 -- What a medium is seen as, and what a write may do to it.
 use Rattle.std.specs.Prelude.{◌≡◌, ◌⊎◌, ℕ, ◌+◌, ◌-◌, ◌^◌, ◌≤◌, min, max, Bool, true, false, List, [], ◌∷◌, ◌++◌, length, take, drop, Result, Ok, Err}
+use Rattle.dfu_slots.specs.declared.unit.Unit.{Unit as WriteUnit}
 
 -- What the next writes of a medium will do.
 pub data Fuse : Type 0 where
@@ -13,11 +14,12 @@ pub data Fuse : Type 0 where
   -- every write fails and leaves nothing
   Stopped : Fuse
 
--- A medium: its bytes, how often a write has failed, and what the next writes will do.
+-- A medium: its bytes, how often a write has failed, what the next writes will do, and the unit in which it is written.
 pub record MediumState : Type 0 where
   pub bytes : List ℕ
   pub failures : ℕ
   pub fuse : Fuse
+  pub unit : WriteUnit
 
 -- these bytes stand in place of those from `at` on
 abbrev pub written : List ℕ → ℕ → List ℕ → List ℕ
@@ -61,12 +63,14 @@ pub record Wrote (old : MediumState) (at : ℕ) (new : List ℕ) (now : MediumSt
   pub bytes : now.bytes ≡ written old.bytes at new
   pub failures : old.failures ≤ now.failures
   pub fuse : Works old.fuse now.fuse
+  pub unit : now.unit ≡ old.unit
 
 -- a write answered Failed: it was torn, and the count rose
 pub record FailedWrite (old : MediumState) (at : ℕ) (new : List ℕ) (now : MediumState) : Type 0 where
   pub bytes : Torn old.bytes at new now.bytes
   pub failures : Rose old.failures now.failures
   pub fuse : Breaks old.fuse old.bytes at new now.bytes now.fuse
+  pub unit : now.unit ≡ old.unit
 
 -- A write: its place and its bytes.
 pub record Write : Type 0 where

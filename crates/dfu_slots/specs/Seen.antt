@@ -1,22 +1,32 @@
 -- What the layers above see of a slot store.
-use Rattle.std.specs.Prelude.{refl, ◌≡◌, ◌⊎◌, ℕ, ◌^◌, ◌≤◌, Bool, true, false, not, ◌==◌, ◌&&◌, nat_le, List, [], ◌∷◌, length, take, drop}
+use Rattle.std.specs.Prelude.{refl, ◌≡◌, ◌⊎◌, ℕ, ◌+◌, ◌-◌, ◌*◌, ◌^◌, ◌≤◌, Bool, true, false, not, ◌==◌, ◌&&◌, nat_le, List, [], ◌∷◌, ◌++◌, length, take, drop}
 use Rattle.std.specs.Int.{w32, from_le_bytes}
-use Rattle.dfu_slots.specs.Medium.{MediumState, Fuse, Write, Rose, AllWrites, BrokenWrites}
+use Rattle.dfu_slots.specs.Medium.{MediumState, Fuse, Write, Rose, AllWrites, BrokenWrites, written}
 use Rattle.dfu_slots.specs.Layout.{Slot, slot, OPEN, capacity}
-use Rattle.dfu_slots.specs.Image.{gate_of, active_at, spare}
-use Rattle.dfu_slots.specs.Writes.{begin_writes, put_writes, commit_writes, format_writes}
+use Rattle.dfu_slots.specs.Image.{gate_of, active_at, spare_at, spare}
+use Rattle.dfu_slots.specs.Writes.{begin_writes, put_writes, put_rest, part_writes, commit_writes, format_writes}
 
--- A slot store: the medium that it stands on.
+-- A slot store: the medium that it stands on, the bytes put that are held back, and where the puts since `begin` end.
 pub record SlotsState : Type 0 where
   pub medium : MediumState
+  pub held : List ℕ
+  pub put_end : ℕ
 
--- the store on this medium
+-- the store on this medium that holds these bytes back, and whose puts end here
+abbrev pub store_of : MediumState → List ℕ → ℕ → SlotsState
+store_of m held put_end = record { medium = m; held = held; put_end = put_end }
+
+-- the store on this medium before anything is put
 abbrev pub store_on : MediumState → SlotsState
-store_on m = record { medium = m }
+store_on m = store_of m [] 0
 
 -- the store over the same bytes, with another fuse
 abbrev pub fused : SlotsState → Fuse → SlotsState
-fused s fuse = store_on (record s.medium { fuse = fuse })
+fused s fuse = record s { medium = record s.medium { fuse = fuse } }
+
+-- the store after its power was off: it stands over the same bytes, with this fuse, and what was put is forgotten
+abbrev pub restarted : SlotsState → Fuse → SlotsState
+restarted s fuse = store_on (record s.medium { fuse = fuse })
 
 -- the length that stands in a slot's header
 abbrev pub header_length : Slot → ℕ
@@ -34,9 +44,17 @@ spare_slot s = spare (gate_of s.medium) s.medium.bytes
 unfoldable pub image_of : SlotsState → List ℕ
 image_of s = take (header_length (active_slot s)) (active_slot s).data_bytes
 
--- the data of the spare slot
+-- where the held bytes belong in the spare's data
+abbrev pub held_at : SlotsState → ℕ
+held_at s = s.put_end - length s.held
+
+-- where this place of the spare's data is on the medium
+abbrev pub data_place : SlotsState → ℕ → ℕ
+data_place s at = spare_at (gate_of s.medium) s.medium.bytes + 2 * gate_of s.medium + at
+
+-- the data of the spare slot, with the held bytes at their place
 unfoldable pub spare_of : SlotsState → List ℕ
-spare_of s = (spare_slot s).data_bytes
+spare_of s = written (spare_slot s).data_bytes (held_at s) s.held
 
 -- whether the spare's gate is closed, so that `put` and `commit` may write
 unfoldable pub is_begun : SlotsState → Bool
@@ -50,7 +68,7 @@ room_of s = capacity (gate_of s.medium) s.medium.bytes
 abbrev pub is_shaped : SlotsState → Bool
 is_shaped s = (length (spare_of s) == room_of s) && (nat_le (room_of s) (2 ^ 24) && nat_le (length (image_of s)) (room_of s))
 
--- A call that changes the store.
+-- A call that changes the store; a `put` comes at the end of the puts before it.
 pub data Call : Type 0 where
   Begin : Call
   Put : (at : ℕ) (bytes : List ℕ) → Call
@@ -59,17 +77,41 @@ pub data Call : Type 0 where
 -- the writes of a call, in their order
 abbrev pub writes_of : SlotsState → Call → List Write
 writes_of s Begin = begin_writes (gate_of s.medium) s.medium.bytes
-writes_of s (Put at bytes) = put_writes (gate_of s.medium) s.medium.bytes at bytes
-writes_of s (Commit len) = commit_writes (gate_of s.medium) s.medium.bytes len
+writes_of s (Put at bytes) = put_writes s.medium.unit (data_place s (at - length s.held)) s.held bytes
+writes_of s (Commit len) = part_writes s.medium.unit (data_place s (held_at s)) s.held ++ commit_writes (gate_of s.medium) s.medium.bytes len
+
+-- what a store holds back after a call that is Ok
+abbrev pub next_held : SlotsState → Call → List ℕ
+next_held s Begin = []
+next_held s (Put at bytes) = put_rest s.medium.unit s.held bytes
+next_held s (Commit len) = []
+
+-- where its puts end then
+abbrev pub next_end : Call → ℕ
+next_end Begin = 0
+next_end (Put at bytes) = at + length bytes
+next_end (Commit len) = 0
 
 -- the writes of a `format` of this medium with this image, in their order
 abbrev pub format_series : MediumState → List ℕ → List Write
-format_series m image = format_writes (gate_of m) m.bytes image
+format_series m image = format_writes m.unit (gate_of m) m.bytes image
 
--- a call made all its writes, or those up to one that failed
+-- a call that is Ok made all its writes, and holds back what is left of the puts
+pub record CallWorked (old : SlotsState) (call : Call) (now : SlotsState) : Type 0 where
+  pub writes : AllWrites old.medium (writes_of old call) now.medium
+  pub held_is : now.held ≡ next_held old call
+  pub end_is : now.put_end ≡ next_end call
+
+-- a call that failed made its writes up to one that failed, and holds nothing back
+pub record CallFailed (old : SlotsState) (call : Call) (now : SlotsState) : Type 0 where
+  pub writes : BrokenWrites old.medium (writes_of old call) now.medium
+  pub held_is : now.held ≡ []
+  pub end_is : now.put_end ≡ 0
+
+-- a call was Ok or failed
 abbrev pub Calls : SlotsState → Call → Bool → SlotsState → Type 0
-Calls old call true now = AllWrites old.medium (writes_of old call) now.medium
-Calls old call false now = BrokenWrites old.medium (writes_of old call) now.medium
+Calls old call true now = CallWorked old call now
+Calls old call false now = CallFailed old call now
 
 -- a call answered Ok or Failed, and the count of failures rose where it failed
 pub record DidCall (s : SlotsState) (call : Call) (ok : Bool) (now : SlotsState) : Type 0 where
@@ -89,7 +131,12 @@ pub image_fused : (s : SlotsState) (fuse : Fuse) → image_of (fused s fuse) ≡
 unfolding image_of
 image_fused s fuse = refl
 
--- nor does the spare's data
+-- nor when the power is off
+pub image_restarted : (s : SlotsState) (fuse : Fuse) → image_of (restarted s fuse) ≡ image_of s
+unfolding image_of
+image_restarted s fuse = refl
+
+-- the spare's data does not change with the fuse
 pub spare_fused : (s : SlotsState) (fuse : Fuse) → spare_of (fused s fuse) ≡ spare_of s
 unfolding spare_of
 spare_fused s fuse = refl
@@ -103,3 +150,8 @@ begun_fused s fuse = refl
 pub room_fused : (s : SlotsState) (fuse : Fuse) → room_of (fused s fuse) ≡ room_of s
 unfolding room_of
 room_fused s fuse = refl
+
+-- nor does the room when the power is off
+pub room_restarted : (s : SlotsState) (fuse : Fuse) → room_of (restarted s fuse) ≡ room_of s
+unfolding room_of
+room_restarted s fuse = refl

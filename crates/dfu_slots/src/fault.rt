@@ -1,11 +1,11 @@
 //! Why a call of the store was refused.
-use crate::Failed;
 use thiserror::Error;
 
 /// Why `format` gave the medium back. It looks for them in this order.
 #[derive(Clone, Copy, Debug, PartialEq, Eq, Drop, Error)]
 pub enum FormatFault {
-    /// The medium's length is not 2 * (32 + C) with C from 1 to 16,777,216. Nothing was written.
+    /// The medium's length is not 2 * (2 * G + C) with C from 1 to 16,777,216 and whole in the unit, G being
+    /// 16 or the unit's size where that is more. Nothing was written.
     #[error("the medium has no length that two slots can have")]
     WrongSize,
     /// The image has more bytes than the data of a slot. Nothing was written.
@@ -19,7 +19,8 @@ pub enum FormatFault {
 /// Why `open` gave the medium back, unchanged. It looks for them in this order.
 #[derive(Clone, Copy, Debug, PartialEq, Eq, Drop, Error)]
 pub enum OpenFault {
-    /// The medium's length is not 2 * (32 + C) with C from 1 to 16,777,216.
+    /// The medium's length is not 2 * (2 * G + C) with C from 1 to 16,777,216 and whole in the unit, G being
+    /// 16 or the unit's size where that is more.
     #[error("the medium has no length that two slots can have")]
     WrongSize,
     /// Neither slot's gate is open.
@@ -37,27 +38,16 @@ pub enum OpenFault {
 /// Why `begin`, `put` or `commit` did not do what was asked.
 #[derive(Clone, Copy, Debug, PartialEq, Eq, Drop, Error)]
 pub enum PutFault {
-    /// What was to be put or committed ends past the capacity, and the spare's gate is closed.
-    /// Nothing was written. `begin` never answers it.
+    /// What was to be put ends past the capacity, and the spare's gate is closed.
+    /// Nothing was written. Only `put` answers it: what was put lies within the capacity.
     #[error("the image is longer than a slot's data")]
     TooLarge,
     /// A write to the medium failed. The active image is as it was; after `commit`
-    /// it is that one or the whole new one.
+    /// it is that one or the whole new one. What was put is forgotten, and `put_end` is 0.
     #[error("a write to the medium failed")]
     Failed,
     /// The spare's gate reads open, so it may hold the image before this one: `begin` comes first.
     /// Nothing was written. It is looked for before `TooLarge`, and `begin` never answers it.
     #[error("the spare slot was not begun")]
     NotBegun,
-}
-
-impl From<Failed> for PutFault {
-    ghost use Rattle.std.specs.Prelude.{◌≡◌};
-    ghost use Rattle.dfu_slots.specs.declared.fault.PutFault.TheVariants.{Failed as FailedChange};
-
-    ghost from_gives = { λ _ e. e ≡ FailedChange };
-
-    fn from(_: Failed) -> PutFault {
-        PutFault::Failed
-    }
 }

@@ -1,35 +1,37 @@
 //! Formatting a medium: an image goes into the first slot, whatever stood on the medium.
 ghost use Rattle.std.specs.Prelude.{◌≡◌, ℕ, ◌+◌, ◌*◌, ◌≤◌, ◌<◌, ◌^◌, length};
+ghost use Rattle.dfu_slots.specs.Units.{IsWhole, filled};
 ghost use Rattle.dfu_slots.specs.Medium.{Series};
 ghost use Rattle.dfu_slots.specs.Image.{gate_of, IsSized};
-ghost use Rattle.dfu_slots.specs.Writes.{piece_writes, close_writes, open_writes};
+ghost use Rattle.dfu_slots.specs.Writes.{piece_writes, close_writes};
 ghost use Rattle.dfu_slots.specs.Seen.{format_series};
 ghost use Rattle.dfu_slots.specs.Changes.{CanFormat};
 
-use crate::change::program;
-use crate::layout::{CLOSED_GATE, DATA_AT, OPEN_GATE, UNIT_SIZE, make_gate_unit, make_header_unit};
+use crate::layout::CLOSED_GATE;
+use crate::read::data_at;
+use crate::writing::{open_slot, program, write_filled, write_gate};
 use crate::{Failed, Medium};
 
-// How many bytes of the image are written at a time.
+// How many bytes of the image are written at a time: whole units, whatever the unit is.
 const PIECE: usize = 4096;
 
 // Writes the bytes from there on, in pieces.
 fn write_pieces<M: Medium>(medium: &mut M, at: u32, bytes: &[u8]) -> Result<(), Failed>
-    requires within { at + length bytes.now ≤ length (M.state medium.old).bytes }
+    requires within { at + length (filled (M.state medium.old).unit bytes.now) ≤ length (M.state medium.old).bytes }
     requires room { at + length bytes.now < 2 ^ 32 }
-    ensures { (n : ℕ) → length bytes.now ≤ n →
-        Series (M.state medium.old) (piece_writes n at bytes.now) result (M.state medium.new) }
+    requires place { IsWhole (M.state medium.old).unit at }
+    ensures { let unit = (M.state medium.old).unit in (n : ℕ) → length (filled unit bytes.now) ≤ n →
+        Series (M.state medium.old) (piece_writes n at (filled unit bytes.now)) result (M.state medium.new) }
 {
     let mut place = at;
     let mut rest = bytes;
-    while !rest.is_empty() {
-        let size = PIECE.min(rest.len());
-        let (piece, left) = rest.split_at(size);
+    while rest.len() > PIECE {
+        let (piece, left) = rest.split_at(PIECE);
         program(medium, place, piece)?;
-        place += size as u32;
+        place += PIECE as u32;
         rest = left;
     }
-    Ok(())
+    write_filled(medium, place, rest)
 }
 
 // Closes both gates, the second slot's first.
@@ -39,20 +41,10 @@ fn close_gates<M: Medium>(medium: &mut M) -> Result<(), Failed>
         Series was (close_writes (gate_of was) was.bytes) result (M.state medium.new) }
 {
     let second = medium.len() / 2;
-    program(medium, second, &make_gate_unit(CLOSED_GATE))?;
-    program(medium, 0, &make_gate_unit(CLOSED_GATE))?;
-    Ok(())
-}
-
-// Writes the first slot's header, and then opens its gate.
-fn open_first<M: Medium>(medium: &mut M, len: u32) -> Result<(), Failed>
-    requires { IsSized (M.state medium.old) }
-    ensures { let was = M.state medium.old in
-        Series was (open_writes (gate_of was) len) result (M.state medium.new) }
-{
-    program(medium, UNIT_SIZE, &make_header_unit(0, len))?;
-    program(medium, 0, &make_gate_unit(OPEN_GATE))?;
-    Ok(())
+    match write_gate(medium, second, CLOSED_GATE) {
+        Err(failed) => Err(failed),
+        Ok(()) => write_gate(medium, 0, CLOSED_GATE),
+    }
 }
 
 /// Makes this the active image of the medium.
@@ -60,11 +52,12 @@ pub fn write_image<M: Medium>(medium: &mut M, image: &[u8]) -> Result<(), Failed
     requires { CanFormat (M.state medium.old) image.now }
     ensures { Series (M.state medium.old) (format_series (M.state medium.old) image.now) result (M.state medium.new) }
 {
+    let data = data_at(medium, 0);
     match close_gates(medium) {
         Err(failed) => Err(failed),
-        Ok(()) => match write_pieces(medium, DATA_AT, image) {
+        Ok(()) => match write_pieces(medium, data, image) {
             Err(failed) => Err(failed),
-            Ok(()) => open_first(medium, image.len() as u32),
+            Ok(()) => open_slot(medium, 0, 0, image.len() as u32),
         },
     }
 }

@@ -5,7 +5,7 @@ ghost use Rattle.dfu_slots.specs.Medium.Fuse.{Whole};
 ghost use Rattle.dfu_slots.specs.Image.{Active, HasImage};
 ghost use Rattle.dfu_slots.specs.Seen.{SlotsState, Call, Called, image_of};
 ghost use Rattle.dfu_slots.specs.Changes.{IsOpenFault};
-ghost use Rattle.dfu_slots.specs.Determined.{IsKnown, Same};
+ghost use Rattle.dfu_slots.specs.Determined.{IsKnown, Same, SameStore};
 ghost use Rattle.dfu_slots.specs.declared.fault.OpenFault.{OpenFault};
 
 /// No medium has two active images.
@@ -37,14 +37,13 @@ pub fn unarmed_never_fails()
         old.medium.fuse ≡ Whole → Called old calls true now → now.medium.fuse ≡ Whole }
 {}
 
-/// From the same bytes and the same fuse the same calls end alike, where the fuse is known:
-/// they are Ok or fail on both, and leave the same bytes and the same fuse.
+/// From the same store the same calls end alike, where the fuse is known: they are Ok or fail on both, and
+/// leave the same store (the same bytes, fuse and unit, the same bytes held back, the same end of the puts).
 pub fn same_bytes_same_end()
     ensures outcome { (calls : List Call) (a b x y : SlotsState) →
-        Same a.medium b.medium → IsKnown a.medium.fuse → Called a calls true x → ¬ Called b calls false y }
+        SameStore a b → IsKnown a.medium.fuse → Called a calls true x → ¬ Called b calls false y }
     ensures end { (calls : List Call) (ok : Bool) (a b x y : SlotsState) →
-        Same a.medium b.medium → IsKnown a.medium.fuse →
-        Called a calls ok x → Called b calls ok y → Same x.medium y.medium }
+        SameStore a b → IsKnown a.medium.fuse → Called a calls ok x → Called b calls ok y → SameStore x y }
     ensures writes { (writes : List Write) (a b x y : MediumState) →
         Same a b → IsKnown a.fuse → AllWrites a writes x → ¬ BrokenWrites b writes y }
     ensures written { (writes : List Write) (a b x y : MediumState) →

@@ -5,13 +5,18 @@
 mod change;
 mod fault;
 mod format;
+mod installing;
 mod laws;
 mod layout;
 mod medium;
 mod open;
+mod puts;
+mod putting;
 mod read;
 mod sim;
 mod slots;
+mod unit;
+mod writing;
 
 pub use fault::{FormatFault, OpenFault, PutFault};
 pub use laws::{
@@ -21,6 +26,7 @@ pub use laws::{
 pub use medium::{Failed, Faulty, Medium};
 pub use sim::{NoMemory, SimMedium};
 pub use slots::Slots;
+pub use unit::Unit;
 
 #[cfg(test)]
 mod tests;

@@ -1,8 +1,10 @@
 //! A medium of bytes whose writes may fail.
 ghost use Rattle.std.specs.Prelude.{◌≡◌, ◌+◌, ◌≤◌, length, take, slice_range, OnOk, OnErr};
+ghost use Rattle.dfu_slots.specs.Units.{IsWhole};
 ghost use Rattle.dfu_slots.specs.Medium.{MediumState, Fuse, Wrote, FailedWrite};
 ghost use Rattle.dfu_slots.specs.Medium.Fuse.{Armed, Whole};
 
+use crate::Unit;
 use thiserror::Error;
 
 /// A write failed: its range may hold any bytes now, and all other bytes are as they were.
@@ -12,24 +14,31 @@ pub struct Failed;
 
 /// Bytes that can be read and written, as a flash part or a file.
 pub trait Medium: Drop {
-    /// The bytes now, how often a write has failed, and what is known of the next writes.
+    /// The bytes now, how often a write has failed, what is known of the next writes, and the unit.
     ghost state: { Self → MediumState };
 
     /// How many bytes it has, always the same.
     fn len(&self) -> u32
         ensures { result ≡ length (state self.now).bytes };
 
+    /// In which unit it is written, always the same. It is read byte by byte.
+    fn unit(&self) -> Unit
+        ensures { result ≡ (state self.now).unit };
+
     /// Reads the bytes from `at` on. The range must lie within the length.
     fn read(&self, at: u32, out: &mut [u8])
         requires { at + length out.old ≤ length (state self.now).bytes }
         ensures { out.new ≡ slice_range (state self.now).bytes at (at + length out.old) };
 
-    /// Writes over the bytes from `at` on. The range must lie within the length.
+    /// Writes over the bytes from `at` on. The range must lie within the length, and `at` and the
+    /// number of bytes must be whole in the unit.
     ///
     /// After Ok exactly `bytes` stand there. After `Failed` any bytes may stand there, and the count
     /// of failures rose (at its last value, 2^64 - 1, it stays). All other bytes are as they were.
     fn write(&mut self, at: u32, bytes: &[u8]) -> Result<(), Failed>
-        requires { at + length bytes.now ≤ length (state self.old).bytes }
+        requires within { at + length bytes.now ≤ length (state self.old).bytes }
+        requires place { IsWhole (state self.old).unit at }
+        requires whole { IsWhole (state self.old).unit (length bytes.now) }
         ensures ok { OnOk result (Wrote (state self.old) at bytes.now (state self.new)) }
         ensures failed { OnErr result (FailedWrite (state self.old) at bytes.now (state self.new)) };
 }

@@ -1,18 +1,31 @@
 //! Opening a medium: the tests that tell whether it has an active image.
 ghost use Rattle.std.specs.Prelude.{◌≡◌, ◌/◌, OnOk, IfErr, length, IsTrue, ◌↔◌};
+ghost use Rattle.dfu_slots.specs.Units.{IsWhole};
 ghost use Rattle.dfu_slots.specs.Image.{HasImage, IsSized};
 ghost use Rattle.dfu_slots.specs.Changes.{IsOpenFault, FirstCounts, SecondCounts};
 
-use crate::layout::{DATA_AT, MAX_CAPACITY};
+use crate::layout::{MAX_CAPACITY, gate_size};
 use crate::read::{counts, find_places, header_len, is_newest};
-use crate::{Medium, OpenFault};
+use crate::{Medium, OpenFault, Unit};
 
-/// Whether the medium has a length that two slots can have.
+// Whether a length is a multiple of the unit's size.
+fn is_whole(unit: Unit, len: u32) -> bool
+    ensures { IsTrue result ↔ IsWhole unit len }
+{
+    len % unit.size() == 0
+}
+
+/// Whether the medium has a length that two slots can have, with whole units of data each.
 pub fn is_sized<M: Medium>(medium: &M) -> bool
     ensures { IsTrue result ↔ IsSized (M.state medium.now) }
 {
+    let unit = medium.unit();
+    let units = 2 * gate_size(unit);
     let len = medium.len();
-    len % 2 == 0 && len > 2 * DATA_AT && len <= 2 * (DATA_AT + MAX_CAPACITY)
+    len % 2 == 0
+        && len > 2 * units
+        && len <= 2 * (units + MAX_CAPACITY)
+        && is_whole(unit, len / 2 - units)
 }
 
 // Whether neither slot counts.

@@ -4,7 +4,7 @@ ghost use Rattle.dfu_slots.specs.Layout.{OPEN, slot_size, generation, HasHeader}
 ghost use Rattle.dfu_slots.specs.Image.{gate_of, IsSized, slot_of, capacity_of, counts, is_newest, active_at, spare_at};
 
 use crate::Medium;
-use crate::layout::{DATA_AT, OPEN_GATE, UNIT_SIZE, make_header_unit};
+use crate::layout::{OPEN_GATE, gate_size, make_header};
 
 /// Where the active slot stands, and where the spare one does.
 #[derive(Clone, Copy, Drop)]
@@ -22,12 +22,20 @@ fn byte_at<M: Medium>(medium: &M, at: u32) -> u8
     byte[0]
 }
 
+/// How many bytes the gate unit of a slot has, and as many its header unit, from 16 to 256.
+pub fn gate_of<M: Medium>(medium: &M) -> u32
+    ensures value { result ≡ gate_of (M.state medium.now) }
+    ensures most { result ≤ 256 }
+{
+    gate_size(medium.unit())
+}
+
 /// How many bytes of data each slot has.
 pub fn capacity_of<M: Medium>(medium: &M) -> u32
     requires { IsSized (M.state medium.now) }
     ensures { result ≡ capacity_of (M.state medium.now) }
 {
-    medium.len() / 2 - DATA_AT
+    medium.len() / 2 - 2 * gate_of(medium)
 }
 
 /// Whether the gate of the slot that begins there is open.
@@ -49,17 +57,17 @@ pub fn counts<M: Medium>(medium: &M, at: u32) -> bool
 /// The generation in the header of the slot that begins there.
 pub fn generation<M: Medium>(medium: &M, at: u32) -> u8
     requires sized { IsSized (M.state medium.now) }
-    requires within { at + 16 < length (M.state medium.now).bytes }
+    requires within { at + gate_of (M.state medium.now) < length (M.state medium.now).bytes }
     ensures { result ≡ generation (slot_of (M.state medium.now) at) }
 {
-    byte_at(medium, at + UNIT_SIZE)
+    byte_at(medium, at + gate_of(medium))
 }
 
 /// Whether the first of two slots counts, and the other one does not or is one generation behind.
 pub fn is_newest<M: Medium>(medium: &M, mine: u32, other: u32) -> bool
     requires sized { IsSized (M.state medium.now) }
-    requires mine { mine + 16 < length (M.state medium.now).bytes }
-    requires other { other + 16 < length (M.state medium.now).bytes }
+    requires mine { mine + gate_of (M.state medium.now) < length (M.state medium.now).bytes }
+    requires other { other + gate_of (M.state medium.now) < length (M.state medium.now).bytes }
     ensures { result ≡ is_newest (slot_of (M.state medium.now) mine) (slot_of (M.state medium.now) other) }
 {
     counts(medium, mine)
@@ -95,13 +103,22 @@ pub fn header_len<M: Medium>(medium: &M, at: u32) -> Option<u32>
     ensures none { IfNone result ((len : ℕ) → ¬ HasHeader (slot_of (M.state medium.now) at) len) }
 {
     let mut header = [0; 16];
-    medium.read(at + UNIT_SIZE, &mut header);
+    medium.read(at + gate_of(medium), &mut header);
     let len = u32::from_le_bytes([header[4], header[5], header[6], header[7]]);
-    if header == make_header_unit(header[0], len) && len <= capacity_of(medium) {
+    if header == make_header(header[0], len) && len <= capacity_of(medium) {
         Some(len)
     } else {
         None
     }
+}
+
+/// Where the data of the slot that begins there begins.
+pub fn data_at<M: Medium>(medium: &M, slot_at: u32) -> u32
+    requires sized { IsSized (M.state medium.now) }
+    requires slot { slot_at + slot_size (M.state medium.now).bytes ≤ length (M.state medium.now).bytes }
+    ensures { result ≡ slot_at + 2 * gate_of (M.state medium.now) }
+{
+    slot_at + 2 * gate_of(medium)
 }
 
 /// Reads from the data of the slot that begins there.
@@ -111,5 +128,5 @@ pub fn read_data<M: Medium>(medium: &M, slot_at: u32, at: u32, out: &mut [u8])
     requires within { at + length out.old ≤ capacity_of (M.state medium.now) }
     ensures { out.new ≡ slice_range (slot_of (M.state medium.now) slot_at).data_bytes at (at + length out.old) }
 {
-    medium.read(slot_at + DATA_AT + at, out);
+    medium.read(data_at(medium, slot_at) + at, out);
 }

@@ -1,9 +1,10 @@
 //! A medium in memory.
 ghost use Rattle.std.specs.Prelude.{◌≡◌, ◌+◌, ◌≤◌, length, take, replicate, IfOk};
+ghost use Rattle.dfu_slots.specs.Units.{IsWhole};
 ghost use Rattle.dfu_slots.specs.Medium.{written};
 ghost use Rattle.dfu_slots.specs.Medium.Fuse.{Whole};
 
-use crate::{Failed, Faulty, Medium};
+use crate::{Failed, Faulty, Medium, Unit};
 use arrayvec::ArrayVec;
 use std::alloc::{AllocError, Global};
 use std::marker::Model;
@@ -36,6 +37,7 @@ pub enum Mode {
 pub struct SimMedium {
     bytes: Vec<u8>,
     failures: u64,
+    unit: Unit,
     mode: Mode,
     writes: u32,
     tear: ArrayVec<u8, 4096>,
@@ -53,26 +55,41 @@ impl Model for SimMedium {
       bytes = m.bytes.items;
       failures = m.failures;
       fuse = fuse_of m.mode m.writes m.tear.items m.stop;
+      unit = m.unit;
     } };
 
     ghost invariant = { λ m. length m.bytes.items < 2 ^ 32 };
 }
 
 impl SimMedium {
-    /// A medium of `len` bytes FFh, which is not armed.
+    /// A medium of `len` bytes FFh, which is written in bytes and not armed.
     ///
     /// # Errors
     ///
     /// `NoMemory` where there is no memory for the bytes.
     pub fn new(alloc: Global, len: u32) -> Result<SimMedium, NoMemory>
         ensures { IfOk result (λ medium.
-            medium ≡ record { bytes = replicate len 255; failures = 0; fuse = Whole }) }
+            medium ≡ record { bytes = replicate len 255; failures = 0; fuse = Whole; unit = Unit.Byte }) }
+    {
+        SimMedium::with_unit(alloc, len, Unit::Byte)
+    }
+
+    /// A medium of `len` bytes FFh, which is written in this unit and not armed. `len` must be whole in it.
+    ///
+    /// # Errors
+    ///
+    /// `NoMemory` where there is no memory for the bytes.
+    pub fn with_unit(alloc: Global, len: u32, unit: Unit) -> Result<SimMedium, NoMemory>
+        requires { IsWhole unit len }
+        ensures { IfOk result (λ medium.
+            medium ≡ record { bytes = replicate len 255; failures = 0; fuse = Whole; unit = unit }) }
     {
         let mut bytes = Vec::new(alloc);
         bytes.resize(len as usize, 0xff)?;
         Ok(SimMedium {
             bytes,
             failures: 0,
+            unit,
             mode: Mode::Whole,
             writes: 0,
             tear: ArrayVec::new(),
@@ -105,6 +122,10 @@ impl Medium for SimMedium {
 
     fn len(&self) -> u32 {
         self.bytes.len() as u32
+    }
+
+    fn unit(&self) -> Unit {
+        self.unit
     }
 
     fn read(&self, at: u32, out: &mut [u8]) {

@@ -13,8 +13,9 @@ pub enum ScriptFault {
     /// This line sets something about the device after the first event line or `show`.
     #[error("line {0} sets up a device that has begun")]
     LateConfig(u32),
-    /// The device can't be set up like this (`ConfigFault`), or its image has more bytes than the
-    /// capacity. Looked for at the first event line or `show`, or at the end.
+    /// The device can't be set up like this (`ConfigFault`), or the capacity is no multiple of the
+    /// unit, or the image has more bytes than the capacity. Looked for at the first event line or
+    /// `show`, or at the end.
     #[error("no device can be set up like this")]
     BadConfig,
     /// The text has over 16,777,216 bytes.

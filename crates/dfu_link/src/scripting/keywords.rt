@@ -8,6 +8,7 @@ ghost use Rattle.dfu_link.specs.Keywords.{keyword_of, fate_keyword_of};
 pub(crate) enum Keyword {
     Ids,
     Device,
+    Unit,
     Capacity,
     Image,
     Limits,
@@ -42,6 +43,8 @@ pub(crate) fn read_keyword(word: &[u8]) -> Option<Keyword>
         Some(Keyword::Ids)
     } else if word == b"device".as_slice() {
         Some(Keyword::Device)
+    } else if word == b"unit".as_slice() {
+        Some(Keyword::Unit)
     } else if word == b"capacity".as_slice() {
         Some(Keyword::Capacity)
     } else if word == b"image".as_slice() {

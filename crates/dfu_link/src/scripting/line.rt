@@ -4,6 +4,7 @@ ghost use Rattle.std.specs.Prelude.{◌≤◌};
 
 use crate::fate::Fate;
 use crate::scripting::hex_text::HexText;
+use dfu_slots::Unit;
 use dfu_suffix::Ids;
 use dfu_wire::Functional;
 
@@ -27,6 +28,8 @@ pub(crate) enum Setting<'l> {
         busy_ms: u32,
         manifest_ms: u32,
     },
+    /// The unit in which the medium is written.
+    Unit(Unit),
     /// How many bytes an image may have.
     Capacity(Room),
     /// The image that the device has at first.

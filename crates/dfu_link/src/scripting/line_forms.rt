@@ -4,7 +4,7 @@ ghost use Rattle.std.specs.Prelude.{◌≡◌, None};
 ghost use Rattle.dfu_link.specs.Words.{Reads, words_of, ends};
 ghost use Rattle.dfu_link.specs.Comes.{fate_of, harm_in};
 ghost use Rattle.dfu_link.specs.Said.{said_of, Go, Does, functional_of, harm_fate};
-ghost use Rattle.dfu_link.specs.Lines.{small_at, ids_of, device_of, capacity_of, image_of, limits_of, offer_of, time_of, pass_of, slip_of, harmed_of, by_fate, go_of};
+ghost use Rattle.dfu_link.specs.Lines.{small_at, ids_of, device_of, unit_named, unit_of, capacity_of, image_of, limits_of, offer_of, time_of, pass_of, slip_of, harmed_of, by_fate, go_of};
 
 use crate::fate::Fate;
 use crate::scripting::fields::{
@@ -13,6 +13,7 @@ use crate::scripting::fields::{
 use crate::scripting::keywords::{FateKeyword, read_fate};
 use crate::scripting::line::{Deed, Harm, Line, Room, Setting};
 use crate::scripting::words::word_at;
+use dfu_slots::Unit;
 use dfu_suffix::Ids;
 use dfu_wire::Functional;
 
@@ -66,6 +67,29 @@ pub(crate) fn device(line: &[u8]) -> Option<Line<'_>>
         manifest_ms,
     });
     ended(said, rest)
+}
+
+/// The unit of so many bytes.
+fn unit_named(bytes: u32) -> Option<Unit>
+    ensures { result ≡ unit_named bytes }
+{
+    match bytes {
+        1 => Some(Unit::Byte),
+        16 => Some(Unit::U16),
+        64 => Some(Unit::U64),
+        256 => Some(Unit::U256),
+        _ => None,
+    }
+}
+
+/// `unit N`.
+#[tactic(auto, unfolding(crate::specs::Lines::unit_of))]
+pub(crate) fn unit(line: &[u8]) -> Option<Line<'_>>
+    ensures { Reads said_of result (unit_of (words_of line.now)) }
+{
+    let (n, rest) = number_at(line)?;
+    let unit = unit_named(n)?;
+    ended(Line::Set(Setting::Unit(unit)), rest)
 }
 
 /// `capacity N`.

@@ -8,7 +8,7 @@ ghost use Rattle.dfu_link.specs.Lines.{is_comment, says, by_keyword, line_of};
 use crate::scripting::fields::ended;
 use crate::scripting::keywords::{Keyword, read_keyword};
 use crate::scripting::line::{Deed, Line};
-use crate::scripting::line_forms::{capacity, device, go, ids, image, limits, offer, time};
+use crate::scripting::line_forms::{capacity, device, go, ids, image, limits, offer, time, unit};
 use crate::scripting::words::word_at;
 
 /// The most bytes of a line, without its 0Ah.
@@ -20,6 +20,7 @@ fn by_keyword(keyword: Keyword, rest: &[u8]) -> Option<Line<'_>>
     match keyword {
         Keyword::Ids => ids(rest),
         Keyword::Device => device(rest),
+        Keyword::Unit => unit(rest),
         Keyword::Capacity => capacity(rest),
         Keyword::Image => image(rest),
         Keyword::Limits => limits(rest),

@@ -8,10 +8,11 @@ ghost use Rattle.dfu_link.specs.Stands.{stand_of};
 use crate::scripting::hex_text::HexText;
 use crate::scripting::line::{Room, Setting};
 use dfu_host::Limits;
+use dfu_slots::Unit;
 use dfu_suffix::Ids;
 use dfu_wire::Functional;
 
-/// What is set: what `Config::new` takes, how many bytes an image may have, the image at first (the
+/// What is set: what `Config::new` takes, the unit in which the medium is written, how many bytes an image may have, the image at first (the
 /// byte 00 where there is none), and the limits of sessions.
 #[derive(Clone, Copy)]
 pub(crate) struct Setup<'t> {
@@ -20,6 +21,7 @@ pub(crate) struct Setup<'t> {
     pub least: u32,
     pub busy_ms: u32,
     pub manifest_ms: u32,
+    pub unit: Unit,
     pub room: Room,
     pub image: Option<HexText<'t>>,
     pub limits: Limits,
@@ -47,6 +49,7 @@ pub(crate) fn beginning<'t>() -> Setup<'t>
         least: 1,
         busy_ms: 5,
         manifest_ms: 10,
+        unit: Unit::Byte,
         room: Room { bytes: 64 },
         image: None,
         limits: Limits {
@@ -76,6 +79,7 @@ pub(crate) fn set<'t>(setup: &mut Setup<'t>, setting: Setting<'t>)
                 ..*setup
             };
         }
+        Setting::Unit(unit) => setup.unit = unit,
         Setting::Capacity(room) => setup.room = room,
         Setting::Image(text) => setup.image = Some(text),
     }

@@ -1,6 +1,7 @@
 //! The start of the device.
 
-ghost use Rattle.std.specs.Prelude.{◌≡◌, ◌<◌, IfOk, IfErr};
+ghost use Rattle.std.specs.Prelude.{◌≡◌, ◌<◌, ◌+◌, ◌*◌, IfOk, IfErr};
+ghost use Rattle.dfu_slots.specs.Units.{gate_size, IsWhole};
 ghost use Rattle.dfu_link.specs.Said.{hex_bytes};
 ghost use Rattle.dfu_link.specs.ScriptRun.{Starts};
 ghost use Rattle.dfu_link.specs.Falls.{StartFalls};
@@ -13,7 +14,7 @@ use crate::scripting::hex_text::HexText;
 use crate::scripting::line::Room;
 use crate::scripting::setup::Setup;
 use dfu_device::{Config, Device};
-use dfu_slots::{FormatFault, SimMedium, Slots};
+use dfu_slots::{FormatFault, SimMedium, Slots, Unit};
 use std::alloc::Global;
 
 /// The bytes of a hexadecimal text.
@@ -44,12 +45,28 @@ fn first_image(alloc: Global, text: Option<HexText<'_>>) -> Result<Vec<u8>, Scri
     }
 }
 
-/// A medium in memory, formatted with the image.
-fn form(alloc: Global, room: Room, image: &[u8]) -> Result<Slots<SimMedium>, ScriptFault>
-    ensures ok { IfOk result (λ slots. Formed room.bytes image.now slots) }
-    ensures fault { IfErr result (λ f. FormFalls room.bytes image.now f) }
+/// How many bytes a medium of two slots has that is written in this unit, with so much room.
+fn medium_len(unit: Unit, room: Room) -> u32
+    ensures value { result ≡ 2 * (2 * gate_size unit + room.bytes) }
+    ensures whole { IsWhole unit room.bytes → IsWhole unit result }
 {
-    let Ok(medium) = SimMedium::new(alloc, 2 * (32 + room.bytes)) else {
+    2 * (2 * unit.size().max(16) + room.bytes)
+}
+
+/// A medium in memory, formatted with the image.
+fn form(
+    alloc: Global,
+    unit: Unit,
+    room: Room,
+    image: &[u8],
+) -> Result<Slots<SimMedium>, ScriptFault>
+    ensures ok { IfOk result (λ slots. Formed unit room.bytes image.now slots) }
+    ensures fault { IfErr result (λ f. FormFalls unit room.bytes image.now f) }
+{
+    if room.bytes % unit.size() != 0 {
+        return Err(ScriptFault::BadConfig);
+    }
+    let Ok(medium) = SimMedium::with_unit(alloc, medium_len(unit, room), unit) else {
         return Err(ScriptFault::NoMemory);
     };
     match Slots::format(medium, image) {
@@ -79,6 +96,6 @@ pub(crate) fn start(alloc: Global, setup: &Setup<'_>) -> Result<Device<SimMedium
         return Err(ScriptFault::BadConfig);
     };
     let image = first_image(alloc, setup.image)?;
-    let slots = form(alloc, setup.room, &image)?;
+    let slots = form(alloc, setup.unit, setup.room, &image)?;
     Ok(Device::start(config, slots))
 }

@@ -61,6 +61,29 @@ fn scripts_go_on_after_losses(rt: HostRuntime) -> Result<(), Fail> {
     Ok(())
 }
 
+/// Media that are written in units of more than one byte.
+#[rattlefmt::skip]
+#[test]
+fn scripts_write_whole_units(rt: HostRuntime) -> Result<(), Fail> {
+    let rows = [
+        ("unit 64 / offer W / go pass 13", INSTALLED),
+        ("unit 16 / offer N / go pass 17", "report installed\nimage 313233343536373839\n"),
+        ("unit 256 / capacity 256 / image 0001 / offer N / go pass 3 / show / go pass 14", "state dfuIDLE status OK image 0001\nreport installed\nimage 313233343536373839\n"),
+        ("unit 64 / unit 1 / capacity 4 / offer W / go pass 13", INSTALLED),
+        ("unit 16 / offer N / go pass 14 / go cut 1 a5", "report restarts-spent\nimage 00\n"),
+        ("unit 16 / offer N / go pass 14 / go cut 2 a5", "report restarts-spent\nimage 313233343536373839\n"),
+        ("unit 16 / limits 100 1 / offer N / go pass 10 / cut / go pass 17", "report installed\nimage 313233343536373839\n"),
+        ("unit 16 / offer N / go pass 14 / go fail 0 aa / go pass 1", "report refused errPROG\nimage 00\n"),
+    ];
+    for (row, out) in rows {
+        let text = text_of(rt.alloc(), row)?;
+        let mut seen = Vec::new(rt.alloc());
+        assert_eq!(rt; script(rt.alloc(), text.as_slice(), &mut seen), Ok(()), "of {row}");
+        assert_eq!(rt; seen.as_slice(), out.as_bytes(), "of {row}");
+    }
+    Ok(())
+}
+
 /// Power that is cut, in an action and between actions.
 #[rattlefmt::skip]
 #[test]
@@ -167,6 +190,9 @@ fn scripts_fall_at_a_line(rt: HostRuntime) -> Result<(), Fail> {
         ("# a / / time 1 / image 00", "", ScriptFault::LateConfig(4)),
         ("offer W / go pass 13 / offer W / ids 0000 0000 0000", "report installed\n", ScriptFault::LateConfig(4)),
         ("show / ids 0000 0000 000", "state appIDLE status OK image 00\n", ScriptFault::BadLine(2)),
+        ("show / unit 16", "state appIDLE status OK image 00\n", ScriptFault::LateConfig(2)),
+        ("unit 16 / capacity 3", "", ScriptFault::BadConfig),
+        ("unit 256 / show", "", ScriptFault::BadConfig),
         ("device 07 255 0 1 5 10", "", ScriptFault::BadConfig),
         ("device 07 255 4097 1 5 10 / show / bogus", "", ScriptFault::BadConfig),
         ("device 07 255 0 1 5 10 / go pass", "", ScriptFault::BadLine(2)),

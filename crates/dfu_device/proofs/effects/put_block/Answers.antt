@@ -1,7 +1,8 @@
-use Rattle.std.proofs.Common.{◌≡◌, ℕ, ◌+◌, ◌≤◌, ◌++◌, length, take, OnOk, refl, sym, subst, arith, is_ok}
+use Rattle.std.proofs.Common.{◌≡◌, true, ℕ, ◌+◌, ◌≤◌, ◌++◌, length, take, OnOk, refl, sym, subst, arith, is_ok}
 use Rattle.dfu_slots.specs.Seen.{spare_of, room_of}
+use Rattle.dfu_device.specs.Inside.{is_put}
 use Rattle.std.proofs.lemmas.Result.{err_from_is_err_and}
-use Rattle.dfu_device.proofs.Calls.{block_begun, block_not_begun, spare_put, fits_spare}
+use Rattle.dfu_device.proofs.Calls.{block_begun, block_not_begun, spare_put, fits_spare, put_on, rose_since}
 use Rattle.dfu_device.proofs.effects.put_block.Goals as goal
 
 pub returns-then-written-gt0-clause-spare : goal.returns-then-written-gt0-clause-spare
@@ -19,10 +20,21 @@ pub returns-clause-spare : goal.returns-clause-spare
 returns-clause-spare g c =
     let none : c.args.written ≡ 0 = omega (arith, c.if-written-gt0.false) in
     subst (λ (k : ℕ). OnOk c.put-2.result (take (k + length c.args.block.now) (spare_of c.put-2.new.self) ≡ take k (spare_of c.args.slots.now) ++ c.args.block.now)) (sym none)
-    (spare_put c.put-2.result c.args.slots.now c.begin.new.self c.put-2.new.self 0 c.args.block.now c.in_ok-begin.ensures.spare (omega arith) c.put-2.ensures.spare)
+    (spare_put c.put-2.result c.args.slots.now c.begin.new.self c.put-2.new.self 0 c.args.block.now refl (omega arith) c.put-2.ensures.spare)
 
 pub returns-in_err-begin-clause-calls : goal.returns-in_err-begin-clause-calls
 returns-in_err-begin-clause-calls g c =
     let none : c.args.written ≡ 0 = omega (arith, c.if-written-gt0.false) in
     let p = err_from_is_err_and c.from_residual.result c.from_residual.ensures.1 in
     rw p.1 (block_not_begun c.args.slots.now c.begin.new.self c.args.written c.args.block.now none c.in_err-begin.ensures.call)
+
+pub returns-clause-put : goal.returns-clause-put
+returns-clause-put g c =
+    let none : c.args.written ≡ 0 = omega (arith, c.if-written-gt0.false) in
+    subst (λ (k : ℕ). OnOk c.put-2.result (is_put (k + length c.args.block.now) c.put-2.new.self ≡ true)) (sym none)
+    (put_on c.put-2.result c.begin.new.self c.put-2.new.self (0 + length c.args.block.now) c.in_ok-begin.ensures.shut c.put-2.ensures.shut c.put-2.ensures.end)
+
+pub returns-clause-err : goal.returns-clause-err
+returns-clause-err g c =
+    let fits : 0 + length c.args.block.now ≤ room_of c.begin.new.self = omega (arith, c.requires.room, c.in_ok-begin.ensures.room) in
+    rose_since c.put-2.result c.args.slots.now.medium.failures c.begin.new.self.medium.failures c.put-2.new.self.medium.failures c.in_ok-begin.ensures.call.count (c.put-2.ensures.call c.in_ok-begin.ensures.shut fits).rose

@@ -1,3 +1,5 @@
+use Rattle.std.proofs.Common.{arith}
+use Rattle.dfu_link.proofs.Reserved.{on_fine}
 use Rattle.dfu_link.proofs.Chains.{no_more, chain_runs, chain_follows, ran_on, stopped_full, stopped_refused, ran_all}
 use Rattle.dfu_link.proofs.CleanRuns.{ran_clean, stopped_clean}
 use Rattle.dfu_link.proofs.running.run.Goals as goal
@@ -24,3 +26,6 @@ pub returns : goal.returns
 returns g c =
     let chain = ran_all c.args.events.now c.loop-i.i c.loop-i-test.false c.loop-i.invariant in
     record { runs = chain_runs chain; legal = λ m a. chain_follows chain m a; clean = λ file limits payload count can is most. ran_clean file limits payload count chain can is most }
+
+pub note-requires : goal.note-requires
+note-requires g c = omega (arith, on_fine c.reserve.result c.if-is_err.ensures.value c.reserve.ensures.ok)

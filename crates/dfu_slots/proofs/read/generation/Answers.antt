@@ -1,6 +1,9 @@
-use Rattle.std.proofs.Common.{◌∙◌}
+use Rattle.std.proofs.Common.{ℕ, ◌+◌, slice_index, ap, ◌∙◌}
+use Rattle.dfu_slots.specs.Image.{gate_of}
 use Rattle.dfu_slots.proofs.Parts.{generation_at}
 use Rattle.dfu_slots.proofs.read.generation.Goals as goal
 
 pub returns : goal.returns
-returns g c = c.byte_at.ensures ∙ generation_at 16 (g.M.Medium.state c.args.medium.now).bytes c.args.at
+returns g c =
+    let m = g.M.Medium.state c.args.medium.now in
+    c.byte_at.ensures ∙ ap (λ (n : ℕ). slice_index m.bytes (c.args.at + n)) c.gate_of.ensures.value ∙ generation_at (gate_of m) m.bytes c.args.at

@@ -1,5 +1,5 @@
 use Rattle.std.proofs.Common.{length}
-use Rattle.dfu_device.proofs.Commits.{commit_ready, committed, not_committed}
+use Rattle.dfu_device.proofs.Commits.{commit_ready, rested_sound, committed, not_committed}
 use Rattle.dfu_device.proofs.machine.Machine.commit_taken.Goals as goal
 
 pub returns-in-Ok-clause-done : goal.returns-in-Ok-clause-done
@@ -13,3 +13,6 @@ returns-in-Err-clause-failed g c =
     let d = c.args.self.now in
     let r = commit_ready d.mode (length d.block.items) c.args.written d.slots c.requires.mode d.sound in
     λ off. not_committed d.config d.slots c.commit.new.self d.block.items c.args.written r (c.in-Err.ensures.call r.begun r.room) c.in-Err.ensures.kept c.in-Err.ensures.room
+
+pub invariant_of-self : goal.invariant_of-self
+invariant_of-self g c = record { sound = rested_sound c.args.next (length c.args.self.now.block.items) c.commit.new.self c.requires.next c.in-Ok.ensures.shape }

@@ -1,6 +1,9 @@
-use Rattle.std.proofs.Common.{rules, arith}
+use Rattle.std.proofs.Common.{◌∙◌, arith}
+use Rattle.dfu_slots.specs.Seen.{image_of}
 use Rattle.dfu_device.proofs.Pieces.{next_bytes}
 use Rattle.dfu_device.proofs.machine.Machine.read_piece.Goals as goal
 
 pub returns-then-count-gt0-clause-bytes : goal.returns-then-count-gt0-clause-bytes
-returns-then-count-gt0-clause-bytes g c = search (rules, arith, next_bytes)
+returns-then-count-gt0-clause-bytes g c =
+    c.copy_image.ensures
+    ∙ next_bytes (image_of c.args.self.now.slots) c.args.place c.min-count.result c.args.len (omega (arith, c.requires.len, c.min-count.ensures, c.saturating_sub-rest.ensures, c.active_len.ensures.image))

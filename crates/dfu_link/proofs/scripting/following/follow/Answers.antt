@@ -3,12 +3,13 @@ use Rattle.std.proofs.Common.{arith, ◌∙◌, ◌+◌, ap, subst, List, ℕ, [
 use Rattle.dfu_link.specs.Comes.{LinkState}
 use Rattle.dfu_device.specs.Shown.{Shown}
 use Rattle.std.specs.Io.KnownBytes.{Appends}
+use Rattle.dfu_link.specs.Writing.{Broke}
 use Rattle.dfu_link.specs.Words.{lines_of}
 use Rattle.dfu_link.specs.Texts.{image_line}
 use Rattle.dfu_link.specs.ScriptRun.{point}
 use Rattle.dfu_link.specs.Moving.{Steps, Moves}
 use Rattle.dfu_link.proofs.MoveLaws.{moves_none, moves_then, ends_now}
-use Rattle.dfu_link.proofs.FallLaws.{taken_falls}
+use Rattle.dfu_link.proofs.FallLaws.{falls_next, taken_falls}
 use Rattle.dfu_link.proofs.scripting.following.follow.Goals as goal
 
 pub lines-init : goal.lines-init
@@ -28,6 +29,22 @@ returns-in-None-clause-ok g c =
     let m : Moves p k lines old (point l b) k1 [] mid = subst (λ (ls : List (List ℕ)). Moves p k lines old (point l b) k1 ls mid) (c.in-None.ensures.next).0 c.lines.invariant.moves in
     let told : Appends mid new (image_line b.device) = subst (λ (d : Shown). Appends mid new (image_line d)) (c.device.ensures.device ∙ ap (λ (x : LinkState). x.bench.device) (c.in-Err.ensures.err).1) c.in_ok-write_image-in-None.ensures.ok in
     ends_now p (point l b) k k1 lines old mid new m told
+
+pub returns-in_err-write_image-in-None-clause-fault : goal.returns-in_err-write_image-in-None-clause-fault
+returns-in_err-write_image-in-None-clause-fault g c =
+    let failed = err_from_is_err_and c.from_residual.result c.from_residual.ensures.1 in
+    let p = point c.args.limits.now c.args.world.bench in
+    let k = c.args.lines.now.number + 1 in
+    let k1 = c.lines.lines.number + 1 in
+    let lines = lines_of c.args.lines.now.rest.now in
+    let old = g.W.Write.contents c.args.writer.now in
+    let mid = g.W.Write.contents c.lines.writer in
+    let new = g.W.Write.contents c.write_image.new.writer in
+    let l = c.lines.limits in
+    let b = c.lines.world.bench in
+    let m : Moves p k lines old (point l b) k1 [] mid = subst (λ (ls : List (List ℕ)). Moves p k lines old (point l b) k1 ls mid) (c.in-None.ensures.next).0 c.lines.invariant.moves in
+    let broke : Broke mid new (image_line b.device) = subst (λ (d : Shown). Broke mid new (image_line d)) (c.device.ensures.device ∙ ap (λ (x : LinkState). x.bench.device) (c.in-Err.ensures.err).1) c.in_err-write_image-in-None.ensures.err in
+    rw (failed.1, failed.2) (falls_next p (point l b) k k1 lines [] old mid new _ m (c.in_err-write_image-in-None.ensures.fault, broke))
 
 pub returns-in_err-live_line-in-Some-clause-fault : goal.returns-in_err-live_line-in-Some-clause-fault
 returns-in_err-live_line-in-Some-clause-fault g c =

@@ -11,10 +11,11 @@ pub returns-clause-ok : goal.returns-clause-ok
 returns-clause-ok c =
     let setup = c.args.setup.now in
     let image : c.deref.result.now ≡ image_bytes setup.image = c.deref.ensures.value ∙ c.in_ok-image.ensures.ok in
-    let formed : Formed setup.room.bytes (image_bytes setup.image) c.in_ok-slots.slots = subst (λ (bytes : List ℕ). Formed setup.room.bytes bytes c.in_ok-slots.slots) image c.in_ok-slots.ensures.ok in
+    let formed : Formed setup.unit setup.room.bytes (image_bytes setup.image) c.in_ok-slots.slots = subst (λ (bytes : List ℕ). Formed setup.unit setup.room.bytes bytes c.in_ok-slots.slots) image c.in_ok-slots.ensures.ok in
     rw c.start.ensures (record {
       config = c.in-Ok.ensures.ok;
       allowed = c.in-Ok.ensures.allowed;
+      whole = formed.whole;
       fits = formed.fits;
       formatted = formed.formatted;
       image = formed.image_is;
