@@ -19,16 +19,12 @@ dfu_requires : dfu_app.top.subcommand_required ≡ true
 unfolding dfu_app
 dfu_requires = refl
 
--- A subcommand has its name and its rows.
-pub pair_is : {Z : Type 0} (o : Option (Box SubCommand Z)) (name : Text) (rows : List Row) →
-    Some name ≡ option_map (λ b. (out-SubCommand (box_value b)).name.now) o → Some rows ≡ option_map (λ p. p.1) (subcommand_rows o) → subcommand_rows o ≡ Some (name, rows)
-pair_is None name rows h k = cc
-pair_is (Some b) name rows h k = cc
-
 -- What a parse of this command says is what clap states for it and the words.
-pub stated : (app : App) (words : List Text) (m : ArgMatches) → app ≡ dfu_app → HasMatchesOf app words m → subcommand_rows_of m ≡ subcommand_of dfu_app words
+pub stated : (app : App) (words : List Text) (m : ArgMatches) → app ≡ dfu_app → HasMatchesOf app words m →
+    subcommand_rows_of m ≡ subcommand_of dfu_app words
 stated app words m e h = (h (ap is_simple e ∙ dfu_simple)).1 ∙ ap (λ (a : App). subcommand_of a words) e
 
 -- A parse of this command met a subcommand.
-pub met : (command : Command) (m : ArgMatches) → app_of command ≡ dfu_app → (out-Command command).has_globals ≡ false → IsParsedFrom command m → has_subcommand m ≡ true
+pub met : (command : Command) (m : ArgMatches) → app_of command ≡ dfu_app → (out-Command command).has_globals ≡ false →
+    IsParsedFrom command m → has_subcommand m ≡ true
 met command m e globals parsed = subcommand_required command m parsed globals (ap (λ (a : App). a.top.subcommand_required) e ∙ dfu_requires)

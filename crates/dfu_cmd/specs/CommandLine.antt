@@ -46,6 +46,8 @@ States None job = ⊥
 States (Some p) (Check file) = (p.0 ≡ codes "check") × (first_of (codes "file") p.1 ≡ Some (string_bytes file))
 States (Some p) (Add file to vid pid did) =
     (p.0 ≡ codes "add") × (first_of (codes "file") p.1 ≡ Some (string_bytes file)) × (first_of (codes "to") p.1 ≡ Some (string_bytes to))
-    × (first_of (codes "vid") p.1 ≡ Some (string_bytes vid)) × (first_of (codes "pid") p.1 ≡ Some (string_bytes pid)) × (first_of (codes "did") p.1 ≡ Some (string_bytes did))
-States (Some p) (Show kind hex) = (p.0 ≡ codes "show") × (first_of (codes "kind") p.1 ≡ Some (string_bytes kind)) × (first_of (codes "hex") p.1 ≡ Some (string_bytes hex))
+    × (first_of (codes "vid") p.1 ≡ Some (string_bytes vid)) × (first_of (codes "pid") p.1 ≡ Some (string_bytes pid))
+    × (first_of (codes "did") p.1 ≡ Some (string_bytes did))
+States (Some p) (Show kind hex) = (p.0 ≡ codes "show") × (first_of (codes "kind") p.1 ≡ Some (string_bytes kind))
+    × (first_of (codes "hex") p.1 ≡ Some (string_bytes hex))
 States (Some p) (Run script) = (p.0 ≡ codes "run") × (first_of (codes "script") p.1 ≡ Some (string_bytes script))

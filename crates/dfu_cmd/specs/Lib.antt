@@ -1,9 +1,10 @@
 pub mod Exits
 pub mod Output
-pub mod Lines
-pub mod Checking
+pub mod AnswerLines
+pub mod CheckText
 pub mod CommandLine
+pub mod Identifiers
 pub mod ShowLines
-pub mod Showing
-pub mod Adding
-pub mod Running
+pub mod ShowText
+pub mod AddText
+pub mod RunText

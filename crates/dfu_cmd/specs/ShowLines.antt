@@ -10,7 +10,7 @@ use Rattle.dfu_wire.specs.declared.functionals.Functional.{Functional}
 use Rattle.dfu_wire.specs.declared.fault.WireFault.{WireFault}
 use Rattle.dfu_wire.specs.FaultName.{wire_fault_name}
 use Rattle.dfu_suffix.specs.declared.fault.SuffixFault.TheVariants.{NoMemory}
-use Rattle.dfu_cmd.specs.Lines.{fault_line, hex}
+use Rattle.dfu_cmd.specs.AnswerLines.{fault_line, hex}
 
 -- A flag is written as `yes` or `no`.
 abbrev pub yes_no : Bool → List ℕ
@@ -22,7 +22,8 @@ unfoldable pub functional_line : Functional → List ℕ
 functional_line f =
     codes "functional" ++ (codes " download " ++ yes_no f.can_download) ++ (codes " upload " ++ yes_no f.can_upload)
     ++ (codes " tolerant " ++ yes_no f.tolerant) ++ (codes " will-detach " ++ yes_no f.will_detach)
-    ++ (codes " detach " ++ decimal f.detach_ms) ++ (codes " transfer " ++ decimal f.transfer) ++ (codes " version " ++ hex 4 f.version) ++ 10 ∷ []
+    ++ (codes " detach " ++ decimal f.detach_ms) ++ (codes " transfer " ++ decimal f.transfer)
+    ++ (codes " version " ++ hex 4 f.version) ++ 10 ∷ []
 
 -- The line for a status is `status CODE poll N state STATE string N`.
 unfoldable pub status_line : StatusFields → ℕ → List ℕ

@@ -1,18 +1,19 @@
-// `dfu add`: a file with a suffix, and the line for it.
+//! `dfu add`: a file with a suffix, and the line for it.
 
 ghost use Rattle.std.specs.Prelude.{◌≡◌, IfOk};
 ghost use Rattle.std.specs.String.{string_bytes};
-ghost use Rattle.dfu_cmd.specs.Adding.{WritesAdd, wrote_line};
+ghost use Rattle.dfu_cmd.specs.AddText.{WritesAdd, wrote_line};
 
 use crate::exit::Exit;
 use crate::faults::fault_text;
 use crate::numbers::field;
 use crate::output::write_out;
-use dfu_suffix::{Ids, SuffixFault, add};
+use dfu_suffix::{SuffixFault, add};
+use dfu_wire::Ids;
 use std::alloc::{AllocError, Global};
 use std::io::{Read, Write};
 
-#[tactic(auto, unfolding(crate::specs::Adding::wrote_line))]
+#[tactic(auto, unfolding(crate::specs::AddText::wrote_line))]
 fn wrote_line(alloc: Global, count: u32) -> Result<String, AllocError>
     ensures { IfOk result (λ t. string_bytes t ≡ wrote_line count) }
 {

@@ -1,9 +1,9 @@
-// `dfu check`: the line for a file.
+//! `dfu check`: the line for a file.
 
 ghost use Rattle.std.specs.Prelude.{◌≡◌, IfOk};
 ghost use Rattle.std.specs.String.{string_bytes};
-ghost use Rattle.dfu_cmd.specs.Lines.{ok_line};
-ghost use Rattle.dfu_cmd.specs.Checking.{WritesCheck};
+ghost use Rattle.dfu_cmd.specs.AnswerLines.{ok_line};
+ghost use Rattle.dfu_cmd.specs.CheckText.{WritesCheck};
 
 use crate::exit::Exit;
 use crate::faults::fault_text;
@@ -13,7 +13,7 @@ use dfu_suffix::{SuffixFault, Summary, check};
 use std::alloc::{AllocError, Global};
 use std::io::{Read, Write};
 
-#[tactic(auto, unfolding(crate::specs::Lines::ok_line))]
+#[tactic(auto, unfolding(crate::specs::AnswerLines::ok_line))]
 fn ok_line(alloc: Global, summary: &Summary) -> Result<String, AllocError>
     ensures { IfOk result (λ t. string_bytes t ≡ ok_line summary.now) }
 {

@@ -1,4 +1,4 @@
-// The command line, as clap has it.
+//! The command line, as clap has it.
 
 ghost use Rattle.std.specs.Prelude.{◌≡◌, IfOk, false, true};
 ghost use Rattle.clap.specs.Words.{app_of, new_app, rule_of, with_rule, with_subcommand};
@@ -9,7 +9,7 @@ use crate::help;
 use clap::{Arg, ArgAction, Command};
 use std::alloc::{AllocError, Global};
 
-// A positional argument that has to be there.
+/// A positional argument that has to be there.
 fn needed<'a>(alloc: Global, id: &'a str, name: &'a str, help: &'a str) -> Arg<'a>
     ensures rule { rule_of result ≡ needed id.entry.now }
     ensures local { result.global ≡ false }
@@ -21,7 +21,7 @@ fn needed<'a>(alloc: Global, id: &'a str, name: &'a str, help: &'a str) -> Arg<'
         .help(help)
 }
 
-// An option with a value, which has a default.
+/// An option with a value, which has a default.
 fn option<'a>(alloc: Global, id: &'a str, default: &'a str, help: &'a str) -> Arg<'a>
     ensures rule { rule_of result ≡ option id.entry.now default.entry.now }
     ensures local { result.global ≡ false }
@@ -33,7 +33,7 @@ fn option<'a>(alloc: Global, id: &'a str, default: &'a str, help: &'a str) -> Ar
         .help(help)
 }
 
-// A command with one argument more.
+/// A command with one argument more.
 fn with<'a>(command: Command<'a>, arg: Arg<'a>) -> Result<Command<'a>, AllocError>
     requires plain { (out-Command command).has_globals ≡ false }
     requires here { arg.global ≡ false }
@@ -43,7 +43,7 @@ fn with<'a>(command: Command<'a>, arg: Arg<'a>) -> Result<Command<'a>, AllocErro
     command.arg(arg)
 }
 
-// A command with one subcommand more.
+/// A command with one subcommand more.
 fn with_sub<'a>(command: Command<'a>, sub: Command<'a>) -> Result<Command<'a>, AllocError>
     requires plain { (out-Command command).has_globals ≡ false }
     requires here { (out-Command sub).has_globals ≡ false }
@@ -53,7 +53,7 @@ fn with_sub<'a>(command: Command<'a>, sub: Command<'a>) -> Result<Command<'a>, A
     command.subcommand(sub)
 }
 
-// A command with no arguments yet.
+/// A command with no arguments yet.
 fn described<'a>(alloc: Global, name: &'a str, about: &'a str, example: &'a str) -> Command<'a>
     ensures app { app_of result ≡ new_app name.entry.now }
     ensures local { (out-Command result).has_globals ≡ false }
@@ -98,7 +98,7 @@ fn run_command<'a>(alloc: Global) -> Result<Command<'a>, AllocError>
     with(command, needed(alloc, "script", "SCRIPT", help::RUN_SCRIPT))
 }
 
-// The command before its subcommands: it has to get one of them.
+/// The command before its subcommands: it has to get one of them.
 fn top_command<'a>(alloc: Global) -> Result<Command<'a>, AllocError>
     ensures app { IfOk result (λ c. app_of c ≡ top_app) }
     ensures local { IfOk result (λ c. (out-Command c).has_globals ≡ false) }
@@ -108,7 +108,7 @@ fn top_command<'a>(alloc: Global) -> Result<Command<'a>, AllocError>
         .bin_name("dfu")
 }
 
-// The whole command.
+/// The whole command.
 #[tactic(auto, unfolding(crate::specs::CommandLine::dfu_app))]
 pub(crate) fn dfu_command<'a>(alloc: Global) -> Result<Command<'a>, AllocError>
     ensures app { IfOk result (λ c. app_of c ≡ dfu_app) }

@@ -1,4 +1,4 @@
-// How a command ended.
+//! How a command ended.
 
 ghost use Rattle.std.specs.Prelude.{◌≡◌};
 ghost use Rattle.dfu_cmd.specs.Exits.{status_of};

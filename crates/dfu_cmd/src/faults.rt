@@ -1,7 +1,7 @@
-// The lines for what is refused and for what failed.
+//! The lines for what is refused and for what failed.
 
 ghost use Rattle.std.specs.Prelude.{◌≡◌};
-ghost use Rattle.dfu_cmd.specs.Lines.{bad_words_line, fault_line, fault_exit};
+ghost use Rattle.dfu_cmd.specs.AnswerLines.{bad_words_line, fault_line, fault_exit};
 ghost use Rattle.dfu_cmd.specs.Output.{Wrote};
 
 use crate::exit::Exit;
@@ -9,7 +9,7 @@ use crate::output::write_out;
 use dfu_suffix::SuffixFault;
 use std::io::Write;
 
-#[tactic(auto, unfolding(crate::specs::Lines::fault_line))]
+#[tactic(auto, unfolding(crate::specs::AnswerLines::fault_line))]
 pub(crate) fn fault_line(fault: SuffixFault) -> &'static str
     ensures { result.now ≡ fault_line fault }
 {
@@ -46,7 +46,7 @@ pub fn fault_text<W: Write>(fault: SuffixFault, writer: &mut W) -> Exit
     write_out(writer, fault_line(fault).as_bytes(), fault_exit(fault))
 }
 
-// Writes the line for words that aren't understood.
+/// Writes the line for words that aren't understood.
 pub(crate) fn bad_words<W: Write>(writer: &mut W) -> Exit
     ensures { Wrote (W.contents writer.old) (W.contents writer.new) bad_words_line Exit.BadWords result }
 {

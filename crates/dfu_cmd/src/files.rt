@@ -1,16 +1,17 @@
-// Files that the commands open and make.
+//! Files that the commands open and make.
 
 use crate::adding::add_text;
 use crate::checking::check_text;
 use crate::exit::Exit;
-use crate::faults::{bad_words, fault_text};
+use crate::faults::fault_text;
 use crate::output::write_out;
 use crate::running::run_text;
-use dfu_suffix::{Ids, SuffixFault};
+use dfu_suffix::SuffixFault;
+use dfu_wire::Ids;
 use std::fs;
 use std::io::{self, Write};
 
-// Checks a file, or standard input where the name is `-`.
+/// Checks a file, or standard input where the name is `-`.
 pub(crate) fn run_check(rt: &HostRuntime, file: &str) -> Exit {
     let mut out = io::writer(rt);
     if file == "-" {
@@ -22,7 +23,7 @@ pub(crate) fn run_check(rt: &HostRuntime, file: &str) -> Exit {
     }
 }
 
-// Runs a script, or that of standard input where the name is `-`.
+/// Runs a script, or that of standard input where the name is `-`.
 pub(crate) fn run_script(rt: &HostRuntime, script: &str) -> Exit {
     let mut out = io::writer(rt);
     if script == "-" {
@@ -34,17 +35,8 @@ pub(crate) fn run_script(rt: &HostRuntime, script: &str) -> Exit {
     }
 }
 
-// The number that four hexadecimal digits of either case are.
-fn identifier(digits: &str) -> Option<u16> {
-    let mut bytes = [0u8; 2];
-    match hex::decode_to_slice(digits, &mut bytes) {
-        Ok(()) => Some(u16::from_be_bytes(bytes)),
-        Err(_error) => None,
-    }
-}
-
-// Puts the bytes in place of a file, whole: they are written beside it and then take its name, so
-// that a cut of the machine leaves the old file or the new one.
+/// Puts the bytes in place of a file, whole: they are written beside it and then take its name, so
+/// that a cut of the machine leaves the old file or the new one.
 fn replace(rt: &HostRuntime, path: &str, bytes: &[u8]) -> io::Result<()> {
     let beside = format!(in rt.alloc(); "{path}.dfu-part")?;
     let mut file = fs::create(rt, beside.as_str())?;
@@ -62,28 +54,9 @@ fn replace(rt: &HostRuntime, path: &str, bytes: &[u8]) -> io::Result<()> {
     renamed
 }
 
-// Adds a suffix to a file, and makes the other file only where that succeeded.
-pub(crate) fn run_add(
-    rt: &HostRuntime,
-    file: &str,
-    to: &str,
-    vid: &str,
-    pid: &str,
-    did: &str,
-) -> Exit {
+/// Adds a suffix to a file, and makes the other file only where that succeeded.
+pub(crate) fn run_add(rt: &HostRuntime, file: &str, to: &str, ids: Ids) -> Exit {
     let mut out = io::writer(rt);
-    let (Some(vendor), Some(product), Some(device)) = (
-        identifier(vid),
-        identifier(pid),
-        identifier(did),
-    ) else {
-        return bad_words(&mut out);
-    };
-    let ids = Ids {
-        device,
-        product,
-        vendor,
-    };
     let Ok(reader) = fs::open(rt, file) else {
         return fault_text(SuffixFault::Read, &mut out);
     };

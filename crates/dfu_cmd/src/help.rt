@@ -1,4 +1,4 @@
-// The texts of `--help`.
+//! The texts of `--help`.
 
 pub(crate) const DFU: &str = "dfu 0.1.0: firmware files and upgrades over USB (DFU 1.1)";
 

@@ -9,6 +9,7 @@ mod exit;
 mod faults;
 mod files;
 mod help;
+mod identifiers;
 mod numbers;
 mod output;
 mod running;
@@ -24,6 +25,7 @@ pub use exit::Exit;
 use faults::bad_words;
 pub use faults::fault_text;
 use files::{run_add, run_check, run_script};
+use identifiers::{IdTexts, ids_said};
 pub use running::run_text;
 pub use showing::show_text;
 use std::io::{self, ErrorKind};
@@ -34,7 +36,8 @@ pub use words::job;
 #[cfg(test)]
 mod tests;
 
-fn run_job(rt: &HostRuntime, job: Job) -> Exit {
+/// Does a job.
+fn perform(rt: &HostRuntime, job: Job) -> Exit {
     match job {
         Job::Check { file } => run_check(rt, &file),
         Job::Add {
@@ -43,13 +46,23 @@ fn run_job(rt: &HostRuntime, job: Job) -> Exit {
             vid,
             pid,
             did,
-        } => run_add(rt, &file, &to, &vid, &pid, &did),
+        } => {
+            let texts = IdTexts {
+                vendor: &vid,
+                product: &pid,
+                device: &did,
+            };
+            match ids_said(&texts) {
+                Some(ids) => run_add(rt, &file, &to, ids),
+                None => bad_words(&mut io::writer(rt)),
+            }
+        }
         Job::Show { kind, hex } => show_text(rt.alloc(), &kind, &hex, &mut io::writer(rt)),
         Job::Run { script } => run_script(rt, &script),
     }
 }
 
-// The parser's text, which for a mistake ends with how to ask for help.
+/// The parser's text, which for a mistake ends with how to ask for help.
 fn explain(rt: &HostRuntime, error: &clap::Error) -> u8 {
     match rt.print(error) {
         Ok(()) => error.exit_code() as u8,
@@ -59,7 +72,7 @@ fn explain(rt: &HostRuntime, error: &clap::Error) -> u8 {
 
 fn run_words(rt: &HostRuntime, words: &[String]) -> u8 {
     match job(rt.alloc(), words) {
-        Ok(job) => run_job(rt, job).status(),
+        Ok(job) => perform(rt, job).status(),
         Err(fault) => match fault {
             JobFault::Words(error) => explain(rt, &error),
             JobFault::NoMemory => no_memory(rt).status(),
@@ -71,13 +84,13 @@ fn no_memory(rt: &HostRuntime) -> Exit {
     fault_text(SuffixFault::NoMemory, &mut io::writer(rt))
 }
 
-// The words of the command line.
+/// The words of the command line.
 fn words_of(rt: &HostRuntime) -> io::Result<Vec<String>> {
     let words = std::env::args(rt)?.collect(rt.alloc())?;
     Ok(words)
 }
 
-// Words that can't be had: one of them isn't text, or there is no memory for them.
+/// Words that can't be had: one of them isn't text, or there is no memory for them.
 fn refuse_words(rt: &HostRuntime, error: &io::Error) -> Exit {
     match error.kind() {
         ErrorKind::InvalidData => bad_words(&mut io::writer(rt)),

@@ -1,9 +1,9 @@
-// `dfu run`: what a script prints, and the line for one that stopped.
+//! `dfu run`: what a script prints, and the line for one that stopped.
 
 ghost use Rattle.std.specs.Prelude.{◌≡◌, ◌++◌, ◌∷◌, IfOk, [], codes};
 ghost use Rattle.std.specs.Fmt.{decimal};
 ghost use Rattle.std.specs.String.{string_bytes};
-ghost use Rattle.dfu_cmd.specs.Running.{WritesNumber, WritesStop, WritesRun};
+ghost use Rattle.dfu_cmd.specs.RunText.{WritesNumber, WritesStop, WritesRun};
 
 use crate::exit::Exit;
 use crate::faults::fault_text;
@@ -13,7 +13,7 @@ use dfu_suffix::SuffixFault;
 use std::alloc::{AllocError, Global};
 use std::io::{Read, Write};
 
-// A text and a number behind it.
+/// A text and a number behind it.
 fn numbered(alloc: Global, text: &str, number: u32) -> Result<String, AllocError>
     ensures { IfOk result (λ t. string_bytes t ≡ text.now ++ decimal number ++ 10 ∷ []) }
 {
@@ -24,7 +24,7 @@ fn numbered(alloc: Global, text: &str, number: u32) -> Result<String, AllocError
     Ok(line)
 }
 
-// Writes the line that names a line of the script.
+/// Writes the line that names a line of the script.
 fn number_text<W: Write>(alloc: Global, text: &str, number: u32, writer: &mut W) -> Exit
     ensures { WritesNumber text.now number (W.contents writer.old) (W.contents writer.new) result }
 {
@@ -34,7 +34,7 @@ fn number_text<W: Write>(alloc: Global, text: &str, number: u32, writer: &mut W)
     }
 }
 
-// Writes the line for a script that stopped. Where the writer failed nothing more is written.
+/// Writes the line for a script that stopped. Where the writer failed nothing more is written.
 fn stop_text<W: Write>(alloc: Global, fault: ScriptFault, writer: &mut W) -> Exit
     ensures { WritesStop fault (W.contents writer.old) (W.contents writer.new) result }
 {

@@ -1,4 +1,4 @@
-// The lines of `dfu show`.
+//! The lines of `dfu show`.
 
 ghost use Rattle.std.specs.Prelude.{◌≡◌, ◌++◌, IfOk, OnOk};
 ghost use Rattle.std.specs.String.{string_bytes};
@@ -11,7 +11,7 @@ use dfu_wire::{Functional, Status, WireFault};
 use hex::FromHexError;
 use std::alloc::{AllocError, Global};
 
-// Adds a label and a flag to a line.
+/// Adds a label and a flag to a line.
 fn flag(line: &mut String, label: &str, flag: bool) -> Result<(), AllocError>
     ensures { OnOk result (string_bytes line.new ≡ string_bytes line.old ++ (label.now ++ yes_no flag)) }
 {

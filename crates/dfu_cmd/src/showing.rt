@@ -1,9 +1,9 @@
-// `dfu show`: the fields of bytes that go over the wire.
+//! `dfu show`: the fields of bytes that go over the wire.
 
 ghost use Rattle.std.specs.Prelude.{◌≡◌, ◌≢◌, codes};
 ghost use Rattle.dfu_cmd.specs.Output.{Wrote};
-ghost use Rattle.dfu_cmd.specs.Lines.{bad_words_line};
-ghost use Rattle.dfu_cmd.specs.Showing.{WritesFunctional, WritesStatus, WritesBytes};
+ghost use Rattle.dfu_cmd.specs.AnswerLines.{bad_words_line};
+ghost use Rattle.dfu_cmd.specs.ShowText.{WritesFunctional, WritesStatus, WritesBytes};
 
 use crate::exit::Exit;
 use crate::faults::{bad_words, fault_text};

@@ -1,4 +1,4 @@
-// What the words of a command line ask for.
+//! What the words of a command line ask for.
 
 /// What is to be done, with the texts of the words or their defaults.
 #[derive(Debug, Drop)]

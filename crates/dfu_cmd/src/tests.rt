@@ -1,20 +1,22 @@
+//! The lines of known files, bytes and scripts, and the jobs of known words.
+
 mod readers;
 mod scripts;
 mod streams;
 
 use crate::{Exit, Job, JobFault, add_text, check_text, job, run_text, show_text};
-use dfu_suffix::Ids;
+use dfu_wire::Ids;
 use std::alloc::{AllocError, Global};
 use std::process::Abort;
 use std::test::Fail;
 
-// Payload FFFFFFFFh, identifiers FFFFh.
+/// Payload FFFFFFFFh, identifiers FFFFh.
 const FOUR_ONES: [u8; 20] = [
     0xff, 0xff, 0xff, 0xff, 0xff, 0xff, 0xff, 0xff, 0xff, 0xff, 0x00, 0x01, 0x55, 0x46, 0x44, 0x10,
     0x71, 0xc8, 0x51, 0x0c,
 ];
 
-// Payload '123456789', vendor 1209h, product 0001h, device 0100h.
+/// Payload '123456789', vendor 1209h, product 0001h, device 0100h.
 const DIGITS: [u8; 25] = [
     0x31, 0x32, 0x33, 0x34, 0x35, 0x36, 0x37, 0x38, 0x39, 0x00, 0x01, 0x01, 0x00, 0x09, 0x12, 0x00,
     0x01, 0x55, 0x46, 0x44, 0x10, 0x62, 0x1c, 0x70, 0xfe,
@@ -87,7 +89,7 @@ fn adds_no_second_suffix(rt: HostRuntime) {
     assert_eq!(rt; out.as_slice(), &b"refused AlreadySuffixed\n"[..]);
 }
 
-// What `show` writes for each of these texts, and how it ends.
+/// What `show` writes for each of these texts, and how it ends.
 fn shows(rt: &impl Abort, alloc: Global, kind: &str, known: &[(&str, &[u8], Exit)]) {
     for (hex, line, exit) in known {
         let mut out = Vec::new(alloc);
@@ -136,7 +138,7 @@ fn shows_answers_to_getstatus(rt: HostRuntime) {
     );
 }
 
-// The words of a line, as a command gets them.
+/// The words of a line, as a command gets them.
 fn words_of(alloc: Global, line: &str) -> Result<Vec<String>, AllocError> {
     let mut words = Vec::new(alloc);
     for word in line.split_whitespace() {
@@ -154,7 +156,7 @@ fn joined(alloc: Global, texts: &[&str]) -> Result<String, AllocError> {
     Ok(line)
 }
 
-// A job in words.
+/// A job in words.
 fn told(alloc: Global, job: Job) -> Result<String, AllocError> {
     match job {
         Job::Check { file } => joined(alloc, &["check", &file]),
@@ -170,7 +172,7 @@ fn told(alloc: Global, job: Job) -> Result<String, AllocError> {
     }
 }
 
-// Why there is no job, in words: the parser's exit status.
+/// Why there is no job, in words: the parser's exit status.
 fn refused(alloc: Global, fault: JobFault) -> Result<String, AllocError> {
     match fault {
         JobFault::Words(error) => {

@@ -1,4 +1,4 @@
-// From the words of a command line to a job.
+//! From the words of a command line to a job.
 
 ghost use Rattle.std.specs.Prelude.{◌≡◌, IfOk, Some, codes, map, true};
 ghost use Rattle.std.specs.String.{string_bytes};
@@ -11,10 +11,12 @@ use clap::ArgMatches;
 use clap::error::ErrorKind;
 use std::alloc::Global;
 
-// The text of an argument.
+/// The text of an argument.
 fn text_of(alloc: Global, found: &ArgMatches<'_>, id: &str) -> Result<String, JobFault>
     ensures { IfOk result (λ t. first_of id.now (rows_of (found_of found.now)) ≡ Some (string_bytes t)) }
 {
+    // Each argument of `dfu_command` is needed or has a default, so there is a text. That isn't
+    // proved, and the answer is one that no words get.
     let Some(text) = found.get_str(id) else {
         return Err(JobFault::NoMemory);
     };
@@ -24,7 +26,7 @@ fn text_of(alloc: Global, found: &ArgMatches<'_>, id: &str) -> Result<String, Jo
     }
 }
 
-// What clap makes of the words.
+/// What clap makes of the words.
 fn matches_of<'a>(alloc: Global, words: &'a [String]) -> Result<ArgMatches<'a>, JobFault>
     ensures rows { IfOk result (λ m. subcommand_rows_of m ≡ subcommand_of dfu_app (map string_bytes words.now)) }
     ensures named { IfOk result (λ m. has_subcommand m ≡ true) }
@@ -39,7 +41,7 @@ fn matches_of<'a>(alloc: Global, words: &'a [String]) -> Result<ArgMatches<'a>, 
     }
 }
 
-// The parser's want of memory is our own.
+/// The parser's want of memory is our own.
 fn fault_of(error: clap::Error) -> JobFault {
     match error.kind() {
         ErrorKind::OutOfMemory => JobFault::NoMemory,
@@ -94,6 +96,8 @@ fn named_job(alloc: Global, name: &str, found: &ArgMatches<'_>) -> Result<Job, J
         "add" => add_job(alloc, found),
         "show" => show_job(alloc, found),
         "run" => run_job(alloc, found),
+        // `dfu_command` has no other subcommand. That isn't proved, and the answer is one that no
+        // words get.
         _ => Err(JobFault::NoMemory),
     }
 }

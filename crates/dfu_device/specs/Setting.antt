@@ -1,7 +1,7 @@
 -- What a device is set up with, and what is refused.
 use Rattle.std.specs.Prelude.{◌≡◌, ◌⊎◌, ℕ, ◌≤◌, ◌<◌, ◌^◌, false}
 use Rattle.dfu_wire.specs.declared.functionals.Functional.{Functional}
-use Rattle.dfu_suffix.specs.declared.ids.Ids.{Ids}
+use Rattle.dfu_wire.specs.declared.ids.Ids.{Ids}
 use Rattle.dfu_device.specs.declared.fault.ConfigFault.{ConfigFault}
 use Rattle.dfu_device.specs.declared.fault.ConfigFault.TheVariants as fault
 

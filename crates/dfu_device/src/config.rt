@@ -4,8 +4,7 @@ ghost use Rattle.std.specs.Prelude.{◌≡◌, ◌≤◌, ◌<◌, ◌^◌, IfOk
 ghost use Rattle.dfu_device.specs.Setting.{IsAllowed, FirstFault, of_this_version};
 
 use crate::ConfigFault;
-use dfu_suffix::Ids;
-use dfu_wire::Functional;
+use dfu_wire::{Functional, Ids};
 use std::marker::Model;
 
 /// What a device is set up with: who it is, its functional descriptor, the fewest bytes of an image

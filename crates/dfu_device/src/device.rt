@@ -14,8 +14,7 @@ use crate::machine::Machine;
 use crate::{Answer, Config};
 use arrayvec::ArrayVec;
 use dfu_slots::{Faulty, Medium, OpenFault, Slots};
-use dfu_suffix::Ids;
-use dfu_wire::{Code, Functional, State};
+use dfu_wire::{Code, Functional, Ids, State};
 use std::marker::Model;
 
 /// A device: its configuration, a slot store, and a state of the standard with what it keeps.

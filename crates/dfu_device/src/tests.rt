@@ -1,8 +1,7 @@
 use crate::{Answer, Config, ConfigFault, Device};
 use arrayvec::ArrayVec;
 use dfu_slots::{SimMedium, Slots};
-use dfu_suffix::Ids;
-use dfu_wire::{Functional, State};
+use dfu_wire::{Functional, Ids, State};
 use std::alloc::Global;
 use std::process::Abort;
 use std::test::Fail;

@@ -11,8 +11,8 @@ use crate::progress::{Progress, beginning};
 use crate::seen::Seen;
 use crate::target::is_for;
 use crate::task::Task;
-use dfu_suffix::{File, Ids};
-use dfu_wire::Functional;
+use dfu_suffix::File;
+use dfu_wire::{Functional, Ids};
 use std::alloc::Global;
 use std::marker::Model;
 

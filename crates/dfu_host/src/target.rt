@@ -3,7 +3,7 @@
 ghost use Rattle.std.specs.Prelude.{◌≡◌};
 ghost use Rattle.dfu_host.specs.Download as download;
 
-use dfu_suffix::Ids;
+use dfu_wire::Ids;
 
 /// What a file's vendor or product is where it goes with every device.
 const ANY: u16 = 0xffff;

@@ -1,7 +1,7 @@
 -- The clean run of a link, along a chain of steps.
 use Rattle.std.proofs.Common.{◌≡◌, ℕ, zero, suc, ◌-◌, ◌<◌, ◌≤◌, Bool, true, List, [], ◌∷◌, ◌++◌, take, drop, replicate, Option, Some, None, refl, sym, ap, ◌∙◌, subst, arith}
 use Rattle.std.proofs.lemmas.List.{take-replicate}
-use Rattle.dfu_suffix.specs.OneReading.{one_reading}
+use Rattle.dfu_suffix.proofs.ForCallers.{one_reading}
 use Rattle.dfu_device.specs.Stage.{Profile}
 use Rattle.dfu_device.specs.Outcome.{Works}
 use Rattle.dfu_device.specs.Shown.{profile}

@@ -1,9 +1,9 @@
 -- An event has one answer.
 use Rattle.std.proofs.Common.{◌≡◌, ℕ, List, Option, Some, None, refl, sym, ap, ◌∙◌, subst}
 use Rattle.dfu_wire.specs.declared.functionals.Functional.{Functional}
-use Rattle.dfu_suffix.specs.declared.ids.Ids.{Ids}
+use Rattle.dfu_wire.specs.declared.ids.Ids.{Ids}
 use Rattle.dfu_suffix.specs.Grammar.{Content}
-use Rattle.dfu_suffix.specs.OneReading.{never_both, one_reading}
+use Rattle.dfu_suffix.proofs.ForCallers.{never_both, one_reading}
 use Rattle.dfu_host.specs.declared.fault.HostFault.{HostFault}
 use Rattle.dfu_host.specs.Download.{first_fault}
 use Rattle.dfu_device.specs.Setting.{Setting}

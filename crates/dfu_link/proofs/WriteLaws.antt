@@ -3,7 +3,7 @@ use Rattle.std.proofs.Common.{◌<◌, ℕ, List, [], ◌++◌, length, length-a
 use Rattle.std.proofs.lemmas.List.{append_assoc, append-nil}
 use Rattle.std.specs.Io.KnownBytes.{Appends, Keeps}
 use Rattle.std.specs.Prelude.{Result, Ok, Err, OnErr, OnOk, IfOk}
-use Rattle.dfu_suffix.specs.Progress.{Progress}
+use Rattle.dfu_suffix.proofs.Progress.{Progress}
 use Rattle.dfu_link.specs.Writing.{Broke}
 
 pub appends_none : (old : Option (List ℕ)) → Appends old old []

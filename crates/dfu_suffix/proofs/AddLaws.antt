@@ -1,15 +1,21 @@
 -- What adding a suffix has to do with the grammar.
-use Rattle.std.proofs.Common.{◌≡◌, ◌↔◌, ℕ, ◌+◌, ◌^◌, ◌<◌, ◌≤◌, Bool, true, false, inl, inr, List, ◌++◌, length, Option, Some, None, IfSome, Result, Ok, Err, sym, ap, ◌∙◌, subst, arith, length-append}
+use Rattle.std.proofs.Common.{◌≡◌, ◌↔◌, ℕ, ◌+◌, ◌^◌, ◌<◌, ◌≤◌, Bool, true, false, inl, inr, List, ◌++◌, length, Option, Some, None, IfSome, Result, Ok, Err, sym, ◌∙◌, subst, arith, length-append}
 use Rattle.std.proofs.lemmas.List.{append_assoc}
+use Rattle.std.specs.Prelude.{Vec}
+use Rattle.std.specs.declared.alloc.Global.{Global}
 use Rattle.dfu_suffix.specs.Grammar.{Content, IsFile, First}
-use Rattle.dfu_suffix.specs.Adding.{Adds, IsOutInPart, HasSuffix, NeedsSuffix, IsAdded}
-use Rattle.dfu_suffix.specs.Making.{PutsOut, added_fields, added_suffix}
-use Rattle.dfu_suffix.specs.declared.ids.Ids.{Ids}
+use Rattle.dfu_suffix.specs.Gathering.{Gathers}
+use Rattle.dfu_suffix.specs.declared.gathering.GatherFault.{GatherFault}
+use Rattle.dfu_suffix.specs.declared.gathering.GatherFault.TheVariants as gather
+use Rattle.dfu_suffix.specs.Adding.{HasSuffix, NeedsSuffix, IsAdded}
+use Rattle.dfu_suffix.specs.inside.Making.{Makes, added_fields, added_suffix, gathering_fault}
+use Rattle.dfu_wire.specs.declared.ids.Ids.{Ids}
 use Rattle.dfu_suffix.specs.declared.fault.SuffixFault.{SuffixFault}
-use Rattle.dfu_suffix.specs.declared.fault.SuffixFault.TheVariants.{TooShort, NoSignature, BadLength, DfuSe, BadCrc, AlreadySuffixed, TooLarge, NoMemory, Read, Write}
+use Rattle.dfu_suffix.specs.declared.fault.SuffixFault.TheVariants.{DfuSe}
 
--- a payload and the suffix that it gets are a file
-pub is_added : (payload : List ℕ) (ids : Ids) → length payload ≤ 16777200 → ids.device < 2 ^ 16 → ids.product < 2 ^ 16 → ids.vendor < 2 ^ 16 → IsAdded payload ids (payload ++ added_suffix payload ids)
+-- A payload and the suffix that it gets are a file.
+pub is_added : (payload : List ℕ) (ids : Ids) → length payload ≤ 16777200 → ids.device < 2 ^ 16 → ids.product < 2 ^ 16 →
+    ids.vendor < 2 ^ 16 → IsAdded payload ids (payload ++ added_suffix payload ids)
 unfolding added_fields
 is_added payload ids small device product vendor = record {
   spelled = sym (append_assoc payload (added_fields ids) _);
@@ -22,43 +28,36 @@ is_added payload ids small device product vendor = record {
   small = omega (arith, small, length-append payload (added_suffix payload ids));
 }
 
--- the suffix that a payload gets has 16 bytes
+-- The suffix that a payload gets has 16 bytes.
 pub added_length : (payload : List ℕ) (ids : Ids) → length (payload ++ added_suffix payload ids) ≡ length payload + 16
 unfolding added_fields
 added_length payload ids = length-append payload (added_suffix payload ids)
 
--- all was gathered, has no suffix, and got one
-pub made : (given : Option (List ℕ)) (bytes : List ℕ) (ids : Ids) (text : List ℕ) → IfSome given (λ all. (bytes ≡ all) × (length all ≤ 16777200)) → (HasSuffix bytes → ⊥) → text ≡ bytes ++ added_suffix bytes ids → ids.device < 2 ^ 16 → ids.product < 2 ^ 16 → ids.vendor < 2 ^ 16 → IfSome given (λ all. NeedsSuffix all × IsAdded all ids text)
-made None bytes ids text h none e device product vendor = tt
-made (Some all) bytes ids text h none e device product vendor = (
-  (h.1, subst (λ (xs : List ℕ). HasSuffix xs → ⊥) h.0 none),
-  subst (λ (xs : List ℕ). IsAdded xs ids text) h.0 (subst (λ (zs : List ℕ). IsAdded bytes ids zs) (sym e) (is_added bytes ids (omega (arith, ap length h.0, h.1)) device product vendor)),
-)
+-- What is said of the bytes that were gathered is said of all that the reader gave.
+pub makes_all : (given : Option (List ℕ)) (bytes : List ℕ) (ids : Ids) (r : Result (Vec ℕ Global) SuffixFault) →
+    IfSome given (λ all. (bytes ≡ all) × (length all ≤ 16777200)) → Makes bytes ids r → IfSome given (λ all. Makes all ids r)
+makes_all None bytes ids r h m = tt
+makes_all (Some all) bytes ids r h m = subst (λ (xs : List ℕ). Makes xs ids r) h.0 m
 
--- the test said no
+-- Where the test said no, the bytes have no suffix.
 pub none_yet : (said : Bool) (xs ys : List ℕ) → ((said ≡ true) ↔ HasSuffix xs) → said ≡ false → xs ≡ ys → HasSuffix ys → ⊥
 none_yet said xs ys told off same has =
     let both = told.1 (subst HasSuffix (sym same) has) in
     let wrong : true ≡ false = sym both ∙ off in
     cc
 
--- the writer failed
-pub adds_part : (T : Type 0) (given old new : Option (List ℕ)) (ids : Ids) (whole text : List ℕ) (f : SuffixFault) → IfSome given (λ all. NeedsSuffix all × IsAdded all ids whole) → text ≡ whole → PutsOut {T = T} old new text (Err f) → IfSome given (λ all. Adds all ids old new (Err f))
-adds_part T None old new ids whole text f h e p = tt
-adds_part T (Some all) old new ids whole text Write h e p = (h.0, whole, h.1, subst (IsOutInPart old new) e p)
-adds_part T (Some all) old new ids whole text TooShort h e p = absurd p
-adds_part T (Some all) old new ids whole text NoSignature h e p = absurd p
-adds_part T (Some all) old new ids whole text BadLength h e p = absurd p
-adds_part T (Some all) old new ids whole text DfuSe h e p = absurd p
-adds_part T (Some all) old new ids whole text BadCrc h e p = absurd p
-adds_part T (Some all) old new ids whole text AlreadySuffixed h e p = absurd p
-adds_part T (Some all) old new ids whole text TooLarge h e p = absurd p
-adds_part T (Some all) old new ids whole text NoMemory h e p = absurd p
-adds_part T (Some all) old new ids whole text Read h e p = absurd p
+-- A fault of gathering is one of making the file.
+pub makes_none : (given : Option (List ℕ)) (ids : Ids) (fault : GatherFault) →
+    IfSome given (λ all. Gathers 16777200 all (Err fault)) → IfSome given (λ all. Makes all ids (Err (gathering_fault fault)))
+makes_none None ids fault h = tt
+makes_none (Some all) ids gather.TooLarge h = h
+makes_none (Some all) ids gather.NoMemory h = tt
+makes_none (Some all) ids gather.Read h = tt
 
--- a file that was read has a suffix, and so has one that is refused as a DfuSe file
+-- A file that was read has a suffix, and so has one that is refused as a DfuSe file.
 pub suffixed : (b : List ℕ) (r : Result Content SuffixFault) (said : Bool) (fault : SuffixFault) → r ≡ Err fault →
-    ((p : List ℕ) (i : Ids) (d : ℕ) (x : List ℕ) → IsFile p i d x b → r ≡ Ok (record { payload = p; ids = i; dfu = d; suffix = 16 + length x })) →
+    ((p : List ℕ) (i : Ids) (d : ℕ) (x : List ℕ) → IsFile p i d x b → r
+    ≡ Ok (record { payload = p; ids = i; dfu = d; suffix = 16 + length x })) →
     ((f : SuffixFault) → (r ≡ Err f) ↔ First f b) → ((said ≡ true) ↔ (fault ≡ DfuSe)) → (said ≡ true) ↔ HasSuffix b
 suffixed b r said fault is only faults told = (
   λ on. inr ((faults DfuSe).0 (subst (λ (f : SuffixFault). r ≡ Err f) (told.0 on) is)),

@@ -3,15 +3,18 @@ use Rattle.std.proofs.Common.{ℕ, zero, suc, ◌+◌, List, [], ◌∷◌, ◌+
 use Rattle.std.proofs.lemmas.List.{get_or-drop}
 use Rattle.dfu_suffix.specs.Laws.{AreBytes}
 
+-- A list of bytes, without its first ones, is one of bytes.
 pub AreBytes-drop : (xs : List ℕ) (n : ℕ) → AreBytes xs → AreBytes (drop n xs)
 AreBytes-drop xs n f k = omega (arith, f (n + k), get_or-drop n xs k 0)
 
+-- The first of some bytes are bytes.
 pub AreBytes-take : (n : ℕ) (xs : List ℕ) → AreBytes xs → AreBytes (take n xs)
 AreBytes-take zero xs f k = omega arith
 AreBytes-take (suc n) [] f k = f k
 AreBytes-take (suc n) (x ∷ xs) f zero = f zero
 AreBytes-take (suc n) (x ∷ xs) f (suc k) = AreBytes-take n xs (λ i. f (suc i)) k
 
+-- Two lists of bytes, one behind the other, are one of bytes.
 pub AreBytes-append : (xs ys : List ℕ) → AreBytes xs → AreBytes ys → AreBytes (xs ++ ys)
 AreBytes-append [] ys f g k = g k
 AreBytes-append (x ∷ xs) ys f g zero = f zero

@@ -8,10 +8,10 @@ use Rattle.byteorder.specs.Endian.{little_number}
 use Rattle.dfu_suffix.specs.Register.{register}
 use Rattle.dfu_suffix.specs.Laws.{AreBytes}
 use Rattle.dfu_suffix.specs.Grammar.{Content, IsFile, before_crc, has_fault, fault_order}
-use Rattle.dfu_suffix.specs.Reading.{content_of, content_or, reading}
-use Rattle.dfu_suffix.specs.declared.ids.Ids.{Ids}
+use Rattle.dfu_suffix.specs.inside.Reading.{content_of, content_or, reading}
+use Rattle.dfu_wire.specs.declared.ids.Ids.{Ids}
 use Rattle.dfu_suffix.specs.declared.fault.SuffixFault.{SuffixFault}
-use Rattle.dfu_suffix.specs.OneReading.{register-fits, back4}
+use Rattle.dfu_suffix.proofs.OneReading.{register-fits, back4}
 use Rattle.dfu_suffix.proofs.NoFault.{sound, length_extra, extra_of, found}
 
 content_is : (o : Option SuffixFault) (c d : Content) → content_or o c ≡ Ok d → (o ≡ None) × (c ≡ d)
@@ -20,9 +20,11 @@ content_is (Some x) c d h = (cc, cc)
 
 -- ---- the laws of reading
 
+-- The bytes are a file of the grammar with this content.
 abbrev pub Found : List ℕ → Content → Type 0
 Found b c = (extra : List ℕ) × IsFile c.payload c.ids c.dfu extra b × (c.suffix ≡ 16 + length extra)
 
+-- What reading answers is the content of a file of the grammar.
 pub reading_found : (b : List ℕ) (c : Content) → AreBytes b → reading b ≡ Ok c → Found b c
 unfolding reading
 reading_found b c f h =
@@ -30,15 +32,16 @@ reading_found b c f h =
     let s = sound b p.0 in
     subst (λ (d : Content). Found b d) p.1 (extra_of b, found b s f, sym (length_extra b s))
 
--- a fact for an Ok, from its equation
+-- What holds for each value that an answer may be holds for the one that it is.
 pub if_ok : {T E : Type 0} (r : Result T E) (P : T → Type 0) → ((x : T) → r ≡ Ok x → P x) → IfOk r P
 if_ok (Ok x) P f = f x refl
 if_ok (Err e) P f = tt
 
 -- ---- what a file of the grammar has
 
--- its last four bytes are its CRC
-pub crc_stored : (payload : List ℕ) (ids : Ids) (dfu : ℕ) (extra b : List ℕ) → IsFile payload ids dfu extra b → little_number 4 (drop (length b - 4) b) ≡ register (before_crc payload ids dfu extra)
+-- Its last four bytes are its CRC.
+pub crc_stored : (payload : List ℕ) (ids : Ids) (dfu : ℕ) (extra b : List ℕ) → IsFile payload ids dfu extra b →
+    little_number 4 (drop (length b - 4) b) ≡ register (before_crc payload ids dfu extra)
 crc_stored payload ids dfu extra b h =
     let front = before_crc payload ids dfu extra in
     let q = to_le_bytes w32 (register front) in

@@ -1,98 +1,215 @@
 -- What a window of 16 bytes, a count and the register over all bytes say of the bytes.
-use Rattle.std.proofs.Common.{◌≡◌, ◌↔◌, ℕ, ◌+◌, ◌-◌, ◌≤◌, ◌||◌, Bool, true, false, not, cond, eqb, ltb, List, [], ◌∷◌, length, take, drop, get_or, Some, None, Result, Ok, Err, refl, sym, ap, ◌∙◌, arith}
+use Rattle.std.proofs.Common.{◌≡◌, ◌≢◌, ◌↔◌, inl, inr, ℕ, ◌+◌, ◌-◌, ◌≤◌, ◌||◌, Bool, true, false, not, cond, eqb, ltb, List, [], ◌∷◌, length, take, drop, get_or, Some, None, Result, Ok, Err, IfOk, refl, sym, ap, ◌∙◌, arith}
 use Rattle.std.specs.Prelude.{find}
 use Rattle.std.proofs.lemmas.Bool.{eqb-true, eq-eqb, ltb-false}
+use Rattle.std.proofs.lemmas.Bool.Decides.{eqb_tells}
 use Rattle.std.proofs.lemmas.List.{drop-drop, length-take-le}
 use Rattle.byteorder.specs.Endian.{little_number}
 use Rattle.dfu_suffix.specs.Register.{register}
 use Rattle.dfu_suffix.specs.Grammar.{Content, tail_of, is_signed, has_fault}
-use Rattle.dfu_suffix.specs.Reading.{content_of, content_or, reading}
-use Rattle.dfu_suffix.specs.Judging.{told_by, judged}
+use Rattle.dfu_suffix.specs.inside.Reading.{content_of, content_or, reading}
+use Rattle.dfu_suffix.specs.inside.Judging.{told_by, told, sealed, judged}
 use Rattle.dfu_suffix.specs.Laws.{AreBytes}
-use Rattle.dfu_suffix.specs.OneReading.{not_less}
+use Rattle.dfu_suffix.proofs.OneReading.{not_less}
 use Rattle.dfu_suffix.specs.declared.summary.Summary.{Summary}
-use Rattle.dfu_suffix.specs.declared.ids.Ids.{Ids}
+use Rattle.dfu_wire.specs.declared.ids.Ids.{Ids}
 use Rattle.dfu_suffix.specs.declared.fault.SuffixFault.{SuffixFault}
 use Rattle.dfu_suffix.specs.declared.fault.SuffixFault.TheVariants.{TooShort, NoSignature, BadLength, DfuSe, BadCrc, TooLarge}
 use Rattle.dfu_suffix.proofs.LawProofs.{last_four}
 use Rattle.dfu_suffix.proofs.Windows.{window_of, window_tail}
 
--- the summary of what was read of bytes
+-- This is the summary of what was read of bytes.
 abbrev pub summary_in : List ℕ → Content → Summary
-summary_in bytes c = record { payload = length c.payload; suffix = c.suffix; ids = c.ids; dfu = c.dfu; crc = little_number 4 (drop (length bytes - 4) bytes) }
+summary_in bytes c = record {
+  payload = length c.payload;
+  suffix = c.suffix;
+  ids = c.ids;
+  dfu = c.dfu;
+  crc =
+      little_number 4 (drop (length bytes - 4) bytes);
+}
 
--- the answer by what was read of bytes
+-- This is the answer by what was read of bytes.
 abbrev pub summed : List ℕ → Result Content SuffixFault → Result Summary SuffixFault
 summed bytes (Ok c) = Ok (summary_in bytes c)
 summed bytes (Err f) = Err f
 
-flow : (t1 t2 t3 t4 t5 : Bool) (s : List ℕ) (c : Content) →
-    summed s (content_or (cond t1 (Some TooShort) (cond t2 (Some NoSignature) (cond t3 (Some BadLength) (cond t4 (Some DfuSe) (cond t5 (Some BadCrc) None))))) c)
-    ≡ cond t1 (Err TooShort) (cond t2 (Err NoSignature) (cond t3 (Err BadLength) (cond t4 (Err DfuSe) (cond t5 (Err BadCrc) (Ok (summary_in s c))))))
-flow true t2 t3 t4 t5 s c = refl
-flow false true t3 t4 t5 s c = refl
-flow false false true t4 t5 s c = refl
-flow false false false true t5 s c = refl
-flow false false false false true s c = refl
-flow false false false false false s c = refl
+-- What reading answers, by what the last 16 bytes told and whether dwCRC is right.
+abbrev pub read_by : Bool → Result Summary SuffixFault → Content → Result Content SuffixFault
+read_by intact (Ok said) c = cond intact (Ok c) (Err BadCrc)
+read_by intact (Err fault) c = Err fault
 
--- two tests that hold together are the same
+flow : (t1 t2 t3 t4 intact : Bool) (said : Summary) (c : Content) →
+    content_or (cond t1 (Some TooShort) (cond t2 (Some NoSignature) (cond t3 (Some BadLength)
+    (cond t4 (Some DfuSe) (cond (not intact) (Some BadCrc) None))))) c
+    ≡ read_by intact (cond t1 (Err TooShort) (cond t2 (Err NoSignature) (cond t3 (Err BadLength) (cond t4 (Err DfuSe) (Ok said))))) c
+flow true t2 t3 t4 intact said c = refl
+flow false true t3 t4 intact said c = refl
+flow false false true t4 intact said c = refl
+flow false false false true intact said c = refl
+flow false false false false true said c = refl
+flow false false false false false said c = refl
+
+-- In the last 16 bytes dwCRC is the register over the bytes before it.
+abbrev pub is_intact : List ℕ → Bool
+is_intact s = eqb (little_number 4 (drop 12 (tail_of s))) (register (take (length s - 4) s))
+
+-- Reading bytes that are not too many answers what their last 16 told, unless dwCRC is wrong.
+pub reading_told : (s : List ℕ) → length s ≤ 16777216 →
+    reading s ≡ read_by (is_intact s) (told (tail_of s) (length s)) (content_of s)
+unfolding reading told
+reading_told s small =
+    let t = tail_of s in
+    let n = length s in
+    let c = content_of s in
+    let within : ltb 16777216 n ≡ false = not_less 16777216 n small in
+    ap (λ (b : Bool). content_or (cond b (Some TooLarge) (find (has_fault s)
+    (TooShort ∷ NoSignature ∷ BadLength ∷ DfuSe ∷ BadCrc ∷ []))) c) within
+    ∙ flow (ltb n 16) (not (is_signed t)) (ltb (get_or t 11 0) 16 || ltb n (get_or t 11 0))
+    (eqb (little_number 2 (drop 6 t)) 0x011A) (is_intact s) (told_by t n) c
+
+-- Two tests that hold together are the same.
 same_test : (a b : Bool) → ((a ≡ true) ↔ (b ≡ true)) → a ≡ b
 same_test true true h = refl
 same_test true false h = sym (h.0 refl)
 same_test false true h = h.1 refl
 same_test false false h = refl
 
--- so are the tests of numbers that are alike together
-by_zero : (a b c d : ℕ) → ((a ≡ b) ↔ (c ≡ d)) → not (eqb a b) ≡ not (eqb c d)
-by_zero a b c d h = ap not (same_test (eqb a b) (eqb c d) (λ e. eq-eqb c d (h.0 (eqb-true a b e)), λ e. eq-eqb a b (h.1 (eqb-true c d e))))
+-- So are the tests of numbers that are alike together.
+by_zero : (a b c d : ℕ) → ((a ≡ b) ↔ (c ≡ d)) → eqb a b ≡ eqb c d
+by_zero a b c d h = same_test (eqb a b) (eqb c d) (λ e. eq-eqb c d (h.0 (eqb-true a b e)), λ e. eq-eqb a b (h.1 (eqb-true c d e)))
 
--- where a test fails, the other branch counts
-under_test : {X : Type 0} (t : Bool) (e x y : X) → (t ≡ false → x ≡ y) → cond t e x ≡ cond t e y
-under_test true e x y h = refl
-under_test false e x y h = h refl
-
--- summaries of the same parts are the same
+-- Summaries of the same parts are the same.
 pub said_same : (p q s t d x y : ℕ) (i : Ids) → p ≡ q → s ≡ t → x ≡ y →
-    ◌≡◌ {A = Summary} (record { payload = p; suffix = s; ids = i; dfu = d; crc = x }) (record { payload = q; suffix = t; ids = i; dfu = d; crc = y })
+    ◌≡◌ {A = Summary} (record { payload = p; suffix = s; ids = i; dfu = d; crc = x })
+    (record { payload = q; suffix = t; ids = i; dfu = d; crc = y })
 said_same p q s t d x y i h0 h1 h2 = cc
 
--- `judged` where there are 16 bytes
-abbrev inner : List ℕ → ℕ → ℕ → Result Summary SuffixFault
-inner t n r =
-    cond (not (is_signed t)) (Err NoSignature)
-    (cond (ltb (get_or t 11 0) 16 || ltb n (get_or t 11 0)) (Err BadLength)
-    (cond (eqb (little_number 2 (drop 6 t)) 0x011A) (Err DfuSe)
-    (cond (not (eqb r 0)) (Err BadCrc) (Ok (told_by t n)))))
+-- Where two summaries are the same, what was told is the one, unless it is a fault.
+told_is : (t1 t2 t3 t4 : Bool) (a b : Summary) → a ≡ b →
+    IfOk (cond t1 (Err TooShort) (cond t2 (Err NoSignature) (cond t3 (Err BadLength) (cond t4 (Err DfuSe) (Ok a))))) (λ x. x ≡ b)
+told_is true t2 t3 t4 a b e = tt
+told_is false true t3 t4 a b e = tt
+told_is false false true t4 a b e = tt
+told_is false false false true a b e = tt
+told_is false false false false a b e = e
 
--- judging by the window, the count and the register is reading all of the bytes
-pub judged_is_read : (s : List ℕ) → AreBytes s → length s ≤ 16777216 → judged (window_of s) (length s) (register s) ≡ summed s (reading s)
-unfolding judged reading
-judged_is_read s f small =
+-- Where the register tells whether dwCRC is right, judging what was told is reading it.
+sealed_is_read : (x : Result Summary SuffixFault) (intact : Bool) (s : List ℕ) (c : Content) →
+    IfOk x (λ y. y ≡ summary_in s c) → sealed intact x ≡ summed s (read_by intact x c)
+sealed_is_read (Ok y) true s c e = ap Ok e
+sealed_is_read (Ok y) false s c e = refl
+sealed_is_read (Err f) intact s c e = refl
+
+-- Where the first test holds, the first answer counts.
+at_once : {X : Type 0} (t : Bool) (x y : X) → t ≡ true → cond t x y ≡ x
+at_once true x y e = refl
+at_once false x y e = cc
+
+-- Under 16 bytes there is no more to tell.
+too_short : (t : List ℕ) (n : ℕ) → ltb n 16 ≡ true → told t n ≡ Err TooShort
+unfolding told
+too_short t n e = at_once (ltb n 16) (Err TooShort) _ e
+
+-- A summary that was told is what the last 16 bytes say.
+ok_of : (t1 t2 t3 t4 : Bool) (a s : Summary) →
+    cond t1 (Err TooShort) (cond t2 (Err NoSignature) (cond t3 (Err BadLength) (cond t4 (Err DfuSe) (Ok a)))) ≡ Ok s → a ≡ s
+ok_of true t2 t3 t4 a s h = cc
+ok_of false true t3 t4 a s h = cc
+ok_of false false true t4 a s h = cc
+ok_of false false false true a s h = cc
+ok_of false false false false a s h = cc
+
+told_ok : (t : List ℕ) (n : ℕ) (s : Summary) → told t n ≡ Ok s → told_by t n ≡ s
+unfolding told
+told_ok t n s h = ok_of (ltb n 16) (not (is_signed t)) (ltb (get_or t 11 0) 16 || ltb n (get_or t 11 0))
+    (eqb (little_number 2 (drop 6 t)) 0x011A) (told_by t n) s h
+
+-- A fault that was told is the answer of reading.
+pub parsed_fault : (b t : List ℕ) (r : Result Summary SuffixFault) (f : SuffixFault) → length b ≤ 16777216 →
+    t ≡ tail_of b → r ≡ told t (length b) → r ≡ Err f → reading b ≡ Err f
+parsed_fault b t r f small tail answer is =
+    let same : told (tail_of b) (length b) ≡ Err f = ap (λ (w : List ℕ). told w (length b)) (sym tail) ∙ (sym answer ∙ is) in
+    reading_told b small ∙ ap (λ (x : Result Summary SuffixFault). read_by (is_intact b) x (content_of b)) same
+
+-- A summary that was told is read, by whether its dwCRC is right.
+pub parsed : (b t : List ℕ) (r : Result Summary SuffixFault) (s : Summary) → length b ≤ 16777216 →
+    t ≡ tail_of b → r ≡ told t (length b) → r ≡ Ok s →
+    reading b ≡ cond (eqb s.crc (register (take (length b - 4) b))) (Ok
+    (record { payload = take (length b - s.suffix) b; ids = s.ids; dfu = s.dfu; suffix = s.suffix })) (Err BadCrc)
+parsed b t r s small tail answer is =
+    let same : told (tail_of b) (length b) ≡ Ok s = ap (λ (w : List ℕ). told w (length b)) (sym tail) ∙ (sym answer ∙ is) in
+    reading_told b small ∙ (ap (λ (x : Result Summary SuffixFault). read_by (is_intact b) x (content_of b)) same
+    ∙ ap (λ (z : Summary). cond (eqb z.crc (register (take (length b - 4) b)))
+    (Ok (record { payload = take (length b - z.suffix) b; ids = z.ids; dfu = z.dfu; suffix = z.suffix })) (Err BadCrc))
+    (told_ok (tail_of b) (length b) s same))
+
+-- Where dwCRC isn't the register over the bytes before it, that is the answer.
+pub parsed_wrong : (b t : List ℕ) (r : Result Summary SuffixFault) (s : Summary) (due : ℕ) → length b ≤ 16777216 →
+    t ≡ tail_of b → r ≡ told t (length b) → r ≡ Ok s → due ≡ register (take (length b - 4) b) → s.crc ≢ due → reading b ≡ Err BadCrc
+parsed_wrong b t r s due small tail answer is e other =
+    let no : eqb s.crc (register (take (length b - 4) b)) ≡ false =
+    elim (eqb_tells s.crc (register (take (length b - 4) b))) [ inl p ↦ absurd (other (p.1 ∙ sym e)) | inr p ↦ p.0 ] in
+    parsed b t r s small tail answer is ∙ ap (λ (yes : Bool). cond yes
+    (Ok (record { payload = take (length b - s.suffix) b; ids = s.ids; dfu = s.dfu; suffix = s.suffix })) (Err BadCrc)) no
+
+-- Where dwCRC is that register, the answer is what was told, with the bytes before the suffix.
+pub parsed_right : (b t p : List ℕ) (r : Result Summary SuffixFault) (s : Summary) (due : ℕ) → length b ≤ 16777216 →
+    t ≡ tail_of b → r ≡ told t (length b) → r ≡ Ok s → due ≡ register (take (length b - 4) b) → s.crc ≡ due →
+    p ≡ take (length b - s.suffix) b →
+    reading b ≡ Ok (record { payload = p; ids = s.ids; dfu = s.dfu; suffix = s.suffix })
+parsed_right b t p r s due small tail answer is e same paid =
+    let yes : eqb s.crc (register (take (length b - 4) b)) ≡ true = eq-eqb s.crc (register (take (length b - 4) b)) (same ∙ e) in
+    parsed b t r s small tail answer is
+    ∙ (ap (λ (right : Bool). cond right (Ok (record {
+      payload = take (length b - s.suffix) b;
+      ids = s.ids;
+      dfu = s.dfu;
+      suffix =
+          s.suffix;
+    })) (Err BadCrc)) yes
+    ∙ ap (λ (xs : List ℕ). Ok (record { payload = xs; ids = s.ids; dfu = s.dfu; suffix = s.suffix })) (sym paid))
+
+-- What the last 16 bytes told sums up what they say.
+sums_up : (s : List ℕ) → 16 ≤ length s → IfOk (told (tail_of s) (length s)) (λ y. y ≡ summary_in s (content_of s))
+unfolding told
+sums_up s long =
     let t = tail_of s in
     let n = length s in
     let c = content_of s in
-    let last = little_number 4 (drop 12 t) in
-    let due = register (take (n - 4) s) in
-    let t1 = ltb n 16 in
-    let t2 = not (is_signed t) in
-    let t3 = ltb (get_or t 11 0) 16 || ltb n (get_or t 11 0) in
-    let t4 = eqb (little_number 2 (drop 6 t)) 0x011A in
-    let t5 = not (eqb last due) in
-    let within : ltb 16777216 n ≡ false = not_less 16777216 n small in
-    let right : summed s (reading s) ≡ cond t1 (Err TooShort) (cond t2 (Err NoSignature) (cond t3 (Err BadLength) (cond t4 (Err DfuSe) (cond t5 (Err BadCrc) (Ok (summary_in s c)))))) =
-    ap (λ (b : Bool). summed s (content_or (cond b (Some TooLarge) (find (has_fault s) (TooShort ∷ NoSignature ∷ BadLength ∷ DfuSe ∷ BadCrc ∷ []))) c)) within ∙ flow t1 t2 t3 t4 t5 s c in
-    under_test t1 (Err TooShort) (inner (window_of s) n (register s)) (cond t2 (Err NoSignature) (cond t3 (Err BadLength) (cond t4 (Err DfuSe) (cond t5 (Err BadCrc) (Ok (summary_in s c))))))
-    (λ e.
-    let long : 16 ≤ n = ltb-false n 16 e in
     let place : n - 16 + 12 ≡ n - 4 = omega arith in
     let moved : drop 12 t ≡ drop (n - 4) s = drop-drop 12 (n - 16) s ∙ ap (λ (k : ℕ). drop k s) place in
+    let paid : n - get_or t 11 0 ≡ length c.payload = sym (length-take-le (n - get_or t 11 0) s (omega arith)) in
+    let same : told_by t n ≡ summary_in s c =
+    said_same (n - get_or t 11 0) (length c.payload) (get_or t 11 0) (get_or t 11 0) c.dfu (little_number 4 (drop 12 t))
+    (little_number 4 (drop (n - 4) s)) c.ids paid refl (ap (little_number 4) moved) in
+    told_is (ltb n 16) (not (is_signed t)) (ltb (get_or t 11 0) 16 || ltb n (get_or t 11 0))
+    (eqb (little_number 2 (drop 6 t)) 0x011A) (told_by t n) (summary_in s c) same
+
+-- The register over all bytes is 0 exactly where dwCRC is right.
+zero_intact : (s : List ℕ) → AreBytes s → 16 ≤ length s → eqb (register s) 0 ≡ is_intact s
+zero_intact s f long =
+    let n = length s in
+    let last = little_number 4 (drop 12 (tail_of s)) in
+    let due = register (take (n - 4) s) in
+    let place : n - 16 + 12 ≡ n - 4 = omega arith in
+    let moved : drop 12 (tail_of s) ≡ drop (n - 4) s = drop-drop 12 (n - 16) s ∙ ap (λ (k : ℕ). drop k s) place in
     let law = last_four s f (omega arith) in
-    let same : not (eqb (register s) 0) ≡ t5 = by_zero (register s) 0 last due (λ z. ap (little_number 4) moved ∙ law.0 z, λ z. law.1 (sym (ap (little_number 4) moved) ∙ z)) in
-    let paid : n - get_or t 11 0 ≡ length (take (n - get_or t 11 0) s) = sym (length-take-le (n - get_or t 11 0) s (omega arith)) in
-    ap (λ (w : List ℕ). inner w n (register s)) (window_tail s long)
-    ∙ under_test t2 (Err NoSignature) _ _ (λ e2. under_test t3 (Err BadLength) _ _ (λ e3. under_test t4 (Err DfuSe) _ _ (λ e4.
-    ap (λ (b : Bool). cond b (Err BadCrc) (Ok (told_by t n))) same
-    ∙ under_test t5 (Err BadCrc) (Ok (told_by t n)) (Ok (summary_in s c)) (λ e5.
-    ap Ok (said_same (n - get_or t 11 0) (length (take (n - get_or t 11 0) s)) (get_or t 11 0) (get_or t 11 0) c.dfu last (little_number 4 (drop (n - 4) s)) c.ids paid refl (ap (little_number 4) moved)))))))
-    ∙ sym right
+    by_zero (register s) 0 last due (λ z. ap (little_number 4) moved ∙ law.0 z, λ z. law.1 (sym (ap (little_number 4) moved) ∙ z))
+
+by_length : (s : List ℕ) → AreBytes s → length s ≤ 16777216 → (short : Bool) → ltb (length s) 16 ≡ short →
+    judged (window_of s) (length s) (register s) ≡ summed s (reading s)
+by_length s f small true e =
+    ap (sealed (eqb (register s) 0)) (too_short (window_of s) (length s) e)
+    ∙ sym (ap (summed s) (reading_told s small
+    ∙ ap (λ (x : Result Summary SuffixFault). read_by (is_intact s) x (content_of s)) (too_short (tail_of s) (length s) e)))
+by_length s f small false e =
+    let long : 16 ≤ length s = ltb-false (length s) 16 e in
+    ap (λ (w : List ℕ). judged w (length s) (register s)) (window_tail s long)
+    ∙ (ap (λ (b : Bool). sealed b (told (tail_of s) (length s))) (zero_intact s f long)
+    ∙ (sealed_is_read (told (tail_of s) (length s)) (is_intact s) s (content_of s) (sums_up s long)
+    ∙ sym (ap (summed s) (reading_told s small))))
+
+-- Judging by the window, the count and the register is reading all of the bytes.
+pub judged_is_read : (s : List ℕ) → AreBytes s → length s ≤ 16777216 → judged (window_of s) (length s) (register s) ≡ summed s (reading s)
+judged_is_read s f small = by_length s f small (ltb (length s) 16) refl

@@ -1,3 +1,6 @@
+pub mod ForCallers
+pub mod OneReading
+pub mod Progress
 pub mod Bytes
 pub mod Shifts
 pub mod Tables

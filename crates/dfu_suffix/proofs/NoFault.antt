@@ -12,7 +12,7 @@ use Rattle.byteorder.specs.Endian.{little_number}
 use Rattle.dfu_suffix.specs.Register.{register}
 use Rattle.dfu_suffix.specs.Laws.{AreBytes}
 use Rattle.dfu_suffix.specs.Grammar.{IsFile, fields_before_crc, before_crc, tail_of, is_signed, has_fault, fault_order}
-use Rattle.dfu_suffix.specs.Reading.{content_of}
+use Rattle.dfu_suffix.specs.inside.Reading.{content_of}
 use Rattle.dfu_suffix.specs.declared.fault.SuffixFault.TheVariants.{TooShort, NoSignature, BadLength, DfuSe, BadCrc, TooLarge}
 
 -- ---- numbers and their bytes
@@ -30,7 +30,8 @@ two xs i f =
     let cells = le2 (get_or (drop i xs) 0 0) (get_or (drop i xs) 1 0) (omega (arith, f i)) (omega (arith, f (i + 1))) in
     cells ∙ cc
 
-le4 : (x y z w : ℕ) → x < 256 → y < 256 → z < 256 → w < 256 → to_le_bytes w32 (x + 256 * (y + 256 * (z + 256 * (w + 256 * 0)))) ≡ x ∷ y ∷ z ∷ w ∷ []
+le4 : (x y z w : ℕ) → x < 256 → y < 256 → z < 256 → w < 256 → to_le_bytes w32 (x + 256 * (y + 256 * (z + 256 * (w + 256 * 0))))
+    ≡ x ∷ y ∷ z ∷ w ∷ []
 le4 x y z w p q r s =
     let n = x + 256 * (y + 256 * (z + 256 * (w + 256 * 0))) in
     let e0 : n % 256 ≡ x = omega arith in
@@ -44,13 +45,15 @@ number_fits xs f = omega (arith, f 0, f 1)
 
 -- ---- cells
 
+-- These are n numbers of a list, from place i on.
 abbrev cells : ℕ → ℕ → List ℕ → List ℕ
 cells zero i xs = []
 cells (suc n) i xs = get_or xs i 0 ∷ cells n (suc i) xs
 
 drop_cells : (n i : ℕ) (xs : List ℕ) → i + n ≡ length xs → drop i xs ≡ cells n i xs
 drop_cells zero i xs h = drop_all i xs (omega arith)
-drop_cells (suc n) i xs h = drop-cons xs i 0 (omega arith) ∙ ap (λ (ys : List ℕ). get_or xs i 0 ∷ ys) (drop_cells n (suc i) xs (omega arith))
+drop_cells (suc n) i xs h = drop-cons xs i 0 (omega arith)
+    ∙ ap (λ (ys : List ℕ). get_or xs i 0 ∷ ys) (drop_cells n (suc i) xs (omega arith))
 
 -- ---- no fault
 
@@ -66,7 +69,7 @@ and_true : (a b : Bool) → (a && b) ≡ true → (a ≡ true) × (b ≡ true)
 and_true true b h = (refl, h)
 and_true false b h = (h, cc)
 
--- what bytes with no fault are
+-- Bytes with no fault have none of the conditions of a fault.
 pub record Sound (b : List ℕ) : Type 0 where
   pub small : length b ≤ 16777216
   pub long : 16 ≤ length b
@@ -78,6 +81,7 @@ pub record Sound (b : List ℕ) : Type 0 where
   pub not_dfuse : little_number 2 (drop 6 (tail_of b)) ≢ 0x011A
   pub crc : little_number 4 (drop 12 (tail_of b)) ≡ register (take (length b - 4) b)
 
+-- Bytes for which no fault is found are such.
 pub sound : (b : List ℕ) → find (has_fault b) fault_order ≡ None → Sound b
 sound b h =
     let p0 = passed (has_fault b TooLarge) TooLarge (find (has_fault b) (TooShort ∷ NoSignature ∷ BadLength ∷ DfuSe ∷ BadCrc ∷ [])) h in
@@ -100,15 +104,18 @@ sound b h =
       whole = ltb-false (get_or t 11 0) 16 l.0;
       within = ltb-false (length b) (get_or t 11 0) l.1;
       not_dfuse = λ e. let yes = eq-eqb (little_number 2 (drop 6 t)) 0x011A e in cc;
-      crc = eqb-true (little_number 4 (drop 12 t)) (register (take (length b - 4) b)) (not-false (eqb (little_number 4 (drop 12 t)) (register (take (length b - 4) b))) p5.0);
+      crc = eqb-true (little_number 4 (drop 12 t)) (register (take (length b - 4) b))
+          (not-false (eqb (little_number 4 (drop 12 t)) (register (take (length b - 4) b))) p5.0);
     }
 
+-- These are the extra bytes of a suffix that is longer than 16.
 abbrev pub extra_of : List ℕ → List ℕ
 extra_of b = take (get_or (tail_of b) 11 0 - 16) (drop (length b - get_or (tail_of b) 11 0) b)
 
 length_tail : (b : List ℕ) → 16 ≤ length b → length (tail_of b) ≡ 16
 length_tail b h = length-drop (length b - 16) b ∙ omega arith
 
+-- With the extra bytes a suffix is as long as bLength says.
 pub length_extra : (b : List ℕ) → Sound b → 16 + length (extra_of b) ≡ get_or (tail_of b) 11 0
 length_extra b s =
     let l = get_or (tail_of b) 11 0 in
@@ -118,7 +125,7 @@ length_extra b s =
     let d = length-drop (length b - l) b in
     omega arith
 
--- the bytes in front of the last 16
+-- The bytes in front of the last 16.
 front_parts : (b : List ℕ) → Sound b → take (length b - get_or (tail_of b) 11 0) b ++ (extra_of b ++ tail_of b) ≡ b
 front_parts b s =
     let l = get_or (tail_of b) 11 0 in
@@ -127,20 +134,24 @@ front_parts b s =
     let place : (length b - l) + (l - 16) ≡ length b - 16 = omega arith in
     let rest : drop (l - 16) (drop (length b - l) b) ≡ tail_of b = drop-drop (l - 16) (length b - l) b ∙ ap (λ (k : ℕ). drop k b) place in
     ap (λ (xs : List ℕ). take (length b - l) b ++ (extra_of b ++ xs)) (sym rest)
-    ∙ (ap (λ (xs : List ℕ). take (length b - l) b ++ xs) (take-append-drop (l - 16) (drop (length b - l) b)) ∙ take-append-drop (length b - l) b)
+    ∙ (ap (λ (xs : List ℕ). take (length b - l) b ++ xs) (take-append-drop (l - 16) (drop (length b - l) b))
+    ∙ take-append-drop (length b - l) b)
 
--- the first twelve of the last 16 bytes
+-- The first twelve of the last 16 bytes.
 abbrev fields : List ℕ → List ℕ
-fields t = get_or t 0 0 ∷ get_or t 1 0 ∷ get_or t 2 0 ∷ get_or t 3 0 ∷ get_or t 4 0 ∷ get_or t 5 0 ∷ get_or t 6 0 ∷ get_or t 7 0 ∷ get_or t 8 0 ∷ get_or t 9 0 ∷ get_or t 10 0 ∷ get_or t 11 0 ∷ []
+fields t = get_or t 0 0 ∷ get_or t 1 0 ∷ get_or t 2 0 ∷ get_or t 3 0 ∷ get_or t 4 0 ∷ get_or t 5 0 ∷ get_or t 6 0 ∷ get_or t 7
+    0 ∷ get_or t 8 0 ∷ get_or t 9 0 ∷ get_or t 10 0 ∷ get_or t 11 0 ∷ []
 
+-- These are the last four of the last 16 bytes.
 abbrev crc_bytes : List ℕ → List ℕ
 crc_bytes t = get_or t 12 0 ∷ get_or t 13 0 ∷ get_or t 14 0 ∷ get_or t 15 0 ∷ []
 
 tail_cells : (t : List ℕ) → length t ≡ 16 → t ≡ fields t ++ crc_bytes t
 tail_cells t h = drop_cells 16 0 t (sym h)
 
--- what was read from the fields, written again
-fields_again : (b : List ℕ) → Sound b → AreBytes b → fields_before_crc (content_of b).ids (content_of b).dfu (extra_of b) ≡ fields (tail_of b)
+-- What was read from the fields, written again.
+fields_again : (b : List ℕ) → Sound b → AreBytes b → fields_before_crc (content_of b).ids (content_of b).dfu (extra_of b)
+    ≡ fields (tail_of b)
 fields_again b s f =
     let t = tail_of b in
     let ft : AreBytes t = AreBytes-drop b (length b - 16) f in
@@ -160,9 +171,11 @@ crc_again t f =
     let b = get_or-drop 12 t 1 0 in
     let c = get_or-drop 12 t 2 0 in
     let d = get_or-drop 12 t 3 0 in
-    let four = le4 (get_or (drop 12 t) 0 0) (get_or (drop 12 t) 1 0) (get_or (drop 12 t) 2 0) (get_or (drop 12 t) 3 0) (omega (arith, f 12)) (omega (arith, f 13)) (omega (arith, f 14)) (omega (arith, f 15)) in
+    let four = le4 (get_or (drop 12 t) 0 0) (get_or (drop 12 t) 1 0) (get_or (drop 12 t) 2 0) (get_or (drop 12 t) 3 0)
+    (omega (arith, f 12)) (omega (arith, f 13)) (omega (arith, f 14)) (omega (arith, f 15)) in
     four ∙ cc
 
+-- Bytes that have no fault are a file of the grammar, with what is read from their end.
 pub found : (b : List ℕ) → Sound b → AreBytes b → IsFile (content_of b).payload (content_of b).ids (content_of b).dfu (extra_of b) b
 found b s f =
     let t = tail_of b in

@@ -15,7 +15,8 @@ use Rattle.dfu_suffix.specs.Register.{after_bit, after_bits, low_bits, bits_of, 
 swap_last : (a b c : ℕ) → bit_xor (bit_xor a b) c ≡ bit_xor (bit_xor a c) b
 swap_last a b c = xor_assoc a b c ∙ (ap (bit_xor a) (xor_comm b c) ∙ sym (xor_assoc a c b))
 
-by_low : (r x h k : ℕ) → r < 2 → x < 2 → cond (eqb (bit_xor r x) 0) (bit_xor h k) (bit_xor (bit_xor h k) 0xEDB8_8320) ≡ bit_xor (cond (eqb r x) h (bit_xor h 0xEDB8_8320)) k
+by_low : (r x h k : ℕ) → r < 2 → x < 2 → cond (eqb (bit_xor r x) 0) (bit_xor h k) (bit_xor (bit_xor h k) 0xEDB8_8320)
+    ≡ bit_xor (cond (eqb r x) h (bit_xor h 0xEDB8_8320)) k
 by_low zero zero h k p q = refl
 by_low zero (suc zero) h k p q = swap_last h k 0xEDB8_8320
 by_low (suc zero) zero h k p q = swap_last h k 0xEDB8_8320
@@ -23,14 +24,14 @@ by_low (suc zero) (suc zero) h k p q = refl
 by_low (suc (suc r)) x h k p q = absurd (omega arith)
 by_low r (suc (suc x)) h k p q = absurd (omega arith)
 
--- a bit of x goes into the register, and the others wait
+-- A bit of x goes into the register, and the others wait.
 pub shift_xor : (r x : ℕ) → shift (bit_xor r x) ≡ bit_xor (after_bit r (x % 2)) (x / 2)
 shift_xor r x =
     ap (λ (low : ℕ). cond (eqb low 0) (bit_xor r x / 2) (bit_xor (bit_xor r x / 2) 0xEDB8_8320)) (xor_mod r x 1)
     ∙ (ap (λ (half : ℕ). cond (eqb (bit_xor (r % 2) (x % 2)) 0) half (bit_xor half 0xEDB8_8320)) (xor_shr r x 1)
     ∙ by_low (r % 2) (x % 2) (r / 2) (x / 2) (omega arith) (omega arith))
 
--- n bits of x are in the register, and the others wait
+-- Once n bits of x are in the register, the others wait.
 pub shifts_xor : (n r x : ℕ) → shifts n (bit_xor r x) ≡ bit_xor (after_bits r (low_bits n x)) (x / 2 ^ n)
 unfolding shifts low_bits after_bits
 shifts_xor zero r x = ap (bit_xor r) (omega arith)
@@ -39,7 +40,8 @@ shifts_xor (suc n) r x =
     ∙ (shifts_xor n (after_bit r (x % 2)) (x / 2)
     ∙ ap (bit_xor (after_bits (after_bit r (x % 2)) (low_bits n (x / 2)))) (shr-shr x 1 n ∙ ap (λ (k : ℕ). x / 2 ^ k) (omega arith)))
 
-by_lows : (a b h k : ℕ) → a < 2 → b < 2 → cond (eqb (bit_xor a b) 0) (bit_xor h k) (bit_xor (bit_xor h k) 0xEDB8_8320) ≡ bit_xor (cond (eqb a 0) h (bit_xor h 0xEDB8_8320)) (cond (eqb b 0) k (bit_xor k 0xEDB8_8320))
+by_lows : (a b h k : ℕ) → a < 2 → b < 2 → cond (eqb (bit_xor a b) 0) (bit_xor h k) (bit_xor (bit_xor h k) 0xEDB8_8320)
+    ≡ bit_xor (cond (eqb a 0) h (bit_xor h 0xEDB8_8320)) (cond (eqb b 0) k (bit_xor k 0xEDB8_8320))
 by_lows zero zero h k p q = refl
 by_lows zero (suc zero) h k p q = xor_assoc h k 0xEDB8_8320
 by_lows (suc zero) zero h k p q = swap_last h k 0xEDB8_8320
@@ -56,7 +58,7 @@ shift_of_xor a b =
     ∙ (ap (λ (half : ℕ). cond (eqb (bit_xor (a % 2) (b % 2)) 0) half (bit_xor half 0xEDB8_8320)) (xor_shr a b 1)
     ∙ by_lows (a % 2) (b % 2) (a / 2) (b / 2) (omega arith) (omega arith))
 
--- shifts are linear
+-- Shifts are linear.
 pub shifts_of_xor : (n a b : ℕ) → shifts n (bit_xor a b) ≡ bit_xor (shifts n a) (shifts n b)
 unfolding shifts
 shifts_of_xor zero a b = refl
@@ -68,7 +70,7 @@ shift_even t =
     let half : t * 2 / 2 ≡ t = omega arith in
     ap (λ (z : ℕ). cond (eqb z 0) (t * 2 / 2) (bit_xor (t * 2 / 2) 0xEDB8_8320)) low ∙ half
 
--- where the bits that are shifted out are 0, nothing else happens
+-- Where the bits that are shifted out are 0, nothing else happens.
 pub shifts_whole : (n h : ℕ) → shifts n (h * 2 ^ n) ≡ h
 unfolding shifts
 shifts_whole zero h = omega arith
@@ -76,23 +78,25 @@ shifts_whole (suc n) h =
     let turned : h * 2 ^ suc n ≡ h * 2 ^ n * 2 = ap (λ (z : ℕ). h * z) (pow-suc 2 n) ∙ sym (mul_assoc h (2 ^ n) 2) in
     ap (λ (z : ℕ). shifts n (shift z)) turned ∙ (ap (shifts n) (shift_even (h * 2 ^ n)) ∙ shifts_whole n h)
 
--- a number by its low bits and the others
+-- A number is its low bits and the others.
 pub split_xor : (n s : ℕ) → s ≡ bit_xor (s % 2 ^ n) (s / 2 ^ n * 2 ^ n)
 split_xor n s =
     let low : s % 2 ^ n < 2 ^ n = mod_below s (2 ^ n) (pow_pos n) in
-    let parts : bit_xor (0 * 2 ^ n + s % 2 ^ n) (s / 2 ^ n * 2 ^ n + 0) ≡ bit_xor 0 (s / 2 ^ n) * 2 ^ n + bit_xor (s % 2 ^ n) 0 = xor_block n 0 (s / 2 ^ n) (s % 2 ^ n) 0 low (pow_pos n) in
+    let parts : bit_xor (0 * 2 ^ n + s % 2 ^ n) (s / 2 ^ n * 2 ^ n + 0)
+    ≡ bit_xor 0 (s / 2 ^ n) * 2 ^ n + bit_xor (s % 2 ^ n) 0 = xor_block n 0 (s / 2 ^ n) (s % 2 ^ n) 0 low (pow_pos n) in
     sym (ap (λ (z : ℕ). bit_xor z (s / 2 ^ n * 2 ^ n)) (omega arith)
     ∙ (ap (bit_xor (0 * 2 ^ n + s % 2 ^ n)) (omega arith)
     ∙ (parts
     ∙ (ap (λ (z : ℕ). z * 2 ^ n + bit_xor (s % 2 ^ n) 0) (xor_zero_l (s / 2 ^ n))
     ∙ (ap (λ (z : ℕ). s / 2 ^ n * 2 ^ n + z) (xor_zero_r (s % 2 ^ n)) ∙ shr_split s n)))))
 
--- a byte changes the register so
+-- A byte changes the register so.
 pub byte_step : (r b : ℕ) → b < 256 → after_bits r (low_bits 8 b) ≡ bit_xor (r / 256) (shifts 8 (bit_xor r b % 256))
 byte_step r b h =
     let none : b / 256 ≡ 0 = omega arith in
     let s = bit_xor r b in
-    let whole : shifts 8 s ≡ after_bits r (low_bits 8 b) = shifts_xor 8 r b ∙ (ap (bit_xor (after_bits r (low_bits 8 b))) none ∙ xor_zero_r (after_bits r (low_bits 8 b))) in
+    let whole : shifts 8 s ≡ after_bits r (low_bits 8 b) = shifts_xor 8 r b
+    ∙ (ap (bit_xor (after_bits r (low_bits 8 b))) none ∙ xor_zero_r (after_bits r (low_bits 8 b))) in
     let high : s / 256 ≡ r / 256 = xor_shr r b 8 ∙ (ap (bit_xor (r / 256)) none ∙ xor_zero_r (r / 256)) in
     sym whole
     ∙ (ap (shifts 8) (split_xor 8 s)
@@ -102,6 +106,7 @@ byte_step r b h =
 
 -- ---- many bits at once
 
+-- Shifts by m bits and then by n are shifts by both.
 pub shifts_add : (m n s : ℕ) → shifts (m + n) s ≡ shifts n (shifts m s)
 unfolding shifts
 shifts_add zero n s = ap (λ (k : ℕ). shifts k s) (zero-add n)
@@ -109,7 +114,7 @@ shifts_add (suc m) n s =
     let more : suc m + n ≡ suc (m + n) = omega arith in
     ap (λ (k : ℕ). shifts k s) more ∙ shifts_add m n (shift s)
 
--- the lowest eight bits, and the others
+-- Shifts of a number are those of its lowest eight bits and those of the others.
 pub shifts_peel : (n s : ℕ) → shifts (8 + n) s ≡ bit_xor (shifts (8 + n) (s % 256)) (shifts n (s / 256))
 shifts_peel n s =
     ap (shifts (8 + n)) (split_xor 8 s)
@@ -124,28 +129,32 @@ zero-shifts (suc n) = zero-shifts n
 peel : (m n s : ℕ) → m ≡ 8 + n → shifts m s ≡ bit_xor (shifts m (s % 256)) (shifts n (s / 256))
 peel m n s e = subst (λ (k : ℕ). shifts k s ≡ bit_xor (shifts k (s % 256)) (shifts n (s / 256))) (sym e) (shifts_peel n s)
 
--- 32 + n bits 0, by the four bytes of a number below 2^32
-pub shifts_by_fours : (n s : ℕ) → s < 2 ^ 32 → shifts (32 + n) s ≡ bit_xor (bit_xor (bit_xor (shifts (32 + n) (s % 256)) (shifts (24 + n) (s / 2 ^ 8 % 256))) (shifts (16 + n) (s / 2 ^ 16 % 256))) (shifts (8 + n) (s / 2 ^ 24 % 256))
+-- Shifts by 32 + n bits are those of the four bytes of a number below 2^32.
+pub shifts_by_fours : (n s : ℕ) → s < 2 ^ 32 →
+    shifts (32 + n) s ≡ bit_xor (bit_xor (bit_xor (shifts (32 + n) (s % 256)) (shifts (24 + n) (s / 2 ^ 8 % 256)))
+    (shifts (16 + n) (s / 2 ^ 16 % 256))) (shifts (8 + n) (s / 2 ^ 24 % 256))
 shifts_by_fours n s h =
     let e0 = peel (32 + n) (24 + n) s (omega arith) in
-    let e1 = peel (24 + n) (16 + n) (s / 2 ^ 8) (omega arith) ∙ ap (λ (z : ℕ). bit_xor (shifts (24 + n) (s / 2 ^ 8 % 256)) (shifts (16 + n) z)) (shr-shr s 8 8) in
-    let e2 = peel (16 + n) (8 + n) (s / 2 ^ 16) (omega arith) ∙ ap (λ (z : ℕ). bit_xor (shifts (16 + n) (s / 2 ^ 16 % 256)) (shifts (8 + n) z)) (shr-shr s 16 8) in
+    let e1 = peel (24 + n) (16 + n) (s / 2 ^ 8) (omega arith)
+    ∙ ap (λ (z : ℕ). bit_xor (shifts (24 + n) (s / 2 ^ 8 % 256)) (shifts (16 + n) z)) (shr-shr s 8 8) in
+    let e2 = peel (16 + n) (8 + n) (s / 2 ^ 16) (omega arith)
+    ∙ ap (λ (z : ℕ). bit_xor (shifts (16 + n) (s / 2 ^ 16 % 256)) (shifts (8 + n) z)) (shr-shr s 16 8) in
     let last : s / 2 ^ 24 ≡ s / 2 ^ 24 % 256 = omega arith in
     let e3 = ap (shifts (8 + n)) last in
     simp xor_assoc (cc)
 
--- 32 bits 0 and then n more, of two numbers
+-- Shifts of two numbers together, by 32 bits and then n more, are those of each.
 pub absorb : (n t x : ℕ) → shifts n (shifts 32 (bit_xor t x)) ≡ bit_xor (shifts (32 + n) t) (shifts (32 + n) x)
 absorb n t x = sym (shifts_add 32 n (bit_xor t x)) ∙ shifts_of_xor (32 + n) t x
 
--- four numbers in the other order
+-- Four numbers give the same in the other order.
 pub four_turned : (a b c d : ℕ) → bit_xor (bit_xor (bit_xor a b) c) d ≡ bit_xor (bit_xor (bit_xor d c) b) a
 four_turned a b c d =
     xor_comm (bit_xor (bit_xor a b) c) d
     ∙ (ap (bit_xor d) (xor_comm (bit_xor a b) c ∙ ap (bit_xor c) (xor_comm a b))
     ∙ (sym (xor_assoc d c (bit_xor b a)) ∙ sym (xor_assoc (bit_xor d c) b a)))
 
--- bits in two parts
+-- The low bits of a number are had in two parts.
 pub low_bits-add : (m n x : ℕ) → low_bits (m + n) x ≡ low_bits m x ++ low_bits n (x / 2 ^ m)
 unfolding low_bits
 low_bits-add zero n x =
@@ -155,9 +164,10 @@ low_bits-add (suc m) n x =
     let more : suc m + n ≡ suc (m + n) = omega arith in
     let place : 1 + m ≡ suc m = omega arith in
     ap (λ (k : ℕ). low_bits k x) more
-    ∙ ap (λ (bs : List ℕ). x % 2 ∷ bs) (low_bits-add m n (x / 2) ∙ ap (λ (z : ℕ). low_bits m (x / 2) ++ low_bits n z) (shr-shr x 1 m ∙ ap (λ (k : ℕ). x / 2 ^ k) place))
+    ∙ ap (λ (bs : List ℕ). x % 2 ∷ bs) (low_bits-add m n (x / 2)
+    ∙ ap (λ (z : ℕ). low_bits m (x / 2) ++ low_bits n z) (shr-shr x 1 m ∙ ap (λ (k : ℕ). x / 2 ^ k) place))
 
--- bits above n don't matter to the n low ones
+-- Bits above n don't matter to the n low ones.
 pub low_bits_same : (n b y : ℕ) → low_bits n (b + 2 ^ n * y) ≡ low_bits n b
 unfolding low_bits
 low_bits_same zero b y = refl
@@ -165,15 +175,17 @@ low_bits_same (suc n) b y =
     let turned : 2 ^ suc n * y ≡ 2 * (2 ^ n * y) = ap (λ (z : ℕ). z * y) (pow-suc 2 n ∙ mul_comm (2 ^ n) 2) ∙ mul_assoc 2 (2 ^ n) y in
     let low : (b + 2 ^ suc n * y) % 2 ≡ b % 2 = omega (arith, turned) in
     let high : (b + 2 ^ suc n * y) / 2 ≡ b / 2 + 2 ^ n * y = omega (arith, turned) in
-    ap (λ (z : ℕ). z ∷ low_bits n ((b + 2 ^ suc n * y) / 2)) low ∙ ap (λ (bs : List ℕ). b % 2 ∷ bs) (ap (low_bits n) high ∙ low_bits_same n (b / 2) y)
+    ap (λ (z : ℕ). z ∷ low_bits n ((b + 2 ^ suc n * y) / 2)) low ∙ ap (λ (bs : List ℕ). b % 2 ∷ bs) (ap (low_bits n) high
+    ∙ low_bits_same n (b / 2) y)
 
--- n times eight
+-- So many bits have n bytes.
 abbrev pub eights : ℕ → ℕ
 eights zero = 0
 eights (suc n) = 8 + eights n
 
--- the bits of n bytes from place i are those of the number that they make, the low byte first
-pub bits_little : (n i : ℕ) (xs : List ℕ) → i + n ≤ length xs → ((k : ℕ) → get_or xs k 0 < 256) → low_bits (eights n) (little_from i n xs) ≡ bits_of (take n (drop i xs))
+-- The bits of n bytes from place i are those of the number that they make, the low byte first.
+pub bits_little : (n i : ℕ) (xs : List ℕ) → i + n ≤ length xs → ((k : ℕ) → get_or xs k 0 < 256) →
+    low_bits (eights n) (little_from i n xs) ≡ bits_of (take n (drop i xs))
 unfolding low_bits bits_of
 bits_little zero i xs h f = refl
 bits_little (suc n) i xs h f =
@@ -188,7 +200,7 @@ bits_little (suc n) i xs h f =
     ∙ (ap (λ (bs : List ℕ). low_bits 8 b ++ bs) (bits_little n (suc i) xs (omega arith) f)
     ∙ ap (λ (zs : List ℕ). bits_of (take (suc n) zs)) (sym front))))
 
--- four bytes more, as one number
+-- Four bytes more go into the register as one number.
 pub four_step : (r x : ℕ) → x < 2 ^ 32 → after_bits r (low_bits 32 x) ≡ shifts 32 (bit_xor r x)
 four_step r x h =
     let none : x / 2 ^ 32 ≡ 0 = omega arith in
@@ -202,15 +214,17 @@ shift-fits s h =
     let mixed : bit_xor (s / 2) 0xEDB8_8320 < 2 ^ 32 = xor_lt 32 (s / 2) 0xEDB8_8320 half (omega arith) in
     elim (eqb (s % 2) 0) as (λ t. cond t (s / 2) (bit_xor (s / 2) 0xEDB8_8320) < 2 ^ 32) [ true ↦ half | false ↦ mixed ]
 
--- two numbers that differ in no bit
+-- Two numbers that differ in no bit are the same.
 pub xor_zero_same : (a b : ℕ) → bit_xor a b ≡ 0 → a ≡ b
-xor_zero_same a b h = sym (xor_zero_r a) ∙ (ap (bit_xor a) (sym (xor_self b)) ∙ (sym (xor_assoc a b b) ∙ (ap (λ (z : ℕ). bit_xor z b) h ∙ xor_zero_l b)))
+xor_zero_same a b h = sym (xor_zero_r a) ∙ (ap (bit_xor a) (sym (xor_self b))
+    ∙ (sym (xor_assoc a b b) ∙ (ap (λ (z : ℕ). bit_xor z b) h ∙ xor_zero_l b)))
 
 shift-zero : (s : ℕ) → s < 2 ^ 32 → shift s ≡ 0 → s ≡ 0
 shift-zero s h e =
     elim (eqb_tells (s % 2) 0) [
       | inl p ↦ let half : s / 2 ≡ 0 = sym (ap (λ (t : Bool). cond t (s / 2) (bit_xor (s / 2) 0xEDB8_8320)) p.0) ∙ e in omega (arith, p.1)
-      | inr p ↦ let half : bit_xor (s / 2) 0xEDB8_8320 ≡ 0 = sym (ap (λ (t : Bool). cond t (s / 2) (bit_xor (s / 2) 0xEDB8_8320)) p.0) ∙ e in
+      | inr p ↦ let half : bit_xor (s / 2) 0xEDB8_8320 ≡ 0 =
+          sym (ap (λ (t : Bool). cond t (s / 2) (bit_xor (s / 2) 0xEDB8_8320)) p.0) ∙ e in
           let same = xor_zero_same (s / 2) 0xEDB8_8320 half in absurd (omega arith)
     ]
 
@@ -219,11 +233,12 @@ unfolding shifts
 shifts-zero zero s h e = e
 shifts-zero (suc n) s h e = shift-zero s h (shifts-zero n (shift s) (shift-fits s h) e)
 
--- four bytes more make the register 0 exactly where they are the register
+-- Four bytes more make the register 0 exactly where they are the register.
 pub four_more : (r x : ℕ) → r < 2 ^ 32 → x < 2 ^ 32 → (after_bits r (low_bits 32 x) ≡ 0) ↔ (x ≡ r)
 four_more r x p q =
     let none : x / 2 ^ 32 ≡ 0 = omega arith in
-    let step : shifts 32 (bit_xor r x) ≡ after_bits r (low_bits 32 x) = shifts_xor 32 r x ∙ (ap (bit_xor (after_bits r (low_bits 32 x))) none ∙ xor_zero_r (after_bits r (low_bits 32 x))) in (
+    let step : shifts 32 (bit_xor r x) ≡ after_bits r (low_bits 32 x) =
+    shifts_xor 32 r x ∙ (ap (bit_xor (after_bits r (low_bits 32 x))) none ∙ xor_zero_r (after_bits r (low_bits 32 x))) in (
       λ e. sym (xor_zero_same r x (shifts-zero 32 (bit_xor r x) (xor_lt 32 r x p q) (step ∙ e))),
       λ e. sym step ∙ (ap (λ (z : ℕ). shifts 32 (bit_xor r z)) e ∙ (ap (shifts 32) (xor_self r) ∙ zero-shifts 32)),
     )

@@ -3,7 +3,7 @@ use Rattle.std.proofs.Common.{◌≡◌, ℕ, ◌+◌, ◌<◌, ◌≤◌, List,
 use Rattle.std.proofs.KnownBytes.{Consumes-trans}
 use Rattle.std.specs.Io.KnownBytes.{Consumes, IsAtEnd}
 use Rattle.dfu_suffix.specs.Register.{register}
-use Rattle.dfu_suffix.specs.Judging.{judged}
+use Rattle.dfu_suffix.specs.inside.Judging.{judged}
 use Rattle.dfu_suffix.specs.Checking.{Checks, UnlessRead}
 use Rattle.dfu_suffix.specs.Laws.{AreBytes}
 use Rattle.dfu_suffix.specs.declared.summary.Summary.{Summary}
@@ -14,7 +14,7 @@ use Rattle.dfu_suffix.proofs.CheckLaws.{checks_judged, checks_large, unless_read
 use Rattle.dfu_suffix.proofs.ReadLaws.{if_some, consumed_all, consumed_length}
 use Rattle.dfu_suffix.proofs.Windows.{window_of, window_more}
 
--- the reader gave these bytes, a byte at least at each turn, and of them the register, the count and the window are kept
+-- The reader gave these bytes, a byte at least at each turn, and of them the register, the count and the window are kept.
 pub record Kept (old new : Option (List ℕ)) (turn crc count : ℕ) (window seen : List ℕ) : Type 0 where
   pub given : Consumes old new seen
   pub bytes : AreBytes seen
@@ -24,11 +24,11 @@ pub record Kept (old new : Option (List ℕ)) (turn crc count : ℕ) (window see
   pub small : length seen ≤ 16777216
   pub turns : turn ≤ length seen
 
--- the reader gave some bytes
+-- The reader gave some bytes.
 abbrev pub Seen : Option (List ℕ) → Option (List ℕ) → ℕ → ℕ → ℕ → List ℕ → Type 0
 Seen old new turn crc count window = (seen : List ℕ) × Kept old new turn crc count window seen
 
--- a piece more
+-- Once a piece more was given, so many bytes were.
 pub seen_more : (old mid new : Option (List ℕ)) (turn crc count crc' count' : ℕ) (window window' more : List ℕ) →
     Seen old mid turn crc count window → Consumes mid new more → AreBytes more → 0 < length more →
     ((before : List ℕ) → crc ≡ register before → crc' ≡ register (before ++ more)) →
@@ -47,18 +47,28 @@ seen_more old mid new turn crc count crc' count' window window' more (seen, k) g
   },
 )
 
--- at the end, what was kept is judged
+-- At the end of the reader, what was kept is judged.
 pub seen_end : (old new : Option (List ℕ)) (turn crc count value : ℕ) (window : List ℕ) (r : Result Summary SuffixFault) →
-    Seen old new turn crc count window → IsAtEnd new → r ≡ judged window count value → value ≡ crc → IfSome old (λ all. UnlessRead r (Checks all r))
+    Seen old new turn crc count window → IsAtEnd new → r ≡ judged window count value → value ≡ crc →
+    IfSome old (λ all. UnlessRead r (Checks all r))
 seen_end old new turn crc count value window r (seen, k) e j v =
     let same : judged window count value ≡ judged (window_of seen) (length seen) (register seen) =
-    ap (λ (w : List ℕ). judged w count value) k.window_is ∙ (ap (λ (n : ℕ). judged (window_of seen) n value) k.count_is ∙ ap (judged (window_of seen) (length seen)) (v ∙ k.crc_is)) in
-    let checks : Checks seen r = subst (λ (a : Result Summary SuffixFault). Checks seen a) (sym (j ∙ same)) (checks_judged seen k.bytes k.small) in
-    if_some old (λ all. UnlessRead r (Checks all r)) (λ all o. unless_read r (Checks all r) (subst (λ (xs : List ℕ). Checks xs r) (consumed_all old new seen all k.given e o) checks))
+    ap (λ (w : List ℕ). judged w count value) k.window_is ∙ (ap (λ (n : ℕ). judged (window_of seen) n value) k.count_is
+    ∙ ap (judged (window_of seen) (length seen)) (v ∙ k.crc_is)) in
+    let checks : Checks seen r = subst (λ (a : Result Summary SuffixFault). Checks seen a) (sym (j ∙ same))
+    (checks_judged seen k.bytes k.small) in
+    if_some old (λ all. UnlessRead r (Checks all r)) (λ all o. unless_read r (Checks all r)
+    (subst (λ (xs : List ℕ). Checks xs r) (consumed_all old new seen all k.given e o) checks))
 
--- a piece too many
+-- Where a piece more is over the limit, TooLarge is the answer.
 pub seen_over : (old mid new : Option (List ℕ)) (turn crc count : ℕ) (window more : List ℕ) →
-    Seen old mid turn crc count window → Consumes mid new more → 16777216 < count + length more → IfSome old (λ all. UnlessRead {T = Summary} (Err TooLarge) (Checks all (Err TooLarge)))
+    Seen old mid turn crc count window → Consumes mid new more → 16777216 < count + length more →
+    IfSome old (λ all. UnlessRead {T = Summary} (Err TooLarge) (Checks all (Err TooLarge)))
 seen_over old mid new turn crc count window more (seen, k) given over =
     if_some old (λ all. UnlessRead {T = Summary} (Err TooLarge) (Checks all (Err TooLarge))) (λ all o.
-    checks_large all (omega (arith, k.count_is, length-append seen more, consumed_length old new (seen ++ more) all (Consumes-trans old mid new seen more k.given given) o)))
+    checks_large all (omega (
+      arith,
+      k.count_is,
+      length-append seen more,
+      consumed_length old new (seen ++ more) all (Consumes-trans old mid new seen more k.given given) o,
+    )))

@@ -28,7 +28,7 @@ use Rattle.dfu_suffix.specs.declared.table.bits_112.TheConstants.{AFTER_112}
 use Rattle.dfu_suffix.specs.declared.table.bits_120.TheConstants.{AFTER_120}
 use Rattle.dfu_suffix.specs.declared.table.bits_128.TheConstants.{AFTER_128}
 
--- whether n numbers of a list, from place i on, are those of another after 8 bits 0
+-- Whether n numbers of a list, from place i on, are those of another after 8 bits 0.
 abbrev right_from : (ℕ → ℕ) → List ℕ → ℕ → ℕ → Bool
 right_from earlier xs i zero = true
 right_from earlier xs i (suc n) = cond (eqb (get_or xs i 0) (shifts 8 (earlier i))) (right_from earlier xs (suc i) n) false
@@ -37,7 +37,8 @@ both : (a b : Bool) → cond a b false ≡ true → (a ≡ true) × (b ≡ true)
 both true b h = (refl, h)
 both false b h = (h, cc)
 
-right_at : (earlier : ℕ → ℕ) (xs : List ℕ) (i n j : ℕ) → right_from earlier xs i n ≡ true → i ≤ j → j < i + n → get_or xs j 0 ≡ shifts 8 (earlier j)
+right_at : (earlier : ℕ → ℕ) (xs : List ℕ) (i n j : ℕ) → right_from earlier xs i n ≡ true → i ≤ j → j < i + n →
+    get_or xs j 0 ≡ shifts 8 (earlier j)
 right_at earlier xs i zero j h p q = absurd (omega arith)
 right_at earlier xs i (suc n) j h p q =
     let here = both (eqb (get_or xs i 0) (shifts 8 (earlier i))) (right_from earlier xs (suc i) n) h in
@@ -46,124 +47,145 @@ right_at earlier xs i (suc n) j h p q =
       | inr l ↦ right_at earlier xs (suc i) n j here.1 l (omega arith)
     ]
 
--- the table has what k bits 0 make of each number below 256
+-- The table has what k bits 0 make of each number below 256.
 abbrev pub Holds : ℕ → List ℕ → Type 0
 Holds k xs = (j : ℕ) → j < 256 → get_or xs j 0 ≡ shifts k j
 
 holds_8 : (xs : List ℕ) → right_from (λ j. j) xs 0 256 ≡ true → Holds 8 xs
 holds_8 xs h j l = right_at (λ j. j) xs 0 256 j h (omega arith) (omega arith)
 
--- a table from the one for 8 bits fewer
+-- A table from the one for 8 bits fewer.
 holds_more : (k : ℕ) (ys xs : List ℕ) → Holds k ys → right_from (λ j. get_or ys j 0) xs 0 256 ≡ true → Holds (k + 8) xs
 holds_more k ys xs earlier h j l =
     right_at (λ j. get_or ys j 0) xs 0 256 j h (omega arith) (omega arith)
     ∙ (ap (shifts 8) (earlier j l) ∙ sym (shifts_add k 8 j))
 
--- the entry for the low byte of a number
+-- The entry for the low byte of a number.
 pub entry_at : (k : ℕ) (xs : List ℕ) (x : ℕ) → Holds k xs → get_or xs (bit_and x 255) 0 ≡ shifts k (x % 256)
 entry_at k xs x h = ap (λ (i : ℕ). get_or xs i 0) (and_mask x 8) ∙ h (x % 256) (omega arith)
 
+-- The table for 8 bits holds what they make of each byte, by the definition.
 pub right_8 : Holds 8 AFTER_8
 unfolding shifts
 right_8 = holds_8 AFTER_8 refl
 
+-- The table for 16 bits holds what they make of each byte.
 pub right_16 : Holds 16 AFTER_16
 unfolding shifts
 right_16 = holds_more 8 AFTER_8 AFTER_16 right_8 refl
 
+-- The table for 24 bits holds what they make of each byte.
 pub right_24 : Holds 24 AFTER_24
 unfolding shifts
 right_24 = holds_more 16 AFTER_16 AFTER_24 right_16 refl
 
+-- The table for 32 bits holds what they make of each byte.
 pub right_32 : Holds 32 AFTER_32
 unfolding shifts
 right_32 = holds_more 24 AFTER_24 AFTER_32 right_24 refl
 
+-- The table for 40 bits holds what they make of each byte.
 pub right_40 : Holds 40 AFTER_40
 unfolding shifts
 right_40 = holds_more 32 AFTER_32 AFTER_40 right_32 refl
 
+-- The table for 48 bits holds what they make of each byte.
 pub right_48 : Holds 48 AFTER_48
 unfolding shifts
 right_48 = holds_more 40 AFTER_40 AFTER_48 right_40 refl
 
+-- The table for 56 bits holds what they make of each byte.
 pub right_56 : Holds 56 AFTER_56
 unfolding shifts
 right_56 = holds_more 48 AFTER_48 AFTER_56 right_48 refl
 
+-- The table for 64 bits holds what they make of each byte.
 pub right_64 : Holds 64 AFTER_64
 unfolding shifts
 right_64 = holds_more 56 AFTER_56 AFTER_64 right_56 refl
 
+-- The table for 72 bits holds what they make of each byte.
 pub right_72 : Holds 72 AFTER_72
 unfolding shifts
 right_72 = holds_more 64 AFTER_64 AFTER_72 right_64 refl
 
+-- The table for 80 bits holds what they make of each byte.
 pub right_80 : Holds 80 AFTER_80
 unfolding shifts
 right_80 = holds_more 72 AFTER_72 AFTER_80 right_72 refl
 
+-- The table for 88 bits holds what they make of each byte.
 pub right_88 : Holds 88 AFTER_88
 unfolding shifts
 right_88 = holds_more 80 AFTER_80 AFTER_88 right_80 refl
 
+-- The table for 96 bits holds what they make of each byte.
 pub right_96 : Holds 96 AFTER_96
 unfolding shifts
 right_96 = holds_more 88 AFTER_88 AFTER_96 right_88 refl
 
+-- The table for 104 bits holds what they make of each byte.
 pub right_104 : Holds 104 AFTER_104
 unfolding shifts
 right_104 = holds_more 96 AFTER_96 AFTER_104 right_96 refl
 
+-- The table for 112 bits holds what they make of each byte.
 pub right_112 : Holds 112 AFTER_112
 unfolding shifts
 right_112 = holds_more 104 AFTER_104 AFTER_112 right_104 refl
 
+-- The table for 120 bits holds what they make of each byte.
 pub right_120 : Holds 120 AFTER_120
 unfolding shifts
 right_120 = holds_more 112 AFTER_112 AFTER_120 right_112 refl
 
+-- The table for 128 bits holds what they make of each byte.
 pub right_128 : Holds 128 AFTER_128
 unfolding shifts
 right_128 = holds_more 120 AFTER_120 AFTER_128 right_120 refl
 
--- what a byte does, by the table
+-- What a byte does, by the table.
 pub table_step : (r b : ℕ) → b < 256 → after_bits r (low_bits 8 b) ≡ bit_xor (r / 2 ^ 8) (get_or AFTER_8 (bit_and (bit_xor r b) 255) 0)
 table_step r b h = byte_step r b h ∙ ap (bit_xor (r / 256)) (sym (entry_at 8 AFTER_8 (bit_xor r b) right_8))
 
--- bytes in two parts
+-- Bytes in two parts.
 pub after-append : (r : ℕ) (xs ys : List ℕ) → after_bits r (bits_of (xs ++ ys)) ≡ after_bits (after_bits r (bits_of xs)) (bits_of ys)
 unfolding after_bits bits_of
-after-append r xs ys = ap (fold after_bit r) (flat_map-append (low_bits 8) xs ys) ∙ fold-append after_bit r (flat_map (low_bits 8) xs) (flat_map (low_bits 8) ys)
+after-append r xs ys = ap (fold after_bit r) (flat_map-append (low_bits 8) xs ys)
+    ∙ fold-append after_bit r (flat_map (low_bits 8) xs) (flat_map (low_bits 8) ys)
 
 after_one : (r b : ℕ) → after_bits r (bits_of (b ∷ [])) ≡ after_bits r (low_bits 8 b)
 unfolding bits_of
 after_one r b = ap (after_bits r) (append-nil (low_bits 8 b))
 
--- one byte more
-pub after_more : (r : ℕ) (bytes : List ℕ) (i : ℕ) → i < length bytes → after_bits r (bits_of (take (i + 1) bytes)) ≡ after_bits (after_bits r (bits_of (take i bytes))) (low_bits 8 (get_or bytes i 0))
+-- One byte more.
+pub after_more : (r : ℕ) (bytes : List ℕ) (i : ℕ) → i < length bytes →
+    after_bits r (bits_of (take (i + 1) bytes)) ≡ after_bits (after_bits r (bits_of (take i bytes)))
+    (low_bits 8 (get_or bytes i 0))
 after_more r bytes i h =
     ap (λ (xs : List ℕ). after_bits r (bits_of xs)) (take_more bytes i 0 h)
     ∙ (after-append r (take i bytes) (get_or bytes i 0 ∷ []) ∙ after_one (after_bits r (bits_of (take i bytes))) (get_or bytes i 0))
 
+-- The register over two lists is that over the first, with the bits of the second.
 pub register-append : (xs ys : List ℕ) → register (xs ++ ys) ≡ after_bits (register xs) (bits_of ys)
 unfolding register
 register-append xs ys = after-append 0xFFFF_FFFF xs ys
 
 -- ---- sixteen bytes at once
 
--- four bytes more, by the number that they make
-four_bytes : (r x : ℕ) (xs : List ℕ) → length xs ≡ 4 → AreBytes xs → x ≡ little_number 4 xs → x < 2 ^ 32 → after_bits r (bits_of xs) ≡ shifts 32 (bit_xor r x)
+-- Four bytes more, by the number that they make.
+four_bytes : (r x : ℕ) (xs : List ℕ) → length xs ≡ 4 → AreBytes xs → x ≡ little_number 4 xs → x < 2 ^ 32 →
+    after_bits r (bits_of xs) ≡ shifts 32 (bit_xor r x)
 four_bytes r x xs h f e small =
     let all : take 4 xs ≡ xs = take_all 4 xs (omega arith) in
     let bits : low_bits 32 x ≡ bits_of xs = ap (low_bits 32) e ∙ (bits_little 4 0 xs (omega arith) f ∙ ap bits_of all) in
     sym (ap (after_bits r) bits) ∙ four_step r x small
 
--- four bytes and then others
+-- Four bytes and then others.
 then_rest : (r t : ℕ) (xs ys : List ℕ) → after_bits r (bits_of xs) ≡ t → after_bits r (bits_of (xs ++ ys)) ≡ after_bits t (bits_of ys)
 then_rest r t xs ys e = after-append r xs ys ∙ ap (λ (z : ℕ). after_bits z (bits_of ys)) e
 
--- the registers after four, eight, twelve and sixteen bytes, from the one before
+-- The registers after four, eight, twelve and sixteen bytes, from the one before.
 turned : (r a b c d t1 t2 t3 : ℕ) → t1 ≡ shifts 32 (bit_xor r a) → t2 ≡ shifts 32 (bit_xor t1 b) → t3 ≡ shifts 32 (bit_xor t2 c) →
     shifts 32 (bit_xor t3 d) ≡ bit_xor (bit_xor (bit_xor (shifts 32 d) (shifts 64 c)) (shifts 96 b)) (shifts 128 (bit_xor r a))
 turned r a b c d t1 t2 t3 e1 e2 e3 =
@@ -171,19 +193,21 @@ turned r a b c d t1 t2 t3 e1 e2 e3 =
     let s3 : shifts 32 t3 ≡ bit_xor (shifts 64 t2) (shifts 64 c) = ap (shifts 32) e3 ∙ absorb 32 t2 c in
     let s2 : shifts 64 t2 ≡ bit_xor (shifts 96 t1) (shifts 96 b) = ap (shifts 64) e2 ∙ absorb 64 t1 b in
     let s1 : shifts 96 t1 ≡ shifts 128 (bit_xor r a) = ap (shifts 96) e1 ∙ sym (shifts_add 32 96 (bit_xor r a)) in
-    let whole : shifts 32 (bit_xor t3 d) ≡ bit_xor (bit_xor (bit_xor (shifts 128 (bit_xor r a)) (shifts 96 b)) (shifts 64 c)) (shifts 32 d) = cc in
+    let whole : shifts 32 (bit_xor t3 d) ≡ bit_xor (bit_xor (bit_xor (shifts 128 (bit_xor r a)) (shifts 96 b)) (shifts 64 c))
+    (shifts 32 d) = cc in
     whole ∙ four_turned (shifts 128 (bit_xor r a)) (shifts 96 b) (shifts 64 c) (shifts 32 d)
 
--- a quarter of sixteen bytes, as a number
+-- A quarter of sixteen bytes, as a number.
 pub record Quarter (x : ℕ) (xs : List ℕ) : Type 0 where
   pub long : length xs ≡ 4
   pub bytes : AreBytes xs
   pub number : x ≡ little_number 4 xs
   pub small : x < 2 ^ 32
 
--- sixteen bytes more, as four numbers
+-- Sixteen bytes more, as four numbers.
 pub sixteen_step : (r a b c d : ℕ) (xs ys zs ws : List ℕ) → Quarter a xs → Quarter b ys → Quarter c zs → Quarter d ws →
-    bit_xor (bit_xor (bit_xor (shifts 32 d) (shifts 64 c)) (shifts 96 b)) (shifts 128 (bit_xor r a)) ≡ after_bits r (bits_of (xs ++ (ys ++ (zs ++ ws))))
+    bit_xor (bit_xor (bit_xor (shifts 32 d) (shifts 64 c)) (shifts 96 b)) (shifts 128 (bit_xor r a))
+    ≡ after_bits r (bits_of (xs ++ (ys ++ (zs ++ ws))))
 sixteen_step r a b c d xs ys zs ws p q u v =
     let t1 = shifts 32 (bit_xor r a) in
     let t2 = shifts 32 (bit_xor t1 b) in

@@ -3,11 +3,11 @@ use Rattle.std.proofs.Common.{◌≡◌, ℕ, ◌+◌, ◌-◌, ◌≤◌, List,
 use Rattle.std.proofs.lemmas.List.{append_assoc, drop-append-le, drop-drop}
 use Rattle.dfu_suffix.specs.Grammar.{tail_of}
 
--- the last 16 bytes of 16 zeros and the bytes so far
+-- The last 16 bytes of 16 zeros and the bytes so far.
 abbrev pub window_of : List ℕ → List ℕ
 window_of seen = drop (length seen) (replicate 16 0 ++ seen)
 
--- the window slides over a piece more
+-- The window slides over a piece more.
 pub window_more : (seen more : List ℕ) → drop (length more) (window_of seen ++ more) ≡ window_of (seen ++ more)
 window_more seen more =
     let room : length seen ≤ length (replicate 16 0 ++ seen) = omega (arith, length-append (replicate 16 0) seen) in
@@ -16,7 +16,7 @@ window_more seen more =
     ∙ (ap (λ (k : ℕ). drop k ((replicate 16 0 ++ seen) ++ more)) (sym (length-append seen more))
     ∙ ap (drop (length (seen ++ more))) (append_assoc (replicate 16 0) seen more)))
 
--- from 16 bytes on, the window is their tail
+-- From 16 bytes on, the window is their tail.
 pub window_tail : (seen : List ℕ) → 16 ≤ length seen → window_of seen ≡ tail_of seen
 window_tail seen h =
     let place : length seen ≡ 16 + (length seen - 16) = omega arith in

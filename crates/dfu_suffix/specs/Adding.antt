@@ -1,9 +1,10 @@
 -- What adding a suffix answers and writes.
-use Rattle.std.specs.Prelude.{◌≡◌, ◌⊎◌, ℕ, ◌<◌, ◌≤◌, List, [], length, take, Option, Result, Ok, Err, ⊤}
+use Rattle.std.specs.Prelude.{◌≡◌, ◌⊎◌, ℕ, ◌<◌, ◌≤◌, List, [], length, Option, Result, Ok, Err, ⊤}
 use Rattle.std.specs.Io.KnownBytes.{Appends, Keeps}
 use Rattle.dfu_suffix.specs.Grammar.{IsFile, First}
 use Rattle.dfu_suffix.specs.Laws.{HasReading}
-use Rattle.dfu_suffix.specs.declared.ids.Ids.{Ids}
+use Rattle.dfu_suffix.specs.Writing.{IsOutInPart}
+use Rattle.dfu_wire.specs.declared.ids.Ids.{Ids}
 use Rattle.dfu_suffix.specs.declared.fault.SuffixFault.{SuffixFault}
 use Rattle.dfu_suffix.specs.declared.fault.SuffixFault.TheVariants.{AlreadySuffixed, DfuSe, TooLarge, NoMemory, Read, Write}
 
@@ -18,10 +19,6 @@ NeedsSuffix bytes = (length bytes ≤ 16777200) × (HasSuffix bytes → ⊥)
 -- The text is the file with this payload and these identifiers, with bcdDFU 0100h and no extra bytes.
 abbrev pub IsAdded : List ℕ → Ids → List ℕ → Type 0
 IsAdded payload ids text = IsFile payload ids 0x0100 [] text
-
--- The first k bytes of the text are out, which are not the whole.
-abbrev pub IsOutInPart : Option (List ℕ) → Option (List ℕ) → List ℕ → Type 0
-IsOutInPart old new text = (k : ℕ) × (k < length text) × Appends old new (take k text)
 
 -- At Ok the file is out whole, and its length is the answer; at Write a part from its start is out; TooLarge and
 -- AlreadySuffixed say what is wrong with the bytes; Read and NoMemory say nothing of them.

@@ -3,19 +3,27 @@ use Rattle.std.specs.Prelude.{◌≡◌, ◌↔◌, ℕ, ◌+◌, List, length, 
 use Rattle.dfu_suffix.specs.Register.{register}
 use Rattle.dfu_suffix.specs.Grammar.{IsFile, First, before_crc}
 use Rattle.dfu_suffix.specs.declared.summary.Summary.{Summary}
-use Rattle.dfu_suffix.specs.declared.ids.Ids.{Ids}
+use Rattle.dfu_wire.specs.declared.ids.Ids.{Ids}
 use Rattle.dfu_suffix.specs.declared.fault.SuffixFault.{SuffixFault}
 use Rattle.dfu_suffix.specs.declared.fault.SuffixFault.TheVariants.{Read}
 
 -- This is the summary of the file with this payload, these fields and these extra bytes.
 abbrev pub summary_of : List ℕ → Ids → ℕ → List ℕ → Summary
-summary_of payload ids dfu extra = record { payload = length payload; suffix = 16 + length extra; ids = ids; dfu = dfu; crc = register (before_crc payload ids dfu extra) }
+summary_of payload ids dfu extra = record {
+  payload = length payload;
+  suffix = 16 + length extra;
+  ids = ids;
+  dfu = dfu;
+  crc = register (before_crc payload ids dfu extra);
+}
 
 -- What is accepted is a file of the grammar, with its summary; each file of the grammar is accepted; all else has a
 -- first fault, which is the answer.
 pub record Checks (bytes : List ℕ) (answer : Result Summary SuffixFault) : Type 0 where
-  pub found : IfOk answer (λ s. (payload : List ℕ) × (extra : List ℕ) × IsFile payload s.ids s.dfu extra bytes × (s ≡ summary_of payload s.ids s.dfu extra))
-  pub only : (payload : List ℕ) (ids : Ids) (dfu : ℕ) (extra : List ℕ) → IsFile payload ids dfu extra bytes → answer ≡ Ok (summary_of payload ids dfu extra)
+  pub found : IfOk answer (λ s. (payload : List ℕ) × (extra : List ℕ) × IsFile payload s.ids s.dfu extra bytes
+      × (s ≡ summary_of payload s.ids s.dfu extra))
+  pub only : (payload : List ℕ) (ids : Ids) (dfu : ℕ) (extra : List ℕ) → IsFile payload ids dfu extra bytes →
+      answer ≡ Ok (summary_of payload ids dfu extra)
   pub fault : (fault : SuffixFault) → (answer ≡ Err fault) ↔ First fault bytes
 
 -- The fact holds, unless the answer is Read.

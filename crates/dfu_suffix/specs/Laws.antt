@@ -3,7 +3,7 @@ use Rattle.std.specs.Prelude.{◌≡◌, ◌↔◌, ◌⊎◌, ℕ, ◌-◌, ◌
 use Rattle.byteorder.specs.Endian.{little_number}
 use Rattle.dfu_suffix.specs.Register.{register}
 use Rattle.dfu_suffix.specs.Grammar.{IsFile, First}
-use Rattle.dfu_suffix.specs.declared.ids.Ids.{Ids}
+use Rattle.dfu_wire.specs.declared.ids.Ids.{Ids}
 use Rattle.dfu_suffix.specs.declared.fault.SuffixFault.{SuffixFault}
 
 -- Each number of the list is a byte.
@@ -16,8 +16,20 @@ HasReading bytes = (payload : List ℕ) × (ids : Ids) × (dfu : ℕ) × (extra 
 
 -- Bytes have a reading or a first fault, and never both.
 abbrev pub EachFileOrFault : Type 0
-EachFileOrFault = (bytes : List ℕ) → AreBytes bytes → (HasReading bytes ⊎ ((fault : SuffixFault) × First fault bytes)) × ((fault : SuffixFault) → HasReading bytes → First fault bytes → ⊥)
+EachFileOrFault = (bytes : List ℕ) → AreBytes bytes → (HasReading bytes ⊎ ((fault : SuffixFault) × First fault bytes))
+    × ((fault : SuffixFault) → HasReading bytes → First fault bytes → ⊥)
 
 -- The register over four bytes or more is 0 exactly where the last four are the register over those before.
 abbrev pub LastFour : Type 0
-LastFour = (bytes : List ℕ) → AreBytes bytes → 4 ≤ length bytes → (register bytes ≡ 0) ↔ (little_number 4 (drop (length bytes - 4) bytes) ≡ register (take (length bytes - 4) bytes))
+LastFour = (bytes : List ℕ) → AreBytes bytes → 4 ≤ length bytes → (register bytes ≡ 0)
+    ↔ (little_number 4 (drop (length bytes - 4) bytes) ≡ register (take (length bytes - 4) bytes))
+
+-- Bytes that are a file of the grammar have no fault.
+abbrev pub NoFileFault : Type 0
+NoFileFault = (bytes : List ℕ) (fault : SuffixFault) → HasReading bytes → First fault bytes → ⊥
+
+-- Two readings of the same bytes are the same.
+abbrev pub OneReading : Type 0
+OneReading =
+    (bytes p q : List ℕ) (i j : Ids) (d e : ℕ) (x y : List ℕ) → IsFile p i d x bytes → IsFile q j e y bytes → (p ≡ q) × (i ≡ j)
+    × (d ≡ e) × (x ≡ y)

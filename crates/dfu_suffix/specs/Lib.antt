@@ -1,12 +1,9 @@
 pub mod Register
 pub mod Grammar
-pub mod Reading
-pub mod Judging
 pub mod Gathering
+pub mod Writing
 pub mod Checking
 pub mod Adding
-pub mod Making
 pub mod FaultName
 pub mod Laws
-pub mod OneReading
-pub mod Progress
+pub mod inside

@@ -1,32 +1,52 @@
-// Files made of what a reader gives.
+//! Files made of what a reader gives.
 
-ghost use Rattle.std.specs.Prelude.{◌≤◌, length, IfOk, IfSome};
+ghost use Rattle.std.specs.Prelude.{◌≡◌, ◌≤◌, length, IfOk, IfSome};
 ghost use Rattle.dfu_suffix.specs.Adding.{Adds, KeepsAtFault};
-ghost use Rattle.dfu_suffix.specs.Making.{Makes};
+ghost use Rattle.dfu_suffix.specs.inside.Making.{Makes, gathering_fault};
 
 use crate::fault::SuffixFault;
-use crate::gather::gather;
-use crate::ids::Ids;
+use crate::gathering::{GatherFault, gather};
+use crate::limits::MAX_PAYLOAD;
 use crate::making::{append_suffix, has_suffix};
-use crate::output::put_out;
+use crate::writing::write_whole;
+use dfu_wire::Ids;
 use std::alloc::Global;
 use std::io::{Read, Write};
 
-// The most bytes of a payload: with a suffix of 16 they are the most bytes of a file.
-const MAX_PAYLOAD: usize = 16_777_200;
+/// The fault of `add` for one of gathering.
+fn fault_of(fault: GatherFault) -> SuffixFault
+    ensures { result ≡ gathering_fault fault }
+{
+    match fault {
+        GatherFault::TooLarge => SuffixFault::TooLarge,
+        GatherFault::NoMemory => SuffixFault::NoMemory,
+        GatherFault::Read => SuffixFault::Read,
+    }
+}
 
-// The whole file, in memory.
+/// The file of a payload, in memory.
+fn with_suffix(mut payload: Vec<u8>, ids: Ids) -> Result<Vec<u8>, SuffixFault>
+    requires { length payload.items ≤ 16777200 }
+    ensures all { Makes payload.items ids result }
+    ensures len { IfOk result (λ v. length v.items ≤ 16777216) }
+{
+    if has_suffix(&payload) {
+        return Err(SuffixFault::AlreadySuffixed);
+    }
+    match append_suffix(&mut payload, ids) {
+        Ok(()) => Ok(payload),
+        Err(_) => Err(SuffixFault::NoMemory),
+    }
+}
+
+/// The file of all that a reader gives, in memory.
 fn file_of<R: Read + Drop>(alloc: Global, reader: R, ids: Ids) -> Result<Vec<u8>, SuffixFault>
     ensures all { IfSome (R.remaining reader) (λ all. Makes all ids result) }
     ensures len { IfOk result (λ v. length v.items ≤ 16777216) }
 {
-    let mut text = gather(alloc, reader, MAX_PAYLOAD)?;
-    if has_suffix(&text) {
-        return Err(SuffixFault::AlreadySuffixed);
-    }
-    match append_suffix(&mut text, ids) {
-        Ok(()) => Ok(text),
-        Err(_) => Err(SuffixFault::NoMemory),
+    match gather(alloc, reader, MAX_PAYLOAD) {
+        Ok(payload) => with_suffix(payload, ids),
+        Err(fault) => Err(fault_of(fault)),
     }
 }
 
@@ -56,6 +76,8 @@ pub fn add<R: Read + Drop, W: Write>(
     ensures kept { KeepsAtFault (W.contents writer.old) (W.contents writer.new) result }
 {
     let text = file_of(alloc, reader, ids)?;
-    put_out(writer, &text)?;
-    Ok(text.len() as u32)
+    match write_whole(writer, &text) {
+        Ok(()) => Ok(text.len() as u32),
+        Err(_) => Err(SuffixFault::Write),
+    }
 }

@@ -1,4 +1,4 @@
-// Checks of a file that a reader gives.
+//! Checks of a file that a reader gives.
 
 ghost use Rattle.std.specs.Prelude.{◌≢◌, Err, IfSome};
 ghost use Rattle.dfu_suffix.specs.Checking.{Checks, UnlessRead};
@@ -7,7 +7,7 @@ ghost use Rattle.dfu_suffix.specs.declared.fault.SuffixFault.TheVariants.{NoMemo
 use crate::crc::Crc;
 use crate::fault::SuffixFault;
 use crate::judging::judge;
-use crate::parse::{MAX_FILE, MAX_READS};
+use crate::limits::{MAX_FILE, MAX_READS};
 use crate::summary::Summary;
 use crate::window::slide;
 use std::io::Read;

@@ -1,4 +1,4 @@
-// The register of USB DFU 1.1, appendix B, sixteen bytes at a time.
+//! The register of USB DFU 1.1, appendix B, sixteen bytes at a time.
 
 ghost use Rattle.std.specs.Prelude.{◌≡◌, ℕ, List, ◌++◌, [], length, slice_index, bit_and};
 
@@ -143,7 +143,7 @@ fn after_each(start: u32, bytes: &[u8]) -> u32
     register
 }
 
-// The register after more bytes, sixteen at a time, and the last ones each by itself.
+/// The register after more bytes, sixteen at a time, and the last ones each by itself.
 fn after_bytes(start: u32, bytes: &[u8]) -> u32
     ensures { result ≡ after_bits start (bits_of bytes.now) }
 {

@@ -1,4 +1,4 @@
-// Why a file is refused.
+//! Why a file is refused.
 
 ghost use Rattle.std.specs.Prelude.{◌≡◌};
 ghost use Rattle.dfu_suffix.specs.FaultName.{suffix_fault_name};

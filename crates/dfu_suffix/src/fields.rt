@@ -1,26 +1,27 @@
-// The fields of a suffix, read from the end of the bytes (USB DFU 1.1, appendix B).
+//! The fields of a suffix, read from the end of the bytes (USB DFU 1.1, appendix B).
 
 ghost use Rattle.std.specs.Prelude.{◌≡◌, ◌+◌, ◌-◌, ◌≤◌, length, take, drop};
 ghost use Rattle.byteorder.specs.Endian.{little_number};
 ghost use Rattle.dfu_suffix.specs.Grammar.{tail_of, is_signed};
-ghost use Rattle.dfu_suffix.specs.Reading.{ids_of};
+ghost use Rattle.dfu_suffix.specs.inside.Reading.{ids_of};
 ghost use Rattle.dfu_suffix.specs.Register.{register};
 
 use crate::crc::Crc;
-use crate::ids::Ids;
+use crate::limits::MIN_SUFFIX;
 use byteorder::{ByteOrder, LittleEndian};
+use dfu_wire::Ids;
 
-// The last 16 bytes.
+/// The last 16 bytes.
 pub(crate) fn tail(bytes: &[u8]) -> &[u8]
     requires { 16 ≤ length bytes.now }
     ensures value { result.now ≡ tail_of bytes.now }
     ensures len { length result.now ≡ 16 }
 {
-    let (_, tail) = bytes.split_at(bytes.len() - 16);
+    let (_, tail) = bytes.split_at(bytes.len() - MIN_SUFFIX as usize);
     tail
 }
 
-// Whether the last 16 bytes have the signature.
+/// Whether the last 16 bytes have the signature.
 pub(crate) fn is_signed(tail: &[u8]) -> bool
     requires { length tail.now ≡ 16 }
     ensures { result ≡ is_signed tail.now }
@@ -28,7 +29,7 @@ pub(crate) fn is_signed(tail: &[u8]) -> bool
     tail[8] == b'U' && tail[9] == b'F' && tail[10] == b'D'
 }
 
-// The number in the two bytes from `at`, the low one first.
+/// The number in the two bytes from `at`, the low one first.
 pub(crate) fn u16_at(bytes: &[u8], at: usize) -> u16
     requires { at + 2 ≤ length bytes.now }
     ensures { result ≡ little_number 2 (drop at bytes.now) }
@@ -37,7 +38,7 @@ pub(crate) fn u16_at(bytes: &[u8], at: usize) -> u16
     LittleEndian::read_u16(field)
 }
 
-// The number in the four bytes from `at`, the low one first.
+/// The number in the four bytes from `at`, the low one first.
 pub(crate) fn u32_at(bytes: &[u8], at: usize) -> u32
     requires { at + 4 ≤ length bytes.now }
     ensures { result ≡ little_number 4 (drop at bytes.now) }
@@ -46,7 +47,7 @@ pub(crate) fn u32_at(bytes: &[u8], at: usize) -> u32
     LittleEndian::read_u32(field)
 }
 
-// The identifiers in the last 16 bytes.
+/// The identifiers in the last 16 bytes.
 pub(crate) fn ids_of(tail: &[u8]) -> Ids
     requires { length tail.now ≡ 16 }
     ensures { result ≡ ids_of tail.now }
@@ -58,7 +59,7 @@ pub(crate) fn ids_of(tail: &[u8]) -> Ids
     }
 }
 
-// The dwCRC that the file is to have: the register over all but its last four bytes.
+/// The dwCRC that the file is to have: the register over all but its last four bytes.
 pub(crate) fn crc_due(bytes: &[u8]) -> u32
     requires { 4 ≤ length bytes.now }
     ensures { result ≡ register (take (length bytes.now - 4) bytes.now) }
@@ -69,7 +70,7 @@ pub(crate) fn crc_due(bytes: &[u8]) -> u32
     crc.value()
 }
 
-// The bytes before the suffix.
+/// The bytes before the suffix.
 pub(crate) fn payload_of(bytes: &[u8], suffix: usize) -> &[u8]
     requires { suffix ≤ length bytes.now }
     ensures { result.now ≡ take (length bytes.now - suffix) bytes.now }

@@ -1,8 +1,8 @@
-// A file that was read.
+//! A file that was read.
 
 ghost use Rattle.std.specs.Prelude.{◌≡◌, ◌≢◌, ◌≤◌};
 
-use crate::ids::Ids;
+use dfu_wire::Ids;
 use std::marker::Model;
 
 /// A file of the grammar: its payload, as a slice of the bytes that were read, and the fields of

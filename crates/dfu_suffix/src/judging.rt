@@ -1,44 +1,54 @@
-// What the end of a file says of the whole.
+//! What the end of a file says of the whole.
 
-ghost use Rattle.std.specs.Prelude.{◌≡◌, ◌≢◌, length, Err};
-ghost use Rattle.dfu_suffix.specs.Judging.{judged};
+ghost use Rattle.std.specs.Prelude.{◌≡◌, ◌≢◌, ◌≤◌, length, Err, IfOk};
+ghost use Rattle.dfu_suffix.specs.inside.Judging.{judged, told};
 ghost use Rattle.dfu_suffix.specs.declared.fault.SuffixFault.TheVariants.{NoMemory};
 
 use crate::fault::SuffixFault;
 use crate::fields::{ids_of, is_signed, u16_at, u32_at};
-use crate::parse::DFUSE;
+use crate::limits::{DFUSE, MIN_SUFFIX};
 use crate::summary::Summary;
 
-// The summary of a file of `count` bytes, or its first fault but TooLarge, by its last 16 bytes and
-// the register over all of it. That register is 0 exactly where dwCRC is right.
-#[tactic(auto, using(std::proofs::lemmas::Bool::Decides::nat_tests), unfolding(crate::specs::Judging::judged))]
-pub(crate) fn judge(tail: &[u8], count: u32, register: u32) -> Result<Summary, SuffixFault>
+/// What the last 16 of `count` bytes say, or the first fault of the file but TooLarge and BadCrc.
+#[tactic(auto, using(std::proofs::lemmas::Bool::Decides::nat_tests), unfolding(crate::specs::inside::Judging::told))]
+pub(crate) fn told(tail: &[u8], count: u32) -> Result<Summary, SuffixFault>
     requires { length tail.now ≡ 16 }
-    ensures answer { result ≡ judged tail.now count register }
+    ensures answer { result ≡ told tail.now count }
+    ensures fits { IfOk result (λ s. (16 ≤ s.suffix) × (s.suffix ≤ count) × (s.dfu ≢ 0x011A)) }
     ensures memory { result ≢ Err NoMemory }
 {
-    if count < 16 {
+    if count < MIN_SUFFIX {
         return Err(SuffixFault::TooShort);
     }
     if !is_signed(tail) {
         return Err(SuffixFault::NoSignature);
     }
-    let suffix = tail[11];
-    if suffix < 16 || count < u32::from(suffix) {
+    let suffix = u32::from(tail[11]);
+    if suffix < MIN_SUFFIX || count < suffix {
         return Err(SuffixFault::BadLength);
     }
     let dfu = u16_at(tail, 6);
     if dfu == DFUSE {
         return Err(SuffixFault::DfuSe);
     }
-    if register != 0 {
-        return Err(SuffixFault::BadCrc);
-    }
     Ok(Summary {
-        payload: count - u32::from(suffix),
-        suffix,
+        payload: count - suffix,
+        suffix: tail[11],
         ids: ids_of(tail),
         dfu,
         crc: u32_at(tail, 12),
     })
+}
+
+/// The summary of a file of `count` bytes, or its first fault but TooLarge, by its last 16 bytes and
+/// the register over all of it. That register is 0 exactly where dwCRC is right.
+pub(crate) fn judge(tail: &[u8], count: u32, register: u32) -> Result<Summary, SuffixFault>
+    requires { length tail.now ≡ 16 }
+    ensures answer { result ≡ judged tail.now count register }
+    ensures memory { result ≢ Err NoMemory }
+{
+    match told(tail, count) {
+        Ok(_) if register != 0 => Err(SuffixFault::BadCrc),
+        answer => answer,
+    }
 }

@@ -1,7 +1,7 @@
-// Laws of the file format, each the contract of a function that does nothing.
+//! Laws of the file format. Each is the contract of a function with an empty body, which is proved
+//! and not to be called.
 
-ghost use Rattle.dfu_suffix.specs.Laws.{EachFileOrFault, LastFour};
-ghost use Rattle.dfu_suffix.specs.OneReading.{OneReading};
+ghost use Rattle.dfu_suffix.specs.Laws.{EachFileOrFault, LastFour, OneReading};
 
 /// Bytes have a reading or a first fault, and never both.
 pub fn file_or_fault()

@@ -1,8 +1,9 @@
 //! The DFU file: a payload and its suffix (USB DFU 1.1, appendix B).
 //!
 //! `read` takes a whole file apart, `check` does it for all that a reader gives, `add` writes a
-//! file of a payload, and `Crc` is the register behind the suffix's dwCRC. The crate opens no file
-//! and prints nothing.
+//! file of a payload, and `Crc` is the register behind the suffix's dwCRC. `gather` and `write_whole`
+//! are the loops over streams that the crates above share. The crate opens no file and prints
+//! nothing.
 #![tactic(auto)]
 
 mod adding;
@@ -11,26 +12,26 @@ mod crc;
 mod fault;
 mod fields;
 mod file;
-mod gather;
-mod ids;
+mod gathering;
 mod judging;
-mod laws;
+pub mod laws;
+mod limits;
 mod making;
-mod output;
 mod parse;
 mod summary;
 mod table;
 mod window;
+mod writing;
 
 pub use adding::add;
 pub use checking::check;
 pub use crc::Crc;
 pub use fault::SuffixFault;
 pub use file::File;
-pub use ids::Ids;
-pub use laws::{file_or_fault, last_four, one_reading};
+pub use gathering::{GatherFault, gather};
 pub use parse::read;
 pub use summary::Summary;
+pub use writing::{WriteFault, write_whole};
 
 #[cfg(test)]
 mod tests;

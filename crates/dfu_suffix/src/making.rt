@@ -1,19 +1,20 @@
-// The suffix that a payload gets (USB DFU 1.1, appendix B), and whether bytes have one.
+//! The suffix that a payload gets (USB DFU 1.1, appendix B), and whether bytes have one.
 
 ghost use Rattle.std.specs.Prelude.{◌≡◌, ◌↔◌, ◌++◌, ℕ, true, OnOk};
 ghost use Rattle.dfu_suffix.specs.Adding.{HasSuffix};
-ghost use Rattle.dfu_suffix.specs.Making.{added_fields, added_suffix};
+ghost use Rattle.dfu_suffix.specs.inside.Making.{added_fields, added_suffix};
 ghost use Rattle.dfu_suffix.specs.Register.{register};
 ghost use Rattle.dfu_suffix.specs.declared.fault.SuffixFault.TheVariants.{DfuSe};
 
 use crate::crc::Crc;
 use crate::fault::SuffixFault;
-use crate::ids::Ids;
+use crate::limits::MIN_SUFFIX;
 use crate::parse::read;
+use dfu_wire::Ids;
 use std::alloc::AllocError;
 
-// The fields up to dwCRC: bcdDFU is 0100h and bLength 16.
-#[tactic(auto, unfolding(crate::specs::Making::added_fields))]
+/// The fields up to dwCRC: bcdDFU is 0100h and bLength 16.
+#[tactic(auto, unfolding(crate::specs::inside::Making::added_fields))]
 fn fields_of(ids: Ids) -> [u8; 12]
     ensures { result ≡ added_fields ids }
 {
@@ -21,12 +22,22 @@ fn fields_of(ids: Ids) -> [u8; 12]
     let product = ids.product.to_le_bytes();
     let vendor = ids.vendor.to_le_bytes();
     [
-        device[0], device[1], product[0], product[1], vendor[0], vendor[1], 0x00, 0x01, b'U', b'F',
-        b'D', 16,
+        device[0],
+        device[1],
+        product[0],
+        product[1],
+        vendor[0],
+        vendor[1],
+        0x00,
+        0x01,
+        b'U',
+        b'F',
+        b'D',
+        MIN_SUFFIX as u8,
     ]
 }
 
-// dwCRC over a payload and the fields after it.
+/// dwCRC over a payload and the fields after it.
 fn crc_over(payload: &[u8], fields: &[u8]) -> u32
     ensures { result ≡ register (payload.now ++ fields.now) }
 {
@@ -36,7 +47,7 @@ fn crc_over(payload: &[u8], fields: &[u8]) -> u32
     crc.value()
 }
 
-// Makes a file of its payload. Where an allocation is refused, the text is of no more use.
+/// Makes a file of its payload. Where an allocation is refused, the text is of no more use.
 pub(crate) fn append_suffix(text: &mut Vec<u8>, ids: Ids) -> Result<(), AllocError>
     ensures { OnOk result (text.new.items ≡ text.old.items ++ added_suffix text.old.items ids) }
 {
@@ -46,7 +57,7 @@ pub(crate) fn append_suffix(text: &mut Vec<u8>, ids: Ids) -> Result<(), AllocErr
     text.extend_from_slice(&crc.to_le_bytes())
 }
 
-// Whether the fault is that of a DfuSe file.
+/// Whether the fault is that of a DfuSe file.
 fn is_dfuse(fault: SuffixFault) -> bool
     ensures { (result ≡ true) ↔ (fault ≡ DfuSe) }
 {
@@ -56,7 +67,7 @@ fn is_dfuse(fault: SuffixFault) -> bool
     }
 }
 
-// Whether the bytes have a suffix, which may be a DfuSe file's.
+/// Whether the bytes have a suffix, which may be a DfuSe file's.
 pub(crate) fn has_suffix(bytes: &[u8]) -> bool
     ensures { (result ≡ true) ↔ HasSuffix bytes.now }
 {

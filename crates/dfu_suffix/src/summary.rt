@@ -1,6 +1,6 @@
-// What `check` says of a file.
+//! What `check` says of a file.
 
-use crate::ids::Ids;
+use dfu_wire::Ids;
 
 /// A file's fields and the length of its payload, as `check` answers them.
 #[derive(Clone, Copy, Debug, PartialEq, Eq)]

@@ -1,5 +1,6 @@
-// Tables of the register: what 8, 16, .. 128 further bits 0 make of each number below 256. The
-// check computes each entry by the definition over single bits (proofs/Tables.antt).
+//! Tables of the register: what 8, 16, .. 128 further bits 0 make of each number below 256. The check
+//! computes the first one by the definition over single bits, and each further one from the one before
+//! it (proofs/Tables.antt).
 
 mod bits_104;
 mod bits_112;

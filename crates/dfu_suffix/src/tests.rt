@@ -1,3 +1,5 @@
+//! Values from outside: known registers and files, and a plain loop over bits.
+
 mod added;
 mod checked;
 mod files;
@@ -5,7 +7,8 @@ mod readers;
 mod texts;
 mod writers;
 
-use crate::{Crc, Ids, SuffixFault, Summary, check, read};
+use crate::{Crc, SuffixFault, Summary, check, read};
+use dfu_wire::Ids;
 use files::{DFUSE, DIGITS, EMPTY, FOUR_ONES, LONG_SUFFIX, NO_IDS};
 use std::test::Fail;
 
@@ -15,7 +18,7 @@ fn register(bytes: &[u8]) -> u32 {
     crc.value()
 }
 
-// The register bit by bit, as appendix B has it.
+/// The register bit by bit, as appendix B has it.
 fn register_by_bits(bytes: &[u8]) -> u32 {
     let mut register: u32 = 0xffff_ffff;
     for byte in bytes {
@@ -31,7 +34,7 @@ fn register_by_bits(bytes: &[u8]) -> u32 {
     register
 }
 
-// What `read` answers, as the summary that `check` gives.
+/// What `read` answers, as the summary that `check` gives.
 fn summary_by_read(bytes: &[u8]) -> Result<Summary, SuffixFault> {
     let file = read(bytes)?;
     let crc = register_by_bits(&bytes[..bytes.len().saturating_sub(4)]);
@@ -149,7 +152,7 @@ fn summaries_of_known_files(rt: HostRuntime) {
     }
 }
 
-// `file` with its byte at `at` replaced.
+/// `file` with its byte at `at` replaced.
 fn with_byte(file: &[u8; 20], at: usize, byte: u8) -> [u8; 20] {
     let mut changed = *file;
     if at < 20 {

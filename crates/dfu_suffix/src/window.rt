@@ -1,8 +1,8 @@
-// The last 16 bytes of a stream.
+//! The last 16 bytes of a stream.
 
 ghost use Rattle.std.specs.Prelude.{◌≡◌, ◌<◌, ◌++◌, ℕ, length, drop, slice_index};
 
-// Slides a window of 16 over more bytes: the last 16 of it and them.
+/// Slides a window of 16 over more bytes: the last 16 of it and them.
 pub(crate) fn slide(window: &mut [u8; 16], more: &[u8])
     ensures last { window.new ≡ drop (length more.now) (window.old ++ more.now) }
     ensures bytes { (k : ℕ) → slice_index more.now k < 256 }

@@ -1,5 +1,5 @@
 -- The bytes of a functional descriptor (USB DFU 1.1, section 4.1.3).
-use Rattle.std.specs.Prelude.{◌≡◌, ◌≢◌, ◌⊎◌, ◌↔◌, ℕ, ◌+◌, ◌*◌, ◌<◌, List, length, slice_index, IsTrue, IsBitSet}
+use Rattle.std.specs.Prelude.{◌≡◌, ◌≢◌, ◌⊎◌, ◌↔◌, ℕ, ◌+◌, ◌*◌, ◌<◌, ◌^◌, ◌==◌, Bool, not, List, length, slice_index, bit_and, IsTrue, IsBitSet}
 use Rattle.dfu_wire.specs.declared.functionals.Functional.{Functional}
 use Rattle.dfu_wire.specs.declared.fault.WireFault.{WireFault}
 use Rattle.dfu_wire.specs.declared.fault.WireFault.TheVariants as fault
@@ -17,6 +17,22 @@ pub record IsFunctional (f : Functional) (b : List ℕ) : Type 0 where
   pub detach : f.detach_ms ≡ slice_index b 3 + 256 * slice_index b 4
   pub transfer : f.transfer ≡ slice_index b 5 + 256 * slice_index b 6
   pub version : f.version ≡ slice_index b 7 + 256 * slice_index b 8
+
+-- Whether a bit of a number is 1, bit 0 being the lowest.
+abbrev pub has_bit : (number bit : ℕ) → Bool
+has_bit number bit = not (bit_and number (2 ^ bit) == 0)
+
+-- The descriptor with these attributes and numbers: bits 0 to 3 of the attributes are its flags.
+abbrev pub functional_of : (attributes detach transfer version : ℕ) → Functional
+functional_of attributes detach transfer version = record {
+  can_download = has_bit attributes 0;
+  can_upload = has_bit attributes 1;
+  tolerant = has_bit attributes 2;
+  will_detach = has_bit attributes 3;
+  detach_ms = detach;
+  transfer = transfer;
+  version = version;
+}
 
 -- Bytes that are no descriptor have this first fault: there are none at all, then the first byte is
 -- not 9, then they are too few, or too many, or of another type.

@@ -37,6 +37,7 @@ named_for_us s request.NotDfu a = absurd a
 abbrev pub OneRequest : Type 0
 OneRequest = (s : Setup) (q r : Request) → Asks s q → Asks s r → q ≡ r
 
+-- No setup asks for two things.
 pub Asks-one : OneRequest
 Asks-one s request.OtherClass request.OtherClass a b = refl
 Asks-one s request.NotDfu request.NotDfu a b = refl

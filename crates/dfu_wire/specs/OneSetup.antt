@@ -8,6 +8,7 @@ use Rattle.dfu_wire.specs.Setup.{IsSetup}
 abbrev pub OneSetup : Type 0
 OneSetup = (s t : Setup) (b : List ℕ) → IsSetup s b → IsSetup t b → s ≡ t
 
+-- No bytes are two setups.
 pub IsSetup-one : OneSetup
 IsSetup-one s t b x y = λ k. record {
   kind = (x.kind ∙ sym y.kind) k;

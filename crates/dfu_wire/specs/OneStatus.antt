@@ -8,6 +8,7 @@ use Rattle.dfu_wire.specs.Status.{StatusFields, IsStatus, FirstStatusFault}
 abbrev pub OneStatus : Type 0
 OneStatus = (s t : StatusFields) (b : List ℕ) → IsStatus s b → IsStatus t b → s ≡ t
 
+-- No bytes are two statuses.
 pub IsStatus-one : OneStatus
 IsStatus-one s t b x y = grind arith
 
@@ -16,13 +17,7 @@ abbrev pub NoStatusFault : Type 0
 NoStatusFault =
     (s : StatusFields) (e : WireFault) (b : List ℕ) → IsStatus s b → FirstStatusFault e b → ⊥
 
-pub IsStatus-no_fault : NoStatusFault
-IsStatus-no_fault s e b x y = grind arith
-
 -- Two first faults of the same bytes are the same fault.
 abbrev pub OneStatusFault : Type 0
 OneStatusFault =
     (d e : WireFault) (b : List ℕ) → FirstStatusFault d b → FirstStatusFault e b → d ≡ e
-
-pub FirstStatusFault-one : OneStatusFault
-FirstStatusFault-one d e b x y = grind arith

@@ -1,6 +1,7 @@
 //! Bits and bytes of the fields.
 
-ghost use Rattle.std.specs.Prelude.{◌≡◌, ◌<◌, ◌+◌, ◌*◌, length, slice_index, IsTrue, IsBitSet, ◌↔◌};
+ghost use Rattle.std.specs.Prelude.{◌≡◌, ◌<◌, ◌+◌, ◌*◌, length, slice_index};
+ghost use Rattle.dfu_wire.specs.Functional.{has_bit};
 
 use byteorder::{ByteOrder, LittleEndian};
 
@@ -17,7 +18,7 @@ pub(crate) fn two_bytes(number: u16) -> [u8; 2]
 /// Whether this bit is 1, bit 0 being the lowest.
 pub(crate) fn is_set(byte: u8, bit: u8) -> bool
     requires { bit < 8 }
-    ensures { IsTrue result ↔ IsBitSet byte bit }
+    ensures { result ≡ has_bit byte bit }
 {
     byte & (1 << bit) != 0
 }

@@ -43,8 +43,23 @@ pub struct Functional {
 }
 
 impl Functional {
-    ghost use Rattle.dfu_wire.specs.Functional.{IsFunctional, FirstFunctionalFault};
+    ghost use Rattle.dfu_wire.specs.Functional.{IsFunctional, FirstFunctionalFault, functional_of};
     ghost use Rattle.dfu_wire.specs.declared.functionals.Functional.{Functional};
+
+    /// The descriptor with these bmAttributes, of which bits 4 to 7 are ignored, and these numbers.
+    pub fn of_attributes(attributes: u8, detach_ms: u16, transfer: u16, version: u16) -> Functional
+        ensures { result ≡ functional_of attributes detach_ms transfer version }
+    {
+        Functional {
+            can_download: is_set(attributes, 0),
+            can_upload: is_set(attributes, 1),
+            tolerant: is_set(attributes, 2),
+            will_detach: is_set(attributes, 3),
+            detach_ms,
+            transfer,
+            version,
+        }
+    }
 
     /// Reads a descriptor. The faults, in the order in which they are looked for:
     ///
@@ -73,16 +88,12 @@ impl Functional {
         if bytes[1] != TYPE {
             return Err(WireFault::WrongType);
         }
-        let attributes = bytes[2];
-        Ok(Functional {
-            can_download: is_set(attributes, 0),
-            can_upload: is_set(attributes, 1),
-            tolerant: is_set(attributes, 2),
-            will_detach: is_set(attributes, 3),
-            detach_ms: LittleEndian::read_u16(&bytes[3..]),
-            transfer: LittleEndian::read_u16(&bytes[5..]),
-            version: LittleEndian::read_u16(&bytes[7..]),
-        })
+        Ok(Functional::of_attributes(
+            bytes[2],
+            LittleEndian::read_u16(&bytes[3..]),
+            LittleEndian::read_u16(&bytes[5..]),
+            LittleEndian::read_u16(&bytes[7..]),
+        ))
     }
 
     /// Writes the descriptor, with the reserved bits 0. `decode` of the result is the descriptor

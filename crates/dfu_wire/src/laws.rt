@@ -1,4 +1,5 @@
-//! Laws of the formats: each function has an empty body, and its contract is the law.
+//! Laws of the formats. Each is the contract of a function with an empty body, which is proved and not
+//! to be called.
 
 ghost use Rattle.dfu_wire.specs.OneFunctional.{OneFunctional, NoFunctionalFault, OneFunctionalFault};
 ghost use Rattle.dfu_wire.specs.OneRequest.{OneRequest};

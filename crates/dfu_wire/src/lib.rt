@@ -1,5 +1,6 @@
 //! The wire formats of USB device firmware upgrade (USB DFU 1.1): the functional descriptor, the
-//! setups of the seven requests, the answer to GETSTATUS, the states and the status codes.
+//! setups of the seven requests, the answer to GETSTATUS, the states and the status codes, and the
+//! identifiers of a device.
 //!
 //! No call takes memory, and none but the readers and `Status::new` can refuse.
 #![tactic(auto)]
@@ -8,7 +9,8 @@ mod bytes;
 mod codes;
 mod fault;
 mod functionals;
-mod laws;
+mod ids;
+pub mod laws;
 mod requests;
 mod round_trips;
 mod setups;
@@ -20,7 +22,7 @@ mod tests;
 pub use codes::Code;
 pub use fault::WireFault;
 pub use functionals::Functional;
-pub use laws::{one_functional, one_request, one_setup, one_status};
+pub use ids::Ids;
 pub use requests::Request;
 pub use round_trips::{asked_again, reread_functional, reread_setup, reread_status};
 pub use setups::Setup;

@@ -1,12 +1,12 @@
-//! Bytes and values that were worked out by hand from the standard's tables, the texts of faults, and
-//! the laws.
+//! Bytes and values that were worked out by hand from the standard's tables, and the texts of
+//! faults.
 
 mod descriptors;
 mod numbers;
 mod setups;
 mod statuses;
 
-use crate::{WireFault, one_functional, one_request, one_setup, one_status};
+use crate::WireFault;
 use std::test::Fail;
 
 #[test]
@@ -24,12 +24,4 @@ fn faults_say_what_is_wrong(rt: HostRuntime) -> Result<(), Fail> {
         assert_eq!(rt; format!(in rt.alloc(); "{fault}")?.as_str(), text);
     }
     Ok(())
-}
-
-#[test]
-fn laws_are_functions(_rt: HostRuntime) {
-    one_functional();
-    one_setup();
-    one_request();
-    one_status();
 }

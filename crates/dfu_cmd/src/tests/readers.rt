@@ -1,8 +1,8 @@
-// A reader that fails, and a writer with little room.
+//! A reader that fails, and a writer with little room.
 
 use std::io::{self, ErrorKind, Read, Write};
 
-// Fails at each read.
+/// Fails at each read.
 #[derive(Drop)]
 pub struct Failing;
 
@@ -12,7 +12,7 @@ impl Read for Failing {
     }
 }
 
-// Takes `left` bytes, one at each call, and then fails.
+/// Takes `left` bytes, one at each call, and then fails.
 #[derive(Drop)]
 pub struct Refusing {
     pub left: usize,

@@ -1,23 +1,23 @@
-// Scripts as `dfu run` gets them, and what it prints.
+//! Scripts as `dfu run` gets them, and what it prints.
 
 use crate::{Exit, run_text};
 use std::alloc::{AllocError, Global};
 use std::process::Abort;
 use std::test::Fail;
 
-// Payload FFFFFFFFh, identifiers FFFFh.
+/// Payload FFFFFFFFh, identifiers FFFFh.
 const W: &str = "ffffffffffffffffffff00015546441071c8510c";
 
-// The same payload, identifiers 0000h.
+/// The same payload, identifiers 0000h.
 const Z: &str = "ffffffff00000000000000015546441037bd063c";
 
-// No payload.
+/// No payload.
 const E: &str = "ffffffffffff000155464410e1f17b88";
 
-// Payload '123456789', vendor 1209h, product 0001h.
+/// Payload '123456789', vendor 1209h, product 0001h.
 const N: &str = "313233343536373839000101000912000155464410621c70fe";
 
-// A script or a text in one line: `/` ends a line, and W, Z, E and N stand for their files.
+/// A script or a text in one line: `/` ends a line, and W, Z, E and N stand for their files.
 fn lines(alloc: Global, text: &str) -> Result<String, AllocError> {
     let mut whole = String::new(alloc);
     for word in text.split_whitespace() {
@@ -45,7 +45,7 @@ fn file_of(word: &str) -> &str {
     }
 }
 
-// A script prints this, and ends like this.
+/// A script prints this, and ends like this.
 fn prints(
     rt: &impl Abort,
     alloc: Global,

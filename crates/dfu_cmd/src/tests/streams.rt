@@ -1,4 +1,4 @@
-// Readers and writers that fail: what is answered, and what is out.
+//! Readers and writers that fail: what is answered, and what is out.
 
 use crate::tests::readers::{Failing, Refusing};
 use crate::tests::{DIGITS, DIGITS_IDS, FOUR_ONES};

@@ -1,8 +1,7 @@
 //! The device, the actions and the answers of which dialogues are made.
 
 use crate::{Action, Limits, Seen};
-use dfu_suffix::Ids;
-use dfu_wire::Functional;
+use dfu_wire::{Functional, Ids};
 
 pub(crate) const DEVICE: Ids = Ids {
     device: 0x0100,

@@ -14,8 +14,7 @@ use crate::scripting::keywords::{FateKeyword, read_fate};
 use crate::scripting::line::{Deed, Harm, Line, Room, Setting};
 use crate::scripting::words::word_at;
 use dfu_slots::Unit;
-use dfu_suffix::Ids;
-use dfu_wire::Functional;
+use dfu_wire::{Functional, Ids};
 
 /// `ids VVVV PPPP DDDD`.
 #[tactic(auto, unfolding(crate::specs::Lines::ids_of))]

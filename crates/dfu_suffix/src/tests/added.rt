@@ -1,14 +1,15 @@
-// What `add` writes, and what is out where it fails.
+//! What `add` writes, and what is out where it fails.
 
 use super::files::{DFUSE, DIGITS, EMPTY, FOUR_ONES, LONG_SUFFIX, NO_IDS};
 use super::readers::{Pieces, Zeros};
 use super::with_byte;
 use super::writers::Narrow;
-use crate::{Ids, SuffixFault, add, read};
+use crate::{SuffixFault, add, read};
+use dfu_wire::Ids;
 use std::io::{self, Read};
 use std::test::Fail;
 
-// The identifiers of `DIGITS`.
+/// The identifiers of `DIGITS`.
 const PRODUCT: Ids = Ids {
     device: 0x0100,
     product: 0x0001,

@@ -1,13 +1,14 @@
-// What `check` answers of readers that cut what they give, fail, or give too much.
+//! What `check` answers of readers that cut what they give, fail, or give too much.
 
 use super::files::{DFUSE, DIGITS, EMPTY, FOUR_ONES, LONG_SUFFIX, NO_IDS};
 use super::readers::{Failing, Pieces, Zeros};
 use super::{summary_by_read, with_byte};
-use crate::{Ids, SuffixFault, Summary, add, check};
+use crate::{SuffixFault, Summary, add, check};
+use dfu_wire::Ids;
 use std::io::{self, Read};
 use std::test::Fail;
 
-// Identifiers that a file doesn't say.
+/// Identifiers that a file doesn't say.
 const UNSET: Ids = Ids {
     device: 0xffff,
     product: 0xffff,
@@ -106,7 +107,7 @@ fn no_read_past_the_limit(rt: HostRuntime) {
     assert_eq!(rt; zeros.calls_after, 0);
 }
 
-// The suffix of 16,777,200 zeros, with its CRC by another program.
+/// The suffix of 16,777,200 zeros, with its CRC by another program.
 const ZEROS_SUFFIX: [u8; 16] = [
     0xff, 0xff, 0xff, 0xff, 0xff, 0xff, 0x00, 0x01, 0x55, 0x46, 0x44, 0x10, 0xaf, 0x59, 0xe8, 0xfa,
 ];

@@ -1,8 +1,8 @@
-// Readers that cut what they give, fail, or count their calls.
+//! Readers that cut what they give, fail, or count their calls.
 
 use std::io::{self, ErrorKind, Read};
 
-// Gives at most `step` bytes at each call.
+/// Gives at most `step` bytes at each call.
 #[derive(Drop)]
 pub struct Pieces<'a> {
     pub left: &'a [u8],
@@ -19,7 +19,7 @@ impl<'a> Read for Pieces<'a> {
     }
 }
 
-// Gives pieces at so many calls, and fails at the next one.
+/// Gives pieces at so many calls, and fails at the next one.
 #[derive(Drop)]
 pub struct Failing<'a> {
     pub pieces: Pieces<'a>,
@@ -36,7 +36,7 @@ impl<'a> Read for Failing<'a> {
     }
 }
 
-// Gives zeros until `left` bytes were given, then fails.
+/// Gives zeros until `left` bytes were given, then fails.
 #[derive(Drop)]
 pub struct Zeros {
     pub left: usize,

@@ -1,4 +1,4 @@
-// What a fault is printed as.
+//! What a fault is printed as.
 
 use crate::SuffixFault;
 use std::test::Fail;

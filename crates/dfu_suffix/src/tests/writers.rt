@@ -1,8 +1,8 @@
-// Writers that take little at a time, fail, or stop taking.
+//! Writers that take little at a time, fail, or stop taking.
 
 use std::io::{self, ErrorKind, Write};
 
-// Takes at most `step` bytes a call. Once it took `left` bytes it fails, or takes nothing.
+/// Takes at most `step` bytes a call. Once it took `left` bytes it fails, or takes nothing.
 #[derive(Drop)]
 pub struct Narrow {
     pub taken: Vec<u8>,

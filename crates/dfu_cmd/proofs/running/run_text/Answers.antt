@@ -1,4 +1,4 @@
-use Rattle.dfu_cmd.specs.Running.{stops}
+use Rattle.dfu_cmd.specs.RunText.{stops}
 use Rattle.dfu_cmd.proofs.running.run_text.Goals as goal
 
 pub returns-in-Err : goal.returns-in-Err

@@ -1,11 +1,11 @@
-use Rattle.std.proofs.Common.{arith, ap, length}
-use Rattle.dfu_suffix.proofs.AddLaws.{added_length, made, none_yet}
+use Rattle.dfu_suffix.proofs.AddLaws.{makes_all, makes_none}
 use Rattle.dfu_suffix.proofs.adding.file_of.Goals as goal
 
 pub returns-in-Ok-clause-all : goal.returns-in-Ok-clause-all
 returns-in-Ok-clause-all g c =
-    made (g.R.Read.remaining c.args.reader) c.in_ok-text.text.items c.args.ids _ c.in_ok-text.ensures.all (none_yet _ _ _ c.has_suffix.ensures c.if-has_suffix.false c.deref.ensures.value) c.in-Ok.ensures (omega arith) (omega arith) (omega arith)
+    makes_all (g.R.Read.remaining c.args.reader) c.in-Ok.payload.items c.args.ids c.with_suffix.result c.in-Ok.ensures.all
+    c.with_suffix.ensures.all
 
-pub returns-in-Ok-clause-len : goal.returns-in-Ok-clause-len
-returns-in-Ok-clause-len g c =
-    omega (arith, ap length c.in-Ok.ensures, added_length c.in_ok-text.text.items c.args.ids, c.in_ok-text.ensures.len)
+pub returns-in-Err-clause-all : goal.returns-in-Err-clause-all
+returns-in-Err-clause-all g c =
+    rw c.fault_of.ensures (makes_none (g.R.Read.remaining c.args.reader) c.args.ids c.in-Err.fault c.in-Err.ensures.all)

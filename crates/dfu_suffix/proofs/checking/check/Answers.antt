@@ -7,7 +7,8 @@ pub returns-in-Ok-eq0-clause-answer : goal.returns-in-Ok-eq0-clause-answer
 returns-in-Ok-eq0-clause-answer g c =
     let room : 0 < length c.read.new.buf = omega arith in
     let test = c.in-Ok-eq0.field-0-test in
-    let over = end_here (g.R.Read.remaining c.loop-turn.reader) (g.R.Read.remaining c.read.new.self) c.in-Ok-eq0.field-0 c.read.new.buf (omega arith) room c.in-Ok-eq0.ensures.bytes in
+    let over = end_here (g.R.Read.remaining c.loop-turn.reader) (g.R.Read.remaining c.read.new.self) c.in-Ok-eq0.field-0
+    c.read.new.buf (omega arith) room c.in-Ok-eq0.ensures.bytes in
     seen_end _ _ _ _ _ _ _ _ c.loop-turn.invariant over c.judge.ensures.answer c.value.ensures
 
 pub returns-then-taken-count-clause-answer : goal.returns-then-taken-count-clause-answer

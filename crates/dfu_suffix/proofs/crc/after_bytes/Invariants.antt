@@ -2,7 +2,7 @@ use Rattle.std.proofs.Common.{◌≡◌, length}
 use Rattle.dfu_suffix.specs.Register.{after_bits, bits_of}
 use Rattle.dfu_suffix.proofs.crc.after_bytes.Given as goal
 
--- the rest from here gives what all of it gives from the start
+-- The rest from here gives what all of it gives from the start.
 abbrev pub invariant-loop-sixteen : goal.invariant-loop-sixteen
 invariant-loop-sixteen l = after_bits l.register (bits_of l.rest) ≡ after_bits l.start (bits_of l.bytes)
 

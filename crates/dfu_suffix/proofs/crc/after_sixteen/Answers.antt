@@ -6,7 +6,7 @@ use Rattle.dfu_suffix.proofs.Tables.{Quarter, sixteen_step}
 use Rattle.dfu_suffix.specs.Laws.{AreBytes}
 use Rattle.dfu_suffix.proofs.crc.after_sixteen.Goals as goal
 
--- the two parts of a list
+-- The two parts of a list.
 parts : (n : ℕ) (xs ys zs : List ℕ) → xs ≡ take n zs → ys ≡ drop n zs → xs ++ ys ≡ zs
 parts n xs ys zs e d = ap (λ (ts : List ℕ). ts ++ ys) e ∙ (ap (λ (ts : List ℕ). take n zs ++ ts) d ∙ take-append-drop n zs)
 
@@ -28,20 +28,48 @@ returns c =
     let each : AreBytes bytes = λ k. omega (arith, c.type_inv.bytes k) in
     let e1 : AreBytes r1 = back_bytes 4 r1 bytes c.split_at.ensures.back each in
     let e2 : AreBytes r2 = back_bytes 4 r2 r1 c.split_at-2.ensures.back e1 in
-    let p : Quarter c.read_u32-4.result xs = record { long = omega arith; bytes = front_bytes 4 xs bytes c.split_at.ensures.front each; number = c.read_u32-4.ensures; small = omega arith } in
-    let q : Quarter c.read_u32-3.result ys = record { long = omega arith; bytes = front_bytes 4 ys r1 c.split_at-2.ensures.front e1; number = c.read_u32-3.ensures; small = omega arith } in
-    let u : Quarter c.read_u32-2.result zs = record { long = omega arith; bytes = front_bytes 4 zs r2 c.split_at-3.ensures.front e2; number = c.read_u32-2.ensures; small = omega arith } in
-    let v : Quarter c.read_u32.result ws = record { long = omega arith; bytes = back_bytes 4 ws r2 c.split_at-3.ensures.back e2; number = c.read_u32.ensures; small = omega arith } in
-    let step = sixteen_step c.args.register c.read_u32-4.result c.read_u32-3.result c.read_u32-2.result c.read_u32.result xs ys zs ws p q u v in
+    let p : Quarter c.read_u32-4.result xs = record {
+      long = omega arith;
+      bytes =
+          front_bytes 4 xs bytes c.split_at.ensures.front each;
+      number = c.read_u32-4.ensures;
+      small = omega arith;
+    } in
+    let q : Quarter c.read_u32-3.result ys = record {
+      long = omega arith;
+      bytes =
+          front_bytes 4 ys r1 c.split_at-2.ensures.front e1;
+      number = c.read_u32-3.ensures;
+      small = omega arith;
+    } in
+    let u : Quarter c.read_u32-2.result zs = record {
+      long = omega arith;
+      bytes =
+          front_bytes 4 zs r2 c.split_at-3.ensures.front e2;
+      number = c.read_u32-2.ensures;
+      small = omega arith;
+    } in
+    let v : Quarter c.read_u32.result ws = record {
+      long = omega arith;
+      bytes =
+          back_bytes 4 ws r2 c.split_at-3.ensures.back e2;
+      number = c.read_u32.ensures;
+      small = omega arith;
+    } in
+    let step = sixteen_step c.args.register c.read_u32-4.result c.read_u32-3.result c.read_u32-2.result c.read_u32.result xs ys
+    zs ws p q u v in
     let j2 : zs ++ ws ≡ r2 = parts 4 zs ws r2 c.split_at-3.ensures.front c.split_at-3.ensures.back in
     let j1 : ys ++ r2 ≡ r1 = parts 4 ys r2 r1 c.split_at-2.ensures.front c.split_at-2.ensures.back in
     let j0 : xs ++ r1 ≡ bytes = parts 4 xs r1 bytes c.split_at.ensures.front c.split_at.ensures.back in
     let joined : xs ++ (ys ++ (zs ++ ws)) ≡ bytes = ap (λ (ts : List ℕ). xs ++ (ys ++ ts)) j2 ∙ (ap (λ (ts : List ℕ). xs ++ ts) j1 ∙ j0) in
-    let whole : after_bits c.args.register (bits_of (xs ++ (ys ++ (zs ++ ws)))) ≡ after_bits c.args.register (bits_of bytes) = ap (λ (ts : List ℕ). after_bits c.args.register (bits_of ts)) joined in
+    let whole : after_bits c.args.register (bits_of (xs ++ (ys ++ (zs ++ ws)))) ≡ after_bits c.args.register (bits_of bytes) =
+    ap (λ (ts : List ℕ). after_bits c.args.register (bits_of ts)) joined in
     let f32 = c.after_32_zeros.ensures in
     let f64 = c.after_64_zeros.ensures in
     let f96 = c.after_96_zeros.ensures in
     let f128 = c.after_128_zeros.ensures in
-    let turned : bit_xor (bit_xor (bit_xor c.after_32_zeros.result c.after_64_zeros.result) c.after_96_zeros.result) c.after_128_zeros.result
-    ≡ bit_xor (bit_xor (bit_xor (shifts 32 c.read_u32.result) (shifts 64 c.read_u32-2.result)) (shifts 96 c.read_u32-3.result)) (shifts 128 (bit_xor c.args.register c.read_u32-4.result)) = cc in
+    let turned : bit_xor (bit_xor (bit_xor c.after_32_zeros.result c.after_64_zeros.result) c.after_96_zeros.result)
+    c.after_128_zeros.result
+    ≡ bit_xor (bit_xor (bit_xor (shifts 32 c.read_u32.result) (shifts 64 c.read_u32-2.result)) (shifts 96 c.read_u32-3.result))
+    (shifts 128 (bit_xor c.args.register c.read_u32-4.result)) = cc in
     turned ∙ (step ∙ whole)

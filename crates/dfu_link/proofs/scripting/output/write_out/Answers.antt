@@ -1,6 +1,6 @@
 use Rattle.std.proofs.Common.{◌≡◌, ◌<◌, ℕ, List, length, take, drop, subst, arith, sym}
 use Rattle.std.specs.Io.KnownBytes.{Appends}
-use Rattle.dfu_suffix.specs.Progress.{Progress, progress_more}
+use Rattle.dfu_suffix.proofs.Progress.{Progress, progress_more}
 use Rattle.dfu_link.proofs.WriteLaws.{progress_fault, keeps_none}
 use Rattle.dfu_link.proofs.scripting.output.write_out.Goals as goal
 

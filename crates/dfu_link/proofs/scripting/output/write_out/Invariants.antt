@@ -1,5 +1,5 @@
 use Rattle.std.proofs.Common.{length}
-use Rattle.dfu_suffix.specs.Progress.{Progress}
+use Rattle.dfu_suffix.proofs.Progress.{Progress}
 use Rattle.dfu_link.proofs.scripting.output.write_out.Given as goal
 
 abbrev pub invariant-loop-rest : goal.invariant-loop-rest

@@ -1,0 +1,33 @@
+-- How far a text is written that is put out piece by piece.
+use Rattle.std.proofs.Common.{◌≡◌, ℕ, ◌<◌, List, [], ◌++◌, length, take, drop, Option, refl, sym, ap, ◌∙◌, subst, arith, length-append}
+use Rattle.std.proofs.KnownBytes.{Appends-nil, Appends-trans, Appends-kept}
+use Rattle.std.proofs.lemmas.List.{append_assoc, take-append-drop, take_at, append-nil}
+use Rattle.std.specs.Io.KnownBytes.{Appends, Keeps}
+use Rattle.dfu_suffix.specs.Writing.{IsOutInPart}
+
+-- A front of the text is out, and the rest is left.
+abbrev pub Progress : Option (List ℕ) → Option (List ℕ) → List ℕ → List ℕ → Type 0
+Progress old new text rest = (front : List ℕ) × (text ≡ front ++ rest) × Appends old new front
+
+-- Once the first bytes of the rest are out too, the bytes behind them are left.
+pub progress_more : (old mid new : Option (List ℕ)) (text rest : List ℕ) (n : ℕ) →
+    Progress old mid text rest → Appends mid new (take n rest) → Progress old new text (drop n rest)
+progress_more old mid new text rest n p k = (
+  p.0 ++ take n rest,
+  p.1 ∙ (ap (λ (zs : List ℕ). p.0 ++ zs) (sym (take-append-drop n rest))
+      ∙ sym (append_assoc p.0 (take n rest) (drop n rest))),
+  Appends-trans old mid new p.0 (take n rest) p.2 k,
+)
+
+-- Where something is left, and nothing more came out, a front of the text is out, and not all of it.
+pub progress_stopped : (old mid new : Option (List ℕ)) (text rest : List ℕ) →
+    Progress old mid text rest → 0 < length rest → Appends mid new [] → IsOutInPart old new text
+progress_stopped old mid new text rest p some k =
+    let front : take (length p.0) text ≡ p.0 = ap (take (length p.0)) p.1 ∙ take_at p.0 rest (length p.0) refl in
+    let whole : Appends old new (p.0 ++ []) = Appends-trans old mid new p.0 [] p.2 k in
+    let less : length p.0 < length text = omega (arith, ap length p.1, length-append p.0 rest) in
+    (length p.0, less, subst (λ (zs : List ℕ). Appends old new zs) (append-nil p.0 ∙ sym front) whole)
+
+-- Where nothing changed, nothing came out.
+pub keeps_nothing : (mid new : Option (List ℕ)) → Keeps mid new → Appends mid new []
+keeps_nothing mid new k = Appends-kept mid mid new [] (Appends-nil mid) k

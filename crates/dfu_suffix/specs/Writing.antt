@@ -1,0 +1,12 @@
+-- What a writer holds once a text was written to it.
+use Rattle.std.specs.Prelude.{ℕ, ◌<◌, List, length, take, Option, Result, Ok, Err}
+use Rattle.std.specs.Io.KnownBytes.{Appends}
+
+-- A front of the text is out, and not all of it: its first k bytes.
+abbrev pub IsOutInPart : Option (List ℕ) → Option (List ℕ) → List ℕ → Type 0
+IsOutInPart old new text = (k : ℕ) × (k < length text) × Appends old new (take k text)
+
+-- At Ok the text is out whole, and at a fault a front of it is, and not all of it.
+abbrev pub WritesWhole : {T E : Type 0} → Option (List ℕ) → Option (List ℕ) → List ℕ → Result T E → Type 0
+WritesWhole old new text (Ok done) = Appends old new text
+WritesWhole old new text (Err fault) = IsOutInPart old new text

@@ -1,0 +1,32 @@
+-- What reading from the end finds. The grammar says what it is worth.
+use Rattle.std.specs.Prelude.{ℕ, ◌-◌, List, length, take, drop, slice_index, find, Option, Some, None, Result, Ok, Err}
+use Rattle.byteorder.specs.Endian.{little_number}
+use Rattle.dfu_suffix.specs.Grammar.{Content, tail_of, has_fault, fault_order}
+use Rattle.dfu_wire.specs.declared.ids.Ids.{Ids}
+use Rattle.dfu_suffix.specs.declared.fault.SuffixFault.{SuffixFault}
+
+-- The last 16 bytes say these identifiers.
+abbrev pub ids_of : List ℕ → Ids
+ids_of tail = record {
+  device = little_number 2 (drop 0 tail);
+  product = little_number 2 (drop 2 tail);
+  vendor = little_number 2 (drop 4 tail);
+}
+
+-- The last 16 bytes say this content of bytes that have no fault.
+abbrev pub content_of : List ℕ → Content
+content_of bytes = record {
+  payload = take (length bytes - slice_index (tail_of bytes) 11) bytes;
+  ids = ids_of (tail_of bytes);
+  dfu = little_number 2 (drop 6 (tail_of bytes));
+  suffix = slice_index (tail_of bytes) 11;
+}
+
+-- The answer is the fault, where there is one, and else the content.
+abbrev pub content_or : Option SuffixFault → Content → Result Content SuffixFault
+content_or (Some fault) content = Err fault
+content_or None content = Ok content
+
+-- Reading bytes answers their first fault, or what they say.
+unfoldable pub reading : List ℕ → Result Content SuffixFault
+reading bytes = content_or (find (has_fault bytes) fault_order) (content_of bytes)

@@ -1,0 +1,55 @@
+//! All that a reader gives, up to a limit.
+
+ghost use Rattle.std.specs.Prelude.{◌≤◌, length, IfOk, IfSome};
+ghost use Rattle.dfu_suffix.specs.Gathering.{Gathers};
+
+use crate::limits::MAX_READS;
+use std::alloc::Global;
+use std::io::Read;
+
+/// Why not all that a reader gives was gathered.
+#[derive(Clone, Copy, Debug, PartialEq, Eq)]
+pub enum GatherFault {
+    /// The reader gives more bytes than the limit.
+    TooLarge,
+    /// An allocation was refused.
+    NoMemory,
+    /// The reader failed.
+    Read,
+}
+
+/// All that the reader gives, which is at most `limit` bytes.
+///
+/// # Errors
+///
+/// TooLarge once the byte past the limit was read, and no read is made after that; Read at the
+/// first error of the reader, with no second try; NoMemory where an allocation was refused.
+pub fn gather<R: Read + Drop>(
+    alloc: Global,
+    mut reader: R,
+    limit: usize,
+) -> Result<Vec<u8>, GatherFault>
+    requires { limit ≤ 16777216 }
+    // At Ok these are all the bytes that the reader gives, and at TooLarge they are over the limit.
+    ensures all { IfSome (R.remaining reader) (λ all. Gathers limit all result) }
+    // They are within the limit, whatever the reader is.
+    ensures len { IfOk result (λ v. length v.items ≤ limit) }
+{
+    let mut bytes = Vec::new(alloc);
+    let mut buffer = [0u8; 4096];
+    for turn in 0..MAX_READS {
+        match reader.read(&mut buffer) {
+            Ok(0) => return Ok(bytes),
+            Ok(taken) => {
+                if taken > limit - bytes.len() {
+                    return Err(GatherFault::TooLarge);
+                }
+                let Ok(()) = bytes.extend_from_slice(&buffer[..taken]) else {
+                    return Err(GatherFault::NoMemory);
+                };
+            }
+            Err(_) => return Err(GatherFault::Read),
+        }
+    }
+    unreachable!()
+}
