@@ -4,7 +4,7 @@ use Rattle.std.proofs.Math.ListN.{length-replicate}
 use Rattle.dfu_slots.specs.declared.unit.Unit.{Unit as WriteUnit}
 use Rattle.dfu_slots.specs.Medium.{MediumState}
 use Rattle.dfu_slots.specs.Medium.Fuse.{Whole}
-use Rattle.dfu_slots.specs.Units.{gate_size, IsWhole}
+use Rattle.dfu_slots.specs.Units.{gate_size, IsMultiple}
 use Rattle.dfu_slots.specs.Image.{capacity_of, IsSized}
 use Rattle.dfu_link.specs.ScriptRun.{blank}
 
@@ -21,10 +21,10 @@ pub room_blank : (u : WriteUnit) (n : ℕ) → capacity_of (blank u n) ≡ n
 room_blank u n = omega (arith, blank_len u n)
 
 -- two slots can stand on it
-pub blank_sized : (u : WriteUnit) (n : ℕ) → 1 ≤ n → n ≤ 1048576 → IsWhole u n → IsSized (blank u n)
+pub blank_sized : (u : WriteUnit) (n : ℕ) → 1 ≤ n → n ≤ 1048576 → IsMultiple u n → IsSized (blank u n)
 blank_sized u n some most whole = record {
   even = omega (arith, blank_len u n);
   room = omega (arith, blank_len u n, some);
   bound = omega (arith, blank_len u n, most);
-  whole = subst (λ (k : ℕ). IsWhole u k) (sym (room_blank u n)) whole;
+  whole = subst (λ (k : ℕ). IsMultiple u k) (sym (room_blank u n)) whole;
 }

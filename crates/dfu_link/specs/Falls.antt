@@ -1,7 +1,7 @@
 -- How a script ends with a fault, and what is out then.
 use Rattle.std.specs.Prelude.{◌≡◌, ℕ, ◌+◌, ◌<◌, ◌≤◌, List, [], ◌∷◌, ◌++◌, length, Option, Some, None}
 use Rattle.std.specs.Io.KnownBytes.{Appends}
-use Rattle.dfu_slots.specs.Units.{IsWhole}
+use Rattle.dfu_slots.specs.Units.{IsMultiple}
 use Rattle.dfu_device.specs.declared.fault.ConfigFault.{ConfigFault}
 use Rattle.dfu_device.specs.Setting.{FirstFault}
 use Rattle.dfu_device.specs.Shown.{Shown}
@@ -87,7 +87,7 @@ pub record SettingFalls (s : Stand) (k : ℕ) (lines : List (List ℕ)) (fault :
 -- No device can be set up like this, or the room has no whole units, or the image has more bytes than there is room for.
 pub data CannotStart (s : Stand) : Type 0 where
   refused : (fault : ConfigFault) → FirstFault fault s.device → CannotStart s
-  not_whole : ¬ IsWhole s.unit s.capacity → CannotStart s
+  not_whole : ¬ IsMultiple s.unit s.capacity → CannotStart s
   too_large : s.capacity < length s.image → CannotStart s
 
 -- Why a device does not start: BadConfig where it cannot, or there is no memory.

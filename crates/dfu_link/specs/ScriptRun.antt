@@ -4,7 +4,7 @@ use Rattle.std.specs.Io.KnownBytes.{Appends}
 use Rattle.dfu_host.specs.declared.limits.Limits.{Limits}
 use Rattle.dfu_slots.specs.declared.unit.Unit.{Unit as WriteUnit}
 use Rattle.dfu_slots.specs.declared.unit.Unit.TheVariants.{Byte}
-use Rattle.dfu_slots.specs.Units.{gate_size, IsWhole}
+use Rattle.dfu_slots.specs.Units.{gate_size, IsMultiple}
 use Rattle.dfu_slots.specs.Medium.{MediumState, AllWrites}
 use Rattle.dfu_slots.specs.Medium.Fuse.{Whole}
 use Rattle.dfu_slots.specs.Seen.{image_of, format_series}
@@ -79,7 +79,7 @@ blank unit capacity = record { bytes = replicate (2 * (2 * gate_size unit + capa
 pub record Starts (s : Stand) (d : Shown) : Type 0 where
   pub config : d.config ≡ record s.device { functional = of_this_version s.device.functional }
   pub allowed : IsAllowed d.config
-  pub whole : IsWhole s.unit s.capacity
+  pub whole : IsMultiple s.unit s.capacity
   pub fits : length s.image ≤ s.capacity
   pub formatted : AllWrites (blank s.unit s.capacity) (format_series (blank s.unit s.capacity) s.image) d.slots.medium
   pub image : image_of d.slots ≡ s.image

@@ -4,7 +4,7 @@ use Rattle.std.proofs.lemmas.Bool.{cases_lt}
 use Rattle.dfu_slots.specs.Layout.{IsOpen}
 use Rattle.dfu_slots.specs.Image.{capacity_of}
 use Rattle.dfu_slots.specs.Seen.{SlotsState, store_on, spare_slot, is_begun, room_of, Call, Begin, writes_of, CallWorked, CallFailed, DidCall}
-use Rattle.dfu_slots.specs.Store.{IsStore}
+use Rattle.dfu_slots.specs.inside.Store.{IsStore}
 use Rattle.dfu_slots.specs.Changes.{Changes}
 use Rattle.dfu_slots.specs.declared.fault.PutFault.{PutFault}
 use Rattle.dfu_slots.specs.declared.fault.PutFault.TheVariants.{TooLarge, Failed, NotBegun}
@@ -13,7 +13,7 @@ use Rattle.dfu_slots.proofs.Seeing.{room_capacity, begun_closed, closed_begun, o
 
 -- A refused change.
 
--- it says NotBegun exactly where the spare is open
+-- It says NotBegun exactly where the spare is open.
 pub not_begun_is : {T : Type 0} (s : SlotsState) (result : Result T PutFault) → (IsErrOf result NotBegun ↔ IsOpen (spare_slot s)) → IsErrOf result NotBegun ↔ (is_begun s ≡ false)
 not_begun_is s result not_begun = (λ e. open_not_begun s (not_begun.0 e), λ off. not_begun.1 (not_begun_open s off))
 
@@ -23,22 +23,24 @@ module _ {T : Type 0} (s : SlotsState) (n : ℕ) (result : Result T PutFault)
   was_shut : ¬ IsErrOf result NotBegun → ¬ IsOpen (spare_slot s)
   was_shut other is_open = other (not_begun.1 is_open)
 
+  -- An answer that is neither NotBegun nor TooLarge tells that there was room.
   pub was_small : ¬ IsErrOf result NotBegun → ¬ IsErrOf result TooLarge → n ≤ capacity_of s.medium
   was_small begun small = ⊎_elim (λ large. absurd (small (too_large.1 (was_shut begun, large)))) (λ le. le) (cases_lt (capacity_of s.medium) n)
 
+  -- A change says TooLarge exactly where the store was begun and has not the room.
   pub too_large_is : IsErrOf result TooLarge ↔ ((is_begun s ≡ true) × (room_of s < n))
   too_large_is = (
     λ e. let large = too_large.0 e in (closed_begun s large.0, omega (arith, large.1, room_capacity s)),
     λ large. too_large.1 (begun_closed s large.0, omega (arith, large.1, room_capacity s)),
   )
 
--- a change came where the spare was closed and had the room
+-- A change came where the spare was closed and had the room.
 pub record Came (s now : SlotsState) (call : Call) (n : ℕ) : Type 0 where
   pub shut : ¬ IsOpen (spare_slot s)
   pub fits : n ≤ capacity_of s.medium
   pub ends : Ends s.medium (writes_of s call) now.medium
 
--- either it came, or it left all as it was
+-- Either it came, or it left all as it was.
 pub came_or_not : {T : Type 0} (s now : SlotsState) (n : ℕ) (call : Call) (result : Result T PutFault)
     → (IsErrOf result NotBegun ↔ IsOpen (spare_slot s)) → (IsErrOf result TooLarge ↔ ((¬ IsOpen (spare_slot s)) × (capacity_of s.medium < n)))
     → Changes s call result now → Came s now call n ⊎ (now ≡ s)
@@ -49,7 +51,7 @@ came_or_not {T} s now n call (Err Failed) a b failed =
 came_or_not s now n call (Err TooLarge) a b same = inr same
 came_or_not s now n call (Err NotBegun) a b same = inr same
 
--- a commit is never refused for its length, since what was put lies within the capacity
+-- A commit is never refused for its length, since what was put lies within the capacity.
 pub commit_too_large : {T : Type 0} (s : SlotsState) → IsStore s → (len : ℕ) → len ≤ s.put_end → (result : Result T PutFault) → ¬ IsErrOf result TooLarge
     → (IsErrOf result TooLarge ↔ ((¬ IsOpen (spare_slot s)) × (capacity_of s.medium < len)))
 commit_too_large s store len le result never = (λ e. absurd (never e), λ large. absurd (omega (arith, le, store.puts.fits, large.1)))
@@ -68,20 +70,21 @@ did s now call (Err Failed) a b failed = did_broken s now call failed
 did s now call (Err TooLarge) a b same = absurd (b refl)
 did s now call (Err NotBegun) a b same = absurd (a refl)
 
--- a fault that is Failed is no other one
+-- A fault that is Failed is no other one.
 no_large : {T : Type 0} → ◌≡◌ {A = Result T PutFault} (Err TooLarge) (Err Failed) → ⊥
 no_large q = cc
 
 no_begun : {T : Type 0} → ◌≡◌ {A = Result T PutFault} (Err NotBegun) (Err Failed) → ⊥
 no_begun q = cc
 
+-- A `begin` was Ok or failed.
 pub did_begin : {T : Type 0} (s now : SlotsState) (result : Result T PutFault) → OnErr result (IsErrOf result Failed) → Changes s Begin result now → DidCall s Begin (is_ok result) now
 did_begin s now (Ok x) e worked = did_all s now Begin worked
 did_begin s now (Err Failed) e failed = did_broken s now Begin failed
 did_begin {T} s now (Err TooLarge) e same = absurd (no_large {T = T} e)
 did_begin {T} s now (Err NotBegun) e same = absurd (no_begun {T = T} e)
 
--- a call on a store that was begun and has the room was Ok or failed
+-- A call on a store that was begun and has the room was Ok or failed.
 pub did_change : {T : Type 0} (s now : SlotsState) (call : Call) (n : ℕ) (result : Result T PutFault)
     → (IsErrOf result NotBegun ↔ IsOpen (spare_slot s)) → (IsErrOf result TooLarge ↔ ((¬ IsOpen (spare_slot s)) × (capacity_of s.medium < n)))
     → Changes s call result now → is_begun s ≡ true → n ≤ room_of s → DidCall s call (is_ok result) now
@@ -90,14 +93,14 @@ did_change s now call n result not_begun too_large changes begun fits =
 
 -- What is forgotten.
 
--- after a failure nothing is held, and the puts end at 0
+-- After a failure nothing is held, and the puts end at 0.
 pub failed_fresh : {T : Type 0} (s now : SlotsState) (call : Call) (result : Result T PutFault) → Changes s call result now → IsErrOf result Failed → now ≡ store_on now.medium
 failed_fresh s now call (Ok x) changes is = absurd (cc)
 failed_fresh s now call (Err Failed) failed is = fresh_is now.medium now.held now.put_end failed.held_is failed.end_is
 failed_fresh s now call (Err TooLarge) changes is = absurd (cc)
 failed_fresh s now call (Err NotBegun) changes is = absurd (cc)
 
--- after a `begin` too, whatever it answered
+-- After a `begin` too, whatever it answered.
 pub begin_fresh : {T : Type 0} (s now : SlotsState) (result : Result T PutFault) → OnErr result (IsErrOf result Failed) → Changes s Begin result now → now ≡ store_on now.medium
 begin_fresh s now (Ok x) e worked = fresh_is now.medium now.held now.put_end worked.held_is worked.end_is
 begin_fresh {T} s now (Err fault) e changes = failed_fresh {T = T} s now Begin (Err fault) changes e

@@ -4,8 +4,9 @@ use Rattle.std.proofs.lemmas.List.{length-take-le, take_at, take-take}
 use Rattle.std.proofs.lemmas.Bool.{cases_eq}
 use Rattle.dfu_slots.specs.Medium.{MediumState, Write, KeepsOutside, AllWrites, BrokenWrites, written}
 use Rattle.dfu_slots.specs.Layout.{slot_size, capacity, Slot, slot, OPEN, IsOpen, generation, next_generation, header, gate_unit, header_unit}
-use Rattle.dfu_slots.specs.Image.{Counts, ActiveAt, active_at, spare_at, spare}
+use Rattle.dfu_slots.specs.Image.{Counts, active_at, spare_at, spare}
 use Rattle.dfu_slots.specs.Writes.{commit_writes}
+use Rattle.dfu_slots.proofs.Stands.{ActiveAt}
 use Rattle.dfu_slots.proofs.Torn.{written_range, keeps_both, keeps_wider}
 use Rattle.dfu_slots.proofs.Parts.{length-gate_unit, length-header_unit, header_outside, data_outside, slot_outside, data_length, size_kept, sized_kept}
 use Rattle.dfu_slots.proofs.Newest.{places_are, place_end}
@@ -13,7 +14,7 @@ use Rattle.dfu_slots.proofs.Kept.{closed_change, active_kept}
 use Rattle.dfu_slots.proofs.Series.{AllInside, all_keep, broken_keep, all_parts, broken_parts}
 use Rattle.dfu_slots.proofs.Begun.{gate_written}
 
--- a header unit that was written begins with the header
+-- A header unit that was written begins with the header.
 pub header_written : (g : ℕ) → 16 ≤ g → (old : List ℕ) (p gen len : ℕ) → p + g ≤ length old → slice_range (written old p (header_unit g gen len)) p (p + 16) ≡ header gen len
 header_written g wide old p gen len fits =
     let unit = header_unit g gen len in
@@ -39,9 +40,6 @@ module _ (g : ℕ) (wide : 16 ≤ g) (old mid left : List ℕ) (mine other : ℕ
 
   abbrev next_image : List ℕ
   next_image = take len whole
-
-  mid_size : slot_size mid ≡ slot_size old
-  mid_size = size_kept (other + g) (other + slot_size old) old mid keeps
 
   left_keeps : KeepsOutside other (other + slot_size old) old left
   left_keeps =
@@ -69,26 +67,24 @@ module _ (g : ℕ) (wide : 16 ≤ g) (old mid left : List ℕ) (mine other : ℕ
   generation_is : generation (slot g left other) ≡ gen
   generation_is = ap (λ (h : List ℕ). slice_index h 0) left_head
 
-  -- open, it is the newest slot, and has the new image
+  -- Open, it is the newest slot, and has the new image.
   pub opened : IsOpen (slot g left other) → ActiveAt g left other mine next_image
   opened is_open = record {
     sized = sized_kept g other (other + slot_size old) old left left_keeps a.sized;
     places = ⊎_elim (λ p. inr (p.1 ∙ sym left_size, p.0)) (λ p. inl (p.1, p.0 ∙ sym left_size)) a.places;
-    is_active = record {
-      newest = record { counts = is_open; newer = inr (generation_is ∙ ap (λ (x : Slot). next_generation (generation x)) (sym mine_is)) };
-      header_is = record {
-        well_formed = left_head ∙ (λ i. header (sym generation_is i) (sym image_length i));
-        fits = omega (arith, ap length left_data, image_length, fits);
-      };
-      image_is = ap (λ (n : ℕ). take n whole) (sym image_length) ∙ ap (λ (d : List ℕ). take (length next_image) d) (sym left_data);
+    newest = record { counts = is_open; newer = inr (generation_is ∙ ap (λ (x : Slot). next_generation (generation x)) (sym mine_is)) };
+    header_is = record {
+      well_formed = left_head ∙ (λ i. header (sym generation_is i) (sym image_length i));
+      fits = omega (arith, ap length left_data, image_length, fits);
     };
+    image_is = ap (λ (n : ℕ). take n whole) (sym image_length) ∙ ap (λ (d : List ℕ). take (length next_image) d) (sym left_data);
   }
 
-  -- closed, it does not count, and the old image stays
+  -- Closed, it does not count, and the old image stays.
   pub closed : ¬ Counts (slot g left other) → ActiveAt g left mine other image
   closed shut = active_kept g wide old left mine other image other (other + slot_size old) a left_keeps (omega arith) (omega arith) (inl shut)
 
-  pub either_way : ActiveAt g left mine other image ⊎ ActiveAt g left other mine next_image
+  either_way : ActiveAt g left mine other image ⊎ ActiveAt g left other mine next_image
   either_way = elim (cases_eq (slot g left other).gate OPEN) [ inl is_open ↦ inr (opened is_open) | inr shut ↦ inl (closed shut) ]
 
 -- The writes of a commit.
@@ -122,22 +118,22 @@ module _ (g : ℕ) (wide : 16 ≤ g) (s : MediumState) (mine other : ℕ) (image
   whole_length : length (slot g was other).data_bytes ≡ capacity g was
   whole_length = data_length g was other end (omega (arith, a.sized.room))
 
-  -- after the writes before the gate
+  -- After the writes before the gate.
   module _ (mid : MediumState) (first : AllWrites s before_gate mid) where
-    pub mid_keeps : KeepsOutside (other + g) (other + slot_size was) was mid.bytes
+    mid_keeps : KeepsOutside (other + g) (other + slot_size was) was mid.bytes
     mid_keeps = all_keep (other + g) (other + slot_size was) before_gate s mid end inside first
 
-    pub mid_bytes : mid.bytes ≡ written was (spare_at g was + g) head_unit
+    mid_bytes : mid.bytes ≡ written was (spare_at g was + g) head_unit
     mid_bytes = ap (λ (m : MediumState). m.bytes) first.2 ∙ first.1.bytes
 
-    pub mid_head : (slot g mid.bytes other).header ≡ header (next_generation (generation (slot g was mine))) len
+    mid_head : (slot g mid.bytes other).header ≡ header (next_generation (generation (slot g was mine))) len
     mid_head =
         ap (λ (q : ℕ). slice_range mid.bytes (q + g) (q + g + 16)) places_of.1
         ∙ ap (λ (l : List ℕ). slice_range l (spare_at g was + g) (spare_at g was + g + 16)) mid_bytes
         ∙ header_written g wide was (spare_at g was + g) (next_generation (generation (slot g was (active_at g was)))) len (omega (arith, places_of.1, end, a.sized.room))
         ∙ sym (ap (λ (q : ℕ). header (next_generation (generation (slot g was q))) len) places_of.0)
 
-    pub mid_data : (slot g mid.bytes other).data_bytes ≡ (slot g was other).data_bytes
+    mid_data : (slot g mid.bytes other).data_bytes ≡ (slot g was other).data_bytes
     mid_data =
         data_outside g (other + g) (other + 2 * g) was mid.bytes other
         (all_keep (other + g) (other + 2 * g) before_gate s mid (omega (arith, end, a.sized.room)) (inside.0, omega (arith, places_of.1, length-header_unit g (next_generation (generation (slot g was (active_at g was)))) len wide), tt) first)
@@ -146,7 +142,7 @@ module _ (g : ℕ) (wide : 16 ≤ g) (s : MediumState) (mine other : ℕ) (image
   abbrev new_image : List ℕ
   new_image = take len (spare g was).data_bytes
 
-  -- all of them
+  -- All of them.
   pub commit_done : (now : MediumState) → AllWrites s (commit_writes g was len) now → ActiveAt g now.bytes other mine new_image
   commit_done now all =
       let parts = all_parts before_gate gate_write s now all in
@@ -161,7 +157,7 @@ module _ (g : ℕ) (wide : 16 ≤ g) (s : MediumState) (mine other : ℕ) (image
       subst (λ (q : ℕ). ActiveAt g now.bytes other mine (take len (slot g was q).data_bytes)) places_of.1
       (opened g wide was mid.bytes now.bytes mine other image a off len (slot g was other).data_bytes (omega (arith, whole_length)) (mid_keeps mid first) torn (mid_head mid first) (mid_data mid first) is_open)
 
-  -- those up to one that failed
+  -- Those up to one that failed.
   pub commit_broken : (now : MediumState) → BrokenWrites s (commit_writes g was len) now → ActiveAt g now.bytes mine other image ⊎ ActiveAt g now.bytes other mine new_image
   commit_broken now broken = elim (broken_parts before_gate gate_write s now broken) [
     | inl early ↦

@@ -4,16 +4,17 @@ use Rattle.std.proofs.lemmas.List.{length-take-le, take-append-le, append_assoc}
 use Rattle.dfu_slots.specs.declared.unit.Unit.{Unit as WriteUnit}
 use Rattle.dfu_slots.specs.Units.{fill_size, filled}
 use Rattle.dfu_slots.specs.Medium.{MediumState, Write, AllWrites, BrokenWrites, written}
-use Rattle.dfu_slots.specs.Layout.{slot_size, capacity, Slot, slot, generation, next_generation}
-use Rattle.dfu_slots.specs.Image.{Counts, ActiveAt, active_at, spare_at, spare}
+use Rattle.dfu_slots.specs.Layout.{slot_size, capacity, Slot, slot, generation, next_generation, IsOpen}
+use Rattle.dfu_slots.specs.Image.{Counts, active_at, spare_at, spare}
 use Rattle.dfu_slots.specs.Writes.{part_writes, open_writes, commit_writes}
+use Rattle.dfu_slots.proofs.Stands.{ActiveAt}
 use Rattle.dfu_slots.proofs.Parts.{length-gate_unit, length-header_unit, slot_outside, size_kept, data_length}
 use Rattle.dfu_slots.proofs.Newest.{places_are, place_end}
 use Rattle.dfu_slots.proofs.Series.{AllInside, all_parts, broken_parts, some_written, inside_some, inside_append}
 use Rattle.dfu_slots.proofs.SpareData.{data_kept, data_keeps, data_spare, data_gate_at, data_written}
 use Rattle.dfu_slots.proofs.Commit.{commit_done, commit_broken}
 
--- what stands behind written bytes does not show in front of their end
+-- What stands behind written bytes does not show in front of their end.
 front_of_written : (d : List ℕ) (k : ℕ) (xs zs : List ℕ) (len : ℕ) → k ≤ length d → len ≤ k + length xs → take len (written d k (xs ++ zs)) ≡ take len (written d k xs)
 front_of_written d k xs zs len fits le =
     let a = take k d ++ xs in
@@ -37,14 +38,14 @@ module _ (g : ℕ) (wide : 16 ≤ g) (s : MediumState) (mine other : ℕ) (image
   abbrev new_image : List ℕ
   new_image = take len (written (spare g s.bytes).data_bytes k held)
 
-  -- all its writes lie in the spare
+  -- All its writes lie in the spare.
   pub commit_inside : AllInside other (other + slot_size s.bytes) (part ++ commit_writes g s.bytes len)
   commit_inside =
       inside_append other (other + slot_size s.bytes) part (commit_writes g s.bytes len)
       (inside_some other (other + slot_size s.bytes) (spare_at g s.bytes + 2 * g + k) (filled u held) (omega (arith, place)) (omega (arith, place, room, a.sized.room)))
       (omega (arith, place), omega (arith, place, a.sized.room, length-header_unit g (next_generation (generation (slot g s.bytes (active_at g s.bytes)))) len wide), (omega (arith, place), omega (arith, place, a.sized.room, length-gate_unit g 165 wide), tt))
 
-  -- after the held bytes are written
+  -- After the held bytes are written.
   module _ (mid : MediumState) (first : AllWrites s part mid) where
     keeps : ActiveAt g mid.bytes mine other image
     keeps = data_keeps g wide s mid mine other image a part inside (inl first)
@@ -69,7 +70,7 @@ module _ (g : ℕ) (wide : 16 ≤ g) (s : MediumState) (mine other : ℕ) (image
         ∙ ap (λ (x : Slot). generation x) mine_is
         ∙ ap (λ (q : ℕ). generation (slot g s.bytes q)) (places_are g s.bytes mine other image a).0
 
-    -- the writes of the installation are those of the medium before
+    -- The writes of the installation are those of the medium before.
     same_writes : commit_writes g s.bytes len ≡ commit_writes g mid.bytes len
     same_writes = λ i. open_writes g (sym same_spare i) (next_generation (sym same_generation i)) len
 
@@ -85,7 +86,7 @@ module _ (g : ℕ) (wide : 16 ≤ g) (s : MediumState) (mine other : ℕ) (image
         ∙ front_of_written (spare g s.bytes).data_bytes k held (replicate (fill_size u (length held)) 0) len
         (omega (arith, room, data_length g s.bytes (spare_at g s.bytes) (omega (arith, place, (place_end g s.bytes mine other a.sized a.places).1)) (omega (arith, a.sized.room)))) le
 
-  -- all writes came
+  -- All writes came.
   pub committed : (now : MediumState) → AllWrites s (part ++ commit_writes g s.bytes len) now → ActiveAt g now.bytes other mine new_image
   committed now came =
       let parts = all_parts part (commit_writes g s.bytes len) s now came in
@@ -94,7 +95,7 @@ module _ (g : ℕ) (wide : 16 ≤ g) (s : MediumState) (mine other : ℕ) (image
       let second = subst (λ (ws : List Write). AllWrites mid ws now) (same_writes mid first) parts.1.second in
       subst (λ (l : List ℕ). ActiveAt g now.bytes other mine l) (image_is mid first) (commit_done g wide mid mine other image (keeps mid first) (shut mid first) len (fits mid first) now second)
 
-  -- they came up to one that failed
+  -- They came up to one that failed.
   pub committed_either : (now : MediumState) → BrokenWrites s (part ++ commit_writes g s.bytes len) now → ActiveAt g now.bytes mine other image ⊎ ActiveAt g now.bytes other mine new_image
   committed_either now broken = elim (broken_parts part (commit_writes g s.bytes len) s now broken) [
     | inl early ↦ inl (data_keeps g wide s now mine other image a part inside (inr early))

@@ -1,22 +1,25 @@
 -- The steps of a `format` keep the length of the medium and its unit.
-use Rattle.std.proofs.Common.{◌≡◌, ℕ, ◌+◌, ◌*◌, ◌≤◌, List, ◌++◌, length, ap, arith}
+use Rattle.std.proofs.Common.{◌≡◌, ℕ, ◌+◌, ◌*◌, ◌≤◌, List, [], ◌++◌, length, Result, sym, ◌∙◌, ap, subst, arith}
+use Rattle.dfu_slots.specs.declared.unit.Unit.{Unit as WriteUnit}
 use Rattle.dfu_slots.specs.Units.{gate_size, filled}
-use Rattle.dfu_slots.specs.Medium.{MediumState, AllWrites}
+use Rattle.dfu_slots.specs.Medium.{MediumState, Write, AllWrites, BrokenWrites}
+use Rattle.dfu_slots.specs.inside.Series.{Series}
 use Rattle.dfu_slots.specs.Layout.{slot_size, OPEN}
 use Rattle.dfu_slots.specs.Image.{gate_of, capacity_of, IsSized, Active}
 use Rattle.dfu_slots.specs.Writes.{close_writes, piece_writes, image_writes, open_writes}
-use Rattle.dfu_slots.specs.Seen.{format_series}
+use Rattle.dfu_slots.specs.Seen.{SlotsState, store_of, image_of, format_series}
 use Rattle.dfu_slots.specs.Changes.{CanFormat}
+use Rattle.dfu_slots.proofs.Stands.{two_slots}
 use Rattle.dfu_slots.proofs.Parts.{length-gate_unit, length-header_unit}
-use Rattle.dfu_slots.proofs.Series.{AllInside, all_keep, all_unit, inside_append}
+use Rattle.dfu_slots.proofs.Series.{AllInside, all_keep, all_unit, all_append, broken_first, broken_later, series_after, inside_append}
 use Rattle.dfu_slots.proofs.Pieces.{pieces_inside}
-use Rattle.dfu_slots.proofs.Whole.{gate_wide, whole_zero, two_slots, filled_fits, sized_after}
-use Rattle.dfu_slots.proofs.Seeing.{active_on}
+use Rattle.dfu_slots.proofs.Multiples.{gate_wide, filled_within, sized_after}
+use Rattle.dfu_slots.proofs.Seeing.{active_on, image_is, IsFresh, fresh_leaves}
 use Rattle.dfu_slots.proofs.Formatted.{format_done}
 
--- bytes that fit in the data of a slot do so filled up with zeros
-pub units_fit : (s : MediumState) (image : List ℕ) → CanFormat s image → length (filled s.unit image) ≤ capacity_of s
-units_fit s image can = omega (arith, filled_fits s.unit 0 (capacity_of s) image (whole_zero s.unit) can.sized.whole (omega (arith, can.fits)))
+-- Bytes that fit in the data of a slot do so filled up with zeros.
+units_fit : (s : MediumState) (image : List ℕ) → CanFormat s image → length (filled s.unit image) ≤ capacity_of s
+units_fit s image can = filled_within s.unit (capacity_of s) image can.sized.whole can.fits
 
 close_inside : (s : MediumState) → IsSized s → AllInside 0 (length s.bytes) (close_writes (gate_of s) s.bytes)
 close_inside s sized =
@@ -24,13 +27,13 @@ close_inside s sized =
     (omega arith, omega (arith, unit, sized.room, sized.even), (omega arith, omega (arith, unit, sized.room, sized.even), tt))
 
 module _ (s mid : MediumState) (sized : IsSized s) (all : AllWrites s (close_writes (gate_of s) s.bytes) mid) where
-  pub closed_unit : mid.unit ≡ s.unit
+  closed_unit : mid.unit ≡ s.unit
   closed_unit = all_unit (close_writes (gate_of s) s.bytes) s mid all
 
-  pub closed_size : length mid.bytes ≡ length s.bytes
+  closed_size : length mid.bytes ≡ length s.bytes
   closed_size = (all_keep 0 (length s.bytes) (close_writes (gate_of s) s.bytes) s mid (omega arith) (close_inside s sized) all).size
 
-  pub closed_sized : IsSized mid
+  closed_sized : IsSized mid
   closed_sized = sized_after s mid sized closed_unit closed_size
 
 -- So does writing the image.
@@ -44,18 +47,18 @@ module _ (s now : MediumState) (image : List ℕ) (can : CanFormat s image) (all
   image_unit : now.unit ≡ s.unit
   image_unit = all_unit (image_writes s.unit (gate_of s) image) s now all
 
-  pub image_sized : IsSized now
+  image_sized : IsSized now
   image_sized = sized_after s now can.sized image_unit (all_keep 0 (length s.bytes) (image_writes s.unit (gate_of s) image) s now (omega arith) (image_inside s image can) all).size
 
--- a medium that can be formatted still can once its gates are closed
-pub closed_can : (s mid : MediumState) (image : List ℕ) → CanFormat s image → AllWrites s (close_writes (gate_of s) s.bytes) mid → CanFormat mid image
+-- A medium that can be formatted still can once its gates are closed.
+closed_can : (s mid : MediumState) (image : List ℕ) → CanFormat s image → AllWrites s (close_writes (gate_of s) s.bytes) mid → CanFormat mid image
 closed_can s mid image can all = record {
   sized = closed_sized s mid can.sized all;
   fits = omega (arith, can.fits, closed_size s mid can.sized all, ap gate_size (closed_unit s mid can.sized all));
 }
 
--- the pieces that are written on a medium of the same unit
-pub pieces_are : (s mid : MediumState) (image : List ℕ) (at : ℕ) → at ≡ 0 + 2 * gate_of s → mid.unit ≡ s.unit
+-- The pieces that are written on a medium of the same unit.
+pieces_are : (s mid : MediumState) (image : List ℕ) (at : ℕ) → at ≡ 0 + 2 * gate_of s → mid.unit ≡ s.unit
     → piece_writes (length (filled mid.unit image)) at (filled mid.unit image) ≡ image_writes s.unit (gate_of s) image
 pieces_are s mid image at place unit =
     let here : at ≡ 2 * gate_of s = omega (arith, place) in
@@ -73,8 +76,68 @@ module _ (s now : MediumState) (image : List ℕ) (can : CanFormat s image) (all
       (omega arith, omega (arith, length-header_unit g 0 (length image) wide, can.sized.room, can.sized.even), (omega arith, omega (arith, length-gate_unit g OPEN wide, can.sized.room, can.sized.even), tt)) in
       (all_keep 0 (length s.bytes) (format_series s image) s now (omega arith) opening all).size
 
-  -- it makes the image active
-  pub formatted : Active now image
+  -- It makes the image active.
+  formatted : Active now image
   formatted =
       active_on s now 0 (slot_size now.bytes) image (all_unit (format_series s image) s now all) formatted_size can.sized.whole
       (format_done s.unit (gate_of s) (gate_wide s.unit) s now image (two_slots s can.sized) can.sized.whole can.fits all)
+
+-- The steps of the code: the gates are closed, the pieces are written, and the first slot is opened.
+module _ (s mid : MediumState) (image : List ℕ) (can : CanFormat s image) (at : ℕ) (at_is : at ≡ 0 + 2 * gate_of s) (closed : AllWrites s (close_writes (gate_of s) s.bytes) mid) where
+  abbrev units : List ℕ
+  units = filled mid.unit image
+
+  unit : mid.unit ≡ s.unit
+  unit = closed_unit s mid can.sized closed
+
+  are : piece_writes (length units) at units ≡ image_writes s.unit (gate_of s) image
+  are = pieces_are s mid image at at_is unit
+
+  -- A piece fails.
+  pub pieces_broken : (now : MediumState) → ((n : ℕ) → length units ≤ n → BrokenWrites mid (piece_writes n at units) now) → BrokenWrites s (format_series s image) now
+  pieces_broken now broken =
+      broken_first (close_writes (gate_of s) s.bytes ++ image_writes s.unit (gate_of s) image) (open_writes (gate_of s) 0 0 (length image)) s now
+      (broken_later (close_writes (gate_of s) s.bytes) (image_writes s.unit (gate_of s) image) s mid now closed
+      (subst (λ (ws : List Write). BrokenWrites mid ws now) are (broken (length units) (omega arith))))
+
+  -- All pieces are written.
+  module _ (filling : MediumState) (all : (n : ℕ) → length units ≤ n → AllWrites mid (piece_writes n at units) filling) where
+    written : AllWrites mid (image_writes s.unit (gate_of s) image) filling
+    written = subst (λ (ws : List Write). AllWrites mid ws filling) are (all (length units) (omega arith))
+
+    -- The medium has the length that it had.
+    pub pieces_sized : IsSized filling
+    pieces_sized =
+        image_sized mid filling image (closed_can s mid image can closed)
+        (subst (λ (u : WriteUnit). AllWrites mid (image_writes u (gate_size u) image) filling) (sym unit) written)
+
+    -- So the gate unit and the header unit of the first slot lie within it.
+    pub front_within : 0 + 2 * gate_of filling ≤ length filling.bytes
+    front_within = omega (arith, pieces_sized.room, pieces_sized.even)
+
+    -- And the writes that open the first slot are the last ones of the `format`.
+    pub pieces_opened : {T E : Type 0} (now : MediumState) (r : Result T E) → Series filling (open_writes (gate_of filling) 0 0 (length image)) r now → Series s (format_series s image) r now
+    pieces_opened now r series =
+        series_after (close_writes (gate_of s) s.bytes ++ image_writes s.unit (gate_of s) image) (open_writes (gate_of s) 0 0 (length image)) s filling now r
+        (all_append (close_writes (gate_of s) s.bytes) (image_writes s.unit (gate_of s) image) s mid filling closed written)
+        (subst (λ (u : WriteUnit). Series filling (open_writes (gate_size u) 0 0 (length image)) r now) (all_unit (image_writes s.unit (gate_of s) image) mid filling written ∙ unit) series)
+
+-- What is tested before a `format` is what it needs.
+pub can_format : (s : MediumState) (image : List ℕ) (a b : ℕ) → IsSized s → length image ≤ b → b ≡ a → a ≡ capacity_of s → CanFormat s image
+can_format s image a b sized le one two = record { sized = sized; fits = omega (arith, le, one, two) }
+
+-- The store after a `format` has the image, and nothing was put on it.
+pub record FormatLeaves (x : SlotsState) (image : List ℕ) : Type 0 where
+  pub active : Active x.medium image
+  pub image_is : image_of x ≡ image
+  pub fresh : IsFresh x
+
+-- So does a store on the medium that was formatted.
+pub format_leaves : (s now : MediumState) (image : List ℕ) → CanFormat s image → AllWrites s (format_series s image) now → (held : List ℕ) (put_end : ℕ) → held ≡ [] → put_end ≡ 0 → FormatLeaves (store_of now held put_end) image
+format_leaves s now image can all held put_end none zero_is =
+    let active : Active now image = formatted s now image can all in
+    record {
+      active = active;
+      image_is = sym (image_is (store_of now held put_end) image active);
+      fresh = fresh_leaves now (record { image = image; active = active }) held put_end none zero_is;
+    }

@@ -1,15 +1,16 @@
 -- The active image stays while the spare slot is changed.
-use Rattle.std.proofs.Common.{◌≡◌, ◌⊎◌, inl, inr, ⊎_elim, ℕ, ◌+◌, ◌*◌, ◌≤◌, ◌<◌, List, slice_index, sym, ◌∙◌, ap, subst, arith}
+use Rattle.std.proofs.Common.{◌≡◌, ◌⊎◌, inl, inr, ⊎_elim, ℕ, ◌+◌, ◌*◌, ◌≤◌, ◌<◌, List, length, take, slice_index, sym, ◌∙◌, ap, subst, arith}
 use Rattle.dfu_slots.specs.Medium.{KeepsOutside}
-use Rattle.dfu_slots.specs.Layout.{slot_size, Slot, slot, generation, next_generation}
-use Rattle.dfu_slots.specs.Image.{Counts, IsActive, ActiveAt}
+use Rattle.dfu_slots.specs.Layout.{slot_size, Slot, slot, generation, next_generation, IsOpen, HasHeader}
+use Rattle.dfu_slots.specs.Image.{Counts, IsNewest}
+use Rattle.dfu_slots.proofs.Stands.{ActiveAt}
 use Rattle.dfu_slots.proofs.Parts.{gate_outside, header_outside, slot_outside, size_kept, sized_kept}
 
--- the slot at one place stays the newest beside what stands at the other one now
+-- The slot at one place stays the newest beside what stands at the other one now.
 abbrev pub StaysNewest : ℕ → List ℕ → List ℕ → ℕ → ℕ → Type 0
 StaysNewest g old now mine other = (¬ Counts (slot g now other)) ⊎ (generation (slot g old mine) ≡ next_generation (generation (slot g now other)))
 
--- whatever stands in the spare slot now, the active one stays, if the spare does not count or is one generation behind
+-- Whatever stands in the spare slot now, the active one stays, if the spare does not count or is one generation behind.
 pub active_kept : (g : ℕ) → 16 ≤ g → (old now : List ℕ) (mine other : ℕ) (image : List ℕ) (from to : ℕ)
     → ActiveAt g old mine other image → KeepsOutside from to old now → other ≤ from → to ≤ other + slot_size old → StaysNewest g old now mine other
     → ActiveAt g now mine other image
@@ -21,30 +22,28 @@ active_kept g wide old now mine other image from to a keeps above below newer =
     record {
       sized = sized_kept g from to old now keeps a.sized;
       places = ⊎_elim (λ p. inl (p.0, p.1 ∙ sym size)) (λ p. inr (p.0 ∙ sym size, p.1)) a.places;
-      is_active = subst (λ (s : Slot). IsActive s (slot g now other) image) (sym same) (record {
-        newest = record { counts = a.is_active.newest.counts; newer = newer };
-        header_is = a.is_active.header_is;
-        image_is = a.is_active.image_is;
-      });
+      newest = subst (λ (s : Slot). IsNewest s (slot g now other)) (sym same) (record { counts = a.newest.counts; newer = newer });
+      header_is = subst (λ (s : Slot). HasHeader s (length image)) (sym same) a.header_is;
+      image_is = subst (λ (s : Slot). image ≡ take (length image) s.data_bytes) (sym same) a.image_is;
     }
 
 module _ (g : ℕ) (wide : 16 ≤ g) (old now : List ℕ) (mine other : ℕ) (image : List ℕ) (from to : ℕ) (a : ActiveAt g old mine other image) (keeps : KeepsOutside from to old now) where
-  -- a change of the spare's data keeps it
+  -- A change of the spare's data keeps it.
   pub data_change : other + 2 * g ≤ from → to ≤ other + slot_size old → ActiveAt g now mine other image
   data_change above below =
       let gate = gate_outside g from to old now other keeps (inl (omega arith)) in
       let head = header_outside g from to old now other keeps (inl (omega arith)) in
       active_kept g wide old now mine other image from to a keeps (omega arith) below
-      (⊎_elim (λ off. inl (λ c. off (sym gate ∙ c))) (λ newer. inr (newer ∙ ap (λ (h : List ℕ). next_generation (slice_index h 0)) (sym head))) a.is_active.newest.newer)
+      (⊎_elim (λ off. inl (λ c. off (sym gate ∙ c))) (λ newer. inr (newer ∙ ap (λ (h : List ℕ). next_generation (slice_index h 0)) (sym head))) a.newest.newer)
 
-  -- so does a change of its gate, where it counts already
+  -- So does a change of its gate, where it counts already.
   pub gate_change : Counts (slot g old other) → other ≤ from → to ≤ other + g → ActiveAt g now mine other image
-  gate_change counts above below =
+  gate_change was_open above below =
       let head = header_outside g from to old now other keeps (inr below) in
       active_kept g wide old now mine other image from to a keeps above (omega (arith, a.sized.room))
-      (⊎_elim (λ off. absurd (off counts)) (λ newer. inr (newer ∙ ap (λ (h : List ℕ). next_generation (slice_index h 0)) (sym head))) a.is_active.newest.newer)
+      (⊎_elim (λ off. absurd (off was_open)) (λ newer. inr (newer ∙ ap (λ (h : List ℕ). next_generation (slice_index h 0)) (sym head))) a.newest.newer)
 
-  -- so does a change behind its gate, where it does not count
+  -- So does a change behind its gate, where it does not count.
   pub closed_change : ¬ Counts (slot g old other) → other < from → to ≤ other + slot_size old → ActiveAt g now mine other image
   closed_change off above below =
       let gate = gate_outside g from to old now other keeps (inl above) in

@@ -19,9 +19,12 @@ mod Refused
 mod Seeing
 mod Series
 mod Simulated
+mod SlotOpened
 mod SpareData
+mod SpareOpened
+mod Stands
 mod Stays
 mod Torn
 mod Unique
-mod Whole
+mod Multiples
 mod Within

@@ -1,21 +1,25 @@
 -- The test finds the active slot.
 use Rattle.std.proofs.Common.{◌≡◌, inl, inr, ⊎_elim, not, true, false, ℕ, ◌+◌, ◌≤◌, List, length, sym, ◌∙◌, subst, arith, eq-eqb}
 use Rattle.std.proofs.lemmas.Bool.{and_from, and_left, and_right, or_left, or_right, or_from, or_cases, and_parts, eqb-true, eqb-false, not-true, cases_Bool, not_from_false, not_from_true, ne_eqb, cond-true, cond-false}
-use Rattle.dfu_slots.specs.Layout.{slot_size, HasTwoSlots, Slot, slot, OPEN, next_generation, ArePlaces}
-use Rattle.dfu_slots.specs.Image.{Counts, IsNewest, ActiveAt, counts, is_newest, first_is_active, active_at, spare_at}
+use Rattle.dfu_slots.specs.Layout.{slot_size, Slot, slot, OPEN, next_generation, ArePlaces}
+use Rattle.dfu_slots.specs.Image.{Counts, IsNewest, counts, is_newest, first_is_active, active_at, spare_at}
+use Rattle.dfu_slots.proofs.Stands.{HasTwoSlots, ActiveAt}
 
-pub counts_true : (s : Slot) → Counts s → counts s ≡ true
+counts_true : (s : Slot) → Counts s → counts s ≡ true
 counts_true s c = eq-eqb s.gate OPEN c
 
-pub counts_false : (s : Slot) → ¬ Counts s → counts s ≡ false
+counts_false : (s : Slot) → ¬ Counts s → counts s ≡ false
 counts_false s c = ne_eqb s.gate OPEN c
 
+-- A slot that the test takes to count counts.
 pub counts_from : (s : Slot) → counts s ≡ true → Counts s
 counts_from s t = eqb-true s.gate OPEN t
 
+-- A slot that the test takes not to count does not.
 pub counts_not : (s : Slot) → counts s ≡ false → ¬ Counts s
 counts_not s t = eqb-false s.gate OPEN t
 
+-- The test takes the newest slot for the newest.
 pub newest_test : (mine other : Slot) → IsNewest mine other → is_newest mine other ≡ true
 newest_test mine other a =
     and_from (counts mine) _ (counts_true mine a.counts)
@@ -24,6 +28,7 @@ newest_test mine other a =
     (λ newer. or_right (not (counts other)) _ (eq-eqb _ _ newer))
     a.newer)
 
+-- What the test takes for the newest slot is the newest.
 pub newest_from : (mine other : Slot) → is_newest mine other ≡ true → IsNewest mine other
 newest_from mine other test =
     let parts = and_parts (counts mine) _ test in
@@ -35,15 +40,15 @@ newest_from mine other test =
 turns : (g h : ℕ) → g ≡ next_generation h → h ≡ next_generation g → ⊥
 turns g h a b = omega arith
 
--- of two slots one alone is the newest
-pub other_test : (mine other : Slot) → IsNewest mine other → is_newest other mine ≡ false
+-- Of two slots one alone is the newest.
+other_test : (mine other : Slot) → IsNewest mine other → is_newest other mine ≡ false
 other_test mine other a =
     ⊎_elim
     (λ off. and_left (counts other) _ (counts_false other off))
     (λ newer. and_right (counts other) _ (or_from _ _ (not_from_true _ (counts_true mine a.counts)) (ne_eqb _ _ (λ e. turns _ _ newer e))))
     a.newer
 
--- where the active slot stands
+-- Where the active slot stands.
 pub places_newest : (g : ℕ) (bytes : List ℕ) (mine other : ℕ) → ArePlaces bytes mine other → IsNewest (slot g bytes mine) (slot g bytes other) → (mine ≡ active_at g bytes) × (other ≡ spare_at g bytes)
 places_newest g bytes mine other places newest =
     ⊎_elim
@@ -57,23 +62,26 @@ places_newest g bytes mine other places newest =
     (p.0 ∙ sym (cond-false (first_is_active g bytes) 0 (slot_size bytes) is_second), p.1 ∙ sym (cond-false (first_is_active g bytes) (slot_size bytes) 0 is_second)))
     places
 
+-- The test finds the active slot and the spare at their places.
 pub places_are : (g : ℕ) (bytes : List ℕ) (mine other : ℕ) (image : List ℕ) → ActiveAt g bytes mine other image → (mine ≡ active_at g bytes) × (other ≡ spare_at g bytes)
-places_are g bytes mine other image a = places_newest g bytes mine other a.places a.is_active.newest
+places_are g bytes mine other image a = places_newest g bytes mine other a.places a.newest
 
--- the places that the test finds
+-- The places that the test finds.
 pub tested_places : (g : ℕ) (bytes : List ℕ) → ArePlaces bytes (active_at g bytes) (spare_at g bytes)
 tested_places g bytes = elim (cases_Bool (first_is_active g bytes)) [
   | inl first ↦ inl (cond-true (first_is_active g bytes) 0 (slot_size bytes) first, cond-true (first_is_active g bytes) (slot_size bytes) 0 first)
   | inr second ↦ inr (cond-false (first_is_active g bytes) 0 (slot_size bytes) second, cond-false (first_is_active g bytes) (slot_size bytes) 0 second)
 ]
 
--- each slot ends within the medium
+-- Each slot ends within the medium.
 pub place_end : (g : ℕ) (bytes : List ℕ) (mine other : ℕ) → HasTwoSlots g bytes → ArePlaces bytes mine other → (mine + slot_size bytes ≤ length bytes) × (other + slot_size bytes ≤ length bytes)
 place_end g bytes mine other sized places =
     ⊎_elim (λ p. (omega (arith, sized.even, p.0), omega (arith, sized.even, p.1))) (λ p. (omega (arith, sized.even, p.0), omega (arith, sized.even, p.1))) places
 
+-- The place of the active slot is that of a slot within the medium.
 pub active_end : (g : ℕ) (bytes : List ℕ) → HasTwoSlots g bytes → active_at g bytes + slot_size bytes ≤ length bytes
 active_end g bytes sized = (place_end g bytes (active_at g bytes) (spare_at g bytes) sized (tested_places g bytes)).0
 
+-- So is the place of the spare.
 pub spare_end : (g : ℕ) (bytes : List ℕ) → HasTwoSlots g bytes → spare_at g bytes + slot_size bytes ≤ length bytes
 spare_end g bytes sized = (place_end g bytes (active_at g bytes) (spare_at g bytes) sized (tested_places g bytes)).1

@@ -4,9 +4,9 @@ use Rattle.std.proofs.lemmas.Bool.{cases_Bool, both_ways, cond-true, cond-false}
 use Rattle.std.proofs.lemmas.List.{length-take-le}
 use Rattle.dfu_slots.specs.Medium.{MediumState}
 use Rattle.dfu_slots.specs.Layout.{slot_size, Slot, slot, HasHeader, ArePlaces}
-use Rattle.dfu_slots.specs.Image.{gate_of, slot_of, IsSized, Counts, IsNewest, HasImage, counts, is_newest, first_is_active, active_at, spare_at}
+use Rattle.dfu_slots.specs.Image.{Counts, gate_of, slot_of, IsSized, IsNewest, HasImage, counts, is_newest, first_is_active, active_at, spare_at}
 use Rattle.dfu_slots.specs.Changes.{FirstCounts, SecondCounts, HasNewest, HasBadHeader}
-use Rattle.dfu_slots.proofs.Whole.{two_slots}
+use Rattle.dfu_slots.proofs.Stands.{two_slots}
 use Rattle.dfu_slots.proofs.Newest.{counts_from, counts_not, newest_test, newest_from, places_newest, tested_places}
 
 neither : (x y : Slot) → is_newest x y ≡ false → is_newest y x ≡ false → ¬ ((¬ Counts x) × (¬ Counts y)) → Counts x × Counts y
@@ -32,7 +32,7 @@ module _ (m : MediumState) where
   abbrev g : ℕ
   g = gate_of m
 
-  -- the slots that the test takes for the active one and the spare
+  -- The slots that the test takes for the active one and the spare.
   abbrev tested : Bool
   tested = is_newest (slot_of m (active_at g m.bytes)) (slot_of m (spare_at g m.bytes))
 
@@ -47,7 +47,7 @@ module _ (m : MediumState) where
           let p = places_newest g m.bytes one.at one.other one.places one.newest in
           both_ways _ test (newest_test _ _ (subst (λ (q : ℕ). IsNewest (slot_of m q) (slot_of m (spare_at g m.bytes))) p.0 (subst (λ (q : ℕ). IsNewest (slot_of m one.at) (slot_of m q)) p.1 one.newest)))
 
-  -- a medium that passes
+  -- A medium that passes.
   has_image : (len : ℕ) → IsSized m → tested ≡ true → HasHeader (slot_of m (active_at g m.bytes)) len → HasImage m
   has_image len sized test head =
       let whole = (slot_of m (active_at g m.bytes)).data_bytes in
@@ -56,18 +56,13 @@ module _ (m : MediumState) where
       record {
         image = image;
         active = record {
+          sized = sized;
           at = active_at g m.bytes;
           spare = spare_at g m.bytes;
-          whole = sized.whole;
-          stands = record {
-            sized = two_slots m sized;
-            places = tested_places g m.bytes;
-            is_active = record {
-              newest = newest_from _ _ test;
-              header_is = subst (HasHeader (slot_of m (active_at g m.bytes))) (sym length_is) head;
-              image_is = ap (λ (n : ℕ). take n whole) (sym length_is);
-            };
-          };
+          places = tested_places g m.bytes;
+          newest = newest_from _ _ test;
+          header_is = subst (HasHeader (slot_of m (active_at g m.bytes))) (sym length_is) head;
+          image_is = ap (λ (n : ℕ). take n whole) (sym length_is);
         };
       }
 
@@ -76,12 +71,15 @@ module _ (m : MediumState) where
     test_there : (b : Bool) → is_newest (slot_of m p) (slot_of m q) ≡ b → tested ≡ b
     test_there b test = sym (λ i. is_newest (slot_of m (at_active i)) (slot_of m (at_spare i))) ∙ test
 
+    -- Where the test finds no newest slot, and one slot counts, both do, and neither follows the other.
     pub two_images_there : is_newest (slot_of m p) (slot_of m q) ≡ false → ¬ ((¬ FirstCounts m) × (¬ SecondCounts m)) → FirstCounts m × SecondCounts m × (¬ HasNewest m)
     two_images_there test some = two_images (test_there false test) some
 
+    -- Where it finds the newest slot, and that one has a well-formed header, the medium has an active image.
     pub has_image_there : (len : ℕ) → IsSized m → is_newest (slot_of m p) (slot_of m q) ≡ true → HasHeader (slot_of m p) len → HasImage m
     has_image_there len sized test head = has_image len sized (test_there true test) (subst (λ (r : ℕ). HasHeader (slot_of m r) len) at_active head)
 
+    -- Where that slot has no well-formed header, the medium has a bad header.
     pub bad_header_there : is_newest (slot_of m p) (slot_of m q) ≡ true → ((len : ℕ) → ¬ HasHeader (slot_of m p) len) → HasBadHeader m
     bad_header_there test none = record {
       newest = record {

@@ -2,25 +2,30 @@
 use Rattle.std.proofs.Common.{◌≡◌, ◌⊎◌, inl, inr, ⊎_elim, ℕ, ◌+◌, ◌-◌, ◌*◌, ◌/◌, ◌≤◌, ◌<◌, List, length, get_or, drop, replicate, slice_index, slice_range, sym, ◌∙◌, ap, arith, length-append, length-drop}
 use Rattle.std.proofs.lemmas.List.{get_or-take, get_or-drop, length-take-le, length-replicate}
 use Rattle.dfu_slots.specs.Medium.{KeepsOutside}
-use Rattle.dfu_slots.specs.Layout.{slot_size, capacity, HasTwoSlots, slot, generation, header, HasHeader, gate_unit, header_unit}
+use Rattle.dfu_slots.specs.Layout.{slot_size, capacity, slot, generation, header, HasHeader, gate_unit, header_unit}
+use Rattle.dfu_slots.proofs.Stands.{HasTwoSlots}
 use Rattle.dfu_slots.proofs.Torn.{range_outside, byte_outside}
 
+-- A gate unit that is written has the size of a gate unit.
 pub length-gate_unit : (g gate : ℕ) → 16 ≤ g → length (gate_unit g gate) ≡ g
 length-gate_unit g gate wide = omega (arith, length-replicate {A = ℕ} (g - 1) 0)
 
+-- A header unit that is written has the same size.
 pub length-header_unit : (g gen len : ℕ) → 16 ≤ g → length (header_unit g gen len) ≡ g
 length-header_unit g gen len wide = omega (arith, length-append (header gen len) (replicate (g - 16) 0), length-replicate {A = ℕ} (g - 16) 0)
 
+-- The byte behind the gate unit is the generation.
 pub generation_at : (g : ℕ) (bytes : List ℕ) (at : ℕ) → slice_index bytes (at + g) ≡ generation (slot g bytes at)
 generation_at g bytes at =
     let e : at + g ≡ at + g + 0 = omega arith in
     ap (λ (k : ℕ). get_or bytes k 0) e ∙ sym (get_or-drop (at + g) bytes 0 0)
     ∙ sym (get_or-take (at + g + 16 - (at + g)) (drop (at + g) bytes) 0 0 (omega arith))
 
--- a slot has the capacity
+-- A slot has the capacity.
 pub data_length : (g : ℕ) (bytes : List ℕ) (at : ℕ) → at + slot_size bytes ≤ length bytes → 2 * g ≤ slot_size bytes → length (slot g bytes at).data_bytes ≡ capacity g bytes
 data_length g bytes at end room = omega (arith, length-take-le (at + slot_size bytes - (at + 2 * g)) (drop (at + 2 * g) bytes) (omega (arith, length-drop (at + 2 * g) bytes, end)))
 
+-- Sixteen bytes that are read behind the gate unit, and are a header that fits, are a well-formed header of the slot.
 pub header_from : (g : ℕ) (bytes : List ℕ) (at len : ℕ) (out : List ℕ) → out ≡ slice_range bytes (at + g) (at + g + 16) → out ≡ header (get_or out 0 0) len → len ≤ capacity g bytes
     → at + slot_size bytes ≤ length bytes → 2 * g ≤ slot_size bytes → HasHeader (slot g bytes at) len
 header_from g bytes at len out read is fits end room = record {
@@ -28,9 +33,11 @@ header_from g bytes at len out read is fits end room = record {
   fits = omega (arith, data_length g bytes at end room);
 }
 
+-- A change within a range keeps the size of a slot.
 pub size_kept : (from to : ℕ) (old now : List ℕ) → KeepsOutside from to old now → slot_size now ≡ slot_size old
 size_kept from to old now keeps = ap (λ (n : ℕ). n / 2) keeps.size
 
+-- So it does the two slots.
 pub sized_kept : (g from to : ℕ) (old now : List ℕ) → KeepsOutside from to old now → HasTwoSlots g old → HasTwoSlots g now
 sized_kept g from to old now keeps sized = record {
   even = omega (arith, keeps.size, sized.even);
@@ -39,19 +46,21 @@ sized_kept g from to old now keeps sized = record {
 }
 
 module _ (g from to : ℕ) (old now : List ℕ) (p : ℕ) (keeps : KeepsOutside from to old now) where
-  -- the parts of a slot that stand outside a change are as they were
+  -- The parts of a slot that stand outside a change are as they were.
   pub gate_outside : (p < from) ⊎ (to ≤ p) → (slot g now p).gate ≡ (slot g old p).gate
   gate_outside apart = byte_outside from to old now p keeps apart
 
+  -- So is the header.
   pub header_outside : (p + g + 16 ≤ from) ⊎ (to ≤ p + g) → (slot g now p).header ≡ (slot g old p).header
   header_outside apart = range_outside from to old now (p + g) (p + g + 16) keeps apart
 
+  -- So is the data.
   pub data_outside : (p + slot_size old ≤ from) ⊎ (to ≤ p + 2 * g) → (slot g now p).data_bytes ≡ (slot g old p).data_bytes
   data_outside apart =
       ap (λ (s : ℕ). slice_range now (p + 2 * g) (p + s)) (size_kept from to old now keeps)
       ∙ range_outside from to old now (p + 2 * g) (p + slot_size old) keeps apart
 
-  -- and so is a slot that stands outside it
+  -- And so is a slot that stands outside it.
   pub slot_outside : 16 ≤ g → 2 * g ≤ slot_size old → (p + slot_size old ≤ from) ⊎ (to ≤ p) → slot g now p ≡ slot g old p
   slot_outside wide room apart =
       let gate : (slot g now p).gate ≡ (slot g old p).gate = gate_outside (⊎_elim (λ le. inl (omega arith)) (λ le. inr le) apart) in

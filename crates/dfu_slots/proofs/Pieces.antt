@@ -3,22 +3,21 @@ use Rattle.std.proofs.Common.{◌≡◌, ◌⊎◌, inl, inr, ◌==◌, false, �
 use Rattle.std.proofs.lemmas.List.{length-take, take_min, take_all, drop_all, take-append-le, drop-append-le, append_assoc}
 use Rattle.std.proofs.lemmas.Bool.{cases_lt, true≢false, cond-false, ne_eqb}
 use Rattle.dfu_slots.specs.declared.unit.Unit.{Unit as WriteUnit}
-use Rattle.dfu_slots.specs.Units.{IsWhole, fill_size, filled}
-use Rattle.dfu_slots.specs.Medium.{MediumState, Write, Wrote, FailedWrite, AllWrites, BrokenWrites, Series}
+use Rattle.dfu_slots.specs.Units.{IsMultiple, fill_size, filled}
+use Rattle.dfu_slots.specs.Medium.{MediumState, Write, Wrote, FailedWrite, AllWrites, BrokenWrites}
+use Rattle.dfu_slots.specs.inside.Series.{Series}
 use Rattle.dfu_slots.specs.Writes.{write_some, piece_writes}
 use Rattle.dfu_slots.proofs.Torn.{written_torn}
 use Rattle.dfu_slots.proofs.Series.{AllInside, all_append, broken_later, series_after}
-use Rattle.dfu_slots.proofs.Whole.{whole_zero, whole_piece, whole_add, fill_piece, length-filled, filled_fits}
+use Rattle.dfu_slots.proofs.Multiples.{multiple_piece, multiple_add, fill_piece, length-filled, filled_within}
 
+-- No bytes have no pieces.
 pub pieces_nil : (n at : ℕ) → piece_writes n at [] ≡ []
 pieces_nil zero at = refl
 pieces_nil (suc n) at = refl
 
-piece : ℕ → List ℕ → Write
-piece at bytes = record { at = at; bytes = bytes }
-
--- the first piece and the others
-pub pieces_step : (n at : ℕ) (bytes : List ℕ) (size : ℕ) → size ≡ min 4096 (length bytes) → 0 < length bytes → length bytes ≤ n
+-- The first piece and the others.
+pieces_step : (n at : ℕ) (bytes : List ℕ) (size : ℕ) → size ≡ min 4096 (length bytes) → 0 < length bytes → length bytes ≤ n
     → (m : ℕ) × (length (drop size bytes) ≤ m) × (piece_writes n at bytes ≡ record { at = at; bytes = take size bytes } ∷ piece_writes m (at + size) (drop size bytes))
 pieces_step n at [] size is some le = absurd (omega arith)
 pieces_step zero at (b ∷ bs) size is some le = absurd (omega arith)
@@ -37,8 +36,8 @@ pieces_step (suc m) at (b ∷ bs) size is some le =
         ∙ sym (ap (λ (l : List ℕ). piece_writes m (at + size) l) (drop_all size (b ∷ bs) (omega arith)) ∙ pieces_nil m (at + size))
     tail (inr long) = let e : 4096 ≡ size = omega arith in ap (λ (k : ℕ). piece_writes m (at + k) (drop k (b ∷ bs))) e
 
--- the first piece, where its write fails
-pub pieces_first : (s now : MediumState) (n at size : ℕ) (bytes : List ℕ) → size ≡ min 4096 (length bytes) → 0 < length bytes → length bytes ≤ n → FailedWrite s at (take size bytes) now → BrokenWrites s (piece_writes n at bytes) now
+-- The first piece, where its write fails.
+pieces_first : (s now : MediumState) (n at size : ℕ) (bytes : List ℕ) → size ≡ min 4096 (length bytes) → 0 < length bytes → length bytes ≤ n → FailedWrite s at (take size bytes) now → BrokenWrites s (piece_writes n at bytes) now
 pieces_first s now n at size bytes is some le failed =
     let step = pieces_step n at bytes size is some le in
     subst (λ (ws : List Write). BrokenWrites s ws now) (sym step.2) (inl failed)
@@ -51,18 +50,18 @@ pub record WrittenTo (old mid : MediumState) (n at : ℕ) (bytes : List ℕ) (pl
   pub enough : length rest ≤ left
   pub pieces : piece_writes n at bytes ≡ front ++ piece_writes left place rest
 
--- what is not empty has some
+-- What is not empty has some.
 pub some_left : (n : ℕ) → (n == 0) ≡ false → 0 < n
 some_left zero h = absurd (true≢false h)
 some_left (suc n) h = omega arith
 
--- before the first piece nothing is written
-pub written_none : (s : MediumState) (n at : ℕ) (bytes : List ℕ) → length bytes ≤ n → WrittenTo s s n at bytes at bytes
+-- Before the first piece nothing is written.
+written_none : (s : MediumState) (n at : ℕ) (bytes : List ℕ) → length bytes ≤ n → WrittenTo s s n at bytes at bytes
 written_none s n at bytes le = record { front = []; left = n; all = refl; enough = le; pieces = refl }
 
 module _ (old mid now : MediumState) (n at : ℕ) (bytes : List ℕ) (place : ℕ) (rest : List ℕ) (size : ℕ) (is : size ≡ min 4096 (length rest)) (some : 0 < length rest) (w : WrittenTo old mid n at bytes place rest) where
-  -- one piece more
-  pub written_more : Wrote mid place (take size rest) now → WrittenTo old now n at bytes (place + size) (drop size rest)
+  -- One piece more.
+  written_more : Wrote mid place (take size rest) now → WrittenTo old now n at bytes (place + size) (drop size rest)
   written_more wrote =
       let step = pieces_step w.left place rest size is some w.enough in
       let first : List Write = record { at = place; bytes = take size rest } ∷ [] in
@@ -74,14 +73,14 @@ module _ (old mid now : MediumState) (n at : ℕ) (bytes : List ℕ) (place : �
         pieces = w.pieces ∙ ap (λ (ws : List Write). w.front ++ ws) step.2 ∙ sym (append_assoc w.front first (piece_writes step.0 (place + size) (drop size rest)));
       }
 
-  -- the next piece fails
-  pub written_stopped : FailedWrite mid place (take size rest) now → BrokenWrites old (piece_writes n at bytes) now
+  -- The next piece fails.
+  written_stopped : FailedWrite mid place (take size rest) now → BrokenWrites old (piece_writes n at bytes) now
   written_stopped failed =
       subst (λ (ws : List Write). BrokenWrites old ws now) (sym w.pieces)
       (broken_later w.front (piece_writes w.left place rest) old mid now w.all (pieces_first mid now w.left place size rest is some w.enough failed))
 
--- what is left is no more than one piece
-pub pieces_one : (n at : ℕ) (bytes : List ℕ) → length bytes ≤ 4096 → length bytes ≤ n → piece_writes n at bytes ≡ write_some at bytes
+-- What is left is no more than one piece.
+pieces_one : (n at : ℕ) (bytes : List ℕ) → length bytes ≤ 4096 → length bytes ≤ n → piece_writes n at bytes ≡ write_some at bytes
 pieces_one n at [] short le = pieces_nil n at
 pieces_one zero at (b ∷ bs) short le = absurd (omega (arith, le))
 pieces_one (suc n) at (b ∷ bs) short le =
@@ -89,13 +88,13 @@ pieces_one (suc n) at (b ∷ bs) short le =
     ∙ ap (λ (ws : List Write). record { at = at; bytes = b ∷ bs } ∷ ws) (ap (λ (l : List ℕ). piece_writes n (at + 4096) l) (drop_all 4096 (b ∷ bs) short) ∙ pieces_nil n (at + 4096))
     ∙ sym (cond-false (length (b ∷ bs) == 0) [] (record { at = at; bytes = b ∷ bs } ∷ []) (ne_eqb (length (b ∷ bs)) 0 (λ e. omega (arith, e))))
 
-pub written_last : {T E : Type 0} (old mid now : MediumState) (n at : ℕ) (bytes : List ℕ) (place : ℕ) (rest : List ℕ) (r : Result T E) → length rest ≤ 4096 → WrittenTo old mid n at bytes place rest
+written_last : {T E : Type 0} (old mid now : MediumState) (n at : ℕ) (bytes : List ℕ) (place : ℕ) (rest : List ℕ) (r : Result T E) → length rest ≤ 4096 → WrittenTo old mid n at bytes place rest
     → Series mid (write_some place rest) r now → Series old (piece_writes n at bytes) r now
 written_last old mid now n at bytes place rest r short w last =
     subst (λ (ws : List Write). Series old ws r now) (sym w.pieces)
     (series_after w.front (piece_writes w.left place rest) old mid now r w.all (subst (λ (ws : List Write). Series mid ws r now) (sym (pieces_one w.left place rest short w.enough)) last))
 
--- the pieces lie where the bytes go
+-- The pieces lie where the bytes go.
 pub pieces_inside : (n from to at : ℕ) (bytes : List ℕ) → from ≤ at → at + length bytes ≤ to → AllInside from to (piece_writes n at bytes)
 pieces_inside zero from to at bytes low high = tt
 pieces_inside (suc n) from to at [] low high = tt
@@ -111,30 +110,30 @@ pieces_inside (suc n) from to at (b ∷ bs) low high = (
 -- The pieces of bytes that are filled up with zeros.
 
 module _ (u : WriteUnit) (bytes : List ℕ) where
-  -- a full piece has none of the zeros
-  pub filled_front : 4096 ≤ length bytes → take 4096 (filled u bytes) ≡ take 4096 bytes
+  -- A full piece has none of the zeros.
+  filled_front : 4096 ≤ length bytes → take 4096 (filled u bytes) ≡ take 4096 bytes
   filled_front le = take-append-le 4096 bytes (replicate (fill_size u (length bytes)) 0) le
 
-  -- they stand behind the bytes that are left
-  pub filled_back : 4096 ≤ length bytes → drop 4096 (filled u bytes) ≡ filled u (drop 4096 bytes)
+  -- They stand behind the bytes that are left.
+  filled_back : 4096 ≤ length bytes → drop 4096 (filled u bytes) ≡ filled u (drop 4096 bytes)
   filled_back le =
       drop-append-le 4096 bytes (replicate (fill_size u (length bytes)) 0) le
       ∙ ap (λ (n : ℕ). drop 4096 bytes ++ replicate n 0) (sym (ap (λ (k : ℕ). fill_size u k) (length-drop 4096 bytes) ∙ fill_piece u (length bytes) le))
 
-  -- no more than a piece stays no more than one
+  -- No more than a piece stays no more than one.
   pub filled_short : length bytes ≤ 4096 → length (filled u bytes) ≤ 4096
-  filled_short le = omega (arith, filled_fits u 0 4096 bytes (whole_zero u) (whole_piece u) (omega (arith, le)))
+  filled_short le = filled_within u 4096 bytes (multiple_piece u) le
 
 -- Full pieces of the bytes are written up to a place, and the rest of them is not.
 pub record OnTheWay (old mid : MediumState) (at : ℕ) (bytes : List ℕ) (place : ℕ) (rest : List ℕ) : Type 0 where
   pub unit : mid.unit ≡ old.unit
   pub within : place + length (filled old.unit rest) ≤ length mid.bytes
   pub room : place + length rest < 2 ^ 32
-  pub whole : IsWhole old.unit place
+  pub whole : IsMultiple old.unit place
   pub told : (n : ℕ) → length (filled old.unit bytes) ≤ n → WrittenTo old mid n at (filled old.unit bytes) place (filled old.unit rest)
 
--- before the first piece
-pub way_begins : (s : MediumState) (at : ℕ) (bytes : List ℕ) → at + length (filled s.unit bytes) ≤ length s.bytes → at + length bytes < 2 ^ 32 → IsWhole s.unit at → OnTheWay s s at bytes at bytes
+-- Before the first piece.
+pub way_begins : (s : MediumState) (at : ℕ) (bytes : List ℕ) → at + length (filled s.unit bytes) ≤ length s.bytes → at + length bytes < 2 ^ 32 → IsMultiple s.unit at → OnTheWay s s at bytes at bytes
 way_begins s at bytes within room whole = record { unit = refl; within = within; room = room; whole = whole; told = λ n le. written_none s n at (filled s.unit bytes) le }
 
 module _ (old mid now : MediumState) (at : ℕ) (bytes : List ℕ) (place : ℕ) (rest : List ℕ) (way : OnTheWay old mid at bytes place rest) (long : 4096 < length rest) where
@@ -150,11 +149,11 @@ module _ (old mid now : MediumState) (at : ℕ) (bytes : List ℕ) (place : ℕ)
   front : take 4096 rest ≡ take 4096 units
   front = sym (filled_front old.unit rest (omega (arith, long)))
 
-  -- a full piece is whole and lies in the medium
-  pub piece_fits : place + 4096 ≤ length mid.bytes
+  -- A full piece is whole and lies in the medium.
+  piece_fits : place + 4096 ≤ length mid.bytes
   piece_fits = omega (arith, way.within, long_units)
 
-  -- one piece more
+  -- One piece more.
   pub way_on : Wrote mid place (take 4096 rest) now → OnTheWay old now at bytes (place + 4096) (drop 4096 rest)
   way_on wrote =
       let size : length now.bytes ≡ length mid.bytes = ap length wrote.bytes ∙ (written_torn mid.bytes place (take 4096 rest) (omega (arith, piece_fits, length-take 4096 rest))).size in
@@ -163,18 +162,18 @@ module _ (old mid now : MediumState) (at : ℕ) (bytes : List ℕ) (place : ℕ)
         unit = wrote.unit ∙ way.unit;
         within = omega (arith, way.within, size, ap length back, length-drop 4096 units, long_units);
         room = omega (arith, way.room, length-drop 4096 rest, long);
-        whole = whole_add old.unit place 4096 way.whole (whole_piece old.unit);
+        whole = multiple_add old.unit place 4096 way.whole (multiple_piece old.unit);
         told = λ n le.
             subst (λ (l : List ℕ). WrittenTo old now n at (filled old.unit bytes) (place + 4096) l) back
             (written_more old mid now n at (filled old.unit bytes) place units 4096 piece_is (omega (arith, long_units)) (way.told n le) (subst (λ (l : List ℕ). Wrote mid place l now) front wrote));
       }
 
-  -- the next piece fails
+  -- The next piece fails.
   pub way_broken : (n : ℕ) → length (filled old.unit bytes) ≤ n → FailedWrite mid place (take 4096 rest) now → BrokenWrites old (piece_writes n at (filled old.unit bytes)) now
   way_broken n le failed =
       written_stopped old mid now n at (filled old.unit bytes) place units 4096 piece_is (omega (arith, long_units)) (way.told n le) (subst (λ (l : List ℕ). FailedWrite mid place l now) front failed)
 
--- the last piece
+-- The last piece.
 pub way_ends : {T E : Type 0} (old mid now : MediumState) (at : ℕ) (bytes : List ℕ) (place : ℕ) (rest : List ℕ) → OnTheWay old mid at bytes place rest → length rest ≤ 4096
     → (r : Result T E) → Series mid (write_some place (filled mid.unit rest)) r now → (n : ℕ) → length (filled old.unit bytes) ≤ n → Series old (piece_writes n at (filled old.unit bytes)) r now
 way_ends old mid now at bytes place rest way short r last n le =

@@ -22,14 +22,15 @@ module _ (u : WriteUnit) (held bytes : List ℕ) where
   abbrev head : ℕ
   head = head_size u held bytes
 
-  -- the unit that is written by itself is one of the whole units
+  -- The unit that is written by itself is one of the whole units.
   pub head_le : head ≤ whole
   head_le = choice_le (length held == 0) 0 (min (unit_size u) whole) whole (omega arith) (omega arith)
 
+  -- The whole units are no more than all bytes.
   pub whole_le : whole ≤ length all
   whole_le = omega arith
 
-  -- less than a unit is held back
+  -- Less than a unit is held back.
   pub rest_length : length (put_rest u held bytes) ≡ length all - whole
   rest_length = length-drop whole all
 
@@ -45,14 +46,14 @@ module _ (u : WriteUnit) (held bytes : List ℕ) where
   back_length : length (drop head (take whole all)) ≡ whole - head
   back_length = length-drop head (take whole all) ∙ ap (λ (n : ℕ). n - head) whole_length
 
-  -- the writes lie where the bytes go
+  -- The writes lie where the bytes go.
   pub put_inside : (from to at : ℕ) → from ≤ at → at + length all ≤ to → AllInside from to (put_writes u at held bytes)
   put_inside from to at low high =
       inside_append from to (write_some at (take head all)) (write_some (at + head) (drop head (take whole all)))
       (inside_some from to at (take head all) low (omega (arith, high, front_length, head_le, whole_le)))
       (inside_some from to (at + head) (drop head (take whole all)) (omega (arith, low)) (omega (arith, high, back_length, head_le, whole_le)))
 
-  -- together they are one write of all whole units
+  -- Together they are one write of all whole units.
   pub put_written : (s now : MediumState) (at : ℕ) → at + length all ≤ length s.bytes → AllWrites s (put_writes u at held bytes) now → now.bytes ≡ written s.bytes at (take whole all)
   put_written s now at fits came =
       let parts = all_parts (write_some at (take head all)) (write_some (at + head) (drop head (take whole all))) s now came in
@@ -64,13 +65,13 @@ module _ (u : WriteUnit) (held bytes : List ℕ) where
       ∙ written_written s.bytes at (take head all) (drop head (take whole all)) (omega (arith, fits, front_length, back_length, head_le, whole_le))
       ∙ ap (λ (l : List ℕ). written s.bytes at l) front_is
 
-  -- with what is held back behind them, all bytes stand there
+  -- With what is held back behind them, all bytes stand there.
   pub put_joined : (d : List ℕ) (k : ℕ) → k + length all ≤ length d → written (written d k (take whole all)) (k + whole) (put_rest u held bytes) ≡ written d k all
   put_joined d k fits =
       (λ i. written (written d k (take whole all)) (k + sym whole_length i) (drop whole all))
       ∙ written_written d k (take whole all) (drop whole all) (omega (arith, fits, whole_length, rest_length, whole_le))
       ∙ ap (λ (l : List ℕ). written d k l) (take-append-drop whole all)
 
-  -- and that is the bytes put behind the held ones
+  -- And that is the bytes put behind the held ones.
   pub put_behind : (d : List ℕ) (k : ℕ) → k + length all ≤ length d → written d k all ≡ written (written d k held) (k + length held) bytes
   put_behind d k fits = sym (written_written d k held bytes (omega (arith, fits, length-append held bytes)))

@@ -1,15 +1,18 @@
 -- The writes of a `put`, as its three ways through the code make them.
-use Rattle.std.proofs.Common.{◌≡◌, ◌==◌, ℕ, ◌+◌, ◌-◌, ◌≤◌, ◌<◌, min, List, [], ◌++◌, length, take, drop, sym, ◌∙◌, ap, subst, arith, length-append}
+use Rattle.std.proofs.Common.{◌≡◌, ◌≢◌, ◌==◌, ℕ, ◌+◌, ◌-◌, ◌%◌, ◌≤◌, ◌<◌, min, List, [], ◌++◌, length, take, drop, Result, OnOk, sym, ◌∙◌, ap, subst, arith, length-append}
 use Rattle.std.proofs.lemmas.List.{nil_from_length, drop_at, drop-take}
 use Rattle.std.proofs.lemmas.Bool.{cond-false, ne_eqb}
+use Rattle.std.proofs.lemmas.Result.{on_ok_weaker}
 use Rattle.dfu_slots.specs.declared.unit.Unit.{Unit as WriteUnit}
-use Rattle.dfu_slots.specs.Units.{unit_size, IsWhole, whole_part}
+use Rattle.dfu_slots.specs.Units.{unit_size, IsMultiple, whole_part}
 use Rattle.dfu_slots.specs.Writes.{write_some, head_size, put_writes, put_rest}
-use Rattle.dfu_slots.specs.Medium.{Write}
+use Rattle.dfu_slots.specs.Medium.{MediumState, Write, AllWrites, BrokenWrites}
+use Rattle.dfu_slots.specs.inside.Series.{Series}
 use Rattle.dfu_slots.proofs.Torn.{drop_past}
 use Rattle.dfu_slots.proofs.Within.{take_past}
-use Rattle.dfu_slots.proofs.Whole.{whole_of, unit_more}
+use Rattle.dfu_slots.proofs.Multiples.{multiple_part, unit_more}
 use Rattle.dfu_slots.proofs.Put.{head_le}
+use Rattle.dfu_slots.proofs.Series.{broken_first, series_after}
 
 empty_writes : (u : WriteUnit) (at : ℕ) (bytes : List ℕ) → put_writes u at [] bytes ≡ write_some at (take (whole_part u (length bytes)) bytes)
 empty_writes u at bytes = let e : at + 0 ≡ at = omega arith in ap (λ (p : ℕ). write_some p (take (whole_part u (length bytes)) bytes)) e
@@ -26,10 +29,10 @@ module _ (u : WriteUnit) (at : ℕ) (held bytes : List ℕ) (count : ℕ) (is : 
     count_is : whole_part u (length bytes) ≡ count
     count_is = (let e : length bytes ≡ length held + length bytes = omega (arith, none) in ap (λ (n : ℕ). whole_part u n) e) ∙ sym is
 
-    pub writes_of_none : write_some at (take count bytes) ≡ put_writes u at held bytes
+    writes_of_none : write_some at (take count bytes) ≡ put_writes u at held bytes
     writes_of_none = sym ((λ i. put_writes u at (nil i) bytes) ∙ empty_writes u at bytes ∙ ap (λ (n : ℕ). write_some at (take n bytes)) count_is)
 
-    pub rest_of_none : held ++ drop count bytes ≡ put_rest u held bytes
+    rest_of_none : held ++ drop count bytes ≡ put_rest u held bytes
     rest_of_none = ap (λ (l : List ℕ). l ++ drop count bytes) nil ∙ ap (λ (n : ℕ). drop n bytes) (sym count_is) ∙ (λ i. put_rest u (sym nil i) bytes)
 
   -- No unit is full.
@@ -40,15 +43,15 @@ module _ (u : WriteUnit) (at : ℕ) (held bytes : List ℕ) (count : ℕ) (is : 
     no_head : head_size u held bytes ≡ 0
     no_head = omega (arith, head_le u held bytes, no_whole)
 
-    pub writes_of_few : ◌≡◌ {A = List Write} [] (put_writes u at held bytes)
+    writes_of_few : ◌≡◌ {A = List Write} [] (put_writes u at held bytes)
     writes_of_few = sym (λ i. write_some at (take (no_head i) (held ++ bytes)) ++ write_some (at + no_head i) (drop (no_head i) (take (no_whole i) (held ++ bytes))))
 
-    pub rest_of_few : held ++ bytes ≡ put_rest u held bytes
+    rest_of_few : held ++ bytes ≡ put_rest u held bytes
     rest_of_few = sym (ap (λ (n : ℕ). drop n (held ++ bytes)) no_whole)
 
-  -- there is a whole unit where there are any
-  pub unit_full : 0 < count → unit_size u ≤ count
-  unit_full some = unit_more u count (subst (λ (n : ℕ). IsWhole u n) (sym is) (whole_of u (length held + length bytes))) some
+  -- There is a whole unit where there are any.
+  unit_full : 0 < count → unit_size u ≤ count
+  unit_full some = unit_more u count (subst (λ (n : ℕ). IsMultiple u n) (sym is) (multiple_part u (length held + length bytes))) some
 
   -- The unit that was begun is full.
   module _ (size : ℕ) (of_unit : size ≡ unit_size u) (some : 0 < length held) (part : length held ≤ size) (full : size ≤ count) where
@@ -69,11 +72,55 @@ module _ (u : WriteUnit) (at : ℕ) (held bytes : List ℕ) (count : ℕ) (is : 
         ∙ drop-take size (count - size) (held ++ bytes)
         ∙ ap (λ (l : List ℕ). take (count - size) l) skipped
 
-    pub writes_of_full : write_some at (held ++ take (size - length held) bytes) ++ write_some (at + size) (take (count - size) (drop (size - length held) bytes)) ≡ put_writes u at held bytes
+    writes_of_full : write_some at (held ++ take (size - length held) bytes) ++ write_some (at + size) (take (count - size) (drop (size - length held) bytes)) ≡ put_writes u at held bytes
     writes_of_full = sym (λ i. write_some at (first i) ++ write_some (at + head_is i) (second i))
 
-    pub rest_of_full : drop (count - size) (drop (size - length held) bytes) ≡ put_rest u held bytes
+    rest_of_full : drop (count - size) (drop (size - length held) bytes) ≡ put_rest u held bytes
     rest_of_full =
         ap (λ (l : List ℕ). drop (count - size) l) (sym skipped)
         ∙ sym (drop_past (held ++ bytes) size count full)
         ∙ sym (ap (λ (n : ℕ). drop n (held ++ bytes)) whole_is)
+
+-- The same, by what the code reads: `n` and `k` are how many bytes are held, and `v` is the unit.
+module _ (m : MediumState) (v : WriteUnit) (unit : v ≡ m.unit) (at : ℕ) (held bytes : List ℕ) (n k size : ℕ) (n_is : n ≡ length held) (k_is : k ≡ length held) (size_is : size ≡ unit_size v)
+    (more : n + length bytes - (n + length bytes) % size ≢ 0) (some : 0 < length held) (part : length held < unit_size m.unit) where
+  abbrev count : ℕ
+  count = n + length bytes - (n + length bytes) % size
+
+  of_unit : size ≡ unit_size m.unit
+  of_unit = size_is ∙ ap unit_size unit
+
+  count_of : count ≡ whole_part m.unit (length held + length bytes)
+  count_of = λ i. n_is i + length bytes - (n_is i + length bytes) % of_unit i
+
+  full : size ≤ count
+  full = omega (arith, of_unit, unit_full m.unit at held bytes count count_of (omega (arith, more)))
+
+  short : length held ≤ size
+  short = omega (arith, of_unit, part)
+
+  first_is : (x y h : List ℕ) → x ≡ y → y ≡ held ++ h → h ≡ take (size - k) bytes → x ≡ held ++ take (size - length held) bytes
+  first_is x y h one two three = one ∙ two ∙ ap (λ (l : List ℕ). held ++ l) (three ∙ ap (λ (j : ℕ). take (size - j) bytes) k_is)
+
+  -- The write of the unit that was begun fails.
+  pub full_broken : (now : MediumState) (x y h : List ℕ) → x ≡ y → y ≡ held ++ h → h ≡ take (size - k) bytes
+      → BrokenWrites m (write_some at x) now → BrokenWrites m (put_writes m.unit at held bytes) now
+  full_broken now x y h one two three broken =
+      subst (λ (ws : List Write). BrokenWrites m ws now) (writes_of_full m.unit at held bytes count count_of size of_unit some short full)
+      (broken_first (write_some at (held ++ take (size - length held) bytes)) _ m now (subst (λ (l : List ℕ). BrokenWrites m (write_some at l) now) (first_is x y h one two three) broken))
+
+  -- It works, and the further whole units follow it.
+  pub full_series : {T E : Type 0} (mid now : MediumState) (r : Result T E) (x y h rest : List ℕ) → x ≡ y → y ≡ held ++ h → h ≡ take (size - k) bytes → rest ≡ drop (size - k) bytes
+      → AllWrites m (write_some at x) mid → Series mid (write_some (at + size) (take (count - size) rest)) r now → Series m (put_writes m.unit at held bytes) r now
+  full_series mid now r x y h rest one two three back came series =
+      subst (λ (ws : List Write). Series m ws r now) (writes_of_full m.unit at held bytes count count_of size of_unit some short full)
+      (series_after (write_some at (held ++ take (size - length held) bytes)) _ m mid now r
+      (subst (λ (l : List ℕ). AllWrites m (write_some at l) mid) (first_is x y h one two three) came)
+      (subst (λ (l : List ℕ). Series mid (write_some (at + size) (take (count - size) l)) r now) (back ∙ ap (λ (j : ℕ). drop (size - j) bytes) k_is) series))
+
+  -- The rest of the bytes is held then.
+  pub full_held : {T E : Type 0} (r : Result T E) (before now rest : List ℕ) → before ≡ [] → rest ≡ drop (size - k) bytes
+      → OnOk r (now ≡ before ++ drop (count - size) rest) → OnOk r (now ≡ put_rest m.unit held bytes)
+  full_held r before now rest none back is =
+      let later = back ∙ ap (λ (j : ℕ). drop (size - j) bytes) k_is in
+      on_ok_weaker r (λ h. h ∙ (λ i. none i ++ drop (count - size) (later i)) ∙ rest_of_full m.unit at held bytes count count_of size of_unit some short full) is

@@ -5,148 +5,175 @@ use Rattle.std.proofs.lemmas.Bool.{and_from, le-leb, ne_eqb, eqb-true, eqb-false
 use Rattle.std.proofs.lemmas.List.{nil_from_length}
 use Rattle.std.specs.Int.{w32, from_le_bytes}
 use Rattle.dfu_slots.specs.declared.unit.Unit.{Unit as WriteUnit}
-use Rattle.dfu_slots.specs.Units.{gate_size, IsWhole}
+use Rattle.dfu_slots.specs.Units.{gate_size, IsMultiple}
 use Rattle.dfu_slots.specs.Medium.{MediumState, Fuse, written}
 use Rattle.dfu_slots.specs.Layout.{capacity, slot, OPEN, IsOpen}
-use Rattle.dfu_slots.specs.Image.{gate_of, capacity_of, ActiveAt, Active, HasImage, has_image_fused, active_at, spare_at, spare}
+use Rattle.dfu_slots.specs.Image.{gate_of, capacity_of, Active, HasImage, has_image_fused, active_at, spare_at, spare}
 use Rattle.dfu_slots.specs.Seen.{SlotsState, store_of, store_on, fused, header_length, spare_slot, held_at, image_of, spare_of, is_begun, room_of, is_shaped, image_fused, spare_fused, begun_fused, room_fused}
-use Rattle.dfu_slots.specs.Store.{HasPuts, IsStore}
+use Rattle.dfu_slots.specs.inside.Store.{HasPuts, IsStore}
+use Rattle.dfu_slots.proofs.Stands.{ActiveAt, standing, active_from}
 use Rattle.dfu_slots.proofs.Torn.{written_torn}
 use Rattle.dfu_slots.proofs.Parts.{data_length}
 use Rattle.dfu_slots.proofs.Newest.{spare_end}
 use Rattle.dfu_slots.proofs.Unique.{active_header, active_fits, image_at}
 use Rattle.dfu_slots.proofs.Within.{written_nil}
-use Rattle.dfu_slots.proofs.Whole.{held_end, zero_part}
+use Rattle.dfu_slots.proofs.Multiples.{held_end, zero_part}
 
 -- The image.
 
--- the active image is what the function gives
+-- The active image is what the function gives.
 pub image_is : (s : SlotsState) (image : List ℕ) → Active s.medium image → image ≡ image_of s
 unfolding image_of
 image_is s image active =
     let g = gate_of s.medium in
     let bytes = s.medium.bytes in
     let p = active_at g bytes in
-    let a = active.stands in
+    let a = (standing active) in
     let fits = active_fits g bytes p refl active.at active.spare image a in
     let head = active_header g bytes p refl active.at active.spare image a in
     let len : header_length (slot g bytes p) ≡ length image =
     ap (λ (l : List ℕ). from_le_bytes w32 (take 4 (drop 4 l))) head.well_formed ∙ from_le_bytes-to_le_bytes_4 (length image) (omega (arith, fits, a.sized.bound)) in
     image_at g bytes p refl active.at active.spare image a ∙ ap (λ (n : ℕ). take n (slot g bytes p).data_bytes) (sym len)
 
+-- The image that a store is seen to have is the active one.
 pub image_active : (s : SlotsState) → HasImage s.medium → Active s.medium (image_of s)
 image_active s has = subst (λ (l : List ℕ). Active s.medium l) (image_is s has.image has.active) has.active
 
--- an image that stands on a medium of the same unit and the same length is active there
-pub active_on : (m n : MediumState) (at spare : ℕ) (image : List ℕ) → n.unit ≡ m.unit → length n.bytes ≡ length m.bytes → IsWhole m.unit (capacity_of m) → ActiveAt (gate_of m) n.bytes at spare image → Active n image
-active_on m n at spare image unit size whole stands = record {
-  at = at;
-  spare = spare;
-  stands = subst (λ (u : WriteUnit). ActiveAt (gate_size u) n.bytes at spare image) (sym unit) stands;
-  whole = subst (λ (u : WriteUnit). IsWhole u (length n.bytes / 2 - 2 * gate_size u)) (sym unit) (subst (λ (k : ℕ). IsWhole m.unit (k / 2 - 2 * gate_of m)) (sym size) whole);
-}
+-- An image that stands on a medium of the same unit and the same length is active there.
+pub active_on : (m n : MediumState) (at spare : ℕ) (image : List ℕ) → n.unit ≡ m.unit → length n.bytes ≡ length m.bytes → IsMultiple m.unit (capacity_of m) → ActiveAt (gate_of m) n.bytes at spare image → Active n image
+active_on m n at spare image unit size whole stands =
+    active_from n at spare image
+    (subst (λ (u : WriteUnit). IsMultiple u (length n.bytes / 2 - 2 * gate_size u)) (sym unit) (subst (λ (k : ℕ). IsMultiple m.unit (k / 2 - 2 * gate_of m)) (sym size) whole))
+    (subst (λ (u : WriteUnit). ActiveAt (gate_size u) n.bytes at spare image) (sym unit) stands)
 
 -- What is put.
 
--- where nothing is held, the spare's data is that of the medium
+-- Where nothing is held, the spare's data is that of the medium.
 pub spare_fresh : (m : MediumState) → spare_of (store_on m) ≡ (spare (gate_of m) m.bytes).data_bytes
 unfolding spare_of
 spare_fresh m = written_nil (spare (gate_of m) m.bytes).data_bytes 0
 
+-- The data of the spare is that of the medium, with the held bytes written over it.
 pub spare_is : (s : SlotsState) → spare_of s ≡ written (spare_slot s).data_bytes (held_at s) s.held
 unfolding spare_of
 spare_is s = refl
 
--- nothing is put on a fresh store
-pub fresh_puts : (m : MediumState) → HasPuts (store_on m)
+-- Nothing is put on a fresh store.
+fresh_puts : (m : MediumState) → HasPuts (store_on m)
 fresh_puts m = record { fits = omega arith; part = sym (zero_part m.unit) }
 
+-- A medium with an active image is a store on which nothing was put.
 pub fresh_store : (m : MediumState) → HasImage m → IsStore (store_on m)
 fresh_store m has = record { has_image = has; puts = fresh_puts m }
 
--- a store that holds nothing and whose puts end at 0 is fresh
+-- A store that holds nothing and whose puts end at 0 is fresh.
 pub fresh_is : (m : MediumState) (held : List ℕ) (put_end : ℕ) → held ≡ [] → put_end ≡ 0 → store_of m held put_end ≡ store_on m
 fresh_is m held put_end none zero_is = λ i. store_of m (none i) (zero_is i)
 
 -- The functions that the clauses cite.
 
+-- What is the capacity of the medium is the room of the store.
 pub room_is : (s : SlotsState) (n : ℕ) → n ≡ capacity_of s.medium → n ≡ room_of s
 unfolding room_of
 room_is s n same = same
 
+-- The room of a store is the capacity of its medium.
 pub room_capacity : (s : SlotsState) → room_of s ≡ capacity_of s.medium
 unfolding room_of
 room_capacity s = refl
 
+-- A medium of the same unit and the same length has the same room.
 pub room_from : (s now : SlotsState) → now.medium.unit ≡ s.medium.unit → length now.medium.bytes ≡ length s.medium.bytes → room_of now ≡ room_of s
 unfolding room_of
 room_from s now unit size = λ i. size i / 2 - 2 * gate_size (unit i)
 
+-- The puts end within the room.
 pub puts_room : (s : SlotsState) → IsStore s → s.put_end ≤ room_of s
 puts_room s store = omega (arith, room_capacity s, store.puts.fits)
-
--- where the puts end at 0, nothing is held
-pub puts_nothing : (s : SlotsState) → IsStore s → s.put_end ≡ 0 → s.held ≡ []
-puts_nothing s store none = nil_from_length s.held (omega (arith, held_end s store.puts, none))
 
 spare_length : (s : SlotsState) → IsStore s → length (spare_of s) ≡ room_of s
 spare_length s store =
     let g = gate_of s.medium in
     let bytes = s.medium.bytes in
-    let sized = store.has_image.active.stands.sized in
+    let sized = (standing store.has_image.active).sized in
     let whole : length (spare g bytes).data_bytes ≡ capacity g bytes = data_length g bytes (spare_at g bytes) (spare_end g bytes sized) (omega (arith, sized.room)) in
     ap length (spare_is s) ∙ (written_torn (spare_slot s).data_bytes (held_at s) s.held (omega (arith, whole, held_end s store.puts, store.puts.fits))).size ∙ whole ∙ sym (room_capacity s)
 
 image_fits : (s : SlotsState) → IsStore s → length (image_of s) ≤ room_of s
 image_fits s store =
     let a = store.has_image.active in
-    let fits = active_fits (gate_of s.medium) s.medium.bytes (active_at (gate_of s.medium) s.medium.bytes) refl a.at a.spare store.has_image.image a.stands in
+    let fits = active_fits (gate_of s.medium) s.medium.bytes (active_at (gate_of s.medium) s.medium.bytes) refl a.at a.spare store.has_image.image (standing a) in
     omega (arith, fits, ap length (image_is s store.has_image.image a), room_capacity s)
 
+-- Every store has the shape that the layers above ask for.
 pub shaped : (s : SlotsState) → IsStore s → is_shaped s ≡ true
 shaped s store =
     and_from (length (spare_of s) == room_of s) _ (eq-eqb _ _ (spare_length s store))
-    (and_from (nat_le (room_of s) (2 ^ 24)) _ (le-leb _ _ (omega (arith, room_capacity s, store.has_image.active.stands.sized.bound))) (le-leb _ _ (image_fits s store)))
+    (and_from (nat_le (room_of s) (2 ^ 24)) _ (le-leb _ _ (omega (arith, room_capacity s, store.has_image.active.sized.bound))) (le-leb _ _ (image_fits s store)))
+
+-- A store on which nothing was put yet is a store, and is seen as its medium alone.
+pub record IsFresh (x : SlotsState) : Type 0 where
+  pub active : Active x.medium (image_of x)
+  pub shape : is_shaped x ≡ true
+  pub fresh : x ≡ store_on x.medium
+  pub store : IsStore x
+
+-- A medium with an active image makes such a store, where nothing is held and the puts end at 0.
+pub fresh_leaves : (m : MediumState) → HasImage m → (held : List ℕ) (put_end : ℕ) → held ≡ [] → put_end ≡ 0 → IsFresh (store_of m held put_end)
+fresh_leaves m has held put_end none zero_is =
+    let same : store_of m held put_end ≡ store_on m = fresh_is m held put_end none zero_is in
+    let kept : IsStore (store_of m held put_end) = subst IsStore (sym same) (fresh_store m has) in
+    record { active = image_active (store_of m held put_end) has; shape = shaped (store_of m held put_end) kept; fresh = same; store = kept }
 
 -- The gate of the spare.
 
+-- A store that was begun has a closed spare.
 pub begun_closed : (s : SlotsState) → is_begun s ≡ true → ¬ IsOpen (spare_slot s)
 unfolding is_begun
 begun_closed s begun = eqb-false _ _ (not-true _ begun)
 
+-- A store with a closed spare was begun.
 pub closed_begun : (s : SlotsState) → ¬ IsOpen (spare_slot s) → is_begun s ≡ true
 unfolding is_begun
 closed_begun s shut = not_from_false _ (ne_eqb _ _ shut)
 
+-- A store with an open spare was not begun.
 pub open_not_begun : (s : SlotsState) → IsOpen (spare_slot s) → is_begun s ≡ false
 unfolding is_begun
 open_not_begun s is_open = not_from_true _ (eq-eqb _ _ is_open)
 
+-- A store that was not begun has an open spare.
 pub not_begun_open : (s : SlotsState) → is_begun s ≡ false → IsOpen (spare_slot s)
 unfolding is_begun
 not_begun_open s off = eqb-true _ _ (not-false _ off)
 
+-- Whether a store was begun depends on the gate of its spare alone.
 pub begun_from_gate : (s now : SlotsState) → (spare_slot now).gate ≡ (spare_slot s).gate → is_begun now ≡ is_begun s
 unfolding is_begun
 begun_from_gate s now same = ap (λ (g : ℕ). not (g == OPEN)) same
 
 -- Another fuse on the medium.
 
-module _ (s : SlotsState) (m : MediumState) (fuse : Fuse) (is : m ≡ record s.medium { fuse = fuse }) where
-  fused_is : store_of m s.held s.put_end ≡ fused s fuse
-  fused_is = ap (λ (x : MediumState). store_of x s.held s.put_end) is
+-- A store that was seen as `v` is seen as this with another fuse.
+pub record FuseLeaves (v now : SlotsState) : Type 0 where
+  pub image : image_of now ≡ image_of v
+  pub spare : spare_of now ≡ spare_of v
+  pub begun : is_begun now ≡ is_begun v
+  pub room : room_of now ≡ room_of v
+  pub shape : is_shaped now ≡ true
+  pub store : IsStore now
 
-  pub fused_store : IsStore s → IsStore (store_of m s.held s.put_end)
-  fused_store store = subst IsStore (sym fused_is) (record { has_image = has_image_fused s.medium fuse store.has_image; puts = record { fits = store.puts.fits; part = store.puts.part } })
-
-  pub fused_image : image_of (store_of m s.held s.put_end) ≡ image_of s
-  fused_image = ap image_of fused_is ∙ image_fused s fuse
-
-  pub fused_spare : spare_of (store_of m s.held s.put_end) ≡ spare_of s
-  fused_spare = ap spare_of fused_is ∙ spare_fused s fuse
-
-  pub fused_begun : is_begun (store_of m s.held s.put_end) ≡ is_begun s
-  fused_begun = ap is_begun fused_is ∙ begun_fused s fuse
-
-  pub fused_room : room_of (store_of m s.held s.put_end) ≡ room_of s
-  fused_room = ap room_of fused_is ∙ room_fused s fuse
+-- Where the medium has another fuse, the store is as it was.
+pub fuse_leaves : {s v : SlotsState} → s ≡ v → IsStore s → (m : MediumState) (fuse : Fuse) → m ≡ record s.medium { fuse = fuse } → FuseLeaves v (store_of m s.held s.put_end)
+fuse_leaves {s} {v} view store m fuse is =
+    let same : store_of m s.held s.put_end ≡ fused s fuse = ap (λ (x : MediumState). store_of x s.held s.put_end) is in
+    let kept : IsStore (store_of m s.held s.put_end) = subst IsStore (sym same) (record { has_image = has_image_fused s.medium fuse store.has_image; puts = record { fits = store.puts.fits; part = store.puts.part } }) in
+    subst (λ (x : SlotsState). FuseLeaves x (store_of m s.held s.put_end)) view
+    (record {
+      image = ap image_of same ∙ image_fused s fuse;
+      spare = ap spare_of same ∙ spare_fused s fuse;
+      begun = ap is_begun same ∙ begun_fused s fuse;
+      room = ap room_of same ∙ room_fused s fuse;
+      shape = shaped (store_of m s.held s.put_end) kept;
+      store = kept;
+    })

@@ -4,37 +4,41 @@ use Rattle.dfu_slots.specs.declared.unit.Unit.{Unit as WriteUnit}
 use Rattle.dfu_slots.specs.Units.{gate_size}
 use Rattle.dfu_slots.specs.Medium.{MediumState}
 use Rattle.dfu_slots.specs.Layout.{Slot}
-use Rattle.dfu_slots.specs.Image.{gate_of, ActiveAt, Active, HasImage, spare}
+use Rattle.dfu_slots.specs.Image.{gate_of, Active, HasImage, spare}
 use Rattle.dfu_slots.specs.Seen.{SlotsState, image_of, room_of}
+use Rattle.dfu_slots.proofs.Stands.{ActiveAt, standing}
 use Rattle.dfu_slots.proofs.Seeing.{image_is, active_on, room_from}
 
--- the active slot and its image stay
+-- The active slot and its image stay.
 pub record Stays (s now : SlotsState) (has : HasImage s.medium) : Type 0 where
   pub stands : ActiveAt (gate_of s.medium) now.medium.bytes has.active.at has.active.spare has.image
   pub unit : now.medium.unit ≡ s.medium.unit
   pub size : length now.medium.bytes ≡ length s.medium.bytes
 
 module _ (s now : SlotsState) (has : HasImage s.medium) (stays : Stays s now has) where
-  pub stays_active : Active now.medium has.image
-  stays_active = active_on s.medium now.medium has.active.at has.active.spare has.image stays.unit stays.size has.active.whole stays.stands
+  stays_active : Active now.medium has.image
+  stays_active = active_on s.medium now.medium has.active.at has.active.spare has.image stays.unit stays.size has.active.sized.whole stays.stands
 
+  -- The medium has an active image then.
   pub stays_has : HasImage now.medium
   stays_has = record { image = has.image; active = stays_active }
 
+  -- The store is seen with the image that it had.
   pub stays_image : image_of now ≡ image_of s
   stays_image = sym (image_is now has.image stays_active) ∙ image_is s has.image has.active
 
+  -- It has the room that it had.
   pub stays_room : room_of now ≡ room_of s
   stays_room = room_from s now stays.unit stays.size
 
--- they do where the store is as it was
+-- They do where the store is as it was.
 pub stays_same : (s now : SlotsState) (has : HasImage s.medium) → now ≡ s → Stays s now has
 stays_same s now has same = record {
-  stands = subst (λ (x : SlotsState). ActiveAt (gate_of s.medium) x.medium.bytes has.active.at has.active.spare has.image) (sym same) has.active.stands;
+  stands = subst (λ (x : SlotsState). ActiveAt (gate_of s.medium) x.medium.bytes has.active.at has.active.spare has.image) (sym same) (standing has.active);
   unit = ap (λ (x : SlotsState). x.medium.unit) same;
   size = ap (λ (x : SlotsState). length x.medium.bytes) same;
 }
 
--- the spare slot, where the unit is the same
+-- The spare slot, where the unit is the same.
 pub spare_there : (m n : MediumState) → n.unit ≡ m.unit → ◌≡◌ {A = Slot} (spare (gate_of n) n.bytes) (spare (gate_of m) n.bytes)
 spare_there m n unit = ap (λ (u : WriteUnit). spare (gate_size u) n.bytes) unit

@@ -4,28 +4,28 @@ use Rattle.std.proofs.lemmas.List.{take-take, drop-drop, get_or-take, get_or-dro
 use Rattle.std.proofs.lemmas.Slice.{between_is}
 use Rattle.dfu_slots.specs.Medium.{KeepsOutside, Torn, written}
 
--- a range below the write
+-- A range below the write.
 range_below : (old now : List ℕ) (from i j : ℕ) → take from now ≡ take from old → j ≤ from → slice_range now i j ≡ slice_range old i j
 range_below old now from i j same le =
     between_is now i j
     ∙ ap (λ (l : List ℕ). drop i l) (sym (take-take j from now le) ∙ ap (λ (l : List ℕ). take j l) same ∙ take-take j from old le)
     ∙ sym (between_is old i j)
 
--- a drop in two steps
+-- A drop in two steps.
 pub drop_past : (l : List ℕ) (n i : ℕ) → n ≤ i → drop i l ≡ drop (i - n) (drop n l)
 drop_past l n i le = let e : i ≡ n + (i - n) = omega arith in ap (λ (k : ℕ). drop k l) e ∙ sym (drop-drop (i - n) n l)
 
--- a range above the write
+-- A range above the write.
 range_above : (old now : List ℕ) (to i j : ℕ) → drop to now ≡ drop to old → to ≤ i → slice_range now i j ≡ slice_range old i j
 range_above old now to i j same le =
     ap (λ (l : List ℕ). take (j - i) l) (drop_past now to i le ∙ ap (λ (l : List ℕ). drop (i - to) l) same ∙ sym (drop_past old to i le))
 
--- a range that the write does not touch
+-- A range that the write does not touch.
 pub range_outside : (from to : ℕ) (old now : List ℕ) (i j : ℕ) → KeepsOutside from to old now → (j ≤ from) ⊎ (to ≤ i) → slice_range now i j ≡ slice_range old i j
 range_outside from to old now i j keeps (inl below) = range_below old now from i j keeps.before below
 range_outside from to old now i j keeps (inr above) = range_above old now to i j keeps.after above
 
--- a byte that the write does not touch
+-- A byte that the write does not touch.
 pub byte_outside : (from to : ℕ) (old now : List ℕ) (i : ℕ) → KeepsOutside from to old now → (i < from) ⊎ (to ≤ i) → slice_index now i ≡ slice_index old i
 byte_outside from to old now i keeps (inl below) =
     sym (get_or-take from now i 0 below) ∙ ap (λ (l : List ℕ). get_or l i 0) keeps.before ∙ get_or-take from old i 0 below
@@ -34,13 +34,13 @@ byte_outside from to old now i keeps (inr above) =
     ap (λ (k : ℕ). get_or now k 0) (sym e) ∙ sym (get_or-drop to now (i - to) 0) ∙ ap (λ (l : List ℕ). get_or l (i - to) 0) keeps.after ∙ get_or-drop to old (i - to) 0
     ∙ ap (λ (k : ℕ). get_or old k 0) e
 
--- the byte where a range begins is the first of it
+-- The byte where a range begins is the first of it.
 pub first_of_range : (l : List ℕ) (i j x : ℕ) (xs : List ℕ) → i < j → slice_range l i j ≡ x ∷ xs → slice_index l i ≡ x
 first_of_range l i j x xs lt is =
     let e : i ≡ i + 0 = omega arith in
     ap (λ (k : ℕ). get_or l k 0) e ∙ sym (get_or-drop i l 0 0) ∙ sym (get_or-take (j - i) (drop i l) 0 0 (omega arith)) ∙ ap (λ (r : List ℕ). get_or r 0 0) is
 
--- a wider range keeps no more
+-- A wider range keeps no more.
 pub keeps_wider : (a b from to : ℕ) (old now : List ℕ) → KeepsOutside a b old now → from ≤ a → b ≤ to → KeepsOutside from to old now
 keeps_wider a b from to old now keeps low high = record {
   size = keeps.size;
@@ -48,7 +48,7 @@ keeps_wider a b from to old now keeps low high = record {
   after = drop_past now b to high ∙ ap (λ (l : List ℕ). drop (to - b) l) keeps.after ∙ sym (drop_past old b to high);
 }
 
--- no change keeps everything
+-- No change keeps everything.
 pub keeps_same : (from to : ℕ) (old now : List ℕ) → now ≡ old → KeepsOutside from to old now
 keeps_same from to old now same = record {
   size = ap length same;
@@ -56,7 +56,7 @@ keeps_same from to old now same = record {
   after = ap (λ (l : List ℕ). drop to l) same;
 }
 
--- two changes of one range
+-- Two changes of one range.
 pub keeps_both : (from to : ℕ) (old mid now : List ℕ) → KeepsOutside from to old mid → KeepsOutside from to mid now → KeepsOutside from to old now
 keeps_both from to old mid now first second = record {
   size = second.size ∙ first.size;
@@ -68,7 +68,7 @@ module _ (old : List ℕ) (at : ℕ) (new : List ℕ) (fits : at + length new �
   front : length (take at old) ≡ at
   front = length-take-le at old (omega arith)
 
-  -- a write that works leaves the rest as it was too
+  -- A write that works leaves the rest as it was too.
   pub written_torn : Torn old at new (written old at new)
   written_torn = record {
     size = omega (arith, length-append (take at old ++ new) (drop (at + length new) old), length-append (take at old) new, front, length-drop (at + length new) old);
@@ -76,14 +76,14 @@ module _ (old : List ℕ) (at : ℕ) (new : List ℕ) (fits : at + length new �
     after = drop_at (take at old ++ new) (drop (at + length new) old) (at + length new) (omega (arith, length-append (take at old) new, front));
   }
 
-  -- and its bytes stand in its range
+  -- And its bytes stand in its range.
   pub written_range : slice_range (written old at new) at (at + length new) ≡ new
   written_range =
       ap (λ (l : List ℕ). take (at + length new - at) (drop at l)) (append_assoc (take at old) new (drop (at + length new) old))
       ∙ ap (λ (l : List ℕ). take (at + length new - at) l) (drop_at (take at old) (new ++ drop (at + length new) old) at front)
       ∙ take_at new (drop (at + length new) old) (at + length new - at) (omega arith)
 
--- a tear that is no longer than the write
+-- A tear that is no longer than the write.
 pub torn_write : (old : List ℕ) (at : ℕ) (new tear left : List ℕ) → at + length new ≤ length old → left ≡ written old at (take (length new) tear) → Torn old at new left
 torn_write old at new tear left fits is =
     let short = take (length new) tear in

@@ -5,8 +5,9 @@ use Rattle.std.proofs.lemmas.Nat.{from_le_bytes-to_le_bytes_4}
 use Rattle.std.proofs.lemmas.List.{take-take}
 use Rattle.std.proofs.lemmas.Slice.{between_is}
 use Rattle.dfu_slots.specs.Medium.{MediumState}
-use Rattle.dfu_slots.specs.Layout.{capacity, HasTwoSlots, slot, generation, header, HasHeader}
-use Rattle.dfu_slots.specs.Image.{ActiveAt, Active, active_at, gate_of}
+use Rattle.dfu_slots.specs.Layout.{capacity, slot, generation, header, HasHeader}
+use Rattle.dfu_slots.specs.Image.{Active, active_at, gate_of}
+use Rattle.dfu_slots.proofs.Stands.{HasTwoSlots, ActiveAt, standing}
 use Rattle.dfu_slots.proofs.Newest.{places_are, active_end}
 use Rattle.dfu_slots.proofs.Parts.{data_length}
 
@@ -21,33 +22,38 @@ module _ (g : ℕ) (bytes : List ℕ) (p : ℕ) (here : p ≡ active_at g bytes)
   place : mine ≡ p
   place = (places_are g bytes mine other image a).0 ∙ sym here
 
+  -- The slot that the test finds has the header of the active image.
   pub active_header : HasHeader (slot g bytes p) (length image)
-  active_header = subst (λ (q : ℕ). HasHeader (slot g bytes q) (length image)) place a.is_active.header_is
+  active_header = subst (λ (q : ℕ). HasHeader (slot g bytes q) (length image)) place a.header_is
 
   room_is : length (slot g bytes p).data_bytes ≡ capacity g bytes
   room_is = data_length g bytes p (omega (arith, here, active_end g bytes sized)) (omega (arith, sized.room))
 
+  -- The active image fits in the data of a slot.
   pub active_fits : length image ≤ capacity g bytes
   active_fits = omega (arith, active_header.fits, room_is)
 
+  -- The length that a header of that slot tells is that of the active image.
   pub active_len_is : (len : ℕ) → HasHeader (slot g bytes p) len → len ≡ length image
   active_len_is len head =
       header_length (generation (slot g bytes p)) len (length image) (omega (arith, head.fits, room_is, sized.bound)) (omega (arith, active_fits, sized.bound)) (sym head.well_formed ∙ active_header.well_formed)
 
+  -- The active image is the front of that slot's data.
   pub image_at : image ≡ take (length image) (slot g bytes p).data_bytes
-  image_at = a.is_active.image_is ∙ ap (λ (q : ℕ). take (length image) (slot g bytes q).data_bytes) place
+  image_at = a.image_is ∙ ap (λ (q : ℕ). take (length image) (slot g bytes q).data_bytes) place
 
+  -- A part of that data within the image is that part of the image.
   pub active_part : (i j : ℕ) → j ≤ length image → slice_range (slot g bytes p).data_bytes i j ≡ slice_range image i j
   active_part i j le =
       let whole = (slot g bytes p).data_bytes in
       between_is whole i j ∙ ap (λ (l : List ℕ). drop i l) (sym (take-take j (length image) whole le) ∙ ap (λ (l : List ℕ). take j l) (sym image_at)) ∙ sym (between_is image i j)
 
--- no medium has two active images
+-- No medium has two active images.
 pub active_unique : (m : MediumState) (x y : List ℕ) → Active m x → Active m y → x ≡ y
 active_unique m x y first second =
     let g = gate_of m in
     let here = active_at g m.bytes in
-    let one = image_at g m.bytes here refl first.at first.spare x first.stands in
-    let two = image_at g m.bytes here refl second.at second.spare y second.stands in
-    let same : length y ≡ length x = active_len_is g m.bytes here refl first.at first.spare x first.stands (length y) (active_header g m.bytes here refl second.at second.spare y second.stands) in
+    let one = image_at g m.bytes here refl first.at first.spare x (standing first) in
+    let two = image_at g m.bytes here refl second.at second.spare y (standing second) in
+    let same : length y ≡ length x = active_len_is g m.bytes here refl first.at first.spare x (standing first) (length y) (active_header g m.bytes here refl second.at second.spare y (standing second)) in
     one ∙ ap (λ (n : ℕ). take n (slot g m.bytes here).data_bytes) (sym same) ∙ sym two

@@ -5,6 +5,7 @@ use Rattle.std.proofs.Math.Seq.{take-append-add}
 use Rattle.dfu_slots.specs.Medium.{written}
 use Rattle.dfu_slots.proofs.Torn.{written_torn, drop_past}
 
+-- A front that is longer than the first of two lists goes on in the second.
 pub take_past : (xs ys : List ℕ) (n : ℕ) → length xs ≤ n → take n (xs ++ ys) ≡ xs ++ take (n - length xs) ys
 take_past xs ys n le = let e : n ≡ length xs + (n - length xs) = omega arith in ap (λ (k : ℕ). take k (xs ++ ys)) e ∙ take-append-add xs ys (n - length xs)
 
@@ -27,13 +28,13 @@ take_written old m k new le fits =
     ∙ ap (λ (l : List ℕ). take k old ++ new ++ l) (sym (drop-take (k + n) (m - (k + n)) old) ∙ ap (λ (j : ℕ). drop (k + n) (take j old)) (sym e))
     ∙ ap (λ (l : List ℕ). l ++ new ++ drop (k + n) (take m old)) (sym (take-take k m old (omega arith)))
 
--- a range that was written within it
+-- A range that was written within it.
 pub written_within : (old : List ℕ) (p q k : ℕ) (new : List ℕ) → p + k + length new ≤ q → q ≤ length old → slice_range (written old (p + k) new) p q ≡ written (slice_range old p q) k new
 written_within old p q k new le fits =
     ap (λ (l : List ℕ). take (q - p) l) (drop_written old p k new (omega arith))
     ∙ take_written (drop p old) (q - p) k new (omega arith) (omega (arith, length-drop p old))
 
--- two writes, one right after the other, are one
+-- Two writes, one right after the other, are one.
 pub written_written : (d : List ℕ) (p : ℕ) (a b : List ℕ) → p + length a + length b ≤ length d → written (written d p a) (p + length a) b ≡ written d p (a ++ b)
 written_written d p a b fits =
     let torn = written_torn d p a (omega arith) in
@@ -45,7 +46,7 @@ written_written d p a b fits =
     let e : end ≡ p + length (a ++ b) = omega (arith, length-append a b) in
     (λ i. first i ++ b ++ last i) ∙ ap (λ (l : List ℕ). l ++ drop end d) (append_assoc (take p d) a b) ∙ ap (λ (n : ℕ). take p d ++ (a ++ b) ++ drop n d) e
 
--- a write of no bytes changes nothing
+-- A write of no bytes changes nothing.
 pub written_nil : (l : List ℕ) (k : ℕ) → written l k [] ≡ l
 written_nil l k =
     let e : k + 0 ≡ k = omega arith in

@@ -18,38 +18,38 @@ Changes old call (Err Failed) now = Calls old call false now
 Changes old call (Err TooLarge) now = now ≡ old
 Changes old call (Err NotBegun) now = now ≡ old
 
--- the medium has a length that two slots can have, and each has room for the image
+-- The medium has a length that two slots can have, and each has room for the image.
 pub record CanFormat (m : MediumState) (image : List ℕ) : Type 0 where
   pub sized : IsSized m
   pub fits : length image ≤ capacity_of m
 
--- this is the first thing that is wrong with a medium and an image, and nothing is wrong with them where a write failed
+-- This is the first thing that is wrong with a medium and an image, and nothing is wrong with them where a write failed.
 abbrev pub IsFormatFault : FormatFault → MediumState → List ℕ → Type 0
 IsFormatFault NotSized m image = ¬ IsSized m
 IsFormatFault ImageTooLarge m image = IsSized m × (capacity_of m < length image)
 IsFormatFault FormatFailed m image = CanFormat m image
 
--- one of the two slots counts, and the other one does not or is one generation behind
+-- One of the two slots counts, and the other one does not, or is one generation behind.
 pub record HasNewest (m : MediumState) : Type 0 where
   pub at : ℕ
   pub other : ℕ
   pub places : ArePlaces m.bytes at other
   pub newest : IsNewest (slot_of m at) (slot_of m other)
 
--- one of the two slots is the newest, and has no well-formed header
+-- One of the two slots is the newest, and has no well-formed header.
 pub record HasBadHeader (m : MediumState) : Type 0 where
   pub newest : HasNewest m
   pub none : (len : ℕ) → ¬ HasHeader (slot_of m newest.at) len
 
--- the first slot of a medium counts
+-- The first slot of a medium counts.
 abbrev pub FirstCounts : MediumState → Type 0
 FirstCounts m = Counts (slot_of m 0)
 
--- the second slot of a medium counts
+-- The second slot of a medium counts.
 abbrev pub SecondCounts : MediumState → Type 0
 SecondCounts m = Counts (slot_of m (slot_size m.bytes))
 
--- this is the first thing that is wrong with a medium
+-- This is the first thing that is wrong with a medium.
 abbrev pub IsOpenFault : OpenFault → MediumState → Type 0
 IsOpenFault WrongSize m = ¬ IsSized m
 IsOpenFault NoImage m = IsSized m × (¬ FirstCounts m) × (¬ SecondCounts m)

@@ -2,18 +2,18 @@
 use Rattle.std.specs.Prelude.{◌≡◌, ℕ, ◌+◌, ◌-◌, ◌*◌, Bool, true, false, List, [], ◌∷◌, ◌++◌, length}
 use Rattle.std.proofs.Common.{inl, inr, refl, sym, ap, ◌∙◌, subst, arith}
 use Rattle.dfu_slots.specs.Units.{gate_size}
-use Rattle.dfu_slots.specs.Medium.{MediumState, Fuse, Works, Breaks, written, Write, Wrote, FailedWrite, AllWrites, BrokenWrites}
+use Rattle.dfu_slots.specs.Medium.{MediumState, Fuse, MayWork, MayFail, written, Write, Wrote, FailedWrite, AllWrites, BrokenWrites}
 use Rattle.dfu_slots.specs.Medium.Fuse.{Unknown, Whole, Armed, Stopped}
 use Rattle.dfu_slots.specs.Image.{spare_at}
 use Rattle.dfu_slots.specs.Writes.{begin_writes, put_writes, put_rest, part_writes, commit_writes}
 use Rattle.dfu_slots.specs.Seen.{SlotsState, Call, Begin, Put, Commit, writes_of, next_held, CallWorked, CallFailed, Called}
 
--- a fuse says what the next writes will do
+-- A fuse says what the next writes will do.
 abbrev pub IsKnown : Fuse → Type 0
 IsKnown Unknown = ⊥
 IsKnown fuse = Unit {0}
 
--- two media have the same bytes, the same fuse and the same unit
+-- Two media have the same bytes, the same fuse and the same unit.
 pub record Same (a b : MediumState) : Type 0 where
   pub bytes : a.bytes ≡ b.bytes
   pub fuse : a.fuse ≡ b.fuse
@@ -21,34 +21,34 @@ pub record Same (a b : MediumState) : Type 0 where
 
 -- One write.
 
--- a fuse that counts to one number counts to the other
+-- A fuse that counts to one number counts to the other.
 armed_more : {more less : ℕ} (tear : List ℕ) (stop : Bool) → more + 1 ≡ less + 1 → Armed more tear stop ≡ Armed less tear stop
 armed_more tear stop e = ap (λ n. Armed n tear stop) (omega (arith, e))
 
--- the fuse after a write that works is one
-works_one : (f g h : Fuse) → Works f g → Works f h → g ≡ h
+-- The fuse after a write that works is one.
+works_one : (f g h : Fuse) → MayWork f g → MayWork f h → g ≡ h
 works_one Unknown g h a b = a ∙ sym b
 works_one Whole g h a b = a ∙ sym b
 works_one (Armed n tear stop) g h (m, e, a) (k, f, b) = a ∙ armed_more tear stop (sym e ∙ f) ∙ sym b
 works_one Stopped g h a b = absurd a
 
--- and it is known
-works_known : (f g : Fuse) → IsKnown f → Works f g → IsKnown g
+-- And it is known.
+works_known : (f g : Fuse) → IsKnown f → MayWork f g → IsKnown g
 works_known Unknown g k a = absurd k
 works_known Whole g k a = subst IsKnown (sym a) tt
 works_known (Armed n tear stop) g k (m, e, a) = subst IsKnown (sym a) tt
 works_known Stopped g k a = absurd a
 
--- what a write that fails leaves is one, and so is the fuse after it
-breaks_one : (f : Fuse) (old : List ℕ) (at : ℕ) (new l r : List ℕ) (g h : Fuse) → IsKnown f → Breaks f old at new l g → Breaks f old at new r h → (l ≡ r) × (g ≡ h)
+-- What a write that fails leaves is one, and so is the fuse after it.
+breaks_one : (f : Fuse) (old : List ℕ) (at : ℕ) (new l r : List ℕ) (g h : Fuse) → IsKnown f → MayFail f old at new l g → MayFail f old at new r h → (l ≡ r) × (g ≡ h)
 breaks_one Unknown old at new l r g h k a b = absurd k
 breaks_one Whole old at new l r g h k a b = absurd a
 breaks_one (Armed n tear true) old at new l r g h k a b = (a.1 ∙ sym b.1, a.2 ∙ sym b.2)
 breaks_one (Armed n tear false) old at new l r g h k a b = (a.1 ∙ sym b.1, a.2 ∙ sym b.2)
 breaks_one Stopped old at new l r g h k a b = (a.0 ∙ sym b.0, a.1 ∙ sym b.1)
 
--- a write works or fails, and never both
-not_both : (f g h : Fuse) (old : List ℕ) (at : ℕ) (new l : List ℕ) → IsKnown f → Works f g → Breaks f old at new l h → ⊥
+-- A write works or fails, and never both.
+not_both : (f g h : Fuse) (old : List ℕ) (at : ℕ) (new l : List ℕ) → IsKnown f → MayWork f g → MayFail f old at new l h → ⊥
 not_both Unknown g h old at new l k a b = k
 not_both Whole g h old at new l k a b = b
 not_both (Armed n tear true) g h old at new l k (m, e, a) b = omega (arith, e, b.0)
@@ -56,46 +56,46 @@ not_both (Armed n tear false) g h old at new l k (m, e, a) b = omega (arith, e, 
 not_both Stopped g h old at new l k a b = a
 
 module _ (w : Write) (s t x y : MediumState) (same : Same s t) where
-  -- where the fuse is known on one, it is on the other
+  -- Where the fuse is known on one, it is on the other.
   known_on : IsKnown s.fuse → IsKnown t.fuse
   known_on k = subst IsKnown same.fuse k
 
-  -- Ok on both, the write leaves the same
+  -- Ok on both, the write leaves the same.
   wrote_same : Wrote s w.at w.bytes x → Wrote t w.at w.bytes y → Same x y
   wrote_same a b = record {
     bytes = a.bytes ∙ ap (λ (l : List ℕ). written l w.at w.bytes) same.bytes ∙ sym b.bytes;
-    fuse = works_one t.fuse x.fuse y.fuse (subst (λ (f : Fuse). Works f x.fuse) same.fuse a.fuse) b.fuse;
+    fuse = works_one t.fuse x.fuse y.fuse (subst (λ (f : Fuse). MayWork f x.fuse) same.fuse a.fuse) b.fuse;
     unit = a.unit ∙ same.unit ∙ sym b.unit;
   }
 
-  -- Failed on both, it leaves the same too
+  -- Failed on both, it leaves the same too.
   failed_same : IsKnown s.fuse → FailedWrite s w.at w.bytes x → FailedWrite t w.at w.bytes y → Same x y
   failed_same k a b =
-      let moved : Breaks t.fuse t.bytes w.at w.bytes x.bytes x.fuse =
-      subst (λ (f : Fuse). Breaks f t.bytes w.at w.bytes x.bytes x.fuse) same.fuse (subst (λ (l : List ℕ). Breaks s.fuse l w.at w.bytes x.bytes x.fuse) same.bytes a.fuse) in
+      let moved : MayFail t.fuse t.bytes w.at w.bytes x.bytes x.fuse =
+      subst (λ (f : Fuse). MayFail f t.bytes w.at w.bytes x.bytes x.fuse) same.fuse (subst (λ (l : List ℕ). MayFail s.fuse l w.at w.bytes x.bytes x.fuse) same.bytes a.fuse) in
       let both = breaks_one t.fuse t.bytes w.at w.bytes x.bytes y.bytes x.fuse y.fuse (known_on k) moved b.fuse in
       record { bytes = both.0; fuse = both.1; unit = a.unit ∙ same.unit ∙ sym b.unit }
 
-  -- it is not Ok on one and Failed on the other
+  -- It is not Ok on one and Failed on the other.
   one_way : IsKnown s.fuse → Wrote s w.at w.bytes x → FailedWrite t w.at w.bytes y → ⊥
-  one_way k a b = not_both t.fuse x.fuse y.fuse t.bytes w.at w.bytes y.bytes (known_on k) (subst (λ (f : Fuse). Works f x.fuse) same.fuse a.fuse) b.fuse
+  one_way k a b = not_both t.fuse x.fuse y.fuse t.bytes w.at w.bytes y.bytes (known_on k) (subst (λ (f : Fuse). MayWork f x.fuse) same.fuse a.fuse) b.fuse
 
--- after a write that works the fuse is known
+-- After a write that works the fuse is known.
 known_next : (w : Write) (s x : MediumState) → IsKnown s.fuse → Wrote s w.at w.bytes x → IsKnown x.fuse
 known_next w s x k a = works_known s.fuse x.fuse k a.fuse
 
--- the same holds the other way round
+-- The same holds the other way round.
 flip : (s t : MediumState) → Same s t → Same t s
 flip s t same = record { bytes = sym same.bytes; fuse = sym same.fuse; unit = sym same.unit }
 
 -- Lists of writes.
 
--- the fuse stays known
+-- The fuse stays known.
 pub all_known : (ws : List Write) (s x : MediumState) → IsKnown s.fuse → AllWrites s ws x → IsKnown x.fuse
 all_known [] s x k same = subst IsKnown (sym (ap (λ (m : MediumState). m.fuse) same)) k
 all_known (w ∷ ws) s x k (p, a, more) = all_known ws p x (known_next w s p k a) more
 
--- the same writes from the same medium, all Ok, leave the same medium
+-- The same writes from the same medium, all Ok, leave the same medium.
 pub all_same_end : (ws : List Write) (s t x y : MediumState) → Same s t → AllWrites s ws x → AllWrites t ws y → Same x y
 all_same_end [] s t x y same a b = record {
   bytes = ap (λ (m : MediumState). m.bytes) a ∙ same.bytes ∙ sym (ap (λ (m : MediumState). m.bytes) b);
@@ -104,13 +104,13 @@ all_same_end [] s t x y same a b = record {
 }
 all_same_end (w ∷ ws) s t x y same (p, a, more) (q, b, rest) = all_same_end ws p q x y (wrote_same w s t p q same a b) more rest
 
--- they are not all Ok here and broken off there
+-- They are not all Ok here and broken off there.
 pub never_both : (ws : List Write) (s t x y : MediumState) → Same s t → IsKnown s.fuse → AllWrites s ws x → BrokenWrites t ws y → ⊥
 never_both [] s t x y same k a b = b
 never_both (w ∷ ws) s t x y same k (p, a, more) (inl failed) = one_way w s t p y same k a failed
 never_both (w ∷ ws) s t x y same k (p, a, more) (inr (q, b, rest)) = never_both ws p q x y (wrote_same w s t p q same a b) (known_next w s p k a) more rest
 
--- broken off, they leave the same medium too
+-- Broken off, they leave the same medium too.
 pub broken_same_end : (ws : List Write) (s t x y : MediumState) → Same s t → IsKnown s.fuse → BrokenWrites s ws x → BrokenWrites t ws y → Same x y
 broken_same_end [] s t x y same k a b = absurd a
 broken_same_end (w ∷ ws) s t x y same k (inl a) (inl b) = failed_same w s t x y same k a b
@@ -120,17 +120,17 @@ broken_same_end (w ∷ ws) s t x y same k (inr (p, a, more)) (inr (q, b, rest)) 
 
 -- Calls.
 
--- two stores stand on the same medium, hold the same bytes back, and their puts end at the same place
+-- Two stores stand on the same medium, hold the same bytes back, and their puts end at the same place.
 pub record SameStore (a b : SlotsState) : Type 0 where
   pub medium : Same a.medium b.medium
   pub held : a.held ≡ b.held
   pub put_end : a.put_end ≡ b.put_end
 
--- the same holds the other way round
+-- The same holds the other way round.
 flip_store : (s t : SlotsState) → SameStore s t → SameStore t s
 flip_store s t same = record { medium = flip s.medium t.medium same.medium; held = sym same.held; put_end = sym same.put_end }
 
--- the same stores have the same writes
+-- The same stores have the same writes.
 writes_same : (s t : SlotsState) (call : Call) → SameStore s t → writes_of s call ≡ writes_of t call
 writes_same s t Begin same = λ i. begin_writes (gate_size (same.medium.unit i)) (same.medium.bytes i)
 writes_same s t (Put at bytes) same =
@@ -145,22 +145,22 @@ writes_same s t (Commit len) same =
     (same.held i)
     ++ commit_writes (gate_size (same.medium.unit i)) (same.medium.bytes i) len
 
--- they hold the same back after a call
+-- They hold the same back after a call.
 held_same : (s t : SlotsState) (call : Call) → SameStore s t → next_held s call ≡ next_held t call
 held_same s t Begin same = refl
 held_same s t (Put at bytes) same = λ i. put_rest (same.medium.unit i) (same.held i) bytes
 held_same s t (Commit len) same = refl
 
 module _ (s t x y : SlotsState) (call : Call) (same : SameStore s t) where
-  -- so the writes of a call on one are those of the call on the other
+  -- So the writes of a call on one are those of the call on the other.
   call_all : CallWorked t call y → AllWrites t.medium (writes_of s call) y.medium
   call_all b = subst (λ (ws : List Write). AllWrites t.medium ws y.medium) (sym (writes_same s t call same)) b.writes
 
-  -- and so are those up to one that failed
+  -- And so are those up to one that failed.
   call_broken : CallFailed t call y → BrokenWrites t.medium (writes_of s call) y.medium
   call_broken b = subst (λ (ws : List Write). BrokenWrites t.medium ws y.medium) (sym (writes_same s t call same)) b.writes
 
-  -- Ok on both, the call leaves the same store
+  -- Ok on both, the call leaves the same store.
   worked_same : CallWorked s call x → CallWorked t call y → SameStore x y
   worked_same a b = record {
     medium = all_same_end (writes_of s call) s.medium t.medium x.medium y.medium same.medium a.writes (call_all b);
@@ -168,7 +168,7 @@ module _ (s t x y : SlotsState) (call : Call) (same : SameStore s t) where
     put_end = a.end_is ∙ sym b.end_is;
   }
 
-  -- failed on both, it leaves the same store too
+  -- Failed on both, it leaves the same store too.
   stopped_same : IsKnown s.medium.fuse → CallFailed s call x → CallFailed t call y → SameStore x y
   stopped_same k a b = record {
     medium = broken_same_end (writes_of s call) s.medium t.medium x.medium y.medium same.medium k a.writes (call_broken b);
@@ -176,17 +176,17 @@ module _ (s t x y : SlotsState) (call : Call) (same : SameStore s t) where
     put_end = a.end_is ∙ sym b.end_is;
   }
 
-  -- it is not Ok on one and failed on the other
+  -- It is not Ok on one and failed on the other.
   call_one_way : IsKnown s.medium.fuse → CallWorked s call x → CallFailed t call y → ⊥
   call_one_way k a b = never_both (writes_of s call) s.medium t.medium x.medium y.medium same.medium k a.writes (call_broken b)
 
--- after a call that is Ok the fuse is known
+-- After a call that is Ok the fuse is known.
 call_known : (s x : SlotsState) (call : Call) → IsKnown s.medium.fuse → CallWorked s call x → IsKnown x.medium.fuse
 call_known s x call k a = all_known (writes_of s call) s.medium x.medium k a.writes
 
 -- Lists of calls.
 
--- the same calls from the same store, with the same outcome, leave the same store
+-- The same calls from the same store, with the same outcome, leave the same store.
 pub called_same_end : (calls : List Call) (ok : Bool) (s t x y : SlotsState) → SameStore s t → IsKnown s.medium.fuse → Called s calls ok x → Called t calls ok y → SameStore x y
 called_same_end [] true s t x y same k a b = subst (λ (z : SlotsState). SameStore z y) (sym a) (subst (λ (z : SlotsState). SameStore s z) (sym b) same)
 called_same_end [] false s t x y same k a b = absurd a
@@ -199,7 +199,7 @@ called_same_end (call ∷ calls) false s t x y same k (inr (p, a, more)) (inl b)
 called_same_end (call ∷ calls) false s t x y same k (inr (p, a, more)) (inr (q, b, rest)) =
     called_same_end calls false p q x y (worked_same s t p q call same a b) (call_known s p call k a) more rest
 
--- they are not all Ok here and broken off there
+-- They are not all Ok here and broken off there.
 pub called_never_both : (calls : List Call) (s t x y : SlotsState) → SameStore s t → IsKnown s.medium.fuse → Called s calls true x → Called t calls false y → ⊥
 called_never_both [] s t x y same k a b = b
 called_never_both (call ∷ calls) s t x y same k (p, a, more) (inl b) = call_one_way s t p y call same k a b

@@ -1,91 +1,90 @@
 -- Which image of a medium is the active one.
 use Rattle.std.specs.Prelude.{◌≡◌, ◌⊎◌, ◌&&◌, ◌||◌, not, ℕ, ◌*◌, ◌^◌, ◌<◌, ◌≤◌, Bool, List, length, take, if◌then◌else◌, ◌==◌}
-use Rattle.dfu_slots.specs.Units.{gate_size, IsWhole}
+use Rattle.dfu_slots.specs.Units.{gate_size, IsMultiple}
 use Rattle.dfu_slots.specs.Medium.{MediumState, Fuse}
-use Rattle.dfu_slots.specs.Layout.{Slot, slot, slot_size, HasTwoSlots, capacity, ArePlaces, OPEN, IsOpen, generation, next_generation, HasHeader}
+use Rattle.dfu_slots.specs.Layout.{Slot, slot, slot_size, capacity, ArePlaces, OPEN, IsOpen, generation, next_generation, HasHeader}
 
--- a slot counts where its gate is open
-abbrev pub Counts : Slot → Type 0
-Counts s = IsOpen s
-
--- a slot counts, and the other one does not, or is one generation behind
-pub record IsNewest (mine other : Slot) : Type 0 where
-  pub counts : Counts mine
-  pub newer : ¬ Counts other ⊎ generation mine ≡ next_generation (generation other)
-
--- the first of two slots is the active one, and has this image
-pub record IsActive (mine other : Slot) (image : List ℕ) : Type 0 where
-  pub newest : IsNewest mine other
-  pub header_is : HasHeader mine (length image)
-  pub image_is : image ≡ take (length image) mine.data_bytes
-
--- the slot at one of the two places is the active one, and has this image
-pub record ActiveAt (g : ℕ) (bytes : List ℕ) (at spare : ℕ) (image : List ℕ) : Type 0 where
-  pub sized : HasTwoSlots g bytes
-  pub places : ArePlaces bytes at spare
-  pub is_active : IsActive (slot g bytes at) (slot g bytes spare) image
-
--- how many bytes the gate unit and the header unit of a medium have each
+-- How many bytes the gate unit and the header unit of a medium have each.
 abbrev pub gate_of : MediumState → ℕ
 gate_of m = gate_size m.unit
 
--- the slot of a medium that begins at this place
+-- The slot of a medium that begins at this place.
 abbrev pub slot_of : MediumState → ℕ → Slot
 slot_of m at = slot (gate_of m) m.bytes at
 
--- how many bytes of data each slot of a medium has
+-- How many bytes of data each slot of a medium has.
 abbrev pub capacity_of : MediumState → ℕ
 capacity_of m = capacity (gate_of m) m.bytes
 
--- the medium has a length that two slots can have, with whole units of data each
+-- The medium is two slots of one size, each with 1 to 2^24 bytes of data in whole units.
 pub record IsSized (m : MediumState) : Type 0 where
   pub even : length m.bytes ≡ 2 * slot_size m.bytes
   pub room : 2 * gate_of m < slot_size m.bytes
   pub bound : capacity_of m ≤ 2 ^ 24
-  pub whole : IsWhole m.unit (capacity_of m)
+  pub whole : IsMultiple m.unit (capacity_of m)
 
--- this is the active image of the medium
+-- A slot counts where its gate is open.
+abbrev pub Counts : Slot → Type 0
+Counts s = IsOpen s
+
+-- The first of two slots counts, and the other one does not, or is one generation behind.
+pub record IsNewest (mine other : Slot) : Type 0 where
+  pub counts : Counts mine
+  pub newer : ¬ Counts other ⊎ generation mine ≡ next_generation (generation other)
+
+-- This is the active image of the medium: so many bytes from the front of the newest slot's data as that slot's header says.
 pub record Active (m : MediumState) (image : List ℕ) : Type 0 where
+  pub sized : IsSized m
   pub at : ℕ
   pub spare : ℕ
-  pub stands : ActiveAt (gate_of m) m.bytes at spare image
-  pub whole : IsWhole m.unit (capacity_of m)
+  pub places : ArePlaces m.bytes at spare
+  pub newest : IsNewest (slot_of m at) (slot_of m spare)
+  pub header_is : HasHeader (slot_of m at) (length image)
+  pub image_is : image ≡ take (length image) (slot_of m at).data_bytes
 
--- the medium has an active image
+-- The medium has an active image.
 pub record HasImage (m : MediumState) : Type 0 where
   pub image : List ℕ
   pub active : Active m image
 
--- which image is active does not depend on the fuse
+-- Which image is active does not depend on the fuse.
 pub active_fused : (m : MediumState) (fuse : Fuse) (image : List ℕ) → Active m image → Active (record m { fuse = fuse }) image
-active_fused m fuse image active = record { at = active.at; spare = active.spare; stands = active.stands; whole = active.whole }
+active_fused m fuse image active = record {
+  sized = record { even = active.sized.even; room = active.sized.room; bound = active.sized.bound; whole = active.sized.whole };
+  at = active.at;
+  spare = active.spare;
+  places = active.places;
+  newest = active.newest;
+  header_is = active.header_is;
+  image_is = active.image_is;
+}
 
--- nor whether there is one
+-- Nor does it whether there is one.
 pub has_image_fused : (m : MediumState) (fuse : Fuse) → HasImage m → HasImage (record m { fuse = fuse })
 has_image_fused m fuse has = record { image = has.image; active = active_fused m fuse has.image has.active }
 
 -- The same as tests, which find the places of the two slots.
 
--- whether a slot counts
+-- Whether a slot counts.
 abbrev pub counts : Slot → Bool
 counts s = s.gate == OPEN
 
--- whether a slot counts, and the other one does not or is one generation behind
+-- Whether the first of two slots counts, and the other one does not, or is one generation behind.
 abbrev pub is_newest : Slot → Slot → Bool
 is_newest mine other = counts mine && (not (counts other) || (generation mine == next_generation (generation other)))
 
--- whether the first slot is the active one
+-- Whether the first slot is the active one.
 abbrev pub first_is_active : ℕ → List ℕ → Bool
 first_is_active g bytes = is_newest (slot g bytes 0) (slot g bytes (slot_size bytes))
 
--- where the active slot stands
+-- Where the active slot stands.
 abbrev pub active_at : ℕ → List ℕ → ℕ
 active_at g bytes = if first_is_active g bytes then 0 else slot_size bytes
 
--- where the spare slot stands
+-- Where the spare slot stands.
 abbrev pub spare_at : ℕ → List ℕ → ℕ
 spare_at g bytes = if first_is_active g bytes then slot_size bytes else 0
 
--- what stands in the spare slot
+-- What stands in the spare slot.
 abbrev pub spare : ℕ → List ℕ → Slot
 spare g bytes = slot g bytes (spare_at g bytes)

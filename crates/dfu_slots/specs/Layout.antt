@@ -3,21 +3,15 @@
 use Rattle.std.specs.Prelude.{◌≡◌, ◌⊎◌, ℕ, ◌+◌, ◌-◌, ◌*◌, ◌/◌, ◌%◌, ◌^◌, ◌≤◌, ◌<◌, List, ◌∷◌, ◌++◌, length, replicate, slice_index, slice_range}
 use Rattle.std.specs.Int.{w32, to_le_bytes}
 
--- a slot is one half of the medium
+-- A slot is one half of the medium.
 abbrev pub slot_size : List ℕ → ℕ
 slot_size bytes = length bytes / 2
 
--- the data of a slot is what the gate unit and the header unit leave of it
+-- The data of a slot is what the gate unit and the header unit leave of it.
 abbrev pub capacity : ℕ → List ℕ → ℕ
 capacity g bytes = slot_size bytes - 2 * g
 
--- the medium is two slots of one size, with 1 to 2^24 bytes of data each
-pub record HasTwoSlots (g : ℕ) (bytes : List ℕ) : Type 0 where
-  pub even : length bytes ≡ 2 * slot_size bytes
-  pub room : 2 * g < slot_size bytes
-  pub bound : capacity g bytes ≤ 2 ^ 24
-
--- one of the two places is the first slot's, and the other one the second's
+-- One of the two places is the first slot's, and the other one the second's.
 abbrev pub ArePlaces : List ℕ → ℕ → ℕ → Type 0
 ArePlaces bytes at other = ((at ≡ 0) × (other ≡ slot_size bytes)) ⊎ ((at ≡ slot_size bytes) × (other ≡ 0))
 
@@ -27,7 +21,7 @@ pub record Slot : Type 0 where
   pub header : List ℕ
   pub data_bytes : List ℕ
 
--- the slot that begins at this place
+-- The slot that begins at this place.
 abbrev pub slot : ℕ → List ℕ → ℕ → Slot
 slot g bytes at = record {
   gate = slice_index bytes at;
@@ -35,35 +29,35 @@ slot g bytes at = record {
   data_bytes = slice_range bytes (at + 2 * g) (at + slot_size bytes);
 }
 
--- the byte of an open gate, A5h
+-- The byte of an open gate, A5h.
 abbrev pub OPEN : ℕ
 OPEN = 165
 
--- the gate is open, and any other byte is a closed one
+-- The gate is open, and any other byte is a closed one.
 abbrev pub IsOpen : Slot → Type 0
 IsOpen s = s.gate ≡ OPEN
 
--- the generation is the first byte of the header
+-- The generation is the first byte of the header.
 abbrev pub generation : Slot → ℕ
 generation s = slice_index s.header 0
 
--- generations go round after 255
+-- Generations go round after 255.
 abbrev pub next_generation : ℕ → ℕ
 next_generation gen = (gen + 1) % 256
 
--- the header of an image: generation, version 1, two zero bytes, length, eight zero bytes
+-- The header of an image: generation, version 1, two zero bytes, length, eight zero bytes.
 abbrev pub header : ℕ → ℕ → List ℕ
 header gen len = gen ∷ 1 ∷ 0 ∷ 0 ∷ to_le_bytes w32 len ++ replicate 8 0
 
--- a slot has a well-formed header, of an image that its data has room for
+-- A slot has a well-formed header, of an image that its data has room for.
 pub record HasHeader (s : Slot) (len : ℕ) : Type 0 where
   pub well_formed : s.header ≡ header (generation s) len
   pub fits : len ≤ length s.data_bytes
 
--- a gate unit as it is written: the gate, and then zeros
+-- A gate unit as it is written: the gate, and then zeros.
 abbrev pub gate_unit : ℕ → ℕ → List ℕ
 gate_unit g gate = gate ∷ replicate (g - 1) 0
 
--- a header unit as it is written: the header, and then zeros
+-- A header unit as it is written: the header, and then zeros.
 abbrev pub header_unit : ℕ → ℕ → ℕ → List ℕ
 header_unit g gen len = header gen len ++ replicate (g - 16) 0

@@ -4,8 +4,7 @@ pub mod Layout
 pub mod Image
 pub mod Writes
 pub mod Seen
-pub mod Store
 pub mod Changes
-pub mod Sim
 pub mod Unarmed
 pub mod Determined
+pub mod inside

@@ -12,59 +12,59 @@ pub record SlotsState : Type 0 where
   pub held : List ℕ
   pub put_end : ℕ
 
--- the store on this medium that holds these bytes back, and whose puts end here
+-- The store on this medium that holds these bytes back, and whose puts end here.
 abbrev pub store_of : MediumState → List ℕ → ℕ → SlotsState
 store_of m held put_end = record { medium = m; held = held; put_end = put_end }
 
--- the store on this medium before anything is put
+-- The store on this medium before anything is put.
 abbrev pub store_on : MediumState → SlotsState
 store_on m = store_of m [] 0
 
--- the store over the same bytes, with another fuse
+-- The store over the same bytes, with another fuse.
 abbrev pub fused : SlotsState → Fuse → SlotsState
 fused s fuse = record s { medium = record s.medium { fuse = fuse } }
 
--- the store after its power was off: it stands over the same bytes, with this fuse, and what was put is forgotten
+-- The store after its power was off: it stands over the same bytes, with this fuse, and what was put is forgotten.
 abbrev pub restarted : SlotsState → Fuse → SlotsState
 restarted s fuse = store_on (record s.medium { fuse = fuse })
 
--- the length that stands in a slot's header
+-- The length that stands in a slot's header.
 abbrev pub header_length : Slot → ℕ
 header_length s = from_le_bytes w32 (take 4 (drop 4 s.header))
 
--- what stands in the active slot
+-- What stands in the active slot.
 abbrev pub active_slot : SlotsState → Slot
 active_slot s = slot (gate_of s.medium) s.medium.bytes (active_at (gate_of s.medium) s.medium.bytes)
 
--- what stands in the spare slot
+-- What stands in the spare slot.
 abbrev pub spare_slot : SlotsState → Slot
 spare_slot s = spare (gate_of s.medium) s.medium.bytes
 
--- the active image
+-- The active image.
 unfoldable pub image_of : SlotsState → List ℕ
 image_of s = take (header_length (active_slot s)) (active_slot s).data_bytes
 
--- where the held bytes belong in the spare's data
+-- Where the held bytes belong in the spare's data.
 abbrev pub held_at : SlotsState → ℕ
 held_at s = s.put_end - length s.held
 
--- where this place of the spare's data is on the medium
+-- Where this place of the spare's data is on the medium.
 abbrev pub data_place : SlotsState → ℕ → ℕ
 data_place s at = spare_at (gate_of s.medium) s.medium.bytes + 2 * gate_of s.medium + at
 
--- the data of the spare slot, with the held bytes at their place
+-- The data of the spare slot, with the held bytes at their place.
 unfoldable pub spare_of : SlotsState → List ℕ
 spare_of s = written (spare_slot s).data_bytes (held_at s) s.held
 
--- whether the spare's gate is closed, so that `put` and `commit` may write
+-- Whether the spare's gate is closed, so that `put` and `commit` may write.
 unfoldable pub is_begun : SlotsState → Bool
 is_begun s = not ((spare_slot s).gate == OPEN)
 
--- how many bytes an image may have
+-- How many bytes an image may have.
 unfoldable pub room_of : SlotsState → ℕ
 room_of s = capacity (gate_of s.medium) s.medium.bytes
 
--- whether the spare's data fills the room, of at most 2^24 bytes, and the image fits in it
+-- Whether the spare's data fills the room, of at most 2^24 bytes, and the image fits in it.
 abbrev pub is_shaped : SlotsState → Bool
 is_shaped s = (length (spare_of s) == room_of s) && (nat_le (room_of s) (2 ^ 24) && nat_le (length (image_of s)) (room_of s))
 
@@ -74,84 +74,84 @@ pub data Call : Type 0 where
   Put : (at : ℕ) (bytes : List ℕ) → Call
   Commit : (len : ℕ) → Call
 
--- the writes of a call, in their order
+-- The writes of a call, in their order.
 abbrev pub writes_of : SlotsState → Call → List Write
 writes_of s Begin = begin_writes (gate_of s.medium) s.medium.bytes
 writes_of s (Put at bytes) = put_writes s.medium.unit (data_place s (at - length s.held)) s.held bytes
 writes_of s (Commit len) = part_writes s.medium.unit (data_place s (held_at s)) s.held ++ commit_writes (gate_of s.medium) s.medium.bytes len
 
--- what a store holds back after a call that is Ok
+-- What a store holds back after a call that is Ok.
 abbrev pub next_held : SlotsState → Call → List ℕ
 next_held s Begin = []
 next_held s (Put at bytes) = put_rest s.medium.unit s.held bytes
 next_held s (Commit len) = []
 
--- where its puts end then
+-- Where its puts end then.
 abbrev pub next_end : Call → ℕ
 next_end Begin = 0
 next_end (Put at bytes) = at + length bytes
 next_end (Commit len) = 0
 
--- the writes of a `format` of this medium with this image, in their order
+-- The writes of a `format` of this medium with this image, in their order.
 abbrev pub format_series : MediumState → List ℕ → List Write
 format_series m image = format_writes m.unit (gate_of m) m.bytes image
 
--- a call that is Ok made all its writes, and holds back what is left of the puts
+-- A call that is Ok made all its writes, and holds back what is left of the puts.
 pub record CallWorked (old : SlotsState) (call : Call) (now : SlotsState) : Type 0 where
   pub writes : AllWrites old.medium (writes_of old call) now.medium
   pub held_is : now.held ≡ next_held old call
   pub end_is : now.put_end ≡ next_end call
 
--- a call that failed made its writes up to one that failed, and holds nothing back
+-- A call that failed made its writes up to one that failed, and holds nothing back.
 pub record CallFailed (old : SlotsState) (call : Call) (now : SlotsState) : Type 0 where
   pub writes : BrokenWrites old.medium (writes_of old call) now.medium
   pub held_is : now.held ≡ []
   pub end_is : now.put_end ≡ 0
 
--- a call was Ok or failed
+-- A call was Ok or failed.
 abbrev pub Calls : SlotsState → Call → Bool → SlotsState → Type 0
 Calls old call true now = CallWorked old call now
 Calls old call false now = CallFailed old call now
 
--- a call answered Ok or Failed, and the count of failures rose where it failed
+-- A call answered Ok or Failed, and the count of failures rose where it failed.
 pub record DidCall (s : SlotsState) (call : Call) (ok : Bool) (now : SlotsState) : Type 0 where
   pub calls : Calls s call ok now
   pub count : s.medium.failures ≤ now.medium.failures
   pub rose : ok ≡ false → Rose s.medium.failures now.medium.failures
 
--- these calls came one after the other: all of them Ok, or those up to one that failed
+-- These calls came one after the other: all of them Ok, or those up to one that failed.
 abbrev pub Called : SlotsState → List Call → Bool → SlotsState → Type 0
 Called old [] true now = now ≡ old
 Called old [] false now = ⊥
 Called old (call ∷ calls) true now = (mid : SlotsState) × Calls old call true mid × Called mid calls true now
 Called old (call ∷ calls) false now = Calls old call false now ⊎ ((mid : SlotsState) × Calls old call true mid × Called mid calls false now)
 
--- the image does not change with the fuse
+-- The image does not change with the fuse.
 pub image_fused : (s : SlotsState) (fuse : Fuse) → image_of (fused s fuse) ≡ image_of s
 unfolding image_of
 image_fused s fuse = refl
 
--- nor when the power is off
+-- Nor when the power is off.
 pub image_restarted : (s : SlotsState) (fuse : Fuse) → image_of (restarted s fuse) ≡ image_of s
 unfolding image_of
 image_restarted s fuse = refl
 
--- the spare's data does not change with the fuse
+-- The spare's data does not change with the fuse.
 pub spare_fused : (s : SlotsState) (fuse : Fuse) → spare_of (fused s fuse) ≡ spare_of s
 unfolding spare_of
 spare_fused s fuse = refl
 
--- nor whether the spare's gate is closed
+-- Nor whether the spare's gate is closed.
 pub begun_fused : (s : SlotsState) (fuse : Fuse) → is_begun (fused s fuse) ≡ is_begun s
 unfolding is_begun
 begun_fused s fuse = refl
 
--- nor the room
+-- Nor the room.
 pub room_fused : (s : SlotsState) (fuse : Fuse) → room_of (fused s fuse) ≡ room_of s
 unfolding room_of
 room_fused s fuse = refl
 
--- nor does the room when the power is off
+-- Nor does the room when the power is off.
 pub room_restarted : (s : SlotsState) (fuse : Fuse) → room_of (restarted s fuse) ≡ room_of s
 unfolding room_of
 room_restarted s fuse = refl

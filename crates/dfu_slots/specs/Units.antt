@@ -3,29 +3,29 @@ use Rattle.std.specs.Prelude.{◌≡◌, ℕ, ◌-◌, ◌%◌, max, List, ◌++
 use Rattle.dfu_slots.specs.declared.unit.Unit.{Unit as WriteUnit}
 use Rattle.dfu_slots.specs.declared.unit.Unit.TheVariants.{Byte, U16, U64, U256}
 
--- so many bytes a unit has
+-- So many bytes a unit has.
 abbrev pub unit_size : WriteUnit → ℕ
 unit_size Byte = 1
 unit_size U16 = 16
 unit_size U64 = 64
 unit_size U256 = 256
 
--- the gate unit of a slot has 16 bytes, or as many as a unit where that is more; so has its header unit
+-- The gate unit of a slot has 16 bytes, or as many as a unit where that is more; so has its header unit.
 abbrev pub gate_size : WriteUnit → ℕ
 gate_size unit = max 16 (unit_size unit)
 
--- a place or a length is whole in a unit where it is a multiple of the unit's size
-abbrev pub IsWhole : WriteUnit → ℕ → Type 0
-IsWhole unit n = n % unit_size unit ≡ 0
+-- A place or a length is whole in a unit where it is a multiple of the unit's size.
+abbrev pub IsMultiple : WriteUnit → ℕ → Type 0
+IsMultiple unit n = n % unit_size unit ≡ 0
 
--- so many of n bytes make whole units
+-- So many of n bytes make whole units.
 abbrev pub whole_part : WriteUnit → ℕ → ℕ
 whole_part unit n = n - n % unit_size unit
 
--- so many zeros fill n bytes up to the end of a unit
+-- So many zeros fill n bytes up to the end of a unit.
 abbrev pub fill_size : WriteUnit → ℕ → ℕ
 fill_size unit n = (unit_size unit - n % unit_size unit) % unit_size unit
 
--- these bytes, and then zeros up to the end of a unit
+-- These bytes, and then zeros up to the end of a unit.
 abbrev pub filled : WriteUnit → List ℕ → List ℕ
 filled unit bytes = bytes ++ replicate (fill_size unit (length bytes)) 0

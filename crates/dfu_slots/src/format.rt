@@ -1,7 +1,7 @@
 //! Formatting a medium: an image goes into the first slot, whatever stood on the medium.
 ghost use Rattle.std.specs.Prelude.{◌≡◌, ℕ, ◌+◌, ◌*◌, ◌≤◌, ◌<◌, ◌^◌, length};
-ghost use Rattle.dfu_slots.specs.Units.{IsWhole, filled};
-ghost use Rattle.dfu_slots.specs.Medium.{Series};
+ghost use Rattle.dfu_slots.specs.Units.{IsMultiple, filled};
+ghost use Rattle.dfu_slots.specs.inside.Series.{Series};
 ghost use Rattle.dfu_slots.specs.Image.{gate_of, IsSized};
 ghost use Rattle.dfu_slots.specs.Writes.{piece_writes, close_writes};
 ghost use Rattle.dfu_slots.specs.Seen.{format_series};
@@ -9,7 +9,7 @@ ghost use Rattle.dfu_slots.specs.Changes.{CanFormat};
 
 use crate::layout::CLOSED_GATE;
 use crate::read::data_at;
-use crate::writing::{open_slot, program, write_filled, write_gate};
+use crate::writes::{open_slot, write, write_filled, write_gate};
 use crate::{Failed, Medium};
 
 // How many bytes of the image are written at a time: whole units, whatever the unit is.
@@ -19,7 +19,7 @@ const PIECE: usize = 4096;
 fn write_pieces<M: Medium>(medium: &mut M, at: u32, bytes: &[u8]) -> Result<(), Failed>
     requires within { at + length (filled (M.state medium.old).unit bytes.now) ≤ length (M.state medium.old).bytes }
     requires room { at + length bytes.now < 2 ^ 32 }
-    requires place { IsWhole (M.state medium.old).unit at }
+    requires place { IsMultiple (M.state medium.old).unit at }
     ensures { let unit = (M.state medium.old).unit in (n : ℕ) → length (filled unit bytes.now) ≤ n →
         Series (M.state medium.old) (piece_writes n at (filled unit bytes.now)) result (M.state medium.new) }
 {
@@ -27,7 +27,7 @@ fn write_pieces<M: Medium>(medium: &mut M, at: u32, bytes: &[u8]) -> Result<(), 
     let mut rest = bytes;
     while rest.len() > PIECE {
         let (piece, left) = rest.split_at(PIECE);
-        program(medium, place, piece)?;
+        write(medium, place, piece)?;
         place += PIECE as u32;
         rest = left;
     }

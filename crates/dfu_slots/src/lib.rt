@@ -2,21 +2,20 @@
 //! while the next image is written beside it.
 #![tactic(auto)]
 
-mod change;
+mod changes;
 mod fault;
 mod format;
-mod installing;
 mod laws;
 mod layout;
 mod medium;
 mod open;
 mod puts;
-mod putting;
 mod read;
 mod sim;
 mod slots;
+mod steps;
 mod unit;
-mod writing;
+mod writes;
 
 pub use fault::{FormatFault, OpenFault, PutFault};
 pub use laws::{

@@ -1,6 +1,6 @@
 //! A medium of bytes whose writes may fail.
 ghost use Rattle.std.specs.Prelude.{◌≡◌, ◌+◌, ◌≤◌, length, take, slice_range, OnOk, OnErr};
-ghost use Rattle.dfu_slots.specs.Units.{IsWhole};
+ghost use Rattle.dfu_slots.specs.Units.{IsMultiple};
 ghost use Rattle.dfu_slots.specs.Medium.{MediumState, Fuse, Wrote, FailedWrite};
 ghost use Rattle.dfu_slots.specs.Medium.Fuse.{Armed, Whole};
 
@@ -12,7 +12,11 @@ use thiserror::Error;
 #[error("a write to the medium failed")]
 pub struct Failed;
 
-/// Bytes that can be read and written, as a flash part or a file.
+/// Bytes that can be read, and written over in units of 1, 16, 64 or 256 bytes, as FRAM, MRAM and EEPROM are.
+///
+/// A write must leave every byte outside its range as it was, also where it is torn. So erasing within `write` is
+/// sound only where `unit` is a multiple of the part's erase unit: a part that erases a sector larger than its unit
+/// within `write` loses the active image with the other bytes of the sector.
 pub trait Medium: Drop {
     /// The bytes now, how often a write has failed, what is known of the next writes, and the unit.
     ghost state: { Self → MediumState };
@@ -30,15 +34,16 @@ pub trait Medium: Drop {
         requires { at + length out.old ≤ length (state self.now).bytes }
         ensures { out.new ≡ slice_range (state self.now).bytes at (at + length out.old) };
 
-    /// Writes over the bytes from `at` on. The range must lie within the length, and `at` and the
-    /// number of bytes must be whole in the unit.
+    /// Writes over the bytes from `at` on, whatever stood there. The range must lie within the length, and `at`
+    /// and the number of bytes must be multiples of the unit's size.
     ///
     /// After Ok exactly `bytes` stand there. After `Failed` any bytes may stand there, and the count
-    /// of failures rose (at its last value, 2^64 - 1, it stays). All other bytes are as they were.
+    /// of failures rose (at its last value, 2^64 - 1, it stays; a medium may say that it stands there always).
+    /// All other bytes are as they were, also when the power goes within the write.
     fn write(&mut self, at: u32, bytes: &[u8]) -> Result<(), Failed>
         requires within { at + length bytes.now ≤ length (state self.old).bytes }
-        requires place { IsWhole (state self.old).unit at }
-        requires whole { IsWhole (state self.old).unit (length bytes.now) }
+        requires place { IsMultiple (state self.old).unit at }
+        requires whole { IsMultiple (state self.old).unit (length bytes.now) }
         ensures ok { OnOk result (Wrote (state self.old) at bytes.now (state self.new)) }
         ensures failed { OnErr result (FailedWrite (state self.old) at bytes.now (state self.new)) };
 }

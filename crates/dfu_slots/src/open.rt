@@ -1,6 +1,6 @@
 //! Opening a medium: the tests that tell whether it has an active image.
 ghost use Rattle.std.specs.Prelude.{◌≡◌, ◌/◌, OnOk, IfErr, length, IsTrue, ◌↔◌};
-ghost use Rattle.dfu_slots.specs.Units.{IsWhole};
+ghost use Rattle.dfu_slots.specs.Units.{IsMultiple};
 ghost use Rattle.dfu_slots.specs.Image.{HasImage, IsSized};
 ghost use Rattle.dfu_slots.specs.Changes.{IsOpenFault, FirstCounts, SecondCounts};
 
@@ -9,8 +9,8 @@ use crate::read::{counts, find_places, header_len, is_newest};
 use crate::{Medium, OpenFault, Unit};
 
 // Whether a length is a multiple of the unit's size.
-fn is_whole(unit: Unit, len: u32) -> bool
-    ensures { IsTrue result ↔ IsWhole unit len }
+fn is_multiple(unit: Unit, len: u32) -> bool
+    ensures { IsTrue result ↔ IsMultiple unit len }
 {
     len % unit.size() == 0
 }
@@ -25,7 +25,7 @@ pub fn is_sized<M: Medium>(medium: &M) -> bool
     len % 2 == 0
         && len > 2 * units
         && len <= 2 * (units + MAX_CAPACITY)
-        && is_whole(unit, len / 2 - units)
+        && is_multiple(unit, len / 2 - units)
 }
 
 // Whether neither slot counts.

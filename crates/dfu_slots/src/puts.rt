@@ -1,6 +1,11 @@
-//! What was put since `begin`.
-ghost use Rattle.std.specs.Prelude.{◌≡◌, []};
+//! What was put since `begin`: whole units go to the medium as they come, and the rest is held back.
+ghost use Rattle.std.specs.Prelude.{◌≡◌, ◌+◌, ◌-◌, ◌^◌, ◌≤◌, ◌<◌, ◌++◌, [], length, take, drop, OnOk};
+ghost use Rattle.dfu_slots.specs.Units.{IsMultiple, unit_size};
+ghost use Rattle.dfu_slots.specs.inside.Series.{Series};
+ghost use Rattle.dfu_slots.specs.Writes.{write_some, put_writes, put_rest};
 
+use crate::writes::write_some;
+use crate::{Failed, Medium};
 use arrayvec::ArrayVec;
 
 /// The puts since `begin`, of which the whole units are written and the rest is held back.
@@ -31,5 +36,77 @@ impl Puts {
     {
         self.held.clear();
         self.end = 0;
+    }
+}
+
+// Holds these bytes back too, behind those that are held.
+fn hold(held: &mut ArrayVec<u8, 256>, bytes: &[u8])
+    requires { length held.old.items + length bytes.now ≤ 256 }
+    ensures { held.new.items ≡ held.old.items ++ bytes.now }
+{
+    let _ = held.try_extend_from_slice(bytes);
+}
+
+// Writes the first `count` bytes in one write, and holds the others back.
+fn put_front<M: Medium>(
+    medium: &mut M,
+    held: &mut ArrayVec<u8, 256>,
+    at: u32,
+    bytes: &[u8],
+    count: usize,
+) -> Result<(), Failed>
+    requires front { count ≤ length bytes.now }
+    requires back { length held.old.items + (length bytes.now - count) ≤ 256 }
+    requires within { at + count ≤ length (M.state medium.old).bytes }
+    requires place { IsMultiple (M.state medium.old).unit at }
+    requires whole { IsMultiple (M.state medium.old).unit count }
+    ensures writes { Series (M.state medium.old) (write_some at (take count bytes.now)) result (M.state medium.new) }
+    ensures held { OnOk result (held.new.items ≡ held.old.items ++ drop count bytes.now) }
+{
+    let (front, back) = bytes.split_at(count);
+    match write_some(medium, at, front) {
+        Err(failed) => Err(failed),
+        Ok(()) => {
+            hold(held, back);
+            Ok(())
+        }
+    }
+}
+
+/// Puts these bytes behind those that are held, which belong at `at`: it writes the unit that the held
+/// bytes begin, where it is full now, and then all further whole units in one write, and holds the rest back.
+pub fn put_units<M: Medium>(
+    medium: &mut M,
+    held: &mut ArrayVec<u8, 256>,
+    at: u32,
+    bytes: &[u8],
+) -> Result<(), Failed>
+    requires part { length held.old.items < unit_size (M.state medium.old).unit }
+    requires short { length bytes.now ≤ 4096 }
+    requires within { at + (length held.old.items + length bytes.now) ≤ length (M.state medium.old).bytes }
+    requires small { at + (length held.old.items + length bytes.now) < 2 ^ 32 }
+    requires place { IsMultiple (M.state medium.old).unit at }
+    ensures writes { let unit = (M.state medium.old).unit in
+        Series (M.state medium.old) (put_writes unit at held.old.items bytes.now) result (M.state medium.new) }
+    ensures held { OnOk result (held.new.items ≡ put_rest (M.state medium.old).unit held.old.items bytes.now) }
+{
+    let size = medium.unit().size() as usize;
+    let all = held.len() + bytes.len();
+    let count = all - all % size;
+    if held.is_empty() {
+        return put_front(medium, held, at, bytes, count);
+    }
+    if count == 0 {
+        hold(held, bytes);
+        return Ok(());
+    }
+    let (head, rest) = bytes.split_at(size - held.len());
+    hold(held, head);
+    match write_some(medium, at, held.as_slice()) {
+        Err(failed) => Err(failed),
+        Ok(()) => {
+            held.clear();
+            put_front(medium, held, at + size as u32, rest, count - size)
+        }
     }
 }

@@ -38,7 +38,7 @@ pub fn capacity_of<M: Medium>(medium: &M) -> u32
     medium.len() / 2 - 2 * gate_of(medium)
 }
 
-/// Whether the gate of the slot that begins there is open.
+/// Whether the slot that begins there is open.
 pub fn is_open<M: Medium>(medium: &M, at: u32) -> bool
     requires { at < length (M.state medium.now).bytes }
     ensures { result ≡ ((slot_of (M.state medium.now) at).gate == OPEN) }
@@ -63,7 +63,7 @@ pub fn generation<M: Medium>(medium: &M, at: u32) -> u8
     byte_at(medium, at + gate_of(medium))
 }
 
-/// Whether the first of two slots counts, and the other one does not or is one generation behind.
+/// Whether the first of two slots counts, and the other one does not, or is one generation behind.
 pub fn is_newest<M: Medium>(medium: &M, mine: u32, other: u32) -> bool
     requires sized { IsSized (M.state medium.now) }
     requires mine { mine + gate_of (M.state medium.now) < length (M.state medium.now).bytes }

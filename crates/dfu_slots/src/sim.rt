@@ -1,6 +1,6 @@
 //! A medium in memory.
 ghost use Rattle.std.specs.Prelude.{◌≡◌, ◌+◌, ◌≤◌, length, take, replicate, IfOk};
-ghost use Rattle.dfu_slots.specs.Units.{IsWhole};
+ghost use Rattle.dfu_slots.specs.Units.{IsMultiple};
 ghost use Rattle.dfu_slots.specs.Medium.{written};
 ghost use Rattle.dfu_slots.specs.Medium.Fuse.{Whole};
 
@@ -47,7 +47,7 @@ pub struct SimMedium {
 impl Model for SimMedium {
     ghost use Rattle.std.specs.Prelude.{◌<◌, ◌^◌, length};
     ghost use Rattle.dfu_slots.specs.Medium.{MediumState};
-    ghost use Rattle.dfu_slots.specs.Sim.{fuse_of};
+    ghost use Rattle.dfu_slots.specs.inside.Sim.{fuse_of};
 
     ghost Value = { MediumState };
 
@@ -80,7 +80,7 @@ impl SimMedium {
     ///
     /// `NoMemory` where there is no memory for the bytes.
     pub fn with_unit(alloc: Global, len: u32, unit: Unit) -> Result<SimMedium, NoMemory>
-        requires { IsWhole unit len }
+        requires { IsMultiple unit len }
         ensures { IfOk result (λ medium.
             medium ≡ record { bytes = replicate len 255; failures = 0; fuse = Whole; unit = unit }) }
     {

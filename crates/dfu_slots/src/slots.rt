@@ -23,7 +23,7 @@ pub struct Slots<M: Medium> {
 
 impl<M: Medium> Model for Slots<M> {
     ghost use Rattle.dfu_slots.specs.Seen.{SlotsState, store_of};
-    ghost use Rattle.dfu_slots.specs.Store.{IsStore};
+    ghost use Rattle.dfu_slots.specs.inside.Store.{IsStore};
 
     ghost Value = { SlotsState };
 

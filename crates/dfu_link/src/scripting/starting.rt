@@ -1,7 +1,7 @@
 //! The start of the device.
 
 ghost use Rattle.std.specs.Prelude.{◌≡◌, ◌<◌, ◌+◌, ◌*◌, IfOk, IfErr};
-ghost use Rattle.dfu_slots.specs.Units.{gate_size, IsWhole};
+ghost use Rattle.dfu_slots.specs.Units.{gate_size, IsMultiple};
 ghost use Rattle.dfu_link.specs.Said.{hex_bytes};
 ghost use Rattle.dfu_link.specs.ScriptRun.{Starts};
 ghost use Rattle.dfu_link.specs.Falls.{StartFalls};
@@ -48,7 +48,7 @@ fn first_image(alloc: Global, text: Option<HexText<'_>>) -> Result<Vec<u8>, Scri
 /// How many bytes a medium of two slots has that is written in this unit, with so much room.
 fn medium_len(unit: Unit, room: Room) -> u32
     ensures value { result ≡ 2 * (2 * gate_size unit + room.bytes) }
-    ensures whole { IsWhole unit room.bytes → IsWhole unit result }
+    ensures whole { IsMultiple unit room.bytes → IsMultiple unit result }
 {
     2 * (2 * unit.size().max(16) + room.bytes)
 }

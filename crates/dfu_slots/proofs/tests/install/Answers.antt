@@ -4,7 +4,7 @@ use Rattle.dfu_slots.specs.Medium.{written}
 use Rattle.dfu_slots.specs.Seen.{SlotsState, image_of, spare_of}
 use Rattle.dfu_slots.proofs.tests.install.Goals as goal
 
--- what was put at the front is read back from it
+-- What was put at the front is read back from it.
 front_written : (old new : List ℕ) → take (length new) (written old 0 new) ≡ new
 front_written old new = take_at new (drop (0 + length new) old) (length new) (omega arith)
 

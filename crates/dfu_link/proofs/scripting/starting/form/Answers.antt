@@ -1,7 +1,7 @@
 use Rattle.std.proofs.Common.{◌≡◌, ◌∙◌, ◌%◌, ℕ, ap, subst, sym, arith, refl}
 use Rattle.dfu_slots.specs.Medium.{MediumState, AllWrites}
 use Rattle.dfu_slots.specs.Medium.Fuse.{Whole}
-use Rattle.dfu_slots.specs.Units.{IsWhole}
+use Rattle.dfu_slots.specs.Units.{IsMultiple}
 use Rattle.dfu_slots.specs.Seen.{format_series}
 use Rattle.dfu_slots.specs.Image.{IsSized}
 use Rattle.dfu_slots.specs.Changes.{CanFormat, IsFormatFault}
@@ -13,7 +13,7 @@ use Rattle.dfu_link.proofs.scripting.starting.form.Goals as goal
 pub unreachable-requires : goal.unreachable-requires
 unreachable-requires c =
     let n = c.args.room.bytes in
-    let whole : IsWhole c.args.unit n = subst (λ (k : ℕ). n % k ≡ 0) c.size.ensures.value c.if-room-size-ne0.false in
+    let whole : IsMultiple c.args.unit n = subst (λ (k : ℕ). n % k ≡ 0) c.size.ensures.value c.if-room-size-ne0.false in
     let same : c.in-Ok.medium ≡ blank c.args.unit n = c.in-Ok.ensures ∙ made_blank c.args.unit n c.medium_len.result c.medium_len.ensures.value in
     (subst (λ f. IsFormatFault f c.in-Ok.medium c.args.image.now) c.in-WrongSize.is c.in-Err.ensures.fault) (subst IsSized (sym same) (blank_sized c.args.unit n c.args.room.some c.args.room.most whole))
 

@@ -1,114 +1,45 @@
-use Rattle.std.proofs.Common.{◌≤◌, sym, subst}
-use Rattle.dfu_slots.specs.Seen.{SlotsState, store_of, Commit}
-use Rattle.dfu_slots.proofs.Series.{changes_rose}
-use Rattle.dfu_slots.proofs.Seeing.{image_active, shaped}
-use Rattle.dfu_slots.proofs.Answered.{not_begun_is, too_large_is, commit_too_large, did_change, failed_fresh}
-use Rattle.dfu_slots.proofs.AfterCommit.{commit_leaves, commit_image, commit_kept, commit_done}
+use Rattle.dfu_slots.specs.Seen.{store_of}
+use Rattle.dfu_slots.proofs.AfterCommit.{commit_leaves}
 use Rattle.dfu_slots.proofs.slots.Slots.commit.Goals as goal
 
 pub invariant_of-self : goal.invariant_of-self
-invariant_of-self g c =
-    let inside = c.self.inside in
-    let s : SlotsState = store_of (g.M.Medium.state inside.medium) inside.puts.held.items inside.puts.end in
-    let now : SlotsState = store_of (g.M.Medium.state c.commit.new.medium) c.commit.new.puts.held.items c.commit.new.puts.end in
-    let call = c.commit.ensures in
-    (commit_leaves s now c.self.invariant c.args.len (subst (λ (x : SlotsState). c.args.len ≤ x.put_end) (sym c.self.view_is) c.requires) c.commit.result call.not_begun call.fits call.changes).store
+invariant_of-self g c = (commit_leaves c.self.view_is c.self.invariant (store_of (g.M.Medium.state c.commit.new.medium) c.commit.new.puts.held.items c.commit.new.puts.end) c.args.len c.requires c.commit.result c.commit.ensures.not_begun c.commit.ensures.fits c.commit.ensures.changes).store
 
 pub returns-clause-call : goal.returns-clause-call
-returns-clause-call g c =
-    let inside = c.self.inside in
-    let s : SlotsState = store_of (g.M.Medium.state inside.medium) inside.puts.held.items inside.puts.end in
-    let now : SlotsState = store_of (g.M.Medium.state c.commit.new.medium) c.commit.new.puts.held.items c.commit.new.puts.end in
-    let call = c.commit.ensures in
-    rw (← c.self.view_is) (did_change s now (Commit c.args.len) c.args.len c.commit.result call.not_begun (commit_too_large s c.self.invariant c.args.len (subst (λ (x : SlotsState). c.args.len ≤ x.put_end) (sym c.self.view_is) c.requires) c.commit.result call.fits) call.changes)
+returns-clause-call g c = (commit_leaves c.self.view_is c.self.invariant (store_of (g.M.Medium.state c.commit.new.medium) c.commit.new.puts.held.items c.commit.new.puts.end) c.args.len c.requires c.commit.result c.commit.ensures.not_begun c.commit.ensures.fits c.commit.ensures.changes).call
 
 pub returns-clause-writes : goal.returns-clause-writes
-returns-clause-writes g c =
-    let call = c.commit.ensures in
-    rw (← c.self.view_is) call.changes
+returns-clause-writes g c = (commit_leaves c.self.view_is c.self.invariant (store_of (g.M.Medium.state c.commit.new.medium) c.commit.new.puts.held.items c.commit.new.puts.end) c.args.len c.requires c.commit.result c.commit.ensures.not_begun c.commit.ensures.fits c.commit.ensures.changes).writes
 
 pub returns-clause-not_begun : goal.returns-clause-not_begun
-returns-clause-not_begun g c =
-    let inside = c.self.inside in
-    let s : SlotsState = store_of (g.M.Medium.state inside.medium) inside.puts.held.items inside.puts.end in
-    let call = c.commit.ensures in
-    rw (← c.self.view_is) (not_begun_is s c.commit.result call.not_begun)
+returns-clause-not_begun g c = (commit_leaves c.self.view_is c.self.invariant (store_of (g.M.Medium.state c.commit.new.medium) c.commit.new.puts.held.items c.commit.new.puts.end) c.args.len c.requires c.commit.result c.commit.ensures.not_begun c.commit.ensures.fits c.commit.ensures.changes).not_begun
 
 pub returns-clause-too_large : goal.returns-clause-too_large
-returns-clause-too_large g c =
-    let inside = c.self.inside in
-    let s : SlotsState = store_of (g.M.Medium.state inside.medium) inside.puts.held.items inside.puts.end in
-    let call = c.commit.ensures in
-    rw (← c.self.view_is) (too_large_is s c.args.len c.commit.result call.not_begun (commit_too_large s c.self.invariant c.args.len (subst (λ (x : SlotsState). c.args.len ≤ x.put_end) (sym c.self.view_is) c.requires) c.commit.result call.fits))
+returns-clause-too_large g c = (commit_leaves c.self.view_is c.self.invariant (store_of (g.M.Medium.state c.commit.new.medium) c.commit.new.puts.held.items c.commit.new.puts.end) c.args.len c.requires c.commit.result c.commit.ensures.not_begun c.commit.ensures.fits c.commit.ensures.changes).too_large
 
 pub returns-clause-rose : goal.returns-clause-rose
-returns-clause-rose g c =
-    let inside = c.self.inside in
-    let s : SlotsState = store_of (g.M.Medium.state inside.medium) inside.puts.held.items inside.puts.end in
-    let now : SlotsState = store_of (g.M.Medium.state c.commit.new.medium) c.commit.new.puts.held.items c.commit.new.puts.end in
-    let call = c.commit.ensures in
-    rw (← c.self.view_is) (changes_rose s now (Commit c.args.len) c.commit.result call.changes)
+returns-clause-rose g c = (commit_leaves c.self.view_is c.self.invariant (store_of (g.M.Medium.state c.commit.new.medium) c.commit.new.puts.held.items c.commit.new.puts.end) c.args.len c.requires c.commit.result c.commit.ensures.not_begun c.commit.ensures.fits c.commit.ensures.changes).rose
 
 pub returns-clause-image : goal.returns-clause-image
-returns-clause-image g c =
-    let inside = c.self.inside in
-    let s : SlotsState = store_of (g.M.Medium.state inside.medium) inside.puts.held.items inside.puts.end in
-    let now : SlotsState = store_of (g.M.Medium.state c.commit.new.medium) c.commit.new.puts.held.items c.commit.new.puts.end in
-    let call = c.commit.ensures in
-    rw (← c.self.view_is) (commit_image s now c.self.invariant.has_image c.args.len c.commit.result (commit_leaves s now c.self.invariant c.args.len (subst (λ (x : SlotsState). c.args.len ≤ x.put_end) (sym c.self.view_is) c.requires) c.commit.result call.not_begun call.fits call.changes))
+returns-clause-image g c = (commit_leaves c.self.view_is c.self.invariant (store_of (g.M.Medium.state c.commit.new.medium) c.commit.new.puts.held.items c.commit.new.puts.end) c.args.len c.requires c.commit.result c.commit.ensures.not_begun c.commit.ensures.fits c.commit.ensures.changes).image
 
 pub returns-clause-kept : goal.returns-clause-kept
-returns-clause-kept g c =
-    let inside = c.self.inside in
-    let s : SlotsState = store_of (g.M.Medium.state inside.medium) inside.puts.held.items inside.puts.end in
-    let now : SlotsState = store_of (g.M.Medium.state c.commit.new.medium) c.commit.new.puts.held.items c.commit.new.puts.end in
-    let call = c.commit.ensures in
-    rw (← c.self.view_is) (commit_kept s now c.self.invariant.has_image c.args.len c.commit.result (commit_leaves s now c.self.invariant c.args.len (subst (λ (x : SlotsState). c.args.len ≤ x.put_end) (sym c.self.view_is) c.requires) c.commit.result call.not_begun call.fits call.changes))
+returns-clause-kept g c = (commit_leaves c.self.view_is c.self.invariant (store_of (g.M.Medium.state c.commit.new.medium) c.commit.new.puts.held.items c.commit.new.puts.end) c.args.len c.requires c.commit.result c.commit.ensures.not_begun c.commit.ensures.fits c.commit.ensures.changes).kept
 
 pub returns-clause-active : goal.returns-clause-active
-returns-clause-active g c =
-    let inside = c.self.inside in
-    let s : SlotsState = store_of (g.M.Medium.state inside.medium) inside.puts.held.items inside.puts.end in
-    let now : SlotsState = store_of (g.M.Medium.state c.commit.new.medium) c.commit.new.puts.held.items c.commit.new.puts.end in
-    let call = c.commit.ensures in
-    image_active now (commit_leaves s now c.self.invariant c.args.len (subst (λ (x : SlotsState). c.args.len ≤ x.put_end) (sym c.self.view_is) c.requires) c.commit.result call.not_begun call.fits call.changes).store.has_image
+returns-clause-active g c = (commit_leaves c.self.view_is c.self.invariant (store_of (g.M.Medium.state c.commit.new.medium) c.commit.new.puts.held.items c.commit.new.puts.end) c.args.len c.requires c.commit.result c.commit.ensures.not_begun c.commit.ensures.fits c.commit.ensures.changes).active
 
 pub returns-clause-has_image : goal.returns-clause-has_image
-returns-clause-has_image g c =
-    let inside = c.self.inside in
-    let s : SlotsState = store_of (g.M.Medium.state inside.medium) inside.puts.held.items inside.puts.end in
-    let now : SlotsState = store_of (g.M.Medium.state c.commit.new.medium) c.commit.new.puts.held.items c.commit.new.puts.end in
-    let call = c.commit.ensures in
-    (commit_leaves s now c.self.invariant c.args.len (subst (λ (x : SlotsState). c.args.len ≤ x.put_end) (sym c.self.view_is) c.requires) c.commit.result call.not_begun call.fits call.changes).store.has_image
+returns-clause-has_image g c = (commit_leaves c.self.view_is c.self.invariant (store_of (g.M.Medium.state c.commit.new.medium) c.commit.new.puts.held.items c.commit.new.puts.end) c.args.len c.requires c.commit.result c.commit.ensures.not_begun c.commit.ensures.fits c.commit.ensures.changes).has_image
 
 pub returns-clause-shape : goal.returns-clause-shape
-returns-clause-shape g c =
-    let inside = c.self.inside in
-    let s : SlotsState = store_of (g.M.Medium.state inside.medium) inside.puts.held.items inside.puts.end in
-    let now : SlotsState = store_of (g.M.Medium.state c.commit.new.medium) c.commit.new.puts.held.items c.commit.new.puts.end in
-    let call = c.commit.ensures in
-    shaped now (commit_leaves s now c.self.invariant c.args.len (subst (λ (x : SlotsState). c.args.len ≤ x.put_end) (sym c.self.view_is) c.requires) c.commit.result call.not_begun call.fits call.changes).store
+returns-clause-shape g c = (commit_leaves c.self.view_is c.self.invariant (store_of (g.M.Medium.state c.commit.new.medium) c.commit.new.puts.held.items c.commit.new.puts.end) c.args.len c.requires c.commit.result c.commit.ensures.not_begun c.commit.ensures.fits c.commit.ensures.changes).shape
 
 pub returns-clause-room : goal.returns-clause-room
-returns-clause-room g c =
-    let inside = c.self.inside in
-    let s : SlotsState = store_of (g.M.Medium.state inside.medium) inside.puts.held.items inside.puts.end in
-    let now : SlotsState = store_of (g.M.Medium.state c.commit.new.medium) c.commit.new.puts.held.items c.commit.new.puts.end in
-    let call = c.commit.ensures in
-    rw (← c.self.view_is) (commit_leaves s now c.self.invariant c.args.len (subst (λ (x : SlotsState). c.args.len ≤ x.put_end) (sym c.self.view_is) c.requires) c.commit.result call.not_begun call.fits call.changes).room
+returns-clause-room g c = (commit_leaves c.self.view_is c.self.invariant (store_of (g.M.Medium.state c.commit.new.medium) c.commit.new.puts.held.items c.commit.new.puts.end) c.args.len c.requires c.commit.result c.commit.ensures.not_begun c.commit.ensures.fits c.commit.ensures.changes).room
 
 pub returns-clause-done : goal.returns-clause-done
-returns-clause-done g c =
-    let inside = c.self.inside in
-    let s : SlotsState = store_of (g.M.Medium.state inside.medium) inside.puts.held.items inside.puts.end in
-    let now : SlotsState = store_of (g.M.Medium.state c.commit.new.medium) c.commit.new.puts.held.items c.commit.new.puts.end in
-    let call = c.commit.ensures in
-    commit_done s now c.args.len c.commit.result call.changes
+returns-clause-done g c = (commit_leaves c.self.view_is c.self.invariant (store_of (g.M.Medium.state c.commit.new.medium) c.commit.new.puts.held.items c.commit.new.puts.end) c.args.len c.requires c.commit.result c.commit.ensures.not_begun c.commit.ensures.fits c.commit.ensures.changes).done
 
 pub returns-clause-failed : goal.returns-clause-failed
-returns-clause-failed g c =
-    let inside = c.self.inside in
-    let s : SlotsState = store_of (g.M.Medium.state inside.medium) inside.puts.held.items inside.puts.end in
-    let now : SlotsState = store_of (g.M.Medium.state c.commit.new.medium) c.commit.new.puts.held.items c.commit.new.puts.end in
-    let call = c.commit.ensures in
-    failed_fresh s now (Commit c.args.len) c.commit.result call.changes
+returns-clause-failed g c = (commit_leaves c.self.view_is c.self.invariant (store_of (g.M.Medium.state c.commit.new.medium) c.commit.new.puts.held.items c.commit.new.puts.end) c.args.len c.requires c.commit.result c.commit.ensures.not_begun c.commit.ensures.fits c.commit.ensures.changes).failed

@@ -1,32 +1,21 @@
 use Rattle.dfu_slots.specs.Medium.Fuse.{Whole}
-use Rattle.dfu_slots.specs.Seen.{SlotsState, store_of}
-use Rattle.dfu_slots.proofs.Seeing.{shaped, fused_store, fused_image, fused_spare, fused_begun, fused_room}
+use Rattle.dfu_slots.proofs.Seeing.{fuse_leaves}
 use Rattle.dfu_slots.proofs.slots.Slots.disarm.Goals as goal
 
 pub invariant_of-self : goal.invariant_of-self
-invariant_of-self g c =
-    let inside = c.self.inside in
-    fused_store (store_of (g.M.Medium.state inside.medium) inside.puts.held.items inside.puts.end) (g.M.Medium.state c.disarm.new.self) Whole c.disarm.ensures c.self.invariant
+invariant_of-self g c = (fuse_leaves c.self.view_is c.self.invariant (g.M.Medium.state c.disarm.new.self) Whole c.disarm.ensures).store
 
 pub returns-clause-image : goal.returns-clause-image
-returns-clause-image g c =
-    let s : SlotsState = store_of (g.M.Medium.state c.self.inside.medium) c.self.inside.puts.held.items c.self.inside.puts.end in
-    rw (← c.self.view_is) (fused_image s (g.M.Medium.state c.disarm.new.self) Whole c.disarm.ensures)
+returns-clause-image g c = (fuse_leaves c.self.view_is c.self.invariant (g.M.Medium.state c.disarm.new.self) Whole c.disarm.ensures).image
 
 pub returns-clause-spare : goal.returns-clause-spare
-returns-clause-spare g c =
-    let s : SlotsState = store_of (g.M.Medium.state c.self.inside.medium) c.self.inside.puts.held.items c.self.inside.puts.end in
-    rw (← c.self.view_is) (fused_spare s (g.M.Medium.state c.disarm.new.self) Whole c.disarm.ensures)
+returns-clause-spare g c = (fuse_leaves c.self.view_is c.self.invariant (g.M.Medium.state c.disarm.new.self) Whole c.disarm.ensures).spare
 
 pub returns-clause-begun : goal.returns-clause-begun
-returns-clause-begun g c =
-    let s : SlotsState = store_of (g.M.Medium.state c.self.inside.medium) c.self.inside.puts.held.items c.self.inside.puts.end in
-    rw (← c.self.view_is) (fused_begun s (g.M.Medium.state c.disarm.new.self) Whole c.disarm.ensures)
+returns-clause-begun g c = (fuse_leaves c.self.view_is c.self.invariant (g.M.Medium.state c.disarm.new.self) Whole c.disarm.ensures).begun
 
 pub returns-clause-room : goal.returns-clause-room
-returns-clause-room g c =
-    let s : SlotsState = store_of (g.M.Medium.state c.self.inside.medium) c.self.inside.puts.held.items c.self.inside.puts.end in
-    rw (← c.self.view_is) (fused_room s (g.M.Medium.state c.disarm.new.self) Whole c.disarm.ensures)
+returns-clause-room g c = (fuse_leaves c.self.view_is c.self.invariant (g.M.Medium.state c.disarm.new.self) Whole c.disarm.ensures).room
 
 pub returns-clause-shape : goal.returns-clause-shape
-returns-clause-shape g c = shaped _ (invariant_of-self g c)
+returns-clause-shape g c = (fuse_leaves c.self.view_is c.self.invariant (g.M.Medium.state c.disarm.new.self) Whole c.disarm.ensures).shape

@@ -1,0 +1,131 @@
+-- Places and lengths that are whole in a unit.
+use Rattle.std.proofs.Common.{◌≡◌, ⊎_elim, ℕ, ◌+◌, ◌-◌, ◌*◌, ◌/◌, ◌%◌, ◌≤◌, ◌<◌, List, length, replicate, sym, ◌∙◌, ap, subst, arith, length-append}
+use Rattle.std.proofs.lemmas.List.{length-replicate}
+use Rattle.dfu_slots.specs.declared.unit.Unit.{Unit as WriteUnit}
+use Rattle.dfu_slots.specs.declared.unit.Unit.TheVariants.{Byte, U16, U64, U256}
+use Rattle.dfu_slots.specs.Units.{unit_size, gate_size, IsMultiple, whole_part, fill_size, filled}
+use Rattle.dfu_slots.specs.Medium.{MediumState}
+use Rattle.dfu_slots.specs.Layout.{slot_size}
+use Rattle.dfu_slots.specs.Image.{gate_of, capacity_of, IsSized, Active, spare_at}
+use Rattle.dfu_slots.specs.Seen.{SlotsState, held_at, data_place}
+use Rattle.dfu_slots.specs.inside.Store.{HasPuts}
+use Rattle.dfu_slots.proofs.Stands.{two_slots}
+use Rattle.dfu_slots.proofs.Newest.{tested_places, spare_end}
+
+-- The size of a unit.
+
+-- A gate unit has at least 16 bytes.
+pub gate_wide : (u : WriteUnit) → 16 ≤ gate_size u
+gate_wide u = omega arith
+
+-- Sums.
+
+multiple_zero : (u : WriteUnit) → IsMultiple u 0
+multiple_zero Byte = omega arith
+multiple_zero U16 = omega arith
+multiple_zero U64 = omega arith
+multiple_zero U256 = omega arith
+
+-- A full piece is a multiple of every unit.
+pub multiple_piece : (u : WriteUnit) → IsMultiple u 4096
+multiple_piece Byte = omega arith
+multiple_piece U16 = omega arith
+multiple_piece U64 = omega arith
+multiple_piece U256 = omega arith
+
+-- The sum of two multiples is one.
+pub multiple_add : (u : WriteUnit) (a b : ℕ) → IsMultiple u a → IsMultiple u b → IsMultiple u (a + b)
+multiple_add Byte a b x y = omega (arith, x, y)
+multiple_add U16 a b x y = omega (arith, x, y)
+multiple_add U64 a b x y = omega (arith, x, y)
+multiple_add U256 a b x y = omega (arith, x, y)
+
+-- Parts.
+
+-- What makes no whole unit of a length is no more than the length.
+pub part_le : (u : WriteUnit) (n : ℕ) → n % unit_size u ≤ n
+part_le Byte n = omega arith
+part_le U16 n = omega arith
+part_le U64 n = omega arith
+part_le U256 n = omega arith
+
+-- The whole units of a length make a multiple.
+pub multiple_part : (u : WriteUnit) (n : ℕ) → IsMultiple u (whole_part u n)
+multiple_part Byte n = omega arith
+multiple_part U16 n = omega arith
+multiple_part U64 n = omega arith
+multiple_part U256 n = omega arith
+
+-- Of no bytes nothing is left over.
+pub zero_part : (u : WriteUnit) → 0 % unit_size u ≡ 0
+zero_part u = multiple_zero u
+
+-- What makes no whole unit does not depend on whole units before it.
+pub part_more : (u : WriteUnit) (n k : ℕ) → (n % unit_size u + k) % unit_size u ≡ (n + k) % unit_size u
+part_more Byte n k = omega arith
+part_more U16 n k = omega arith
+part_more U64 n k = omega arith
+part_more U256 n k = omega arith
+
+-- More than a whole number of units has one unit more.
+pub unit_more : (u : WriteUnit) (w : ℕ) → IsMultiple u w → 0 < w → unit_size u ≤ w
+unit_more Byte w x some = omega (arith, x, some)
+unit_more U16 w x some = omega (arith, x, some)
+unit_more U64 w x some = omega (arith, x, some)
+unit_more U256 w x some = omega (arith, x, some)
+
+-- Filled up with zeros.
+
+-- Bytes from a whole place on that end within a whole length do so filled up too.
+fill_fits : (u : WriteUnit) (k n c : ℕ) → IsMultiple u k → IsMultiple u c → k + n ≤ c → k + (n + fill_size u n) ≤ c
+fill_fits Byte k n c x y le = omega (arith, x, y, le)
+fill_fits U16 k n c x y le = omega (arith, x, y, le)
+fill_fits U64 k n c x y le = omega (arith, x, y, le)
+fill_fits U256 k n c x y le = omega (arith, x, y, le)
+
+-- A length needs as many zeros as one that is a piece shorter.
+pub fill_piece : (u : WriteUnit) (n : ℕ) → 4096 ≤ n → fill_size u (n - 4096) ≡ fill_size u n
+fill_piece Byte n le = omega (arith, le)
+fill_piece U16 n le = omega (arith, le)
+fill_piece U64 n le = omega (arith, le)
+fill_piece U256 n le = omega (arith, le)
+
+-- Filled bytes are longer by the zeros.
+pub length-filled : (u : WriteUnit) (bytes : List ℕ) → length (filled u bytes) ≡ length bytes + fill_size u (length bytes)
+length-filled u bytes = length-append bytes (replicate (fill_size u (length bytes)) 0) ∙ ap (λ (n : ℕ). length bytes + n) (length-replicate {A = ℕ} (fill_size u (length bytes)) 0)
+
+filled_fits : (u : WriteUnit) (k c : ℕ) (bytes : List ℕ) → IsMultiple u k → IsMultiple u c → k + length bytes ≤ c → k + length (filled u bytes) ≤ c
+filled_fits u k c bytes x y le = omega (arith, length-filled u bytes, fill_fits u k (length bytes) c x y le)
+
+-- Bytes that are no more than a whole length are so filled up too.
+pub filled_within : (u : WriteUnit) (c : ℕ) (bytes : List ℕ) → IsMultiple u c → length bytes ≤ c → length (filled u bytes) ≤ c
+filled_within u c bytes whole le = omega (arith, length-filled u bytes, fill_fits u 0 (length bytes) c (multiple_zero u) whole (omega (arith, le)))
+
+-- The places of a medium.
+
+-- The same length and the same unit are those that two slots can have.
+pub sized_after : (m n : MediumState) → IsSized m → n.unit ≡ m.unit → length n.bytes ≡ length m.bytes → IsSized n
+sized_after m n sized unit size = record {
+  even = omega (arith, size, sized.even);
+  room = omega (arith, size, ap gate_size unit, sized.room);
+  bound = omega (arith, size, ap gate_size unit, sized.bound);
+  whole = subst (λ (u : WriteUnit). IsMultiple u (length n.bytes / 2 - 2 * gate_size u)) (sym unit) (subst (λ (k : ℕ). IsMultiple m.unit (k / 2 - 2 * gate_of m)) (sym size) sized.whole);
+}
+
+-- What a store holds back.
+
+module _ (s : SlotsState) (puts : HasPuts s) where
+  -- The bytes held back end where the puts end.
+  pub held_end : held_at s + length s.held ≡ s.put_end
+  held_end = omega (arith, puts.part, part_le s.medium.unit s.put_end)
+
+  held_multiple : IsMultiple s.medium.unit (held_at s)
+  held_multiple = subst (λ (n : ℕ). IsMultiple s.medium.unit (s.put_end - n)) (sym puts.part) (multiple_part s.medium.unit s.put_end)
+
+  -- Filled up with zeros, they end within the data of a slot.
+  pub held_fits : IsMultiple s.medium.unit (capacity_of s.medium) → held_at s + length (filled s.medium.unit s.held) ≤ capacity_of s.medium
+  held_fits whole = filled_fits s.medium.unit (held_at s) (capacity_of s.medium) s.held held_multiple whole (omega (arith, held_end, puts.fits))
+
+  -- And within the medium.
+  pub place_fits : IsSized s.medium → data_place s (held_at s) + length (filled s.medium.unit s.held) ≤ length s.medium.bytes
+  place_fits sized = omega (arith, held_fits sized.whole, spare_end (gate_of s.medium) s.medium.bytes (two_slots s.medium sized), sized.room)

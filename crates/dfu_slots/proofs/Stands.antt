@@ -1,0 +1,40 @@
+-- What stands on a medium, by its bytes and by how many bytes a gate unit has.
+use Rattle.std.proofs.Common.{◌≡◌, ℕ, ◌-◌, ◌*◌, ◌/◌, ◌^◌, ◌≤◌, ◌<◌, List, length, take}
+use Rattle.dfu_slots.specs.Units.{IsMultiple}
+use Rattle.dfu_slots.specs.Medium.{MediumState}
+use Rattle.dfu_slots.specs.Layout.{slot_size, capacity, ArePlaces, slot, HasHeader}
+use Rattle.dfu_slots.specs.Image.{gate_of, capacity_of, IsSized, IsNewest, Active}
+
+-- These bytes are two slots of one size, with 1 to 2^24 bytes of data each.
+pub record HasTwoSlots (g : ℕ) (bytes : List ℕ) : Type 0 where
+  pub even : length bytes ≡ 2 * slot_size bytes
+  pub room : 2 * g < slot_size bytes
+  pub bound : capacity g bytes ≤ 2 ^ 24
+
+-- The slot at one of the two places is the newest, and has this image.
+pub record ActiveAt (g : ℕ) (bytes : List ℕ) (at spare : ℕ) (image : List ℕ) : Type 0 where
+  pub sized : HasTwoSlots g bytes
+  pub places : ArePlaces bytes at spare
+  pub newest : IsNewest (slot g bytes at) (slot g bytes spare)
+  pub header_is : HasHeader (slot g bytes at) (length image)
+  pub image_is : image ≡ take (length image) (slot g bytes at).data_bytes
+
+-- The bytes of a medium of a proper length are two slots.
+pub two_slots : (m : MediumState) → IsSized m → HasTwoSlots (gate_of m) m.bytes
+two_slots m sized = record { even = sized.even; room = sized.room; bound = sized.bound }
+
+-- An active image stands at its place.
+pub standing : {m : MediumState} {image : List ℕ} (a : Active m image) → ActiveAt (gate_of m) m.bytes a.at a.spare image
+standing {m} a = record { sized = two_slots m a.sized; places = a.places; newest = a.newest; header_is = a.header_is; image_is = a.image_is }
+
+-- An image that stands on a medium, with whole units of data in a slot, is the active one.
+pub active_from : (m : MediumState) (at spare : ℕ) (image : List ℕ) → IsMultiple m.unit (capacity_of m) → ActiveAt (gate_of m) m.bytes at spare image → Active m image
+active_from m at spare image whole stands = record {
+  sized = record { even = stands.sized.even; room = stands.sized.room; bound = stands.sized.bound; whole = whole };
+  at = at;
+  spare = spare;
+  places = stands.places;
+  newest = stands.newest;
+  header_is = stands.header_is;
+  image_is = stands.image_is;
+}

@@ -1,0 +1,3 @@
+pub mod Series
+pub mod Store
+pub mod Sim

@@ -1,0 +1,124 @@
+//! The steps behind the calls that change a medium: each works on the medium and on what was put.
+ghost use Rattle.std.specs.Prelude.{◌≡◌, ◌+◌, ◌≤◌, ◌<◌, ◌↔◌, length, IsErrOf, OnErr};
+ghost use Rattle.dfu_slots.specs.inside.Series.{Series};
+ghost use Rattle.dfu_slots.specs.Layout.{IsOpen};
+ghost use Rattle.dfu_slots.specs.Image.{gate_of, IsSized, capacity_of, active_at, spare_at};
+ghost use Rattle.dfu_slots.specs.Writes.{begin_writes};
+ghost use Rattle.dfu_slots.specs.Seen.{store_on, store_of, spare_slot, writes_of, Begin, Put, Commit};
+ghost use Rattle.dfu_slots.specs.inside.Store.{HasPuts};
+ghost use Rattle.dfu_slots.specs.Changes.{Changes};
+
+use crate::layout::CLOSED_GATE;
+use crate::puts::{Puts, put_units};
+use crate::read::{Places, capacity_of, data_at, find_places, generation, is_open};
+use crate::writes::{open_slot, write_filled, write_gate};
+use crate::{Failed, Medium, PutFault};
+
+// Closes the spare's gate, where it reads open.
+fn close_spare<M: Medium>(medium: &mut M) -> Result<(), Failed>
+    requires { IsSized (M.state medium.old) }
+    ensures { let was = M.state medium.old in
+        Series was (begin_writes (gate_of was) was.bytes) result (M.state medium.new) }
+{
+    let places = find_places(medium);
+    if is_open(medium, places.spare) {
+        return write_gate(medium, places.spare, CLOSED_GATE);
+    }
+    Ok(())
+}
+
+/// Closes the spare's gate, where it reads open, and forgets what was put.
+pub fn begin<M: Medium>(medium: &mut M, puts: &mut Puts) -> Result<(), PutFault>
+    requires { IsSized (M.state medium.old) }
+    ensures changes { Changes (store_of (M.state medium.old) puts.old.held.items puts.old.end) (Begin) result
+        (store_of (M.state medium.new) puts.new.held.items puts.new.end) }
+    ensures fault { OnErr result (IsErrOf result PutFault.Failed) }
+{
+    puts.clear();
+    match close_spare(medium) {
+        Ok(()) => Ok(()),
+        Err(_) => Err(PutFault::Failed),
+    }
+}
+
+/// Puts these bytes behind those that were put, as far as they make whole units, and holds the rest back.
+pub fn put<M: Medium>(
+    medium: &mut M,
+    puts: &mut Puts,
+    at: u32,
+    bytes: &[u8],
+) -> Result<(), PutFault>
+    requires sized { IsSized (M.state medium.old) }
+    requires puts { HasPuts (store_of (M.state medium.old) puts.old.held.items puts.old.end) }
+    requires place { at ≡ puts.old.end }
+    requires short { length bytes.now ≤ 4096 }
+    ensures changes { Changes (store_of (M.state medium.old) puts.old.held.items puts.old.end) (Put at bytes.now) result
+        (store_of (M.state medium.new) puts.new.held.items puts.new.end) }
+    ensures not_begun { IsErrOf result PutFault.NotBegun ↔ IsOpen (spare_slot (store_on (M.state medium.old))) }
+    ensures too_large { IsErrOf result PutFault.TooLarge ↔
+        ((¬ IsOpen (spare_slot (store_on (M.state medium.old)))) ×
+        (capacity_of (M.state medium.old) < at + length bytes.now)) }
+{
+    let places = find_places(medium);
+    if is_open(medium, places.spare) {
+        return Err(PutFault::NotBegun);
+    }
+    if u64::from(at) + bytes.len() as u64 > u64::from(capacity_of(medium)) {
+        return Err(PutFault::TooLarge);
+    }
+    let from = data_at(medium, places.spare) + (at - puts.held.len() as u32);
+    match put_units(medium, &mut puts.held, from, bytes) {
+        Ok(()) => {
+            puts.end += bytes.len() as u32;
+            Ok(())
+        }
+        Err(_) => {
+            puts.clear();
+            Err(PutFault::Failed)
+        }
+    }
+}
+
+// Writes what is held, then the spare's header, and then, in a write of its own, opens its gate.
+fn open_spare<M: Medium>(
+    medium: &mut M,
+    places: Places,
+    puts: &Puts,
+    len: u32,
+) -> Result<(), Failed>
+    requires sized { IsSized (M.state medium.old) }
+    requires puts { HasPuts (store_of (M.state medium.old) puts.now.held.items puts.now.end) }
+    requires active { places.active ≡ active_at (gate_of (M.state medium.old)) (M.state medium.old).bytes }
+    requires spare { places.spare ≡ spare_at (gate_of (M.state medium.old)) (M.state medium.old).bytes }
+    ensures { let was = store_of (M.state medium.old) puts.now.held.items puts.now.end in
+        Series (M.state medium.old) (writes_of was (Commit len)) result (M.state medium.new) }
+{
+    let next = generation(medium, places.active).wrapping_add(1);
+    let from = data_at(medium, places.spare) + (puts.end - puts.held.len() as u32);
+    match write_filled(medium, from, puts.held.as_slice()) {
+        Err(failed) => Err(failed),
+        Ok(()) => open_slot(medium, places.spare, next, len),
+    }
+}
+
+/// Makes the first `len` bytes of what was put the image of the spare, and opens it. It forgets what was put.
+pub fn commit<M: Medium>(medium: &mut M, puts: &mut Puts, len: u32) -> Result<(), PutFault>
+    requires sized { IsSized (M.state medium.old) }
+    requires puts { HasPuts (store_of (M.state medium.old) puts.old.held.items puts.old.end) }
+    requires end { len ≤ puts.old.end }
+    ensures changes { Changes (store_of (M.state medium.old) puts.old.held.items puts.old.end) (Commit len) result
+        (store_of (M.state medium.new) puts.new.held.items puts.new.end) }
+    ensures not_begun { IsErrOf result PutFault.NotBegun ↔ IsOpen (spare_slot (store_on (M.state medium.old))) }
+    ensures fits { ¬ IsErrOf result PutFault.TooLarge }
+{
+    let places = find_places(medium);
+    if is_open(medium, places.spare) {
+        return Err(PutFault::NotBegun);
+    }
+    let installed = open_spare(medium, places, puts, len);
+    puts.clear();
+    match installed {
+        Ok(()) => Ok(()),
+        Err(_) => Err(PutFault::Failed),
+    }
+}

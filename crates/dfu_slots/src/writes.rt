@@ -1,0 +1,94 @@
+//! The one function through which the store writes, and the writes that are made of it.
+ghost use Rattle.std.specs.Prelude.{◌≡◌, ℕ, ◌+◌, ◌-◌, ◌*◌, ◌≤◌, ◌++◌, length, replicate, OnOk, OnErr};
+ghost use Rattle.dfu_slots.specs.Units.{IsMultiple, filled};
+ghost use Rattle.dfu_slots.specs.Medium.{Wrote, FailedWrite};
+ghost use Rattle.dfu_slots.specs.inside.Series.{Series};
+ghost use Rattle.dfu_slots.specs.Layout.{gate_unit};
+ghost use Rattle.dfu_slots.specs.Image.{gate_of, IsSized};
+ghost use Rattle.dfu_slots.specs.Writes.{write_some, open_writes};
+
+use crate::layout::{OPEN_GATE, fill_size, fill_up, make_header};
+use crate::read::gate_of;
+use crate::{Failed, Medium};
+
+/// Writes these bytes there. All writes of the store go through it.
+pub fn write<M: Medium>(medium: &mut M, at: u32, bytes: &[u8]) -> Result<(), Failed>
+    requires within { at + length bytes.now ≤ length (M.state medium.old).bytes }
+    requires place { IsMultiple (M.state medium.old).unit at }
+    requires whole { IsMultiple (M.state medium.old).unit (length bytes.now) }
+    ensures ok { OnOk result (Wrote (M.state medium.old) at bytes.now (M.state medium.new)) }
+    ensures failed { OnErr result (FailedWrite (M.state medium.old) at bytes.now (M.state medium.new)) }
+{
+    medium.write(at, bytes)
+}
+
+/// Writes these bytes there, and writes nothing for no bytes.
+pub fn write_some<M: Medium>(medium: &mut M, at: u32, bytes: &[u8]) -> Result<(), Failed>
+    requires within { at + length bytes.now ≤ length (M.state medium.old).bytes }
+    requires place { IsMultiple (M.state medium.old).unit at }
+    requires whole { IsMultiple (M.state medium.old).unit (length bytes.now) }
+    ensures { Series (M.state medium.old) (write_some at bytes.now) result (M.state medium.new) }
+{
+    if bytes.is_empty() {
+        return Ok(());
+    }
+    write(medium, at, bytes)
+}
+
+/// Writes these bytes there, at most 4,096, with zeros up to the end of a unit, and writes nothing for no bytes.
+pub fn write_filled<M: Medium>(medium: &mut M, at: u32, bytes: &[u8]) -> Result<(), Failed>
+    requires short { length bytes.now ≤ 4096 }
+    requires within { at + length (filled (M.state medium.old).unit bytes.now) ≤ length (M.state medium.old).bytes }
+    requires place { IsMultiple (M.state medium.old).unit at }
+    ensures { let unit = (M.state medium.old).unit in
+        Series (M.state medium.old) (write_some at (filled unit bytes.now)) result (M.state medium.new) }
+{
+    let size = bytes.len() + fill_size(medium.unit(), bytes.len());
+    let mut units = [0; 4096];
+    units[..bytes.len()].copy_from_slice(bytes);
+    write_some(medium, at, &units[..size])
+}
+
+/// Writes these bytes there, and zeros behind them up to `size` bytes, at most 256.
+pub fn write_unit<M: Medium>(medium: &mut M, at: u32, bytes: &[u8], size: u32) -> Result<(), Failed>
+    requires least { length bytes.now ≤ size }
+    requires most { size ≤ 256 }
+    requires within { at + size ≤ length (M.state medium.old).bytes }
+    requires place { IsMultiple (M.state medium.old).unit at }
+    requires whole { IsMultiple (M.state medium.old).unit size }
+    ensures ok { OnOk result (
+        Wrote (M.state medium.old) at (bytes.now ++ replicate (size - length bytes.now) 0) (M.state medium.new)) }
+    ensures failed { OnErr result (
+        FailedWrite (M.state medium.old) at (bytes.now ++ replicate (size - length bytes.now) 0) (M.state medium.new)) }
+{
+    let unit = fill_up(bytes);
+    write(medium, at, &unit[..size as usize])
+}
+
+/// Writes the gate unit of the slot that begins there.
+pub fn write_gate<M: Medium>(medium: &mut M, at: u32, gate: u8) -> Result<(), Failed>
+    requires within { at + gate_of (M.state medium.old) ≤ length (M.state medium.old).bytes }
+    requires place { IsMultiple (M.state medium.old).unit at }
+    ensures ok { let was = M.state medium.old in
+        OnOk result (Wrote was at (gate_unit (gate_of was) gate) (M.state medium.new)) }
+    ensures failed { let was = M.state medium.old in
+        OnErr result (FailedWrite was at (gate_unit (gate_of was) gate) (M.state medium.new)) }
+{
+    let size = gate_of(medium);
+    write_unit(medium, at, &[gate], size)
+}
+
+/// Writes the header of the slot that begins there, and then, in a write of its own, opens its gate.
+pub fn open_slot<M: Medium>(medium: &mut M, at: u32, generation: u8, len: u32) -> Result<(), Failed>
+    requires sized { IsSized (M.state medium.old) }
+    requires within { at + 2 * gate_of (M.state medium.old) ≤ length (M.state medium.old).bytes }
+    requires place { IsMultiple (M.state medium.old).unit at }
+    ensures { let was = M.state medium.old in
+        Series was (open_writes (gate_of was) at generation len) result (M.state medium.new) }
+{
+    let size = gate_of(medium);
+    match write_unit(medium, at + size, &make_header(generation, len), size) {
+        Err(failed) => Err(failed),
+        Ok(()) => write_gate(medium, at, OPEN_GATE),
+    }
+}
