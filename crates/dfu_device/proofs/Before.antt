@@ -12,11 +12,16 @@ served_is : (p : Setup) (q : Asked) (body : List ℕ) → q ≢ asked.NotDfu →
 served_is p asked.NotDfu body other = absurd (other refl)
 served_is p q body other = refl
 
-refused : (p : Setup) (q : Asked) (body : List ℕ) (n : ℕ) (w : Shown) (out : List ℕ) → is_served p q body ≡ false → out ≡ [] → Done (setup_plan w p q body) n w answer.Stall out w
+refused : (p : Setup) (q : Asked) (body : List ℕ) (n : ℕ) (w : Shown) (out : List ℕ) → is_served p q body ≡ false → out ≡ []
+    → Done (setup_plan w p q body) n w answer.Stall out w
 refused p q body n w out off none = rw off ((refl, none), refl)
 
-pub refused_class : (p : Setup) (q : Asked) (body : List ℕ) (n : ℕ) (w : Shown) (out : List ℕ) → q ≢ asked.NotDfu → (length body == body_length p) ≡ false → out ≡ [] → Done (setup_plan w p q body) n w answer.Stall out w
+-- A request of the class whose body does not fit is stalled and changes nothing.
+pub refused_class : (p : Setup) (q : Asked) (body : List ℕ) (n : ℕ) (w : Shown) (out : List ℕ) → q ≢ asked.NotDfu
+    → (length body == body_length p) ≡ false → out ≡ [] → Done (setup_plan w p q body) n w answer.Stall out w
 refused_class p q body n w out other off none = refused p q body n w out (served_is p q body other ∙ off) none
 
-pub served_class : (p : Setup) (q : Asked) (body : List ℕ) (w w' : Shown) (a : Answer) (out : List ℕ) → q ≢ asked.NotDfu → (length body == body_length p) ≡ true → Serves q body w a out w' → Done (setup_plan w p q body) (asked_length q) w a out w'
+-- A request of the class whose body fits goes by the table.
+pub served_class : (p : Setup) (q : Asked) (body : List ℕ) (w w' : Shown) (a : Answer) (out : List ℕ) → q ≢ asked.NotDfu
+    → (length body == body_length p) ≡ true → Serves q body w a out w' → Done (setup_plan w p q body) (asked_length q) w a out w'
 served_class p q body w w' a out other on row = rw (served_is p q body other ∙ on) row

@@ -1,56 +1,77 @@
 -- The calls of the slot store that write a block.
-use Rattle.std.proofs.Common.{◌≡◌, inl, inr, ◌==◌, Bool, true, false, if◌then◌else◌, ℕ, ◌+◌, ◌≤◌, ◌<◌, List, [], ◌∷◌, ◌++◌, length, take, drop, refl, sym, ◌∙◌, ap, subst, arith, length-append, Result, Ok, Err, OnOk, OnErr, is_ok}
+use Rattle.std.proofs.Common.{◌≡◌, ◌⊎◌, inl, inr, ◌==◌, Bool, true, false, if◌then◌else◌, ℕ, ◌+◌, ◌≤◌, ◌<◌, List, [], ◌∷◌, ◌++◌, length, take, drop, refl, sym, ◌∙◌, ap, subst, arith, length-append, Result, Ok, Err, OnOk, OnErr, is_ok}
 use Rattle.std.proofs.lemmas.Grind.{common_steps}
 use Rattle.std.proofs.lemmas.List.{length-take-le, take_at}
-use Rattle.std.proofs.lemmas.Bool.{cond-false, ne_eqb}
+use Rattle.std.proofs.lemmas.Bool.{ne_eqb, and_parts}
 use Rattle.dfu_slots.specs.Medium.{Rose, written}
 use Rattle.dfu_slots.specs.Seen.{SlotsState, spare_of, is_begun, room_of, is_shaped, Call, Begin, Put, DidCall, Called}
-use Rattle.dfu_device.specs.Inside.{is_put}
+use Rattle.dfu_device.specs.inside.Fields.{is_put}
 use Rattle.dfu_device.specs.Rows.{block_calls}
 
+-- One call that was made is a series of one call.
 pub called_one : (s now : SlotsState) (call : Call) (ok : Bool) → DidCall s call ok now → Called s (call ∷ []) ok now
 called_one s now call true d = (now, d.calls, refl)
 called_one s now call false d = inl d.calls
 
-called_two : (s mid now : SlotsState) (first second : Call) (ok : Bool) → DidCall s first true mid → DidCall mid second ok now → Called s (first ∷ second ∷ []) ok now
+called_two : (s mid now : SlotsState) (first second : Call) (ok : Bool) → DidCall s first true mid → DidCall mid second ok now
+    → Called s (first ∷ second ∷ []) ok now
 called_two s mid now first second true d e = (mid, d.calls, (now, e.calls, refl))
 called_two s mid now first second false d e = inr (mid, d.calls, inl e.calls)
 
-pub block_begun : (s mid now : SlotsState) (n : ℕ) (block : List ℕ) (ok : Bool) → n ≡ 0 → DidCall s Begin true mid → DidCall mid (Put 0 block) ok now → Called s (block_calls (take n (spare_of s)) block) ok now
+-- The first block is a `begin` that worked and then a `put`, whatever comes of this one.
+pub block_begun : (s mid now : SlotsState) (n : ℕ) (block : List ℕ) (ok : Bool) → n ≡ 0 → DidCall s Begin true mid
+    → DidCall mid (Put 0 block) ok now → Called s (block_calls (take n (spare_of s)) block) ok now
 block_begun s mid now n block ok none d e =
     subst (λ (k : ℕ). Called s (block_calls (take k (spare_of s)) block) ok now) (sym none)
     (called_two s mid now Begin (Put 0 block) ok d e)
 
-pub block_not_begun : (s now : SlotsState) (n : ℕ) (block : List ℕ) → n ≡ 0 → DidCall s Begin false now → Called s (block_calls (take n (spare_of s)) block) false now
-block_not_begun s now n block none d = subst (λ (k : ℕ). Called s (block_calls (take k (spare_of s)) block) false now) (sym none) (inl d.calls)
+-- Where the `begin` before the first block failed, nothing more is called.
+pub block_not_begun : (s now : SlotsState) (n : ℕ) (block : List ℕ) → n ≡ 0 → DidCall s Begin false now
+    → Called s (block_calls (take n (spare_of s)) block) false now
+block_not_begun s now n block none d = subst (λ (k : ℕ). Called s (block_calls (take k (spare_of s)) block) false now) (sym none)
+    (inl d.calls)
 
-further : (s now : SlotsState) (n : ℕ) (block : List ℕ) (ok : Bool) → 0 < n → DidCall s (Put n block) ok now → Called s (if n == 0 then Begin ∷ Put 0 block ∷ [] else Put n block ∷ []) ok now
-further s now n block ok some d =
-    subst (λ (calls : List Call). Called s calls ok now) (sym (cond-false (n == 0) (Begin ∷ Put 0 block ∷ []) (Put n block ∷ []) (ne_eqb n 0 (λ e. omega (arith, some, e))))) (called_one s now (Put n block) ok d)
-
-pub block_further : (s now : SlotsState) (n : ℕ) (block : List ℕ) (ok : Bool) → 0 < n → n ≤ length (spare_of s) → DidCall s (Put n block) ok now → Called s (block_calls (take n (spare_of s)) block) ok now
+-- A block behind others is one `put`, whatever comes of it.
+pub block_further : (s now : SlotsState) (n : ℕ) (block : List ℕ) (ok : Bool) → 0 < n → n ≤ length (spare_of s)
+    → DidCall s (Put n block) ok now → Called s (block_calls (take n (spare_of s)) block) ok now
 block_further s now n block ok some fits d =
-    subst (λ (k : ℕ). Called s (if k == 0 then Begin ∷ Put 0 block ∷ [] else Put k block ∷ []) ok now) (sym (length-take-le n (spare_of s) fits)) (further s now n block ok some d)
+    let front : length (take n (spare_of s)) ≡ n = length-take-le n (spare_of s) fits in
+    let behind : (n == 0) ≡ false = ne_eqb n 0 (λ e. omega (arith, some, e)) in
+    subst (λ (k : ℕ). Called s (if k == 0 then Begin ∷ Put 0 block ∷ [] else Put k block ∷ []) ok now) (sym front)
+    (subst (λ (b : Bool). Called s (if b then Begin ∷ Put 0 block ∷ [] else Put n block ∷ []) ok now) (sym behind)
+    (called_one s now (Put n block) ok d))
 
-pub front_written : (l : List ℕ) (n : ℕ) (new : List ℕ) → n ≤ length l → take (n + length new) (written l n new) ≡ take n l ++ new
+-- Where bytes were put, the spare was closed before.
+pub begun_before : (n : ℕ) (s : SlotsState) → 0 < n → (n ≡ 0) ⊎ (is_put n s ≡ true) → is_begun s ≡ true
+begun_before n s some (inl none) = absurd (omega (arith, some, none))
+begun_before n s some (inr put) = (and_parts (is_begun s) (s.put_end == n) put).0
+
+front_written : (l : List ℕ) (n : ℕ) (new : List ℕ) → n ≤ length l → take (n + length new) (written l n new) ≡ take n l ++ new
 front_written l n new fits =
-    take_at (take n l ++ new) (drop (n + length new) l) (n + length new) (omega (arith, length-append (take n l) new, length-take-le n l fits))
+    take_at (take n l ++ new) (drop (n + length new) l) (n + length new)
+    (omega (arith, length-append (take n l) new, length-take-le n l fits))
 
+-- What is within the room of a store is within the data of its spare slot.
 pub fits_spare : (s : SlotsState) (n : ℕ) → is_shaped s ≡ true → n ≤ room_of s → n ≤ length (spare_of s)
 fits_spare s n shape fits = grind (arith, common_steps)
 
-pub spare_put : {T E : Type 0} (result : Result T E) (s here now : SlotsState) (n : ℕ) (block : List ℕ) → take n (spare_of here) ≡ take n (spare_of s) → n ≤ length (spare_of here)
-    → OnOk result (spare_of now ≡ written (spare_of here) n block) → OnOk result (take (n + length block) (spare_of now) ≡ take n (spare_of s) ++ block)
+-- Where a `put` worked, the bytes before it and its own stand at the front of the spare slot's data.
+pub spare_put : {T E : Type 0} (result : Result T E) (s here now : SlotsState) (n : ℕ) (block : List ℕ)
+    → take n (spare_of here) ≡ take n (spare_of s) → n ≤ length (spare_of here)
+    → OnOk result (spare_of now ≡ written (spare_of here) n block)
+    → OnOk result (take (n + length block) (spare_of now) ≡ take n (spare_of s) ++ block)
 spare_put (Ok x) s here now n block same fits put =
     ap (λ (l : List ℕ). take (n + length block) l) put ∙ front_written (spare_of here) n block fits ∙ ap (λ (l : List ℕ). l ++ block) same
 spare_put (Err e) s here now n block same fits put = tt
 
--- so many bytes are put in the spare that was closed
-pub put_on : {T E : Type 0} (result : Result T E) (here now : SlotsState) (n : ℕ) → is_begun here ≡ true → OnOk result (is_begun now ≡ is_begun here) → OnOk result (now.put_end ≡ n) → OnOk result (is_put n now ≡ true)
+-- So many bytes are put in the spare that was closed.
+pub put_on : {T E : Type 0} (result : Result T E) (here now : SlotsState) (n : ℕ) → is_begun here ≡ true
+    → OnOk result (is_begun now ≡ is_begun here) → OnOk result (now.put_end ≡ n) → OnOk result (is_put n now ≡ true)
 put_on (Ok x) here now n begun shut end = grind (arith, common_steps)
 put_on (Err e) here now n begun shut end = tt
 
--- the count of failures rose, also from what it was before
-pub rose_since : {T E : Type 0} (result : Result T E) (before mid now : ℕ) → before ≤ mid → (is_ok result ≡ false → Rose mid now) → OnErr result (Rose before now)
+-- The count of failures rose, also from what it was before.
+pub rose_since : {T E : Type 0} (result : Result T E) (before mid now : ℕ) → before ≤ mid → (is_ok result ≡ false → Rose mid now)
+    → OnErr result (Rose before now)
 rose_since (Ok x) before mid now le rose = tt
 rose_since (Err e) before mid now le rose = omega (arith, le, rose refl)

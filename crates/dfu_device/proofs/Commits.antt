@@ -7,64 +7,97 @@ use Rattle.dfu_slots.specs.Seen.{SlotsState, image_of, spare_of, is_begun, room_
 use Rattle.dfu_device.specs.Setting.{Setting}
 use Rattle.dfu_device.specs.declared.mode.Mode.{Mode}
 use Rattle.dfu_device.specs.declared.mode.Mode.TheVariants as mode
-use Rattle.dfu_device.specs.Inside.{shows, stage_of, is_put, is_sound}
+use Rattle.dfu_device.specs.inside.Fields.{shows, stage_of, is_put, is_sound}
 use Rattle.dfu_device.specs.Rows.{Committed, FailedCommit}
 use Rattle.dfu_device.proofs.Calls.{called_one}
 
--- what is closed was put in the closed spare, within its room
+-- What is closed was put in the closed spare, within its room.
 pub record IsReady (s : SlotsState) (n : ℕ) : Type 0 where
   pub begun : is_begun s ≡ true
   pub end : s.put_end ≡ n
   pub room : n ≤ room_of s
   pub spare : n ≤ length (spare_of s)
 
-pub closed_ready : (b n : ℕ) (s : SlotsState) → IsTrue (is_sound (mode.Closed n) b s) → IsReady s n
-closed_ready b n s sound = record { begun = grind (arith, common_steps); end = grind (arith, common_steps); room = grind (arith, common_steps); spare = grind (arith, common_steps) }
+closed_ready : (b n : ℕ) (s : SlotsState) → IsTrue (is_sound (mode.ManifestSync n) b s) → IsReady s n
+closed_ready b n s sound = record {
+  begun = grind (arith, common_steps);
+  end = grind (arith, common_steps);
+  room = grind (arith, common_steps);
+  spare = grind (arith, common_steps);
+}
 
-pub committing_ready : (b n passed : ℕ) (s : SlotsState) → IsTrue (is_sound (mode.Committing n passed) b s) → IsReady s n
+committing_ready : (b n passed : ℕ) (s : SlotsState) → IsTrue (is_sound (mode.Manifest n passed) b s) → IsReady s n
 committing_ready b n passed s sound = closed_ready b n s sound
 
-pub commit_ready : (m : Mode) (b n : ℕ) (s : SlotsState) → ((passed : ℕ) × (m ≡ mode.Committing n passed)) ⊎ (m ≡ mode.Closed n) → IsTrue (is_sound m b s) → IsReady s n
+-- A machine that may commit is ready for it.
+pub commit_ready : (m : Mode) (b n : ℕ) (s : SlotsState) → ((passed : ℕ) × (m ≡ mode.Manifest n passed)) ⊎ (m ≡ mode.ManifestSync n)
+    → IsTrue (is_sound m b s) → IsReady s n
 commit_ready m b n s (inl (passed, e)) sound = committing_ready b n passed s (subst (λ (k : Mode). IsTrue (is_sound k b s)) e sound)
 commit_ready m b n s (inr e) sound = closed_ready b n s (subst (λ (k : Mode). IsTrue (is_sound k b s)) e sound)
 
-pub commit_calls : (s now : SlotsState) (n : ℕ) (ok : Bool) → n ≤ length (spare_of s) → DidCall s (Commit n) ok now → Called s (Commit (length (take n (spare_of s))) ∷ []) ok now
+-- A commit of the bytes taken is one call, whether it worked or not.
+commit_calls : (s now : SlotsState) (n : ℕ) (ok : Bool) → n ≤ length (spare_of s) → DidCall s (Commit n) ok now
+    → Called s (Commit (length (take n (spare_of s))) ∷ []) ok now
 commit_calls s now n ok fits d =
     subst (λ (k : ℕ). Called s (Commit k ∷ []) ok now) (sym (length-take-le n (spare_of s) fits)) (called_one s now (Commit n) ok d)
 
-rested : (m : Mode) → (m ≡ mode.Idle) ⊎ (m ≡ mode.Complete) ⊎ (m ≡ mode.Waiting) → (xs ys : List ℕ) → stage_of m xs ys ≡ stage_of m [] []
+rested : (m : Mode) → (m ≡ mode.DfuIdle) ⊎ (m ≡ mode.ManifestSyncComplete) ⊎ (m ≡ mode.ManifestWaitReset) → (xs ys : List ℕ)
+    → stage_of m xs ys ≡ stage_of m [] []
 rested m three xs ys = elim three [ inl e ↦ rw e refl | inr other ↦ elim other [ inl e ↦ rw e refl | inr e ↦ rw e refl ] ]
 
 shaped_sound : (s : SlotsState) → is_shaped s ≡ true → IsTrue (is_shaped s && true)
 shaped_sound s shape = grind (arith, common_steps)
 
-pub rested_sound : (m : Mode) (b : ℕ) (s : SlotsState) → (m ≡ mode.Idle) ⊎ (m ≡ mode.Complete) ⊎ (m ≡ mode.Waiting) → is_shaped s ≡ true → IsTrue (is_sound m b s)
+-- A machine that goes on to dfuIDLE, to dfuMANIFEST-SYNC when complete, or to dfuMANIFEST-WAIT-RESET is sound.
+pub rested_sound : (m : Mode) (b : ℕ) (s : SlotsState) → (m ≡ mode.DfuIdle) ⊎ (m ≡ mode.ManifestSyncComplete) ⊎ (m ≡ mode.ManifestWaitReset)
+    → is_shaped s ≡ true → IsTrue (is_sound m b s)
 rested_sound m b s three shape =
     let sound : IsTrue (is_shaped s && true) = shaped_sound s shape in
-    elim three [ inl e ↦ subst (λ (k : Mode). IsTrue (is_sound k b s)) (sym e) sound | inr other ↦ elim other [ inl e ↦ subst (λ (k : Mode). IsTrue (is_sound k b s)) (sym e) sound | inr e ↦ subst (λ (k : Mode). IsTrue (is_sound k b s)) (sym e) sound ] ]
+    elim three [
+      | inl e ↦ subst (λ (k : Mode). IsTrue (is_sound k b s))
+          (sym e) sound
+      | inr other ↦ elim other [
+        | inl e ↦ subst (λ (k : Mode). IsTrue (is_sound k b s)) (sym e) sound
+        | inr e ↦ subst
+            (λ (k : Mode). IsTrue (is_sound k b s)) (sym e) sound
+      ]
+    ]
 
-all_put : (n : ℕ) (s : SlotsState) → 0 < n → n ≤ room_of s → is_shaped s ≡ true → is_put n s ≡ true → IsTrue (is_shaped s && (nat_lt 0 n && (nat_le n (room_of s) && is_put n s)))
+all_put : (n : ℕ) (s : SlotsState) → 0 < n → n ≤ room_of s → is_shaped s ≡ true → is_put n s ≡ true
+    → IsTrue (is_shaped s && (nat_lt 0 n && (nat_le n (room_of s) && is_put n s)))
 all_put n s some room shape put = grind (arith, common_steps)
 
-pub written_sound : (m : Mode) (b n number : ℕ) (s : SlotsState) → (m ≡ mode.Written n number) ⊎ (m ≡ mode.Ready n number) → 0 < n → n ≤ room_of s → is_shaped s ≡ true → is_put n s ≡ true → IsTrue (is_sound m b s)
+-- A machine is sound once its block was put behind the bytes written.
+pub written_sound : (m : Mode) (b n number : ℕ) (s : SlotsState) → (m ≡ mode.DownloadSyncWritten n number)
+    ⊎ (m ≡ mode.DownloadIdle n number) → 0 < n → n ≤ room_of s → is_shaped s ≡ true → is_put n s ≡ true → IsTrue (is_sound m b s)
 written_sound m b n number s either some room shape put =
     let sound : IsTrue (is_shaped s && (nat_lt 0 n && (nat_le n (room_of s) && is_put n s))) = all_put n s some room shape put in
-    elim either [ inl e ↦ subst (λ (k : Mode). IsTrue (is_sound k b s)) (sym e) sound | inr e ↦ subst (λ (k : Mode). IsTrue (is_sound k b s)) (sym e) sound ]
+    elim either [
+      | inl e ↦ subst (λ (k : Mode). IsTrue (is_sound k b s)) (sym e) sound
+      | inr e ↦ subst
+          (λ (k : Mode). IsTrue (is_sound k b s)) (sym e) sound
+    ]
 
--- a block that is not written has bytes, and finds room behind those written
+-- A block that is not written has bytes, and finds room behind those written.
 pub record FindsRoom (s : SlotsState) (n b : ℕ) : Type 0 where
   pub some : 0 < b
   pub room : n + b ≤ room_of s
 
-room_found : (n b : ℕ) (s : SlotsState) → IsTrue (is_shaped s && (nat_lt 0 b && (nat_le (n + b) (room_of s) && ((n == 0) || is_put n s)))) → FindsRoom s n b
+room_found : (n b : ℕ) (s : SlotsState) → IsTrue (is_shaped s && (nat_lt 0 b && (nat_le (n + b) (room_of s) && ((n == 0) || is_put n s))))
+    → FindsRoom s n b
 room_found n b s sound = record { some = grind (arith, common_steps); room = grind (arith, common_steps) }
 
-pub block_room : (m : Mode) (b n number : ℕ) (s : SlotsState) → ((passed : ℕ) × (m ≡ mode.Writing n number passed)) ⊎ (m ≡ mode.Unwritten n number) → IsTrue (is_sound m b s) → FindsRoom s n b
+-- A block that is being written finds room.
+pub block_room : (m : Mode) (b n number : ℕ) (s : SlotsState) → ((passed : ℕ) × (m ≡ mode.DownloadBusy n number passed))
+    ⊎ (m ≡ mode.DownloadSync n number) → IsTrue (is_sound m b s) → FindsRoom s n b
 block_room m b n number s (inl (passed, e)) sound = room_found n b s (subst (λ (k : Mode). IsTrue (is_sound k b s)) e sound)
 block_room m b n number s (inr e) sound = room_found n b s (subst (λ (k : Mode). IsTrue (is_sound k b s)) e sound)
 
-pub committed : (config : Setting) (s now : SlotsState) (next : Mode) (block : List ℕ) (n : ℕ) → IsReady s n → DidCall s (Commit n) true now → image_of now ≡ take n (spare_of s) → room_of now ≡ room_of s
-    → (next ≡ mode.Idle) ⊎ (next ≡ mode.Complete) ⊎ (next ≡ mode.Waiting) → Committed (take n (spare_of s)) config s (stage_of next [] []) (shows config now next block)
+-- A commit that worked is what the table says of it.
+pub committed : (config : Setting) (s now : SlotsState) (next : Mode) (block : List ℕ) (n : ℕ) → IsReady s n → DidCall s (Commit n) true now
+    → image_of now ≡ take n (spare_of s) → room_of now ≡ room_of s
+    → (next ≡ mode.DfuIdle) ⊎ (next ≡ mode.ManifestSyncComplete) ⊎ (next ≡ mode.ManifestWaitReset)
+    → Committed (take n (spare_of s)) config s (stage_of next [] []) (shows config now next block)
 committed config s now next block n ready d image room three = record {
   config_is = refl;
   room = room;
@@ -73,8 +106,10 @@ committed config s now next block n ready d image room three = record {
   image = image;
 }
 
-pub not_committed : (config : Setting) (s now : SlotsState) (block : List ℕ) (n : ℕ) → IsReady s n → DidCall s (Commit n) false now → (image_of now ≡ image_of s) ⊎ (image_of now ≡ take n (spare_of s)) → room_of now ≡ room_of s
-    → FailedCommit (take n (spare_of s)) config s (shows config now (mode.Broken Prog) block)
+-- A commit that failed is what the table says of it.
+pub not_committed : (config : Setting) (s now : SlotsState) (block : List ℕ) (n : ℕ) → IsReady s n → DidCall s (Commit n) false now
+    → (image_of now ≡ image_of s) ⊎ (image_of now ≡ take n (spare_of s)) → room_of now ≡ room_of s
+    → FailedCommit (take n (spare_of s)) config s (shows config now (mode.Error Prog) block)
 not_committed config s now block n ready d image room = record {
   config_is = refl;
   room = room;

@@ -23,12 +23,12 @@ use Rattle.dfu_device.specs.Outcome.{Luck, Works, FailsOld, FailsNew, Outcome, o
 use Rattle.dfu_device.specs.Shown.{Shown, profile_of, profile, situation}
 use Rattle.dfu_device.specs.Rows.{meant, asked_length, Answers, block_calls, Done, Elapses, is_served, setup_plan, Handles, handled_as}
 
--- the medium failed only where its count of failures rose
+-- The medium failed only where its count of failures rose.
 abbrev pub IsLuck : Luck → Shown → Shown → Type 0
 IsLuck Works w w' = Unit {0}
 IsLuck luck w w' = Rose w.slots.medium.failures w'.slots.medium.failures
 
--- what a plan led to is its outcome at some luck; a medium whose fuse is whole always works, and stays whole
+-- What a plan led to is its outcome at some luck; a medium whose fuse is whole always works, and stays whole.
 pub record Came (p : Plan) (len : ℕ) (w : Shown) (a : Answer) (out : List ℕ) (w' : Shown) : Type 0 where
   pub luck : Luck
   pub reply : Reply
@@ -42,13 +42,15 @@ fixed_by : (w w' : Shown) → w'.config ≡ w.config → room_of w'.slots ≡ ro
 fixed_by w w' config room = λ k. profile_of (config k) (room k)
 
 after_is : (reply : Reply) (w' : Shown) (image : List ℕ) (stage : Stage) → image_of w'.slots ≡ image → w'.stage ≡ stage
-    → ◌≡◌ {A = Outcome} (record { reply = reply; after = record { image = image; stage = stage } }) (record { reply = reply; after = situation w' })
+    → ◌≡◌ {A = Outcome} (record { reply = reply; after = record { image = image; stage = stage } })
+    (record { reply = reply; after = situation w' })
 after_is reply w' image stage i s = λ k. record { reply = reply; after = record { image = sym i k; stage = sym s k } }
 
--- each plan that was carried out
+-- Each plan that was carried out.
 abbrev pub PlanCame : Type 0
 PlanCame = (p : Plan) (len : ℕ) (w : Shown) (a : Answer) (out : List ℕ) (w' : Shown) → Done p len w a out w' → Came p len w a out w'
 
+-- Each plan that was carried out came to an outcome.
 pub came : PlanCame
 came (Sure reply stage) len w a out w' (says, is) = record {
   luck = Works;
@@ -107,32 +109,39 @@ came (Commits taken reply stage bad) len w a out w' (inr (says, h)) = elim (h.im
   }
 ]
 
--- the row of a setup whose reading is known goes by that reading
+-- The row of a setup whose reading is known goes by that reading.
 abbrev pub RowOf : Type 0
-RowOf = (p : Setup) (q : Asked) (setup body : List ℕ) (w : Shown) (a : Answer) (out : List ℕ) (w' : Shown) → IsSetup p setup → Asks p q → Handles setup body w a out w'
+RowOf = (p : Setup) (q : Asked) (setup body : List ℕ) (w : Shown) (a : Answer) (out : List ℕ) (w' : Shown) → IsSetup p setup → Asks p q
+    → Handles setup body w a out w'
     → Done (setup_plan w p q body) (asked_length q) w a out w'
 
+-- A row goes by the one reading of its setup.
 pub row_of : RowOf
 row_of p q setup body w a out w' reads asks (handled_as p2 q2 reads2 asks2 done) =
     let same : p2 ≡ p = IsSetup-one p2 p setup reads2 reads in
     let one : q2 ≡ q = Asks-one p q2 q (subst (λ (x : Setup). Asks x q2) same asks2) asks in
-    subst (λ (y : Asked). Done (setup_plan w p y body) (asked_length y) w a out w') one (subst (λ (x : Setup). Done (setup_plan w x q2 body) (asked_length q2) w a out w') same done)
+    subst (λ (y : Asked). Done (setup_plan w p y body) (asked_length y) w a out w') one
+    (subst (λ (x : Setup). Done (setup_plan w x q2 body) (asked_length q2) w a out w') same done)
 
--- what comes of a setup that goes by the table
+-- What comes of a setup that goes by the table.
 abbrev pub AskedCame : Type 0
-AskedCame = (p : Setup) (q : Asked) (setup body : List ℕ) (w : Shown) (a : Answer) (out : List ℕ) (w' : Shown) → IsSetup p setup → Asks p q → is_served p q body ≡ true
+AskedCame = (p : Setup) (q : Asked) (setup body : List ℕ) (w : Shown) (a : Answer) (out : List ℕ) (w' : Shown) → IsSetup p setup → Asks p q
+    → is_served p q body ≡ true
     → Handles setup body w a out w' → Came (plan (profile w) (image_of w.slots) w.stage (meant q body)) (asked_length q) w a out w'
 
+-- Each setup that goes by the table came to its outcome.
 pub asked_came : AskedCame
 asked_came p q setup body w a out w' reads asks on h =
     let row = row_of p q setup body w a out w' reads asks h in
     came (plan (profile w) (image_of w.slots) w.stage (meant q body)) (asked_length q) w a out w' (rw on at row)
 
--- a setup that does not go by the table is stalled and changes nothing
+-- A setup that does not go by the table is stalled and changes nothing.
 abbrev pub NotServed : Type 0
-NotServed = (p : Setup) (q : Asked) (setup body : List ℕ) (w : Shown) (a : Answer) (out : List ℕ) (w' : Shown) → IsSetup p setup → Asks p q → is_served p q body ≡ false
+NotServed = (p : Setup) (q : Asked) (setup body : List ℕ) (w : Shown) (a : Answer) (out : List ℕ) (w' : Shown) → IsSetup p setup → Asks p q
+    → is_served p q body ≡ false
     → Handles setup body w a out w' → (a ≡ answer.Stall) × (w' ≡ w)
 
+-- A setup that does not go by the table changes nothing.
 pub not_served : NotServed
 not_served p q setup body w a out w' reads asks off h =
     let row : Done (setup_plan w p q body) (asked_length q) w a out w' = row_of p q setup body w a out w' reads asks h in
@@ -141,18 +150,24 @@ not_served p q setup body w a out w' reads asks off h =
     stalled : Done (Sure Stall w.stage) (asked_length q) w a out w' → (a ≡ answer.Stall) × (w' ≡ w)
     stalled x = (x.0.0, x.1)
 
--- what comes of a time that passes
+-- What comes of a time that passes.
 abbrev pub TimeCame : Type 0
 TimeCame = (ms : ℕ) (w w' : Shown) → Elapses ms w w' → Came (time_plan (profile w) w.stage ms) 0 w answer.Ack [] w'
 
+-- Each time that passed came to its outcome.
 pub time_came : TimeCame
 time_came ms w w' row = came (time_plan (profile w) w.stage ms) 0 w answer.Ack [] w' row
 
--- where six bytes are asked for, the answer to GETSTATUS is read back as the status
+-- Where six bytes are asked for, the answer to GETSTATUS is read back as the status.
 abbrev pub StatusWhole : Type 0
-StatusWhole = (len : ℕ) (code : Code) (poll : ℕ) (state : State) (a : Answer) (out : List ℕ) → 6 ≤ len → Answers len (StatusOf code poll state) a out
+StatusWhole = (len : ℕ) (code : Code) (poll : ℕ) (state : State) (a : Answer) (out : List ℕ) → 6 ≤ len
+    → Answers len (StatusOf code poll state) a out
     → (a ≡ answer.Bytes) × IsStatus (record { code = code; poll_ms = poll; state = state }) out
 
+-- Six bytes of a status are read back as the status.
 pub status_whole : StatusWhole
-status_whole len code poll state a out room (is, bytes, status, string, front) =
-    (is, subst (λ (l : List ℕ). IsStatus (record { code = code; poll_ms = poll; state = state }) l) (sym (front ∙ take_all len bytes (omega (arith, room, status.length)))) status)
+status_whole len code poll state a out room (is, bytes, status, string, front) = (
+  is,
+  subst (λ (l : List ℕ). IsStatus (record { code = code; poll_ms = poll; state = state }) l)
+      (sym (front ∙ take_all len bytes (omega (arith, room, status.length)))) status,
+)

@@ -1,7 +1,7 @@
 -- What a row leads to, once it is said what the medium did.
 use Rattle.std.specs.Prelude.{ℕ, List}
 use Rattle.dfu_wire.specs.declared.codes.Code.TheVariants.{Write as ErrWrite, Prog as ErrProg}
-use Rattle.dfu_device.specs.Stage.{Request, Reply, Profile, Stage, InApp, Broken}
+use Rattle.dfu_device.specs.Stage.{Request, Reply, Profile, Stage, InAppIdle, InError}
 use Rattle.dfu_device.specs.Table.{Plan, Sure, Writes, Commits, plan, time_plan, reset_stage}
 
 -- The active image, and the state with what it keeps.
@@ -20,27 +20,28 @@ pub record Outcome : Type 0 where
   pub reply : Reply
   pub after : Situation
 
--- the outcome of a row: a failed write enters dfuERROR with errWRITE and keeps the image, a failed commit enters it with errPROG
+-- The outcome of a row: a failed write enters dfuERROR with errWRITE and keeps the image, a failed commit enters it with errPROG.
 abbrev pub outcome : List ℕ → Plan → Luck → Outcome
 outcome image (Sure reply stage) luck = record { reply = reply; after = record { image = image; stage = stage } }
 outcome image (Writes before block reply stage bad) Works = record { reply = reply; after = record { image = image; stage = stage } }
-outcome image (Writes before block reply stage bad) luck = record { reply = bad; after = record { image = image; stage = Broken ErrWrite } }
+outcome image (Writes before block reply stage bad) luck =
+    record { reply = bad; after = record { image = image; stage = InError ErrWrite } }
 outcome image (Commits taken reply stage bad) Works = record { reply = reply; after = record { image = taken; stage = stage } }
-outcome image (Commits taken reply stage bad) FailsOld = record { reply = bad; after = record { image = image; stage = Broken ErrProg } }
-outcome image (Commits taken reply stage bad) FailsNew = record { reply = bad; after = record { image = taken; stage = Broken ErrProg } }
+outcome image (Commits taken reply stage bad) FailsOld = record { reply = bad; after = record { image = image; stage = InError ErrProg } }
+outcome image (Commits taken reply stage bad) FailsNew = record { reply = bad; after = record { image = taken; stage = InError ErrProg } }
 
--- what comes of a request
+-- What comes of a request.
 abbrev pub handled : Profile → Situation → Request → Luck → Outcome
 handled c s request luck = outcome s.image (plan c s.image s.stage request) luck
 
--- what comes of a time that passes
+-- What comes of a time that passes.
 abbrev pub elapsed : Profile → Situation → ℕ → Luck → Situation
 elapsed c s ms luck = (outcome s.image (time_plan c s.stage ms) luck).after
 
--- what comes of a reset of the bus
+-- What comes of a reset of the bus.
 abbrev pub was_reset : Situation → Situation
 was_reset s = record { image = s.image; stage = reset_stage s.stage }
 
--- what comes of power that goes and comes back
+-- What comes of power that goes and comes back.
 abbrev pub powered : Situation → Situation
-powered s = record { image = s.image; stage = InApp }
+powered s = record { image = s.image; stage = InAppIdle }

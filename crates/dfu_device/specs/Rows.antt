@@ -12,29 +12,30 @@ use Rattle.dfu_slots.specs.Medium.{Rose}
 use Rattle.dfu_slots.specs.Seen.{SlotsState, store_on, image_of, room_of, Call, Begin, Put, Commit, Called}
 use Rattle.dfu_device.specs.declared.answer.Answer.{Answer}
 use Rattle.dfu_device.specs.declared.answer.Answer.TheVariants as answer
-use Rattle.dfu_device.specs.Stage.{Request, Detach, Dnload, Upload, GetStatus, ClrStatus, GetState, Abort, OtherRequest, Reply, Ack, StatusOf, StateOf, Data, Stall, Stage, InApp, Broken}
+use Rattle.dfu_device.specs.Stage.{Request, Detach, Dnload, Upload, GetStatus, ClrStatus, GetState, Abort, OtherRequest, Reply, Ack, StatusOf, StateOf, Data, Stall, Stage, InAppIdle, InError}
 use Rattle.dfu_device.specs.Table.{Plan, Sure, Writes, Commits, plan, time_plan, reset_stage}
 use Rattle.dfu_device.specs.Setting.{Setting}
 use Rattle.dfu_device.specs.Shown.{Shown, profile}
 
 -- The answer to its bytes.
 
--- a reply is answered like this, where so many bytes of a status or a state were asked for: the front of six bytes, or of one byte
+-- A reply is answered like this, where so many bytes of a status or a state were asked for: the front of six bytes, or of one byte.
 abbrev pub Answers : ℕ → Reply → Answer → List ℕ → Type 0
 Answers len Ack a out = (a ≡ answer.Ack) × (out ≡ [])
 Answers len Stall a out = (a ≡ answer.Stall) × (out ≡ [])
 Answers len (Data bytes) a out = (a ≡ answer.Bytes) × (out ≡ bytes)
 Answers len (StateOf state) a out = (a ≡ answer.Bytes) × (out ≡ take len (state_byte state ∷ []))
 Answers len (StatusOf code poll state) a out =
-    (a ≡ answer.Bytes) × (bytes : List ℕ) × IsStatus (record { code = code; poll_ms = poll; state = state }) bytes × (slice_index bytes 5 ≡ 0) × (out ≡ take len bytes)
+    (a ≡ answer.Bytes) × (bytes : List ℕ) × IsStatus (record { code = code; poll_ms = poll; state = state }) bytes
+    × (slice_index bytes 5 ≡ 0) × (out ≡ take len bytes)
 
 -- What becomes of the device, and of its medium.
 
--- a block is written by one `put` behind the bytes written before; before the first block comes a `begin`
+-- A block is written by one `put` behind the bytes written before; before the first block comes a `begin`.
 abbrev pub block_calls : List ℕ → List ℕ → List Call
 block_calls before block = if length before == 0 then Begin ∷ Put 0 block ∷ [] else Put (length before) block ∷ []
 
--- the block was written: the image stays, and a stage is entered
+-- The block was written: the image stays, and a stage is entered.
 pub record WroteBlock (before block : List ℕ) (config : Setting) (s : SlotsState) (stage : Stage) (w' : Shown) : Type 0 where
   pub config_is : w'.config ≡ config
   pub room : room_of w'.slots ≡ room_of s
@@ -42,16 +43,16 @@ pub record WroteBlock (before block : List ℕ) (config : Setting) (s : SlotsSta
   pub calls : Called s (block_calls before block) true w'.slots
   pub image : image_of w'.slots ≡ image_of s
 
--- the medium failed at the block: the image stays, and the code is errWRITE
+-- The medium failed at the block: the image stays, and the code is errWRITE.
 pub record FailedBlock (before block : List ℕ) (config : Setting) (s : SlotsState) (w' : Shown) : Type 0 where
   pub config_is : w'.config ≡ config
   pub room : room_of w'.slots ≡ room_of s
-  pub stage_is : w'.stage ≡ Broken ErrWrite
+  pub stage_is : w'.stage ≡ InError ErrWrite
   pub calls : Called s (block_calls before block) false w'.slots
   pub image : image_of w'.slots ≡ image_of s
   pub failed : Rose s.medium.failures w'.slots.medium.failures
 
--- the bytes taken were put in place: they are the image, and a stage is entered
+-- The bytes taken were put in place: they are the image, and a stage is entered.
 pub record Committed (taken : List ℕ) (config : Setting) (s : SlotsState) (stage : Stage) (w' : Shown) : Type 0 where
   pub config_is : w'.config ≡ config
   pub room : room_of w'.slots ≡ room_of s
@@ -59,26 +60,27 @@ pub record Committed (taken : List ℕ) (config : Setting) (s : SlotsState) (sta
   pub calls : Called s (Commit (length taken) ∷ []) true w'.slots
   pub image : image_of w'.slots ≡ taken
 
--- the medium failed there: the image is the old one or the bytes taken, and the code is errPROG
+-- The medium failed there: the image is the old one or the bytes taken, and the code is errPROG.
 pub record FailedCommit (taken : List ℕ) (config : Setting) (s : SlotsState) (w' : Shown) : Type 0 where
   pub config_is : w'.config ≡ config
   pub room : room_of w'.slots ≡ room_of s
-  pub stage_is : w'.stage ≡ Broken ErrProg
+  pub stage_is : w'.stage ≡ InError ErrProg
   pub calls : Called s (Commit (length taken) ∷ []) false w'.slots
   pub image : (image_of w'.slots ≡ image_of s) ⊎ (image_of w'.slots ≡ taken)
   pub failed : Rose s.medium.failures w'.slots.medium.failures
 
--- a plan was carried out: with no call of the slot store at all, or with the calls of a block or of a commit
+-- A plan was carried out: with no call of the slot store at all, or with the calls of a block or of a commit.
 abbrev pub Done : Plan → ℕ → Shown → Answer → List ℕ → Shown → Type 0
 Done (Sure reply stage) len w a out w' = Answers len reply a out × (w' ≡ record w { stage = stage })
 Done (Writes before block reply stage bad) len w a out w' =
-    (Answers len reply a out × WroteBlock before block w.config w.slots stage w') ⊎ (Answers len bad a out × FailedBlock before block w.config w.slots w')
+    (Answers len reply a out × WroteBlock before block w.config w.slots stage w')
+    ⊎ (Answers len bad a out × FailedBlock before block w.config w.slots w')
 Done (Commits taken reply stage bad) len w a out w' =
     (Answers len reply a out × Committed taken w.config w.slots stage w') ⊎ (Answers len bad a out × FailedCommit taken w.config w.slots w')
 
 -- The three rules before the table.
 
--- a request of the wire with its body, as the table reads it
+-- A request of the wire with its body, as the table reads it.
 abbrev pub meant : Asked → List ℕ → Request
 meant (asked.Detach timeout) body = Detach timeout
 meant (asked.Dnload block len) body = Dnload block body
@@ -90,36 +92,37 @@ meant asked.Abort body = Abort
 meant asked.OtherClass body = OtherRequest
 meant asked.NotDfu body = OtherRequest
 
--- how many bytes of a status or of a state are asked for: wLength
+-- How many bytes of a status or of a state are asked for: wLength.
 abbrev pub asked_length : Asked → ℕ
 asked_length (asked.GetStatus len) = len
 asked_length (asked.GetState len) = len
 asked_length q = 0
 
--- how many bytes the body of a setup has: wLength where the host sends, and none where it reads
+-- How many bytes the body of a setup has: wLength where the host sends, and none where it reads.
 abbrev pub body_length : Setup → ℕ
 body_length p = if p.kind == 0x21 then p.length else 0
 
--- a request of the class with a fitting body goes by the table
+-- A request of the class with a fitting body goes by the table.
 abbrev pub is_served : Setup → Asked → List ℕ → Bool
 is_served p asked.NotDfu body = false
 is_served p q body = length body == body_length p
 
--- any other setup is stalled and changes nothing
+-- Any other setup is stalled and changes nothing.
 abbrev pub setup_plan : Shown → Setup → Asked → List ℕ → Plan
 setup_plan w p q body = if is_served p q body then plan (profile w) (image_of w.slots) w.stage (meant q body) else Sure Stall w.stage
 
 -- The rows.
 
--- the row of a request that goes by the table
+-- The row of a request that goes by the table.
 abbrev pub Serves : Asked → List ℕ → Shown → Answer → List ℕ → Shown → Type 0
 Serves q body w a out w' = Done (plan (profile w) (image_of w.slots) w.stage (meant q body)) (asked_length q) w a out w'
 
--- the row of a setup with its body: as these eight bytes are read
+-- The row of a setup with its body: as these eight bytes are read.
 pub data Handles (setup body : List ℕ) (w : Shown) (a : Answer) (out : List ℕ) (w' : Shown) : Type 0 where
-  handled_as : (p : Setup) (q : Asked) → IsSetup p setup → Asks p q → Done (setup_plan w p q body) (asked_length q) w a out w' → Handles setup body w a out w'
+  handled_as : (p : Setup) (q : Asked) → IsSetup p setup → Asks p q → Done (setup_plan w p q body) (asked_length q) w a out w'
+      → Handles setup body w a out w'
 
--- the row of so many milliseconds
+-- The row of so many milliseconds.
 abbrev pub Elapses : ℕ → Shown → Shown → Type 0
 Elapses ms w w' = Done (time_plan (profile w) w.stage ms) 0 w answer.Ack [] w'
 
@@ -130,10 +133,12 @@ pub data Cause : Type 0 where
   BusReset : Cause
   PowerOn : Cause
 
--- a row of the device table: from a device by a cause to an answer and a device. Only a setup is answered, which is written as Ack elsewhere;
--- power that goes leaves the medium alone
+-- A row of the device table: from a device by a cause to an answer and a device. Only a setup is answered, which is written as Ack
+-- elsewhere;
+-- power that goes leaves the medium alone.
 abbrev pub Row : Shown → Cause → Answer → List ℕ → Shown → Type 0
 Row w (Transfer setup body) a out w' = Handles setup body w a out w'
 Row w (Passing ms) a out w' = (a ≡ answer.Ack) × (out ≡ []) × Elapses ms w w'
 Row w BusReset a out w' = (a ≡ answer.Ack) × (out ≡ []) × (w' ≡ record w { stage = reset_stage w.stage })
-Row w PowerOn a out w' = (a ≡ answer.Ack) × (out ≡ []) × (w' ≡ record { config = w.config; slots = store_on w.slots.medium; stage = InApp })
+Row w PowerOn a out w' = (a ≡ answer.Ack) × (out ≡ [])
+    × (w' ≡ record { config = w.config; slots = store_on w.slots.medium; stage = InAppIdle })

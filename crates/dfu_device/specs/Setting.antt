@@ -9,42 +9,42 @@ use Rattle.dfu_device.specs.declared.fault.ConfigFault.TheVariants as fault
 pub record Setting : Type 0 where
   pub ids : Ids
   pub functional : Functional
-  -- the fewest bytes of an image
+  -- The fewest bytes of an image.
   pub least : ℕ
-  -- how long it takes to write a block
+  -- How long it takes to write a block.
   pub busy_ms : ℕ
-  -- how long it takes to put an image in place
+  -- How long it takes to put an image in place.
   pub manifest_ms : ℕ
 
--- blocks have 1 to 4,096 bytes
+-- Blocks have 1 to 4,096 bytes.
 pub record HasTransfer (s : Setting) : Type 0 where
   pub some : 1 ≤ s.functional.transfer
   pub most : s.functional.transfer ≤ 4096
 
--- the poll times fit in 24 bits, and a device that is not tolerant of manifestation takes at least 1 ms to put an image in place
+-- The poll times fit in 24 bits, and a device that is not tolerant of manifestation takes at least 1 ms to put an image in place.
 pub record HasPoll (s : Setting) : Type 0 where
   pub busy : s.busy_ms < 2 ^ 24
   pub manifest : s.manifest_ms < 2 ^ 24
   pub takes_time : s.functional.tolerant ≡ false → 1 ≤ s.manifest_ms
 
--- the fewest bytes of an image are 1 to 2^24
+-- The fewest bytes of an image are 1 to 2^24.
 pub record HasLeast (s : Setting) : Type 0 where
   pub some : 1 ≤ s.least
   pub most : s.least ≤ 2 ^ 24
 
--- a device can be set up like this
+-- A device can be set up like this.
 pub record IsAllowed (s : Setting) : Type 0 where
   pub transfer : HasTransfer s
   pub poll : HasPoll s
   pub least : HasLeast s
 
--- the first fault: the transfer size, then the poll times, then the fewest bytes
+-- The first fault: the transfer size, then the poll times, then the fewest bytes.
 abbrev pub FirstFault : ConfigFault → Setting → Type 0
 FirstFault fault.BadTransfer s = (s.functional.transfer ≡ 0) ⊎ (4096 < s.functional.transfer)
 FirstFault fault.BadPoll s =
     HasTransfer s × ((2 ^ 24 ≤ s.busy_ms) ⊎ (2 ^ 24 ≤ s.manifest_ms) ⊎ ((s.functional.tolerant ≡ false) × (s.manifest_ms ≡ 0)))
 FirstFault fault.BadLeast s = HasTransfer s × HasPoll s × ((s.least ≡ 0) ⊎ (2 ^ 24 < s.least))
 
--- the functional descriptor of a device of this standard: version 0110h
+-- The functional descriptor of a device of this standard: version 0110h.
 abbrev pub of_this_version : Functional → Functional
 of_this_version f = record f { version = 0x0110 }

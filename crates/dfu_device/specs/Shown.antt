@@ -1,7 +1,7 @@
 -- What a contract sees of a device.
 use Rattle.std.specs.Prelude.{◌≡◌, ℕ, List, [], length, take}
 use Rattle.dfu_slots.specs.Seen.{SlotsState, image_of, spare_of, room_of}
-use Rattle.dfu_device.specs.Stage.{Profile, Stage, Unwritten, Written, Writing, Ready, Closed, Committing}
+use Rattle.dfu_device.specs.Stage.{Profile, Stage, InDownloadSync, InDownloadSyncWritten, InDownloadBusy, InDownloadIdle, InManifestSync, InManifest}
 use Rattle.dfu_device.specs.Setting.{Setting}
 use Rattle.dfu_device.specs.Outcome.{Situation}
 
@@ -11,7 +11,7 @@ pub record Shown : Type 0 where
   pub slots : SlotsState
   pub stage : Stage
 
--- the profile of a device that is set up like this, with room for images of so many bytes
+-- The profile of a device that is set up like this, with room for images of so many bytes.
 abbrev pub profile_of : Setting → ℕ → Profile
 profile_of s room = record {
   can_download = s.functional.can_download;
@@ -26,24 +26,24 @@ profile_of s room = record {
   capacity = room;
 }
 
--- the profile by which a device goes
+-- The profile by which a device goes.
 abbrev pub profile : Shown → Profile
 profile w = profile_of w.config (room_of w.slots)
 
--- the active image of a device, and its state with what it keeps
+-- The active image of a device, and its state with what it keeps.
 abbrev pub situation : Shown → Situation
 situation w = record { image = image_of w.slots; stage = w.stage }
 
--- the bytes taken that are written and not yet put in place; none once manifestation is complete
+-- The bytes taken that are written and not yet put in place; none once manifestation is complete.
 abbrev pub written_in : Stage → List ℕ
-written_in (Unwritten before block number) = before
-written_in (Written taken number) = taken
-written_in (Writing before block number passed) = before
-written_in (Ready taken number) = taken
-written_in (Closed taken) = taken
-written_in (Committing taken passed) = taken
+written_in (InDownloadSync before block number) = before
+written_in (InDownloadSyncWritten taken number) = taken
+written_in (InDownloadBusy before block number passed) = before
+written_in (InDownloadIdle taken number) = taken
+written_in (InManifestSync taken) = taken
+written_in (InManifest taken passed) = taken
 written_in stage = []
 
--- they stand at the front of the spare slot's data
+-- They stand at the front of the spare slot's data.
 abbrev pub IsStored : Shown → Type 0
 IsStored w = take (length (written_in w.stage)) (spare_of w.slots) ≡ written_in w.stage

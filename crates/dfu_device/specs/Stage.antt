@@ -8,11 +8,11 @@ use Rattle.dfu_wire.specs.declared.codes.Code.TheVariants.{Ok as NoFault}
 
 -- What a host asks: one of the seven requests of the class, with what the table reads of it, or another request of the class.
 pub data Request : Type 0 where
-  -- DETACH, with wTimeout in milliseconds
+  -- DETACH, with wTimeout in milliseconds.
   Detach : (timeout : ℕ) → Request
-  -- DNLOAD, with the number of the block and its bytes
+  -- DNLOAD, with the number of the block and its bytes.
   Dnload : (number : ℕ) (body : List ℕ) → Request
-  -- UPLOAD, with the number of the block and how many bytes are asked for
+  -- UPLOAD, with the number of the block and how many bytes are asked for.
   Upload : (number size : ℕ) → Request
   GetStatus : Request
   ClrStatus : Request
@@ -28,81 +28,82 @@ pub data Reply : Type 0 where
   Data : List ℕ → Reply
   Stall : Reply
 
--- What is fixed of a device and read by its table: four attributes, times in milliseconds, sizes in bytes.
+-- What is fixed of a device and read by its table: what the table reads of the device's `Setting`, each value by its own name,
+-- and the most bytes of an image, which the medium says. Times are in milliseconds, sizes in bytes.
 pub record Profile : Type 0 where
-  -- bitCanDnload, bitCanUpload, bitManifestationTolerant, bitWillDetach
+  -- bitCanDnload, bitCanUpload, bitManifestationTolerant, bitWillDetach.
   pub can_download : Bool
   pub can_upload : Bool
   pub tolerant : Bool
   pub will_detach : Bool
-  -- wDetachTimeOut
+  -- wDetachTimeOut.
   pub detach_ms : ℕ
-  -- wTransferSize: the most bytes of a block
+  -- wTransferSize: the most bytes of a block.
   pub transfer : ℕ
-  -- the fewest bytes of an image
+  -- The fewest bytes of an image.
   pub least : ℕ
-  -- how long a block takes to be written, and an image to be put in place
+  -- How long a block takes to be written, and an image to be put in place.
   pub busy : ℕ
   pub manifest : ℕ
-  -- the most bytes of an image
+  -- The most bytes of an image.
   pub capacity : ℕ
 
 -- A state with what it keeps, and nothing else: so what a state does not keep is forgotten on entering it.
 pub data Stage : Type 0 where
-  -- appIDLE: the application runs
-  InApp : Stage
-  -- appDETACH: it got DETACH; its timer, and the time that passed
-  Detaching : (timer passed : ℕ) → Stage
-  -- dfuIDLE: nothing is taken
-  Idle : Stage
-  -- dfuDNLOAD-SYNC, block not written: the bytes taken before the block, the block, and the number of the next one
-  Unwritten : (before block : List ℕ) (number : ℕ) → Stage
-  -- dfuDNLOAD-SYNC, block written: the bytes taken, all written, and the number of the next block
-  Written : (taken : List ℕ) (number : ℕ) → Stage
-  -- dfuDNBUSY: the block is being written for this long
-  Writing : (before block : List ℕ) (number passed : ℕ) → Stage
-  -- dfuDNLOAD-IDLE: ready for the block of this number
-  Ready : (taken : List ℕ) (number : ℕ) → Stage
-  -- dfuMANIFEST-SYNC, not complete: the host closed the download
-  Closed : (taken : List ℕ) → Stage
-  -- dfuMANIFEST-SYNC, complete: the bytes taken are the active image
-  Complete : Stage
-  -- dfuMANIFEST: they are being put in place for this long
-  Committing : (taken : List ℕ) (passed : ℕ) → Stage
-  -- dfuMANIFEST-WAIT-RESET
-  Waiting : Stage
-  -- dfuUPLOAD-IDLE: how many bytes of the image were sent, and the number of the next block
-  Sending : (place number : ℕ) → Stage
-  -- dfuERROR, with its code
-  Broken : Code → Stage
+  -- appIDLE: the application runs.
+  InAppIdle : Stage
+  -- appDETACH: it got DETACH; its timer, and the time that passed.
+  InAppDetach : (timer passed : ℕ) → Stage
+  -- dfuIDLE: nothing is taken.
+  InDfuIdle : Stage
+  -- dfuDNLOAD-SYNC, block not written: the bytes taken before the block, the block, and the number of the next one.
+  InDownloadSync : (before block : List ℕ) (number : ℕ) → Stage
+  -- dfuDNLOAD-SYNC, block written: the bytes taken, all put in the slot store, and the number of the next block.
+  InDownloadSyncWritten : (taken : List ℕ) (number : ℕ) → Stage
+  -- dfuDNBUSY: the block is being written for this long.
+  InDownloadBusy : (before block : List ℕ) (number passed : ℕ) → Stage
+  -- dfuDNLOAD-IDLE: ready for the block of this number.
+  InDownloadIdle : (taken : List ℕ) (number : ℕ) → Stage
+  -- dfuMANIFEST-SYNC, not complete: the host closed the download.
+  InManifestSync : (taken : List ℕ) → Stage
+  -- dfuMANIFEST-SYNC, complete: the bytes taken are the active image.
+  InManifestSyncComplete : Stage
+  -- dfuMANIFEST: they are being put in place for this long.
+  InManifest : (taken : List ℕ) (passed : ℕ) → Stage
+  -- dfuMANIFEST-WAIT-RESET.
+  InManifestWaitReset : Stage
+  -- dfuUPLOAD-IDLE: how many bytes of the image were sent, and the number of the next block.
+  InUploadIdle : (place number : ℕ) → Stage
+  -- dfuERROR, with its code.
+  InError : Code → Stage
 
--- the state of the standard that a stage is
+-- The state of the standard that a stage is.
 abbrev pub state_of : Stage → State
-state_of InApp = AppIdle
-state_of (Detaching timer passed) = AppDetach
-state_of Idle = DfuIdle
-state_of (Unwritten before block number) = DownloadSync
-state_of (Written taken number) = DownloadSync
-state_of (Writing before block number passed) = DownloadBusy
-state_of (Ready taken number) = DownloadIdle
-state_of (Closed taken) = ManifestSync
-state_of Complete = ManifestSync
-state_of (Committing taken passed) = Manifest
-state_of Waiting = ManifestWaitReset
-state_of (Sending place number) = UploadIdle
-state_of (Broken code) = Error
+state_of InAppIdle = AppIdle
+state_of (InAppDetach timer passed) = AppDetach
+state_of InDfuIdle = DfuIdle
+state_of (InDownloadSync before block number) = DownloadSync
+state_of (InDownloadSyncWritten taken number) = DownloadSync
+state_of (InDownloadBusy before block number passed) = DownloadBusy
+state_of (InDownloadIdle taken number) = DownloadIdle
+state_of (InManifestSync taken) = ManifestSync
+state_of InManifestSyncComplete = ManifestSync
+state_of (InManifest taken passed) = Manifest
+state_of InManifestWaitReset = ManifestWaitReset
+state_of (InUploadIdle place number) = UploadIdle
+state_of (InError code) = Error
 
--- the status code of a stage: OK in every state but dfuERROR
+-- The status code of a stage: OK in every state but dfuERROR.
 abbrev pub code_of : Stage → Code
-code_of (Broken code) = code
+code_of (InError code) = code
 code_of stage = NoFault
 
--- the poll time of a stage: how long a host is to wait in dfuDNBUSY and in dfuMANIFEST, and 0 in every other state
+-- The poll time of a stage: how long a host is to wait in dfuDNBUSY and in dfuMANIFEST, and 0 in every other state.
 abbrev pub poll_of : Profile → Stage → ℕ
-poll_of c (Writing before block number passed) = c.busy
-poll_of c (Committing taken passed) = c.manifest
+poll_of c (InDownloadBusy before block number passed) = c.busy
+poll_of c (InManifest taken passed) = c.manifest
 poll_of c stage = 0
 
--- the status of a stage
+-- The status of a stage.
 abbrev pub status_of : Profile → Stage → Reply
 status_of c stage = StatusOf (code_of stage) (poll_of c stage) (state_of stage)

@@ -24,11 +24,29 @@ impl Model for Config {
 
     ghost Value = { Setting };
 
-    ghost view = { λ c. record { ids = c.ids; functional = c.functional; least = c.least; busy_ms = c.busy_ms; manifest_ms = c.manifest_ms } };
+    ghost view = { λ c. record {
+      ids = c.ids;
+      functional = c.functional;
+      least = c.least;
+      busy_ms = c.busy_ms;
+      manifest_ms = c.manifest_ms;
+    } };
 
-    ghost invariant = { λ c. IsAllowed (record { ids = c.ids; functional = c.functional; least = c.least; busy_ms = c.busy_ms; manifest_ms = c.manifest_ms }) };
+    ghost invariant = { λ c. IsAllowed (record {
+      ids = c.ids;
+      functional = c.functional;
+      least = c.least;
+      busy_ms = c.busy_ms;
+      manifest_ms = c.manifest_ms;
+    }) };
 
-    ghost inverse = { λ s. record { ids = s.ids; functional = s.functional; least = s.least; busy_ms = s.busy_ms; manifest_ms = s.manifest_ms } };
+    ghost inverse = { λ s. record {
+      ids = s.ids;
+      functional = s.functional;
+      least = s.least;
+      busy_ms = s.busy_ms;
+      manifest_ms = s.manifest_ms;
+    } };
 }
 
 impl Config {
@@ -45,9 +63,16 @@ impl Config {
         busy_ms: u32,
         manifest_ms: u32,
     ) -> Result<Config, ConfigFault>
-        ensures ok { IfOk result (λ c. c ≡ record { ids = ids; functional = of_this_version functional; least = least; busy_ms = busy_ms; manifest_ms = manifest_ms }) }
+        ensures ok { IfOk result (λ c. c ≡ record {
+          ids = ids;
+          functional = of_this_version functional;
+          least = least;
+          busy_ms = busy_ms;
+          manifest_ms = manifest_ms;
+        }) }
         ensures allowed { IfOk result (λ c. IsAllowed c) }
-        ensures err { IfErr result (λ e. FirstFault e (record { ids = ids; functional = functional; least = least; busy_ms = busy_ms; manifest_ms = manifest_ms })) }
+        ensures err { IfErr result (λ e. FirstFault e
+            (record { ids = ids; functional = functional; least = least; busy_ms = busy_ms; manifest_ms = manifest_ms })) }
     {
         if functional.transfer == 0 || functional.transfer > 4096 {
             return Err(ConfigFault::BadTransfer);

@@ -5,7 +5,7 @@ ghost use Rattle.dfu_slots.specs.Seen.{store_on, fused};
 ghost use Rattle.dfu_slots.specs.Medium.Fuse.{Whole, Armed};
 ghost use Rattle.dfu_slots.specs.Image.{HasImage};
 ghost use Rattle.dfu_slots.specs.Changes.{IsOpenFault};
-ghost use Rattle.dfu_device.specs.Stage.{InApp, state_of, code_of};
+ghost use Rattle.dfu_device.specs.Stage.{InAppIdle, state_of, code_of};
 ghost use Rattle.dfu_device.specs.Table.{reset_stage};
 ghost use Rattle.dfu_device.specs.Shown.{IsStored};
 ghost use Rattle.dfu_device.specs.Rows.{Handles, Elapses};
@@ -19,15 +19,47 @@ use std::marker::Model;
 
 /// A device: its configuration, a slot store, and a state of the standard with what it keeps.
 ///
-/// No call takes memory, and none but `power_on` refuses.
+/// No call takes memory, and none but `power_on` refuses. A bootloader tells it what happens, and
+/// carries out what it answers:
+///
+/// ```text
+/// match happened {
+///     Happened::BusReset => device.usb_reset(),
+///     Happened::Transfer(setup, body) => match device.handle(&setup, body, &mut out) {
+///         Answer::Ack => usb.acknowledge(),
+///         Answer::Bytes => usb.send(&out),
+///         Answer::Stall => usb.stall(),
+///     },
+///     Happened::Tick(ms) => device.elapse(ms),
+/// }
+/// let state = device.state(); // says what runs now
+/// ```
+///
+/// - A transfer is a control transfer to the interface of this standard. Where the host sends, `body`
+///   is its whole data stage, wLength bytes; where it reads, `body` is empty. So a stack takes the data
+///   stage in before it asks, and a body that it cut short is stalled with nothing changed.
+/// - On `Ack` the status stage is acknowledged. On `Bytes` the bytes in `out` are the data stage, which
+///   may have none. On `Stall` endpoint 0 is stalled; that is an answer like the others, and the device
+///   goes on from the state that it is in then.
+/// - Time is told as it passes, as at each tick of a timer: a call with the milliseconds since the last
+///   one. The medium is written within the call that comes to the end of the busy or the manifestation
+///   time, and where that time is 0 within the `handle` that answers GETSTATUS.
+/// - A reset of the bus is told once an enumeration: one in dfuIDLE ends the upgrade mode, as the
+///   table has it. With power a device begins in appIDLE; a bootloader that is to begin in dfuIDLE
+///   gives it a DETACH and a reset of its own.
+/// - Then the state says what runs: the application in appIDLE and appDETACH, the upgrade elsewhere. A
+///   device with bitWillDetach goes from appDETACH to dfuIDLE by a tick, and there its maker detaches it
+///   from the bus. In dfuMANIFEST-WAIT-RESET it waits for its maker or the host to reset it.
 #[derive(Drop)]
 pub struct Device<M: Medium> {
+    // A layer of its own: its functions read its fields, which keep an invariant, and a caller of
+    // `Device` sees one plain value, `Shown`, whatever those fields are.
     machine: Machine<M>,
 }
 
 impl<M: Medium> Model for Device<M> {
     ghost use Rattle.dfu_device.specs.Shown.{Shown};
-    ghost use Rattle.dfu_device.specs.View.{shown};
+    ghost use Rattle.dfu_device.specs.inside.View.{shown};
 
     ghost Value = { Shown };
 
@@ -37,7 +69,7 @@ impl<M: Medium> Model for Device<M> {
 impl<M: Medium> Device<M> {
     /// A device in appIDLE.
     pub fn start(config: Config, slots: Slots<M>) -> Device<M>
-        ensures { result ≡ record { config = config; slots = slots; stage = InApp } }
+        ensures { result ≡ record { config = config; slots = slots; stage = InAppIdle } }
     {
         Device {
             machine: Machine::start(config, slots),
@@ -57,7 +89,7 @@ impl<M: Medium> Device<M> {
     /// 3. `TwoImages`: both are, and neither generation is the other's plus 1 modulo 256.
     /// 4. `BadHeader`: the active slot's header is not well formed.
     pub fn power_on(config: Config, medium: M) -> Result<Device<M>, (OpenFault, M)>
-        ensures ok { IfOk result (λ d. d ≡ record { config = config; slots = store_on (M.state medium); stage = InApp }) }
+        ensures ok { IfOk result (λ d. d ≡ record { config = config; slots = store_on (M.state medium); stage = InAppIdle }) }
         ensures has_image { OnOk result (HasImage (M.state medium)) }
         ensures err { IfErr result (λ e. (e.1 ≡ medium) × IsOpenFault e.0 (M.state medium)) }
         ensures refused { OnErr result (¬ HasImage (M.state medium)) }
@@ -126,7 +158,8 @@ impl<M: Medium> Device<M> {
     }
 
     /// The slot store. Until they are put in place the bytes taken stand at the front of the data of
-    /// its spare slot, but for a block that is not written yet.
+    /// its spare slot, but for a block that is not written yet. That is as the store has them: where
+    /// the medium's unit is over 1, the last of them may be held in memory until their unit is full.
     pub fn slots(&self) -> &Slots<M>
         ensures slots { result.now ≡ self.now.slots }
         ensures stored { IsStored self.now }

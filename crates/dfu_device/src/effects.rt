@@ -3,12 +3,12 @@
 ghost use Rattle.std.specs.Prelude.{◌≡◌, ◌<◌, ◌≤◌, ◌+◌, ◌++◌, ◌^◌, ◌⊎◌, ℕ, length, take, List, [], true, false, if◌then◌else◌, OnOk, OnErr, is_ok};
 ghost use Rattle.dfu_slots.specs.Medium.{Rose};
 ghost use Rattle.dfu_slots.specs.Seen.{image_of, spare_of, room_of, is_shaped, Called};
-ghost use Rattle.dfu_device.specs.Stage.{StateOf, Written, Ready, Broken, state_of, poll_of, status_of};
+ghost use Rattle.dfu_device.specs.Stage.{StateOf, InDownloadSyncWritten, InDownloadIdle, InError, state_of, poll_of, status_of};
 ghost use Rattle.dfu_device.specs.Table.{block_plan};
 ghost use Rattle.dfu_device.specs.Shown.{profile};
-ghost use Rattle.dfu_device.specs.Inside.{is_put, stage_of};
+ghost use Rattle.dfu_device.specs.inside.Fields.{is_put, stage_of};
 ghost use Rattle.dfu_device.specs.Rows.{Answers, Done, WroteBlock, FailedBlock, Committed, FailedCommit, block_calls};
-ghost use Rattle.dfu_device.specs.View.{shown};
+ghost use Rattle.dfu_device.specs.inside.View.{shown};
 
 use crate::Answer;
 use crate::machine::Machine;
@@ -24,8 +24,8 @@ impl<M: Medium> Machine<M> {
         ensures fits { result < 2 ^ 24 }
     {
         match self.mode {
-            Mode::Writing { .. } => self.config.busy_ms(),
-            Mode::Committing { .. } => self.config.manifest_ms(),
+            Mode::DownloadBusy { .. } => self.config.busy_ms(),
+            Mode::Manifest { .. } => self.config.manifest_ms(),
             _ => 0,
         }
     }
@@ -56,11 +56,11 @@ impl<M: Medium> Machine<M> {
     }
 
     /// Stalls, and goes to dfuERROR with a code.
-    pub fn fault(&mut self, code: Code) -> Answer
+    pub fn error(&mut self, code: Code) -> Answer
         ensures answer { result ≡ Answer.Stall }
-        ensures now { shown self.new ≡ record (shown self.old) { stage = Broken code } }
+        ensures now { shown self.new ≡ record (shown self.old) { stage = InError code } }
     {
-        self.mode = Mode::Broken { code };
+        self.mode = Mode::Error { code };
         Answer::Stall
     }
 
@@ -68,20 +68,21 @@ impl<M: Medium> Machine<M> {
     pub fn take_block(&mut self, written: u32, expected: u16, number: u16, body: &[u8]) -> Answer
         requires fits { (written ≡ 0) ⊎ ((0 < written) × (written ≤ room_of self.old.slots) × (is_put written self.old.slots ≡ true)) }
         requires some { 0 < length body.now }
-        ensures row { Done (block_plan (profile (shown self.old)) (take written (spare_of self.old.slots)) expected number body.now) 0 (shown self.old) result [] (shown self.new) }
+        ensures row { Done (block_plan (profile (shown self.old)) (take written (spare_of self.old.slots)) expected number body.now) 0
+            (shown self.old) result [] (shown self.new) }
     {
         if body.len() > self.config.transfer() as usize {
-            return self.fault(Code::StalledPkt);
+            return self.error(Code::StalledPkt);
         }
         if number != expected {
-            return self.fault(Code::Address);
+            return self.error(Code::Address);
         }
         if body.len() > (self.slots.capacity() - written) as usize {
-            return self.fault(Code::Address);
+            return self.error(Code::Address);
         }
         self.block.clear();
         let _ = self.block.try_extend_from_slice(body);
-        self.mode = Mode::Unwritten {
+        self.mode = Mode::DownloadSync {
             written,
             number: expected.wrapping_add(1),
         };
@@ -91,25 +92,27 @@ impl<M: Medium> Machine<M> {
     /// Writes the block. It answers whether the medium worked; `late` is said where time passed, so
     /// that the host has to ask for the status once more.
     pub fn write_block(&mut self, written: u32, number: u16, late: bool) -> bool
-        requires { ((passed : ℕ) × (self.old.mode ≡ Mode.Writing written number passed)) ⊎ (self.old.mode ≡ Mode.Unwritten written number) }
+        requires { ((passed : ℕ) × (self.old.mode ≡ Mode.DownloadBusy written number passed))
+            ⊎ (self.old.mode ≡ Mode.DownloadSync written number) }
         ensures done { let before = take written (spare_of self.old.slots) in
             let block = self.old.block.items in
-            let next = if late then Written (before ++ block) number else Ready (before ++ block) number in
+            let next = if late then InDownloadSyncWritten (before ++ block) number else InDownloadIdle (before ++ block) number in
             result ≡ true → WroteBlock before block self.old.config self.old.slots next (shown self.new) }
-        ensures failed { result ≡ false → FailedBlock (take written (spare_of self.old.slots)) self.old.block.items self.old.config self.old.slots (shown self.new) }
+        ensures failed { result ≡ false → FailedBlock
+            (take written (spare_of self.old.slots)) self.old.block.items self.old.config self.old.slots (shown self.new) }
     {
         match put_block(&mut self.slots, written, self.block.as_slice()) {
             Ok(()) => {
                 let written = written + self.block.len() as u32;
                 self.mode = if late {
-                    Mode::Written { written, number }
+                    Mode::DownloadSyncWritten { written, number }
                 } else {
-                    Mode::Ready { written, number }
+                    Mode::DownloadIdle { written, number }
                 };
                 true
             }
             Err(_) => {
-                self.mode = Mode::Broken { code: Code::Write };
+                self.mode = Mode::Error { code: Code::Write };
                 false
             }
         }
@@ -118,10 +121,12 @@ impl<M: Medium> Machine<M> {
     /// Makes the bytes taken the active image, and goes on to the next state. It answers whether the
     /// medium worked.
     pub fn commit_taken(&mut self, written: u32, next: Mode) -> bool
-        requires mode { ((passed : ℕ) × (self.old.mode ≡ Mode.Committing written passed)) ⊎ (self.old.mode ≡ Mode.Closed written) }
-        requires next { (next ≡ Mode.Idle) ⊎ (next ≡ Mode.Complete) ⊎ (next ≡ Mode.Waiting) }
-        ensures done { result ≡ true → Committed (take written (spare_of self.old.slots)) self.old.config self.old.slots (stage_of next [] []) (shown self.new) }
-        ensures failed { result ≡ false → FailedCommit (take written (spare_of self.old.slots)) self.old.config self.old.slots (shown self.new) }
+        requires mode { ((passed : ℕ) × (self.old.mode ≡ Mode.Manifest written passed)) ⊎ (self.old.mode ≡ Mode.ManifestSync written) }
+        requires next { (next ≡ Mode.DfuIdle) ⊎ (next ≡ Mode.ManifestSyncComplete) ⊎ (next ≡ Mode.ManifestWaitReset) }
+        ensures done { result ≡ true → Committed (take written (spare_of self.old.slots)) self.old.config self.old.slots
+            (stage_of next [] []) (shown self.new) }
+        ensures failed { result ≡ false → FailedCommit (take written (spare_of self.old.slots)) self.old.config self.old.slots
+            (shown self.new) }
     {
         match self.slots.commit(written) {
             Ok(()) => {
@@ -129,7 +134,7 @@ impl<M: Medium> Machine<M> {
                 true
             }
             Err(_) => {
-                self.mode = Mode::Broken { code: Code::Prog };
+                self.mode = Mode::Error { code: Code::Prog };
                 false
             }
         }

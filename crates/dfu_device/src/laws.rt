@@ -6,7 +6,7 @@ ghost use Rattle.dfu_device.specs.SentHistory.{RowSends, StepSends, HistorySends
 ghost use Rattle.dfu_device.specs.Uploaded.{UploadEnds, UploadGives};
 ghost use Rattle.dfu_device.specs.Told.{StatusTold, StateTold};
 ghost use Rattle.dfu_device.specs.Kept.{RowKeeps, ErrorKeeps};
-ghost use Rattle.dfu_device.specs.Faults.{FaultsHaveCause};
+ghost use Rattle.dfu_device.specs.Errors.{ErrorsHaveCause};
 
 /// What a row leads to: the outcome of its plan, at some luck of the medium. A setup whose reading
 /// is known goes by that reading; one that does not go by the table is stalled and changes nothing.
@@ -56,5 +56,5 @@ pub fn rows_tell()
 pub fn rows_keep()
     ensures image { RowKeeps }
     ensures error { ErrorKeeps }
-    ensures faults { FaultsHaveCause }
+    ensures errors { ErrorsHaveCause }
 {}

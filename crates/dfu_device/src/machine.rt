@@ -2,10 +2,10 @@
 
 ghost use Rattle.std.specs.Prelude.{◌≡◌, ◌≢◌, ◌<◌, ◌==◌, ◌^◌, length, ℕ, List, IsTrue, []};
 ghost use Rattle.dfu_slots.specs.Seen.{image_of, spare_of};
-ghost use Rattle.dfu_device.specs.Stage.{InApp, state_of, code_of};
+ghost use Rattle.dfu_device.specs.Stage.{InAppIdle, state_of, code_of};
 ghost use Rattle.dfu_device.specs.Table.{reset_stage};
 ghost use Rattle.dfu_device.specs.Shown.{Shown};
-ghost use Rattle.dfu_device.specs.Inside.{is_sound};
+ghost use Rattle.dfu_device.specs.inside.Fields.{is_sound};
 ghost use Rattle.dfu_device.specs.Rows.{Serves, Handles, body_length};
 
 use crate::mode::Mode;
@@ -26,17 +26,18 @@ pub struct Machine<M: Medium> {
 }
 
 impl<M: Medium> Machine<M> {
-    ghost use Rattle.dfu_device.specs.View.{shown};
+    ghost use Rattle.dfu_device.specs.inside.View.{shown};
 
     /// A machine in appIDLE.
     pub fn start(config: Config, slots: Slots<M>) -> Machine<M>
-        ensures { shown result ≡ record { config = config; slots = slots; stage = InApp } }
+        ensures { shown result ≡ record { config = config; slots = slots; stage = InAppIdle } }
     {
+        // Called for its clauses, which say that the store is shaped, as the machine is to keep it.
         let _ = slots.capacity();
         Machine {
             config,
             slots,
-            mode: Mode::InApp,
+            mode: Mode::AppIdle,
             block: ArrayVec::new(),
         }
     }
@@ -46,17 +47,17 @@ impl<M: Medium> Machine<M> {
         ensures { result ≡ state_of (shown self.now).stage }
     {
         match self.mode {
-            Mode::InApp => State::AppIdle,
-            Mode::Detaching { .. } => State::AppDetach,
-            Mode::Idle => State::DfuIdle,
-            Mode::Unwritten { .. } | Mode::Written { .. } => State::DownloadSync,
-            Mode::Writing { .. } => State::DownloadBusy,
-            Mode::Ready { .. } => State::DownloadIdle,
-            Mode::Closed { .. } | Mode::Complete => State::ManifestSync,
-            Mode::Committing { .. } => State::Manifest,
-            Mode::Waiting => State::ManifestWaitReset,
-            Mode::Sending { .. } => State::UploadIdle,
-            Mode::Broken { .. } => State::Error,
+            Mode::AppIdle => State::AppIdle,
+            Mode::AppDetach { .. } => State::AppDetach,
+            Mode::DfuIdle => State::DfuIdle,
+            Mode::DownloadSync { .. } | Mode::DownloadSyncWritten { .. } => State::DownloadSync,
+            Mode::DownloadBusy { .. } => State::DownloadBusy,
+            Mode::DownloadIdle { .. } => State::DownloadIdle,
+            Mode::ManifestSync { .. } | Mode::ManifestSyncComplete => State::ManifestSync,
+            Mode::Manifest { .. } => State::Manifest,
+            Mode::ManifestWaitReset => State::ManifestWaitReset,
+            Mode::UploadIdle { .. } => State::UploadIdle,
+            Mode::Error { .. } => State::Error,
         }
     }
 
@@ -65,7 +66,7 @@ impl<M: Medium> Machine<M> {
         ensures { result ≡ code_of (shown self.now).stage }
     {
         match self.mode {
-            Mode::Broken { code } => code,
+            Mode::Error { code } => code,
             _ => Code::Ok,
         }
     }
@@ -89,25 +90,26 @@ impl<M: Medium> Machine<M> {
     }
 
     /// Answers a request of the class whose body fits, by the state.
+    #[rattlefmt::skip]
     fn serve(&mut self, request: Request, body: &[u8], out: &mut ArrayVec<u8, 4096>) -> Answer
         requires fits { (block len : ℕ) → request ≡ Request.Dnload block len → length body.now ≡ len }
         requires out { out.old.items ≡ [] }
         ensures row { Serves request body.now (shown self.old) result out.new.items (shown self.new) }
     {
         match self.mode {
-            Mode::InApp => self.in_app_idle(request, out),
-            Mode::Detaching { timer, passed } => self.in_app_detach(timer, passed, request, out),
-            Mode::Idle => self.in_idle(request, body, out),
-            Mode::Unwritten { written, number } => self.in_unwritten(written, number, request, out),
-            Mode::Written { written, number } => self.in_written(written, number, request, out),
-            Mode::Writing { .. } => self.in_busy(),
-            Mode::Ready { written, number } => self.in_ready(written, number, request, body, out),
-            Mode::Closed { written } => self.in_closed(written, request, out),
-            Mode::Complete => self.in_complete(request, out),
-            Mode::Committing { .. } => self.in_manifest(),
-            Mode::Waiting => self.in_wait_reset(),
-            Mode::Sending { place, number } => self.in_sending(place, number, request, out),
-            Mode::Broken { code } => self.in_error(code, request, out),
+            Mode::AppIdle => self.in_app_idle(request, out),
+            Mode::AppDetach { timer, passed } => self.in_app_detach(timer, passed, request, out),
+            Mode::DfuIdle => self.in_dfu_idle(request, body, out),
+            Mode::DownloadSync { written, number } => self.in_download_sync(written, number, request, out),
+            Mode::DownloadSyncWritten { written, number } => self.in_download_sync_written(written, number, request, out),
+            Mode::DownloadBusy { .. } => self.in_download_busy(),
+            Mode::DownloadIdle { written, number } => self.in_download_idle(written, number, request, body, out),
+            Mode::ManifestSync { written } => self.in_manifest_sync(written, request, out),
+            Mode::ManifestSyncComplete => self.in_manifest_sync_complete(request, out),
+            Mode::Manifest { .. } => self.in_manifest(),
+            Mode::ManifestWaitReset => self.in_manifest_wait_reset(),
+            Mode::UploadIdle { place, number } => self.in_upload_idle(place, number, request, out),
+            Mode::Error { code } => self.in_error(code, request, out),
         }
     }
 
@@ -116,8 +118,8 @@ impl<M: Medium> Machine<M> {
         ensures { shown self.new ≡ record (shown self.old) { stage = reset_stage (shown self.old).stage } }
     {
         self.mode = match self.mode {
-            Mode::Detaching { .. } => Mode::Idle,
-            _ => Mode::InApp,
+            Mode::AppDetach { .. } => Mode::DfuIdle,
+            _ => Mode::AppIdle,
         };
     }
 }

@@ -2,61 +2,61 @@
 
 use dfu_wire::Code;
 
-/// The state of the machine inside a device, with what it keeps there. The bytes taken stand in the
-/// spare slot, `written` of them, and a block that is not written stands beside the mode; `number`
-/// is that of the next block, and `passed` how many milliseconds passed in this state.
-#[derive(Clone, Copy, Debug)]
+/// The state of the machine inside a device, with what it keeps there: `written` bytes were put in the
+/// spare slot, and a block that is not written stands beside the mode; `number` is that of the next
+/// block, and `passed` how many milliseconds passed in this state.
+#[derive(Clone, Copy)]
 pub enum Mode {
     /// appIDLE
-    InApp,
+    AppIdle,
     /// appDETACH
-    Detaching {
+    AppDetach {
         timer: u32,
         passed: u32,
     },
     /// dfuIDLE
-    Idle,
+    DfuIdle,
     /// dfuDNLOAD-SYNC, block not written
-    Unwritten {
+    DownloadSync {
         written: u32,
         number: u16,
     },
     /// dfuDNLOAD-SYNC, block written
-    Written {
+    DownloadSyncWritten {
         written: u32,
         number: u16,
     },
     /// dfuDNBUSY
-    Writing {
+    DownloadBusy {
         written: u32,
         number: u16,
         passed: u32,
     },
     /// dfuDNLOAD-IDLE
-    Ready {
+    DownloadIdle {
         written: u32,
         number: u16,
     },
     /// dfuMANIFEST-SYNC, not complete
-    Closed {
+    ManifestSync {
         written: u32,
     },
     /// dfuMANIFEST-SYNC, complete
-    Complete,
+    ManifestSyncComplete,
     /// dfuMANIFEST
-    Committing {
+    Manifest {
         written: u32,
         passed: u32,
     },
     /// dfuMANIFEST-WAIT-RESET
-    Waiting,
+    ManifestWaitReset,
     /// dfuUPLOAD-IDLE: how many bytes of the image were sent
-    Sending {
+    UploadIdle {
         place: u32,
         number: u16,
     },
     /// dfuERROR
-    Broken {
+    Error {
         code: Code,
     },
 }

@@ -3,9 +3,9 @@
 
 ghost use Rattle.std.specs.Prelude.{◌≡◌, ℕ, List, [], length, take};
 ghost use Rattle.dfu_slots.specs.Seen.{spare_of};
-ghost use Rattle.dfu_device.specs.Stage.{InApp, Detaching, Idle, Unwritten, Written, Ready, Closed, Complete, Waiting, Broken, Stall};
+ghost use Rattle.dfu_device.specs.Stage.{InAppIdle, InAppDetach, InDfuIdle, InDownloadSync, InDownloadSyncWritten, InDownloadIdle, InManifestSync, InManifestSyncComplete, InManifestWaitReset, InError, Stall};
 ghost use Rattle.dfu_device.specs.Rows.{Serves};
-ghost use Rattle.dfu_device.specs.View.{shown};
+ghost use Rattle.dfu_device.specs.inside.View.{shown};
 
 use crate::Answer;
 use crate::machine::Machine;
@@ -17,14 +17,15 @@ use dfu_wire::{Code, Request};
 impl<M: Medium> Machine<M> {
     /// appIDLE
     pub fn in_app_idle(&mut self, request: Request, out: &mut ArrayVec<u8, 4096>) -> Answer
-        requires mode { self.old.mode ≡ Mode.InApp }
+        requires mode { self.old.mode ≡ Mode.AppIdle }
         requires out { out.old.items ≡ [] }
-        ensures row { (body : List ℕ) → Serves request body (record (shown self.old) { stage = InApp }) result out.new.items (shown self.new) }
+        ensures row { (body : List ℕ) →
+            Serves request body (record (shown self.old) { stage = InAppIdle }) result out.new.items (shown self.new) }
     {
         match request {
             Request::Detach { timeout } => {
                 let timer = self.config.functional().detach_ms.min(timeout) as u32;
-                self.mode = Mode::Detaching { timer, passed: 0 };
+                self.mode = Mode::AppDetach { timer, passed: 0 };
                 Answer::Ack
             }
             Request::GetStatus { length } => self.report(length, out),
@@ -41,26 +42,32 @@ impl<M: Medium> Machine<M> {
         request: Request,
         out: &mut ArrayVec<u8, 4096>,
     ) -> Answer
-        requires mode { self.old.mode ≡ Mode.Detaching timer passed }
+        requires mode { self.old.mode ≡ Mode.AppDetach timer passed }
         requires out { out.old.items ≡ [] }
-        ensures row { (body : List ℕ) → Serves request body (record (shown self.old) { stage = Detaching timer passed }) result out.new.items (shown self.new) }
+        ensures row { (body : List ℕ) →
+            Serves request body (record (shown self.old) { stage = InAppDetach timer passed }) result out.new.items (shown self.new) }
     {
         match request {
             Request::GetStatus { length } => self.report(length, out),
             Request::GetState { length } => self.tell(length, out),
             _ => {
-                self.mode = Mode::InApp;
+                self.mode = Mode::AppIdle;
                 Answer::Stall
             }
         }
     }
 
     /// dfuIDLE
-    pub fn in_idle(&mut self, request: Request, body: &[u8], out: &mut ArrayVec<u8, 4096>) -> Answer
-        requires mode { self.old.mode ≡ Mode.Idle }
+    pub fn in_dfu_idle(
+        &mut self,
+        request: Request,
+        body: &[u8],
+        out: &mut ArrayVec<u8, 4096>,
+    ) -> Answer
+        requires mode { self.old.mode ≡ Mode.DfuIdle }
         requires fits { (block len : ℕ) → request ≡ Request.Dnload block len → length body.now ≡ len }
         requires out { out.old.items ≡ [] }
-        ensures row { Serves request body.now (record (shown self.old) { stage = Idle }) result out.new.items (shown self.new) }
+        ensures row { Serves request body.now (record (shown self.old) { stage = InDfuIdle }) result out.new.items (shown self.new) }
     {
         match request {
             Request::Dnload { block, length }
@@ -73,26 +80,30 @@ impl<M: Medium> Machine<M> {
             Request::Abort => Answer::Ack,
             Request::GetStatus { length } => self.report(length, out),
             Request::GetState { length } => self.tell(length, out),
-            _ => self.fault(Code::StalledPkt),
+            _ => self.error(Code::StalledPkt),
         }
     }
 
     /// dfuDNLOAD-SYNC, block not written
-    pub fn in_unwritten(
+    pub fn in_download_sync(
         &mut self,
         written: u32,
         number: u16,
         request: Request,
         out: &mut ArrayVec<u8, 4096>,
     ) -> Answer
-        requires mode { self.old.mode ≡ Mode.Unwritten written number }
+        requires mode { self.old.mode ≡ Mode.DownloadSync written number }
         requires out { out.old.items ≡ [] }
-        ensures row { (body : List ℕ) → Serves request body (record (shown self.old) { stage = Unwritten (take written (spare_of self.old.slots)) self.old.block.items number }) result out.new.items (shown self.new) }
+        ensures row { (body : List ℕ) →
+            Serves request body (record (shown self.old) {
+              stage = InDownloadSync
+                  (take written (spare_of self.old.slots)) self.old.block.items number;
+            }) result out.new.items (shown self.new) }
     {
         match request {
             Request::GetStatus { length } => {
                 if self.config.busy_ms() > 0 {
-                    self.mode = Mode::Writing {
+                    self.mode = Mode::DownloadBusy {
                         written,
                         number,
                         passed: 0,
@@ -103,42 +114,44 @@ impl<M: Medium> Machine<M> {
                 self.report(length, out)
             }
             Request::GetState { length } => self.tell(length, out),
-            _ => self.fault(Code::StalledPkt),
+            _ => self.error(Code::StalledPkt),
         }
     }
 
     /// dfuDNLOAD-SYNC, block written
-    pub fn in_written(
+    pub fn in_download_sync_written(
         &mut self,
         written: u32,
         number: u16,
         request: Request,
         out: &mut ArrayVec<u8, 4096>,
     ) -> Answer
-        requires mode { self.old.mode ≡ Mode.Written written number }
+        requires mode { self.old.mode ≡ Mode.DownloadSyncWritten written number }
         requires out { out.old.items ≡ [] }
-        ensures row { (body : List ℕ) → Serves request body (record (shown self.old) { stage = Written (take written (spare_of self.old.slots)) number }) result out.new.items (shown self.new) }
+        ensures row { (body : List ℕ) →
+            Serves request body (record (shown self.old) { stage = InDownloadSyncWritten (take written (spare_of self.old.slots)) number })
+            result out.new.items (shown self.new) }
     {
         match request {
             Request::GetStatus { length } => {
-                self.mode = Mode::Ready { written, number };
+                self.mode = Mode::DownloadIdle { written, number };
                 self.report(length, out)
             }
             Request::GetState { length } => self.tell(length, out),
-            _ => self.fault(Code::StalledPkt),
+            _ => self.error(Code::StalledPkt),
         }
     }
 
     /// dfuDNBUSY
-    pub fn in_busy(&mut self) -> Answer
+    pub fn in_download_busy(&mut self) -> Answer
         ensures answer { result ≡ Answer.Stall }
-        ensures now { shown self.new ≡ record (shown self.old) { stage = Broken Code.StalledPkt } }
+        ensures now { shown self.new ≡ record (shown self.old) { stage = InError Code.StalledPkt } }
     {
-        self.fault(Code::StalledPkt)
+        self.error(Code::StalledPkt)
     }
 
     /// dfuDNLOAD-IDLE
-    pub fn in_ready(
+    pub fn in_download_idle(
         &mut self,
         written: u32,
         number: u16,
@@ -146,81 +159,90 @@ impl<M: Medium> Machine<M> {
         body: &[u8],
         out: &mut ArrayVec<u8, 4096>,
     ) -> Answer
-        requires mode { self.old.mode ≡ Mode.Ready written number }
+        requires mode { self.old.mode ≡ Mode.DownloadIdle written number }
         requires fits { (block len : ℕ) → request ≡ Request.Dnload block len → length body.now ≡ len }
         requires out { out.old.items ≡ [] }
-        ensures row { Serves request body.now (record (shown self.old) { stage = Ready (take written (spare_of self.old.slots)) number }) result out.new.items (shown self.new) }
+        ensures row { Serves request body.now (record
+            (shown self.old) { stage = InDownloadIdle (take written (spare_of self.old.slots)) number }) result out.new.items
+            (shown self.new) }
     {
         match request {
             Request::Dnload { length: 0, .. } => {
                 if written < self.config.least() {
-                    return self.fault(Code::NotDone);
+                    return self.error(Code::NotDone);
                 }
-                self.mode = Mode::Closed { written };
+                self.mode = Mode::ManifestSync { written };
                 Answer::Ack
             }
             Request::Dnload { block, .. } => self.take_block(written, number, block, body),
             Request::Abort => {
-                self.mode = Mode::Idle;
+                self.mode = Mode::DfuIdle;
                 Answer::Ack
             }
             Request::GetStatus { length } => self.report(length, out),
             Request::GetState { length } => self.tell(length, out),
-            _ => self.fault(Code::StalledPkt),
+            _ => self.error(Code::StalledPkt),
         }
     }
 
     /// dfuMANIFEST-SYNC, not complete
-    pub fn in_closed(
+    pub fn in_manifest_sync(
         &mut self,
         written: u32,
         request: Request,
         out: &mut ArrayVec<u8, 4096>,
     ) -> Answer
-        requires mode { self.old.mode ≡ Mode.Closed written }
+        requires mode { self.old.mode ≡ Mode.ManifestSync written }
         requires out { out.old.items ≡ [] }
-        ensures row { (body : List ℕ) → Serves request body (record (shown self.old) { stage = Closed (take written (spare_of self.old.slots)) }) result out.new.items (shown self.new) }
+        ensures row { (body : List ℕ) →
+            Serves request body (record (shown self.old) { stage = InManifestSync (take written (spare_of self.old.slots)) }) result
+            out.new.items (shown self.new) }
     {
         match request {
             Request::GetStatus { length } => {
                 if self.config.manifest_ms() > 0 {
-                    self.mode = Mode::Committing { written, passed: 0 };
+                    self.mode = Mode::Manifest { written, passed: 0 };
                     return self.report(length, out);
                 }
-                let _ = self.commit_taken(written, Mode::Idle);
+                let _ = self.commit_taken(written, Mode::DfuIdle);
                 self.report(length, out)
             }
             Request::GetState { length } => self.tell(length, out),
-            _ => self.fault(Code::StalledPkt),
+            _ => self.error(Code::StalledPkt),
         }
     }
 
     /// dfuMANIFEST-SYNC, complete
-    pub fn in_complete(&mut self, request: Request, out: &mut ArrayVec<u8, 4096>) -> Answer
-        requires mode { self.old.mode ≡ Mode.Complete }
+    pub fn in_manifest_sync_complete(
+        &mut self,
+        request: Request,
+        out: &mut ArrayVec<u8, 4096>,
+    ) -> Answer
+        requires mode { self.old.mode ≡ Mode.ManifestSyncComplete }
         requires out { out.old.items ≡ [] }
-        ensures row { (body : List ℕ) → Serves request body (record (shown self.old) { stage = Complete }) result out.new.items (shown self.new) }
+        ensures row { (body : List ℕ) →
+            Serves request body (record (shown self.old) { stage = InManifestSyncComplete }) result out.new.items (shown self.new) }
     {
         match request {
             Request::GetStatus { length } => {
-                self.mode = Mode::Idle;
+                self.mode = Mode::DfuIdle;
                 self.report(length, out)
             }
             Request::GetState { length } => self.tell(length, out),
-            _ => self.fault(Code::StalledPkt),
+            _ => self.error(Code::StalledPkt),
         }
     }
 
     /// dfuMANIFEST
     pub fn in_manifest(&mut self) -> Answer
         ensures answer { result ≡ Answer.Stall }
-        ensures now { shown self.new ≡ record (shown self.old) { stage = Broken Code.StalledPkt } }
+        ensures now { shown self.new ≡ record (shown self.old) { stage = InError Code.StalledPkt } }
     {
-        self.fault(Code::StalledPkt)
+        self.error(Code::StalledPkt)
     }
 
     /// dfuMANIFEST-WAIT-RESET
-    pub fn in_wait_reset(&self) -> Answer
+    pub fn in_manifest_wait_reset(&self) -> Answer
         ensures { result ≡ Answer.Stall }
     {
         Answer::Stall
@@ -228,13 +250,14 @@ impl<M: Medium> Machine<M> {
 
     /// dfuERROR
     pub fn in_error(&mut self, code: Code, request: Request, out: &mut ArrayVec<u8, 4096>) -> Answer
-        requires mode { self.old.mode ≡ Mode.Broken code }
+        requires mode { self.old.mode ≡ Mode.Error code }
         requires out { out.old.items ≡ [] }
-        ensures row { (body : List ℕ) → Serves request body (record (shown self.old) { stage = Broken code }) result out.new.items (shown self.new) }
+        ensures row { (body : List ℕ) →
+            Serves request body (record (shown self.old) { stage = InError code }) result out.new.items (shown self.new) }
     {
         match request {
             Request::ClrStatus => {
-                self.mode = Mode::Idle;
+                self.mode = Mode::DfuIdle;
                 Answer::Ack
             }
             Request::GetStatus { length } => self.report(length, out),

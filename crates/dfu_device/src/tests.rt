@@ -1,3 +1,5 @@
+//! Devices over a simulated medium, and what the tests of this crate share.
+
 use crate::{Answer, Config, ConfigFault, Device};
 use arrayvec::ArrayVec;
 use dfu_slots::{SimMedium, Slots};
@@ -9,6 +11,7 @@ use std::test::Fail;
 mod all_setups;
 mod restart;
 mod rows;
+mod sizes;
 mod uploads;
 
 const IDS: Ids = Ids {

@@ -2,11 +2,11 @@
 
 ghost use Rattle.std.specs.Prelude.{◌≡◌, ◌≤◌, ◌<◌, ◌+◌, ◌^◌, ℕ, List, [], length, take, drop, slice_range};
 ghost use Rattle.dfu_slots.specs.Seen.{image_of};
-ghost use Rattle.dfu_device.specs.Stage.{Sending};
+ghost use Rattle.dfu_device.specs.Stage.{InUploadIdle};
 ghost use Rattle.dfu_device.specs.Table.{upload_plan};
 ghost use Rattle.dfu_device.specs.Shown.{profile};
 ghost use Rattle.dfu_device.specs.Rows.{Done, Serves};
-ghost use Rattle.dfu_device.specs.View.{shown};
+ghost use Rattle.dfu_device.specs.inside.View.{shown};
 
 use crate::Answer;
 use crate::machine::Machine;
@@ -17,31 +17,32 @@ use dfu_wire::{Code, Request};
 
 impl<M: Medium> Machine<M> {
     /// dfuUPLOAD-IDLE
-    pub fn in_sending(
+    pub fn in_upload_idle(
         &mut self,
         place: u32,
         number: u16,
         request: Request,
         out: &mut ArrayVec<u8, 4096>,
     ) -> Answer
-        requires mode { self.old.mode ≡ Mode.Sending place number }
+        requires mode { self.old.mode ≡ Mode.UploadIdle place number }
         requires out { out.old.items ≡ [] }
-        ensures row { (body : List ℕ) → Serves request body (record (shown self.old) { stage = Sending place number }) result out.new.items (shown self.new) }
+        ensures row { (body : List ℕ) →
+            Serves request body (record (shown self.old) { stage = InUploadIdle place number }) result out.new.items (shown self.new) }
     {
         match request {
             Request::Upload { block, length } => self.send(place, number, block, length, out),
             Request::Abort => {
-                self.mode = Mode::Idle;
+                self.mode = Mode::DfuIdle;
                 Answer::Ack
             }
             Request::GetStatus { length } => self.report(length, out),
             Request::GetState { length } => self.tell(length, out),
-            _ => self.fault(Code::StalledPkt),
+            _ => self.error(Code::StalledPkt),
         }
     }
 
     /// Answers with the next `len` bytes of the image, from `place` on. Where fewer are left they are the
-    /// last ones, and the upload is over. The faults, in their order: errSTALLEDPKT where `len` is 0 or
+    /// last ones, and the upload is over. The errors, in their order: errSTALLEDPKT where `len` is 0 or
     /// over the transfer size, errADDRESS where the number is not the expected one.
     pub fn send(
         &mut self,
@@ -52,19 +53,20 @@ impl<M: Medium> Machine<M> {
         out: &mut ArrayVec<u8, 4096>,
     ) -> Answer
         requires out { out.old.items ≡ [] }
-        ensures row { Done (upload_plan (profile (shown self.old)) (image_of self.old.slots) place expected number len) 0 (shown self.old) result out.new.items (shown self.new) }
+        ensures row { Done (upload_plan (profile (shown self.old)) (image_of self.old.slots) place expected number len) 0
+            (shown self.old) result out.new.items (shown self.new) }
     {
         if len == 0 || len > self.config.transfer() {
-            return self.fault(Code::StalledPkt);
+            return self.error(Code::StalledPkt);
         }
         if number != expected {
-            return self.fault(Code::Address);
+            return self.error(Code::Address);
         }
         let count = self.read_piece(place, len, out);
         self.mode = if count < len {
-            Mode::Idle
+            Mode::DfuIdle
         } else {
-            Mode::Sending {
+            Mode::UploadIdle {
                 place: place + len as u32,
                 number: expected.wrapping_add(1),
             }

@@ -1,7 +1,7 @@
 -- The clean run, with its count.
 use Rattle.std.proofs.Common.{◌≡◌, ℕ, suc, ◌+◌, ◌*◌, ◌-◌, ◌<◌, ◌≤◌, ◌==◌, nat_lt, max, Bool, true, false, cond, List, [], length, slice_index_or, Some, None, refl, sym, ap, ◌∙◌, subst, arith, length-append}
 use Rattle.std.proofs.lemmas.Bool.Decides.{nat_tests}
-use Rattle.dfu_device.specs.Stage.{Profile, InApp, Idle}
+use Rattle.dfu_device.specs.Stage.{Profile, InAppIdle, InDfuIdle}
 use Rattle.dfu_host.specs.declared.report.Report.TheVariants.{Installed}
 use Rattle.dfu_host.specs.Blocks.{blocks, first}
 use Rattle.dfu_host.specs.BlockLaws.{first_suc, first_all, first_le, block_counts, small_block, full_block}
@@ -26,7 +26,7 @@ counted_by b true false h = omega arith
 counted_by b false true h = omega arith
 counted_by b false false h = omega arith
 
-installs_last : (c : Profile) (p : List ℕ) (again left : ℕ) → PassesTo c (at c p again p Idle (Last Installed) left) (resting p) (record { report = Some Installed; gave = None })
+installs_last : (c : Profile) (p : List ℕ) (again left : ℕ) → PassesTo c (at c p again p InDfuIdle (Last Installed) left) (resting p) (record { report = Some Installed; gave = None })
 installs_last c p again left other room = refl
 
 all_fit : (c : Profile) (p : List ℕ) (again n : ℕ) → 0 < c.transfer → length p ≤ c.capacity → n < length (blocks p c.transfer) → BlockFits c p again n
@@ -40,7 +40,7 @@ all_fit c p again n sized room h = record {
 
 -- passes of a download that has just begun
 begun_run : (c : Profile) (p i : List ℕ) (again left : ℕ) → c.tolerant ≡ true → c.can_download ≡ true → 0 < c.transfer → 0 < length (blocks p c.transfer) → c.least ≤ length p → length p ≤ c.capacity
-    → clean (length (blocks p c.transfer)) c.busy c.manifest ≤ left → InstalledAfter c (at c p again i InApp Find left) (clean (length (blocks p c.transfer)) c.busy c.manifest) p
+    → clean (length (blocks p c.transfer)) c.busy c.manifest ≤ left → InstalledAfter c (at c p again i InAppIdle Find left) (clean (length (blocks p c.transfer)) c.busy c.manifest) p
 begun_run c p i again left tol can sized some least room budget =
     let b = length (blocks p c.transfer) in
     let k : ℕ = clean b c.busy c.manifest - 1 in
@@ -51,9 +51,9 @@ begun_run c p i again left tol can sized some least room budget =
     let count : 1 + (1 + (1 + (1 + (suc (b - 1) * (1 + cond (c.busy == 0) 1 3) + (1 + cond (c.manifest == 0) 1 3))))) ≡ k = counted_by b (c.busy == 0) (c.manifest == 0) some ∙ ap (λ z. z - 1) (sym (clean_is b c.busy c.manifest)) in
     let l : ℕ = left - suc k in
     let total : k + suc l ≡ left = omega (arith, budget, clean_is b c.busy c.manifest) in
-    let r : Leads c p again i InApp Find k (first p c.transfer (suc (b - 1))) Idle (Last Installed) = subst (λ z. Leads c p again i InApp Find z (first p c.transfer (suc (b - 1))) Idle (Last Installed)) count run in
-    let s : Leads c p again i InApp Find k p Idle (Last Installed) = subst (λ z. Leads c p again i InApp Find k z Idle (Last Installed)) whole r in
-    record { before = at c p again p Idle (Last Installed) (suc l); quiet = subst (λ z. Quietly c (at c p again i InApp Find z) k (at c p again p Idle (Last Installed) (suc l))) total (s.by l); last = installs_last c p again (suc l) }
+    let r : Leads c p again i InAppIdle Find k (first p c.transfer (suc (b - 1))) InDfuIdle (Last Installed) = subst (λ z. Leads c p again i InAppIdle Find z (first p c.transfer (suc (b - 1))) InDfuIdle (Last Installed)) count run in
+    let s : Leads c p again i InAppIdle Find k p InDfuIdle (Last Installed) = subst (λ z. Leads c p again i InAppIdle Find k z InDfuIdle (Last Installed)) whole r in
+    record { before = at c p again p InDfuIdle (Last Installed) (suc l); quiet = subst (λ z. Quietly c (at c p again i InAppIdle Find z) k (at c p again p InDfuIdle (Last Installed) (suc l))) total (s.by l); last = installs_last c p again (suc l) }
 
 pub clean_run : CleanRun
 clean_run c image payload actions again tol can sized long least room budget other memory =

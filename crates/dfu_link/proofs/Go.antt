@@ -1,9 +1,9 @@
 -- One action of the host, in each phase and with each fate.
 use Rattle.std.proofs.Common.{ℕ, ◌%◌, ◌<◌, max, cond, List, length}
-use Rattle.dfu_device.specs.Stage.{Request, Detach as AskDetach, GetStatus, ClrStatus, GetState, Abort, Profile, Stage, Idle}
+use Rattle.dfu_device.specs.Stage.{Request, Detach as AskDetach, GetStatus, ClrStatus, GetState, Abort, Profile, Stage, InDfuIdle}
 use Rattle.dfu_device.specs.Table.{reset_stage}
 use Rattle.dfu_device.specs.Outcome.{Situation, Luck, was_reset}
-use Rattle.dfu_device.specs.TakenRow.{either_way}
+use Rattle.dfu_device.specs.Cases.{either_way}
 use Rattle.dfu_host.specs.declared.report.Report.{Report}
 use Rattle.dfu_host.specs.declared.report.Report.TheVariants.{Installed, Unconfirmed}
 use Rattle.dfu_host.specs.Blocks.{blocks}
@@ -61,7 +61,7 @@ module _ (c : Profile) (offers : List (List ℕ)) (p : List ℕ) (some : 0 < len
       (if_heard {P = λ heard. IsReset heard × Fact c p next d.device} {Q = λ heard. Fact c p (row (task_for c (ToLoad p)) phase heard) d.device} d.heard (f d.device) (reset_keeps c offers p next s fate l h))
 
   reset_ends : (s : Situation) (stage : Stage) (report : Report) → EndsAs c p (record { image = s.image; stage = stage }) IsIdle report → EndsAs c p (record { image = s.image; stage = reset_stage stage }) IsInApp report
-  reset_ends s Idle Installed h = h
+  reset_ends s InDfuIdle Installed h = h
   reset_ends s stage Installed h = elim h.2 [ ]
   reset_ends s stage report h = h
 

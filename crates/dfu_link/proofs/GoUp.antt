@@ -4,10 +4,10 @@ use Rattle.dfu_wire.specs.declared.codes.Code.{Code}
 use Rattle.dfu_wire.specs.declared.codes.Code.TheVariants.{Ok as NoFault, StalledPkt as ErrStalledPkt}
 use Rattle.dfu_wire.specs.declared.states.State.{State}
 use Rattle.dfu_wire.specs.declared.states.State.TheVariants.{DfuIdle, Error as InError}
-use Rattle.dfu_device.specs.Stage.{Request, Detach as AskDetach, GetStatus, ClrStatus, Abort, Profile, Stage, Detaching, Idle}
+use Rattle.dfu_device.specs.Stage.{Request, Detach as AskDetach, GetStatus, ClrStatus, Abort, Profile, Stage, InAppDetach, InDfuIdle}
 use Rattle.dfu_device.specs.Table.{reset_stage}
 use Rattle.dfu_device.specs.Outcome.{Situation, Luck, elapsed}
-use Rattle.dfu_device.specs.TakenRow.{either_way}
+use Rattle.dfu_device.specs.Cases.{either_way}
 use Rattle.dfu_host.specs.Table.{ToFetch, Phase, Find, FindAgain, Detach, Enter, Clear, Quit, WaitFind, ResetFind, Trouble, Fetch, LastUploaded, GiveUp, Over, OverUploaded, Wait, Reset, deed, Heard, Acked, Status, Stalled, Waited, WasReset, listed, troubled, on_status, on_ack, on_waited, on_reset, row}
 use Rattle.dfu_host.specs.Host.{IsOn}
 use Rattle.dfu_link.specs.Play.{Fate, Slip, CutIn, task_for, Passed, sent, waited, bus_reset, acted}
@@ -19,7 +19,7 @@ use Rattle.dfu_link.proofs.Fates.{IfHeard, IsReset, if_heard, any_heard, Knows, 
 use Rattle.dfu_link.proofs.Fetch.{go_fetch}
 
 up_begun : (s : Situation) (stage : Stage) → Tells DfuIdle stage → Fetches 0 [] s.image stage
-up_begun s Idle h = (refl, refl)
+up_begun s InDfuIdle h = (refl, refl)
 up_begun s stage h = elim h [ ]
 
 up_listed : (state : State) (poll : ℕ) (s : Situation) → Tells state s.stage → FetchFact (listed (Fetch 0 []) state poll) s
@@ -75,7 +75,7 @@ module _ (c : Profile) (offers : List (List ℕ)) where
   go_reset phase s fate l f = let d = bus_reset c s fate l in up_of phase s d (bus_reset_quiet c offers s fate l) (any_heard d.heard (λ heard. FetchFact (row (task_for c ToFetch) phase heard) d.device) (f d.device))
 
   time_image : (image : List ℕ) (stage : Stage) (ms : ℕ) (l : Luck) → (elapsed c (record { image = image; stage = reset_stage stage }) ms l).image ≡ image
-  time_image image (Detaching timer passed) ms l = refl
+  time_image image (InAppDetach timer passed) ms l = refl
   time_image image stage ms l = refl
 
   reset_image : (s : Situation) (fate : Fate) (l : Luck) → (bus_reset c s fate l).device.image ≡ s.image

@@ -1,9 +1,9 @@
 -- Which facts stay as the host polls and as time passes.
 use Rattle.std.proofs.Common.{ℕ, suc, ◌+◌, ◌==◌, nat_le, List}
-use Rattle.dfu_device.specs.Stage.{GetStatus, GetState, Ack, Profile, Stage, InApp, Idle, Unwritten, Written, Writing, Ready, Closed, Complete, Committing, Waiting, Broken}
+use Rattle.dfu_device.specs.Stage.{GetStatus, GetState, Ack, Profile, Stage, InAppIdle, InDfuIdle, InDownloadSync, InDownloadSyncWritten, InDownloadBusy, InDownloadIdle, InManifestSync, InManifestSyncComplete, InManifest, InManifestWaitReset, InError}
 use Rattle.dfu_device.specs.Table.{Plan, Commits, plan, time_plan}
 use Rattle.dfu_device.specs.Outcome.{Situation, Luck, Works, FailsOld, FailsNew, outcome}
-use Rattle.dfu_device.specs.TakenRow.{either_way}
+use Rattle.dfu_device.specs.Cases.{either_way}
 use Rattle.dfu_host.specs.declared.report.Report.{Report}
 use Rattle.dfu_host.specs.declared.report.Report.TheVariants.{Installed}
 use Rattle.dfu_host.specs.Blocks.{first}
@@ -16,93 +16,93 @@ module _ (c : Profile) (i : List ℕ) where
   Then F p = (luck : Luck) → F (outcome i p luck).after
 
   holds_status : (x : List ℕ) (stage : Stage) → Holds x stage → Then (λ s. Holds x s.stage) (plan c i stage GetStatus)
-  holds_status x (Unwritten before block number) h =
+  holds_status x (InDownloadSync before block number) h =
       either_way (Then (λ s. Holds x s.stage)) (c.busy == 0) _ _ (elim [ Works ↦ h | FailsOld ↦ tt | FailsNew ↦ tt ]) (λ luck. h)
-  holds_status x (Written taken number) h = λ luck. h
-  holds_status x (Writing before block number passed) h = λ luck. tt
-  holds_status x (Ready taken number) h = λ luck. h
-  holds_status x (Broken code) h = λ luck. tt
+  holds_status x (InDownloadSyncWritten taken number) h = λ luck. h
+  holds_status x (InDownloadBusy before block number passed) h = λ luck. tt
+  holds_status x (InDownloadIdle taken number) h = λ luck. h
+  holds_status x (InError code) h = λ luck. tt
   holds_status x stage h = λ luck. elim h [ ]
 
   holds_time : (x : List ℕ) (ms : ℕ) (stage : Stage) → Holds x stage → Then (λ s. Holds x s.stage) (time_plan c stage ms)
-  holds_time x ms (Writing before block number passed) h =
+  holds_time x ms (InDownloadBusy before block number passed) h =
       let F : Plan → Type 0 = Then (λ s. Holds x s.stage) in
       either_way F (ms == 0) _ _ (λ luck. h)
       (either_way F (nat_le c.busy (passed + ms)) _ _ (elim [ Works ↦ h | FailsOld ↦ tt | FailsNew ↦ tt ]) (λ luck. h))
-  holds_time x ms (Unwritten before block number) h = λ luck. h
-  holds_time x ms (Written taken number) h = λ luck. h
-  holds_time x ms (Ready taken number) h = λ luck. h
-  holds_time x ms (Broken code) h = λ luck. tt
+  holds_time x ms (InDownloadSync before block number) h = λ luck. h
+  holds_time x ms (InDownloadSyncWritten taken number) h = λ luck. h
+  holds_time x ms (InDownloadIdle taken number) h = λ luck. h
+  holds_time x ms (InError code) h = λ luck. tt
   holds_time x ms stage h = λ luck. elim h [ ]
 
   managing_status : (p : List ℕ) (stage : Stage) → Managing p i stage → Then (λ s. Managing p s.image s.stage) (plan c i stage GetStatus)
-  managing_status p (Closed taken) h =
+  managing_status p (InManifestSync taken) h =
       either_way (Then (λ s. Managing p s.image s.stage)) (c.manifest == 0) _ _ (elim [ Works ↦ h | FailsOld ↦ tt | FailsNew ↦ tt ]) (λ luck. h)
-  managing_status p (Committing taken passed) h = λ luck. tt
-  managing_status p Complete h = λ luck. h
-  managing_status p Idle h = λ luck. h
-  managing_status p Waiting h = λ luck. h
-  managing_status p (Broken code) h = λ luck. tt
+  managing_status p (InManifest taken passed) h = λ luck. tt
+  managing_status p InManifestSyncComplete h = λ luck. h
+  managing_status p InDfuIdle h = λ luck. h
+  managing_status p InManifestWaitReset h = λ luck. h
+  managing_status p (InError code) h = λ luck. tt
   managing_status p stage h = λ luck. elim h [ ]
 
   managing_time : (p : List ℕ) (ms : ℕ) (stage : Stage) → Managing p i stage → Then (λ s. Managing p s.image s.stage) (time_plan c stage ms)
-  managing_time p ms (Committing taken passed) h =
+  managing_time p ms (InManifest taken passed) h =
       let F : Plan → Type 0 = Then (λ s. Managing p s.image s.stage) in
       either_way F (ms == 0) _ _ (λ luck. h)
       (either_way F (nat_le c.manifest (passed + ms)) _ _
-      (either_way (λ st. F (Commits taken Ack st Ack)) c.tolerant Complete Waiting
+      (either_way (λ st. F (Commits taken Ack st Ack)) c.tolerant InManifestSyncComplete InManifestWaitReset
       (elim [ Works ↦ h | FailsOld ↦ tt | FailsNew ↦ tt ])
       (elim [ Works ↦ h | FailsOld ↦ tt | FailsNew ↦ tt ]))
       (λ luck. h))
-  managing_time p ms (Closed taken) h = λ luck. h
-  managing_time p ms Complete h = λ luck. h
-  managing_time p ms Idle h = λ luck. h
-  managing_time p ms Waiting h = λ luck. h
-  managing_time p ms (Broken code) h = λ luck. tt
+  managing_time p ms (InManifestSync taken) h = λ luck. h
+  managing_time p ms InManifestSyncComplete h = λ luck. h
+  managing_time p ms InDfuIdle h = λ luck. h
+  managing_time p ms InManifestWaitReset h = λ luck. h
+  managing_time p ms (InError code) h = λ luck. tt
   managing_time p ms stage h = λ luck. elim h [ ]
 
   asking_state : (p : List ℕ) (t n : ℕ) (stage : Stage) → Asking p t n stage → Then (λ s. Asking p t n s.stage) (plan c i stage GetState)
-  asking_state p t n Idle h luck = h
-  asking_state p t n (Ready taken number) h luck = h
-  asking_state p t n (Unwritten before block number) h luck = h
-  asking_state p t n (Broken code) h luck = tt
+  asking_state p t n InDfuIdle h luck = h
+  asking_state p t n (InDownloadIdle taken number) h luck = h
+  asking_state p t n (InDownloadSync before block number) h luck = h
+  asking_state p t n (InError code) h luck = tt
   asking_state p t n stage h luck = elim h [ ]
 
   asking_time : (p : List ℕ) (t n ms : ℕ) (stage : Stage) → Asking p t n stage → Then (λ s. Asking p t n s.stage) (time_plan c stage ms)
-  asking_time p t n ms Idle h luck = h
-  asking_time p t n ms (Ready taken number) h luck = h
-  asking_time p t n ms (Unwritten before block number) h luck = h
-  asking_time p t n ms (Broken code) h luck = tt
+  asking_time p t n ms InDfuIdle h luck = h
+  asking_time p t n ms (InDownloadIdle taken number) h luck = h
+  asking_time p t n ms (InDownloadSync before block number) h luck = h
+  asking_time p t n ms (InError code) h luck = tt
   asking_time p t n ms stage h luck = elim h [ ]
 
   begun_time : (p : List ℕ) (t n ms : ℕ) (stage : Stage) → Begun p t n stage → Then (λ s. Begun p t n s.stage) (time_plan c stage ms)
-  begun_time p t n ms Idle h luck = h
-  begun_time p t n ms (Ready taken number) h luck = h
+  begun_time p t n ms InDfuIdle h luck = h
+  begun_time p t n ms (InDownloadIdle taken number) h luck = h
   begun_time p t n ms stage h luck = elim h [ ]
 
   last_state : (p : List ℕ) (stage : Stage) → AskingLast p stage → Then (λ s. AskingLast p s.stage) (plan c i stage GetState)
-  last_state p (Ready taken number) h luck = h
-  last_state p (Closed taken) h luck = h
-  last_state p (Broken code) h luck = tt
+  last_state p (InDownloadIdle taken number) h luck = h
+  last_state p (InManifestSync taken) h luck = h
+  last_state p (InError code) h luck = tt
   last_state p stage h luck = elim h [ ]
 
   last_time : (p : List ℕ) (ms : ℕ) (stage : Stage) → AskingLast p stage → Then (λ s. AskingLast p s.stage) (time_plan c stage ms)
-  last_time p ms (Ready taken number) h luck = h
-  last_time p ms (Closed taken) h luck = h
-  last_time p ms (Broken code) h luck = tt
+  last_time p ms (InDownloadIdle taken number) h luck = h
+  last_time p ms (InManifestSync taken) h luck = h
+  last_time p ms (InError code) h luck = tt
   last_time p ms stage h luck = elim h [ ]
 
   whole_time : (p : List ℕ) (ms : ℕ) (stage : Stage) → Whole p stage → Then (λ s. Whole p s.stage) (time_plan c stage ms)
-  whole_time p ms (Ready taken number) h luck = h
+  whole_time p ms (InDownloadIdle taken number) h luck = h
   whole_time p ms stage h luck = elim h [ ]
 
   last_report_time : (p : List ℕ) (ms : ℕ) (report : Report) (stage : Stage) → EndsAs c p (record { image = i; stage = stage }) IsIdle report → Then (λ s. EndsAs c p s IsIdle report) (time_plan c stage ms)
-  last_report_time p ms Installed Idle h luck = h
+  last_report_time p ms Installed InDfuIdle h luck = h
   last_report_time p ms Installed stage h luck = elim h.2 [ ]
   last_report_time p ms report stage h luck = h
 
   over_time : (p : List ℕ) (ms : ℕ) (report : Report) (stage : Stage) → EndsAs c p (record { image = i; stage = stage }) IsInApp report → Then (λ s. EndsAs c p s IsInApp report) (time_plan c stage ms)
-  over_time p ms Installed InApp h luck = h
+  over_time p ms Installed InAppIdle h luck = h
   over_time p ms Installed stage h luck = elim h.2 [ ]
   over_time p ms report stage h luck = h
 

@@ -5,7 +5,7 @@ use Rattle.dfu_wire.specs.declared.codes.Code.{Code}
 use Rattle.dfu_wire.specs.declared.codes.Code.TheVariants.{Ok as NoFault, StalledPkt as ErrStalledPkt}
 use Rattle.dfu_wire.specs.declared.states.State.{State}
 use Rattle.dfu_wire.specs.declared.states.State.TheVariants.{DfuIdle, DownloadSync, DownloadBusy, DownloadIdle, ManifestSync, Manifest as Manifesting, ManifestWaitReset, Error as InError}
-use Rattle.dfu_device.specs.Stage.{Profile, Stage, Idle, Unwritten, Written, Ready, Closed, Complete}
+use Rattle.dfu_device.specs.Stage.{Profile, Stage, InDfuIdle, InDownloadSync, InDownloadSyncWritten, InDownloadIdle, InManifestSync, InManifestSyncComplete}
 use Rattle.dfu_device.specs.Outcome.{Situation}
 use Rattle.dfu_host.specs.Blocks.{blocks, first}
 use Rattle.dfu_host.specs.BlockLaws.{first_all}
@@ -19,7 +19,7 @@ module _ (c : Profile) (p : List ℕ) (some : 0 < length (blocks p c.transfer)) 
   b = length (blocks p c.transfer)
 
   begun_zero : (stage : Stage) → Tells DfuIdle stage → Begun p c.transfer 0 stage
-  begun_zero Idle h = refl
+  begun_zero InDfuIdle h = refl
   begun_zero stage h = elim h [ ]
 
   pub listed_fact : (state : State) (poll : ℕ) (s : Situation) → Tells state s.stage → Fact c p (listed (Block 0) state poll) s
@@ -33,11 +33,11 @@ module _ (c : Profile) (p : List ℕ) (some : 0 < length (blocks p c.transfer)) 
   troubled_fact code poll state s h = listed_fact state poll s h
 
   whole_holds : (n : ℕ) (stage : Stage) → suc n ≡ b → Tells DownloadIdle stage → Holds (first p c.transfer (suc n)) stage → Whole p stage
-  whole_holds n (Ready taken number) e t h = h ∙ ap (first p c.transfer) e ∙ first_all p c.transfer sized
+  whole_holds n (InDownloadIdle taken number) e t h = h ∙ ap (first p c.transfer) e ∙ first_all p c.transfer sized
   whole_holds n stage e t h = elim t [ ]
 
   begun_holds : (n : ℕ) (stage : Stage) → Tells DownloadIdle stage → Holds (first p c.transfer (suc n)) stage → Begun p c.transfer (suc n) stage
-  begun_holds n (Ready taken number) t h = (omega arith, h)
+  begun_holds n (InDownloadIdle taken number) t h = (omega arith, h)
   begun_holds n stage t h = elim t [ ]
 
   test_true : (x y : ℕ) → (x == y) ≡ true → x ≡ y
@@ -57,7 +57,7 @@ module _ (c : Profile) (p : List ℕ) (some : 0 < length (blocks p c.transfer)) 
   polled_fact n code poll state s l h t = troubled_fact code poll state s t
 
   installed : (s : Situation) (stage : Stage) → IsTrue c.tolerant → Tells DfuIdle stage → Managing p s.image stage → IsTrue c.tolerant × (s.image ≡ p) × IsIdle stage
-  installed s Idle tol t h = (tol, h, tt)
+  installed s InDfuIdle tol t h = (tol, h, tt)
   installed s stage tol t h = elim t [ ]
 
   pub manifested_fact : (tolerant : Bool) (code : Code) (poll : ℕ) (state : State) (s : Situation) → (IsTrue tolerant → IsTrue c.tolerant) → Managing p s.image s.stage → Tells state s.stage → Fact c p (manifested (Block 0) tolerant code poll state) s
@@ -72,16 +72,16 @@ module _ (c : Profile) (p : List ℕ) (some : 0 < length (blocks p c.transfer)) 
   manifested_fact false code poll state s f h t = troubled_fact code poll state s t
 
   sync_holds : (n : ℕ) (stage : Stage) → Tells DownloadSync stage → Asking p c.transfer n stage → Holds (first p c.transfer (suc n)) stage
-  sync_holds n (Unwritten before block number) t h = h
-  sync_holds n (Written taken number) t h = elim h [ ]
+  sync_holds n (InDownloadSync before block number) t h = h
+  sync_holds n (InDownloadSyncWritten taken number) t h = elim h [ ]
   sync_holds n stage t h = elim t [ ]
 
   idle_begun : (n : ℕ) (stage : Stage) → Tells DfuIdle stage → Asking p c.transfer n stage → Begun p c.transfer n stage
-  idle_begun n Idle t h = h
+  idle_begun n InDfuIdle t h = h
   idle_begun n stage t h = elim t [ ]
 
   ready_begun : (n : ℕ) (stage : Stage) → Tells DownloadIdle stage → Asking p c.transfer n stage → Begun p c.transfer n stage
-  ready_begun n (Ready taken number) t h = h
+  ready_begun n (InDownloadIdle taken number) t h = h
   ready_begun n stage t h = elim t [ ]
 
   pub asked_fact : (n : ℕ) (state : State) (s : Situation) → n < b → Asking p c.transfer n s.stage → Tells state s.stage → Fact c p (asked n state) s
@@ -91,12 +91,12 @@ module _ (c : Profile) (p : List ℕ) (some : 0 < length (blocks p c.transfer)) 
   asked_fact n state s l h t = tt
 
   last_manages : (image : List ℕ) (stage : Stage) → Tells ManifestSync stage → AskingLast p stage → Managing p image stage
-  last_manages image (Closed taken) t h = h
-  last_manages image Complete t h = elim h [ ]
+  last_manages image (InManifestSync taken) t h = h
+  last_manages image InManifestSyncComplete t h = elim h [ ]
   last_manages image stage t h = elim t [ ]
 
   last_whole : (stage : Stage) → Tells DownloadIdle stage → AskingLast p stage → Whole p stage
-  last_whole (Ready taken number) t h = h
+  last_whole (InDownloadIdle taken number) t h = h
   last_whole stage t h = elim t [ ]
 
   pub asked_last_fact : (state : State) (s : Situation) → AskingLast p s.stage → Tells state s.stage → Fact c p (asked_last state) s

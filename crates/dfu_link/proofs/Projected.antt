@@ -5,7 +5,7 @@ use Rattle.dfu_slots.specs.Medium.{Fuse}
 use Rattle.dfu_slots.specs.Medium.Fuse.{Whole}
 use Rattle.dfu_slots.specs.Seen.{image_of, image_fused, image_restarted, room_fused, room_restarted}
 use Rattle.dfu_device.specs.declared.answer.Answer.{Answer}
-use Rattle.dfu_device.specs.Stage.{Profile, InApp, Reply}
+use Rattle.dfu_device.specs.Stage.{Profile, InAppIdle, Reply}
 use Rattle.dfu_device.specs.Table.{plan}
 use Rattle.dfu_device.specs.Outcome.{Situation, Luck, Works, Outcome, handled, elapsed, powered}
 use Rattle.dfu_device.specs.Shown.{Shown, profile, situation}
@@ -121,7 +121,7 @@ armed_goes d fate fuse w w' heard x =
     (subst (λ (c : Profile). Went fuse c (situation (armed w fuse)) d fate w' heard) (armed_profile w fuse) x)
 
 powered_situation : (w : Shown) → situation (powered_up w) ≡ powered (situation w)
-powered_situation w = λ k. record { image = image_restarted w.slots Whole k; stage = InApp }
+powered_situation w = λ k. record { image = image_restarted w.slots Whole k; stage = InAppIdle }
 
 powered_profile : (w : Shown) → profile (powered_up w) ≡ profile w
 powered_profile w = λ k. record (profile w) { capacity = room_restarted w.slots Whole k }

@@ -1,9 +1,9 @@
 -- What the device does when no block is sent to it.
 use Rattle.std.proofs.Common.{◌≡◌, ℕ, ◌+◌, ◌==◌, nat_le, max, List, ◌++◌, Option, Some, None, refl, sym, ◌∙◌, subst}
-use Rattle.dfu_device.specs.Stage.{Request, Detach as AskDetach, Dnload, Upload, GetStatus, ClrStatus, GetState, Abort, OtherRequest, Reply, Ack, Profile, Stage, InApp, Detaching, Idle, Unwritten, Written, Writing, Ready, Closed, Complete, Committing, Waiting, Sending, Broken}
+use Rattle.dfu_device.specs.Stage.{Request, Detach as AskDetach, Dnload, Upload, GetStatus, ClrStatus, GetState, Abort, OtherRequest, Reply, Ack, Profile, Stage, InAppIdle, InAppDetach, InDfuIdle, InDownloadSync, InDownloadSyncWritten, InDownloadBusy, InDownloadIdle, InManifestSync, InManifestSyncComplete, InManifest, InManifestWaitReset, InUploadIdle, InError}
 use Rattle.dfu_device.specs.Table.{Plan, Writes, Commits, plan, time_plan}
 use Rattle.dfu_device.specs.Outcome.{Situation, Luck, Works, FailsOld, FailsNew, outcome, was_reset}
-use Rattle.dfu_device.specs.TakenRow.{either_way}
+use Rattle.dfu_device.specs.Cases.{either_way}
 use Rattle.dfu_link.specs.Session.{IsOneOf}
 use Rattle.dfu_link.specs.Agreement.{pending_of, IsSound}
 
@@ -49,71 +49,71 @@ module _ (c : Profile) (offers : List (List ℕ)) (i : List ℕ) where
   quiet_commit stage taken a b next e o n h FailsNew = record { moves = subst (λ q. Quiet offers i q taken None) (sym e) (commits o); sound = tt }
 
   pub quiet_status : (stage : Stage) → IsSound offers stage → After c offers (At stage) (plan c i stage GetStatus)
-  quiet_status InApp h luck = record { moves = stays; sound = tt }
-  quiet_status (Detaching timer passed) h luck = record { moves = stays; sound = tt }
-  quiet_status Idle h luck = record { moves = stays; sound = tt }
-  quiet_status (Unwritten before block number) h luck =
-      either_way (λ p. IsQuiet offers (At (Unwritten before block number)) (outcome i p luck).after) (c.busy == 0) _ _
-      (quiet_writing (Unwritten before block number) before block _ _ number (Ready (before ++ block) number) refl refl tt luck)
+  quiet_status InAppIdle h luck = record { moves = stays; sound = tt }
+  quiet_status (InAppDetach timer passed) h luck = record { moves = stays; sound = tt }
+  quiet_status InDfuIdle h luck = record { moves = stays; sound = tt }
+  quiet_status (InDownloadSync before block number) h luck =
+      either_way (λ p. IsQuiet offers (At (InDownloadSync before block number)) (outcome i p luck).after) (c.busy == 0) _ _
+      (quiet_writing (InDownloadSync before block number) before block _ _ number (InDownloadIdle (before ++ block) number) refl refl tt luck)
       (record { moves = stays; sound = tt })
-  quiet_status (Written taken number) h luck = record { moves = stays; sound = tt }
-  quiet_status (Writing before block number passed) h luck = record { moves = forgets; sound = tt }
-  quiet_status (Ready taken number) h luck = record { moves = stays; sound = tt }
-  quiet_status (Closed taken) h luck =
-      either_way (λ p. IsQuiet offers (At (Closed taken)) (outcome i p luck).after) (c.manifest == 0) _ _
-      (quiet_commit (Closed taken) taken _ _ Idle refl h refl tt luck)
+  quiet_status (InDownloadSyncWritten taken number) h luck = record { moves = stays; sound = tt }
+  quiet_status (InDownloadBusy before block number passed) h luck = record { moves = forgets; sound = tt }
+  quiet_status (InDownloadIdle taken number) h luck = record { moves = stays; sound = tt }
+  quiet_status (InManifestSync taken) h luck =
+      either_way (λ p. IsQuiet offers (At (InManifestSync taken)) (outcome i p luck).after) (c.manifest == 0) _ _
+      (quiet_commit (InManifestSync taken) taken _ _ InDfuIdle refl h refl tt luck)
       (record { moves = stays; sound = h })
-  quiet_status Complete h luck = record { moves = stays; sound = tt }
-  quiet_status (Committing taken passed) h luck = record { moves = forgets; sound = tt }
-  quiet_status Waiting h luck = record { moves = stays; sound = tt }
-  quiet_status (Sending place number) h luck = record { moves = stays; sound = tt }
-  quiet_status (Broken code) h luck = record { moves = stays; sound = tt }
+  quiet_status InManifestSyncComplete h luck = record { moves = stays; sound = tt }
+  quiet_status (InManifest taken passed) h luck = record { moves = forgets; sound = tt }
+  quiet_status InManifestWaitReset h luck = record { moves = stays; sound = tt }
+  quiet_status (InUploadIdle place number) h luck = record { moves = stays; sound = tt }
+  quiet_status (InError code) h luck = record { moves = stays; sound = tt }
 
   quiet_state : (stage : Stage) → IsSound offers stage → After c offers (At stage) (plan c i stage GetState)
-  quiet_state InApp h luck = record { moves = stays; sound = tt }
-  quiet_state (Writing before block number passed) h luck = record { moves = forgets; sound = tt }
-  quiet_state (Committing taken passed) h luck = record { moves = forgets; sound = tt }
+  quiet_state InAppIdle h luck = record { moves = stays; sound = tt }
+  quiet_state (InDownloadBusy before block number passed) h luck = record { moves = forgets; sound = tt }
+  quiet_state (InManifest taken passed) h luck = record { moves = forgets; sound = tt }
   quiet_state stage h luck = record { moves = stays; sound = h }
 
   pub quiet_polite : (r : Request) (stage : Stage) → IsPolite r → IsSound offers stage → After c offers (At stage) (plan c i stage r)
   quiet_polite GetStatus stage p h luck = quiet_status stage h luck
   quiet_polite GetState stage p h luck = quiet_state stage h luck
-  quiet_polite (AskDetach timeout) InApp p h luck = record { moves = forgets; sound = tt }
+  quiet_polite (AskDetach timeout) InAppIdle p h luck = record { moves = forgets; sound = tt }
   quiet_polite (AskDetach timeout) stage p h luck = record { moves = forgets; sound = tt }
-  quiet_polite ClrStatus InApp p h luck = record { moves = forgets; sound = tt }
+  quiet_polite ClrStatus InAppIdle p h luck = record { moves = forgets; sound = tt }
   quiet_polite ClrStatus stage p h luck = record { moves = forgets; sound = tt }
-  quiet_polite Abort InApp p h luck = record { moves = forgets; sound = tt }
+  quiet_polite Abort InAppIdle p h luck = record { moves = forgets; sound = tt }
   quiet_polite Abort stage p h luck = record { moves = forgets; sound = tt }
   quiet_polite (Dnload number body) stage p h luck = elim p [ ]
   quiet_polite (Upload number size) stage p h luck = elim p [ ]
   quiet_polite OtherRequest stage p h luck = elim p [ ]
 
   pub quiet_time : (ms : ℕ) (stage : Stage) → IsSound offers stage → After c offers (At stage) (time_plan c stage ms)
-  quiet_time ms (Detaching timer passed) h luck =
-      let P : Plan → Type 0 = λ p. IsQuiet offers (At (Detaching timer passed)) (outcome i p luck).after in
+  quiet_time ms (InAppDetach timer passed) h luck =
+      let P : Plan → Type 0 = λ p. IsQuiet offers (At (InAppDetach timer passed)) (outcome i p luck).after in
       either_way P (ms == 0) _ _ (record { moves = stays; sound = tt })
       (either_way P c.will_detach _ _ (record { moves = stays; sound = tt })
       (either_way P (nat_le (max 1 timer) (passed + ms)) _ _ (record { moves = stays; sound = tt }) (record { moves = stays; sound = tt })))
-  quiet_time ms (Writing before block number passed) h luck =
-      let s = Writing before block number passed in
+  quiet_time ms (InDownloadBusy before block number passed) h luck =
+      let s = InDownloadBusy before block number passed in
       let P : Plan → Type 0 = λ p. IsQuiet offers (At s) (outcome i p luck).after in
       either_way P (ms == 0) _ _ (record { moves = stays; sound = tt })
       (either_way P (nat_le c.busy (passed + ms)) _ _
-      (quiet_writing s before block _ _ number (Written (before ++ block) number) refl refl tt luck)
+      (quiet_writing s before block _ _ number (InDownloadSyncWritten (before ++ block) number) refl refl tt luck)
       (record { moves = stays; sound = tt }))
-  quiet_time ms (Committing taken passed) h luck =
-      let s = Committing taken passed in
+  quiet_time ms (InManifest taken passed) h luck =
+      let s = InManifest taken passed in
       let P : Plan → Type 0 = λ p. IsQuiet offers (At s) (outcome i p luck).after in
       either_way P (ms == 0) _ _ (record { moves = stays; sound = h })
       (either_way P (nat_le c.manifest (passed + ms)) _ _
-      (either_way (λ st. IsQuiet offers (At s) (outcome i (Commits taken Ack st Ack) luck).after) c.tolerant Complete Waiting
-      (quiet_commit s taken Ack Ack Complete refl h refl tt luck)
-      (quiet_commit s taken Ack Ack Waiting refl h refl tt luck))
+      (either_way (λ st. IsQuiet offers (At s) (outcome i (Commits taken Ack st Ack) luck).after) c.tolerant InManifestSyncComplete InManifestWaitReset
+      (quiet_commit s taken Ack Ack InManifestSyncComplete refl h refl tt luck)
+      (quiet_commit s taken Ack Ack InManifestWaitReset refl h refl tt luck))
       (record { moves = stays; sound = h }))
   quiet_time ms stage h luck = record { moves = stays; sound = h }
 
   pub quiet_reset : (stage : Stage) → IsQuiet offers (At stage) (was_reset (At stage))
-  quiet_reset (Detaching timer passed) = record { moves = forgets; sound = tt }
+  quiet_reset (InAppDetach timer passed) = record { moves = forgets; sound = tt }
   quiet_reset stage = record { moves = forgets; sound = tt }
 
 pub quiet_then : {offers : List (List ℕ)} {a b d : Situation} → IsQuiet offers a b → IsQuiet offers b d → IsQuiet offers a d

@@ -1,10 +1,10 @@
 -- What a device answers fits the request, and is heard as it was meant.
 use Rattle.std.proofs.Common.{◌≡◌, ℕ, ◌+◌, ◌==◌, nat_lt, nat_le, not, Bool, true, false, List, [], ◌∷◌, length, take, drop, refl, sym, ap, ◌∙◌, subst, arith, inl, inr}
 use Rattle.std.proofs.lemmas.Bool.Decides.{nat_tests}
-use Rattle.dfu_device.specs.Stage.{Request, Dnload, Upload, GetStatus, ClrStatus, GetState, Reply, Ack, StatusOf, StateOf, Data, Stall, Profile, Stage, InApp, Detaching, Idle, Unwritten, Written, Writing, Ready, Closed, Complete, Committing, Waiting, Sending, Broken}
+use Rattle.dfu_device.specs.Stage.{Request, Dnload, Upload, GetStatus, ClrStatus, GetState, Reply, Ack, StatusOf, StateOf, Data, Stall, Profile, Stage, InAppIdle, InAppDetach, InDfuIdle, InDownloadSync, InDownloadSyncWritten, InDownloadBusy, InDownloadIdle, InManifestSync, InManifestSyncComplete, InManifest, InManifestWaitReset, InUploadIdle, InError}
 use Rattle.dfu_device.specs.Table.{Plan, Sure, Writes, Commits, plan, block_plan, upload_plan, is_empty, next_number}
 use Rattle.dfu_device.specs.Outcome.{Luck, Works, outcome}
-use Rattle.dfu_device.specs.TakenRow.{either_way}
+use Rattle.dfu_device.specs.Cases.{either_way}
 use Rattle.dfu_host.specs.Table.{Task, Phase, Find, FindAgain, Detach, Enter, Clear, Quit, Block, Ask, Poll, Close, AskLast, Manifest, Trouble, Fetch, GiveUp, Deed, Send, deed, Heard, Acked, Part, Stalled}
 use Rattle.dfu_link.specs.Play.{heard_as, remembered}
 use Rattle.dfu_wire.specs.declared.requests.Request.{Request as Asked}
@@ -60,42 +60,42 @@ upload_fits c i place expected number size =
     let P : Plan → Type 0 = FitsPlan (Upload number size) in
     let part = take size (drop place i) in
     either_way P (size == 0) _ _ tt (either_way P (nat_lt c.transfer size) _ _ tt (either_way P (not (number == expected)) _ _ tt
-    (either_way P (nat_lt (length part) size) (Sure (Data part) Idle) (Sure (Data part) (Sending (place + size) (next_number expected))) tt tt)))
+    (either_way P (nat_lt (length part) size) (Sure (Data part) InDfuIdle) (Sure (Data part) (InUploadIdle (place + size) (next_number expected))) tt tt)))
 
 -- each row by state and request
 fits_plan : (c : Profile) (i : List ℕ) (st : Stage) (r : Request) → FitsPlan r (plan c i st r)
-fits_plan c i InApp (AskDetach timeout) = tt
-fits_plan c i InApp GetStatus = tt
-fits_plan c i InApp r = tt
-fits_plan c i (Detaching timer passed) GetStatus = tt
-fits_plan c i (Detaching timer passed) r = tt
-fits_plan c i Idle (Dnload number body) =
+fits_plan c i InAppIdle (AskDetach timeout) = tt
+fits_plan c i InAppIdle GetStatus = tt
+fits_plan c i InAppIdle r = tt
+fits_plan c i (InAppDetach timer passed) GetStatus = tt
+fits_plan c i (InAppDetach timer passed) r = tt
+fits_plan c i InDfuIdle (Dnload number body) =
     let P : Plan → Type 0 = FitsPlan (Dnload number body) in
     either_way P (not c.can_download) _ _ tt (either_way P (is_empty body) _ _ tt (block_fits c [] 0 number body))
-fits_plan c i Idle (Upload number size) = either_way (FitsPlan (Upload number size)) c.can_upload _ _ (upload_fits c i 0 0 number size) tt
-fits_plan c i Idle r = tt
-fits_plan c i (Unwritten before block number) GetStatus = either_way (FitsPlan GetStatus) (c.busy == 0) _ _ (tt, tt) tt
-fits_plan c i (Unwritten before block number) r = tt
-fits_plan c i (Written taken number) GetStatus = tt
-fits_plan c i (Written taken number) r = tt
-fits_plan c i (Writing before block number passed) GetStatus = tt
-fits_plan c i (Writing before block number passed) r = tt
-fits_plan c i (Ready taken number) (Dnload k body) =
+fits_plan c i InDfuIdle (Upload number size) = either_way (FitsPlan (Upload number size)) c.can_upload _ _ (upload_fits c i 0 0 number size) tt
+fits_plan c i InDfuIdle r = tt
+fits_plan c i (InDownloadSync before block number) GetStatus = either_way (FitsPlan GetStatus) (c.busy == 0) _ _ (tt, tt) tt
+fits_plan c i (InDownloadSync before block number) r = tt
+fits_plan c i (InDownloadSyncWritten taken number) GetStatus = tt
+fits_plan c i (InDownloadSyncWritten taken number) r = tt
+fits_plan c i (InDownloadBusy before block number passed) GetStatus = tt
+fits_plan c i (InDownloadBusy before block number passed) r = tt
+fits_plan c i (InDownloadIdle taken number) (Dnload k body) =
     let P : Plan → Type 0 = FitsPlan (Dnload k body) in
     either_way P (is_empty body) _ _ (either_way P (nat_le c.least (length taken)) _ _ tt tt) (block_fits c taken number k body)
-fits_plan c i (Ready taken number) r = tt
-fits_plan c i (Closed taken) GetStatus = either_way (FitsPlan GetStatus) (c.manifest == 0) _ _ (tt, tt) tt
-fits_plan c i (Closed taken) r = tt
-fits_plan c i Complete GetStatus = tt
-fits_plan c i Complete r = tt
-fits_plan c i (Committing taken passed) GetStatus = tt
-fits_plan c i (Committing taken passed) r = tt
-fits_plan c i Waiting GetStatus = tt
-fits_plan c i Waiting r = tt
-fits_plan c i (Sending place number) (Upload k size) = upload_fits c i place number k size
-fits_plan c i (Sending place number) r = tt
-fits_plan c i (Broken code) ClrStatus = tt
-fits_plan c i (Broken code) r = tt
+fits_plan c i (InDownloadIdle taken number) r = tt
+fits_plan c i (InManifestSync taken) GetStatus = either_way (FitsPlan GetStatus) (c.manifest == 0) _ _ (tt, tt) tt
+fits_plan c i (InManifestSync taken) r = tt
+fits_plan c i InManifestSyncComplete GetStatus = tt
+fits_plan c i InManifestSyncComplete r = tt
+fits_plan c i (InManifest taken passed) GetStatus = tt
+fits_plan c i (InManifest taken passed) r = tt
+fits_plan c i InManifestWaitReset GetStatus = tt
+fits_plan c i InManifestWaitReset r = tt
+fits_plan c i (InUploadIdle place number) (Upload k size) = upload_fits c i place number k size
+fits_plan c i (InUploadIdle place number) r = tt
+fits_plan c i (InError code) ClrStatus = tt
+fits_plan c i (InError code) r = tt
 
 -- a request as a host sends it
 abbrev pub IsHosts : Asked → List ℕ → Type 0

@@ -2,7 +2,7 @@
 use Rattle.std.proofs.Common.{◌≡◌, ◌⊎◌, ℕ, ◌<◌, List, [], ◌∷◌, Option, Some, None, Result, Ok, Err, refl, sym, ap, ◌∙◌, subst, inl, inr}
 use Rattle.dfu_slots.specs.Medium.Fuse.{Whole}
 use Rattle.dfu_slots.specs.Image.{Active}
-use Rattle.dfu_device.specs.Stage.{Profile, Stage, Closed, Committing}
+use Rattle.dfu_device.specs.Stage.{Profile, Stage, InManifestSync, InManifest}
 use Rattle.dfu_device.specs.Shown.{Shown, profile, situation}
 use Rattle.dfu_host.specs.declared.report.Report.{Report}
 use Rattle.dfu_host.specs.declared.report.Report.TheVariants.{Uploaded}
@@ -32,8 +32,8 @@ use Rattle.dfu_link.proofs.Uploads.{gives_transfer}
 -- Some machine agrees with each link.
 
 abbrev closed_in : Stage → List ℕ
-closed_in (Closed taken) = taken
-closed_in (Committing taken passed) = taken
+closed_in (InManifestSync taken) = taken
+closed_in (InManifest taken passed) = taken
 closed_in stage = []
 
 abbrev goal_bytes : Goal → List ℕ
@@ -45,8 +45,8 @@ payload_in Nobody = []
 payload_in (Hosted h) = goal_bytes h.task.goal
 
 closed_sound : (stage : Stage) (rest : List (List ℕ)) → IsSound (closed_in stage ∷ rest) stage
-closed_sound (Closed taken) rest = inl refl
-closed_sound (Committing taken passed) rest = inl refl
+closed_sound (InManifestSync taken) rest = inl refl
+closed_sound (InManifest taken passed) rest = inl refl
 closed_sound stage rest = tt
 
 goal_offered : (goal : Goal) (x : List ℕ) → IsGoalOffer (x ∷ goal_bytes goal ∷ []) goal
@@ -67,8 +67,8 @@ pub some_agrees : SomeAgrees
 some_agrees w up = (machine_of w up, machine_agrees w up)
 
 open_sound : (stage : Stage) → NothingClosed stage → IsSound [] stage
-open_sound (Closed taken) h = elim h [ ]
-open_sound (Committing taken passed) h = elim h [ ]
+open_sound (InManifestSync taken) h = elim h [ ]
+open_sound (InManifest taken passed) h = elim h [ ]
 open_sound stage h = tt
 
 pub fresh_agrees : FreshAgrees

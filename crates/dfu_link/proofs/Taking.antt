@@ -1,7 +1,7 @@
 -- What a session's host makes of what it hears: the session goes on, or it is over with a report that is allowed.
 use Rattle.std.proofs.Common.{◌≡◌, ◌≢◌, ℕ, zero, suc, pred, ◌<◌, Bool, true, false, List, length, Option, Some, None, refl, sym, subst}
 use Rattle.dfu_wire.specs.declared.states.State.TheVariants.{AppIdle}
-use Rattle.dfu_device.specs.Stage.{Profile, Stage, InApp, state_of}
+use Rattle.dfu_device.specs.Stage.{Profile, Stage, InAppIdle, state_of}
 use Rattle.dfu_device.specs.Outcome.{Situation}
 use Rattle.dfu_host.specs.declared.report.Report.{Report}
 use Rattle.dfu_host.specs.declared.report.Report.TheVariants.{Installed, Aborted, RestartsSpent, Uploaded}
@@ -45,7 +45,7 @@ module _ (c : Profile) (offers : List (List ℕ)) where
 
   over_well : (i : List ℕ) (stage : Stage) (p up : List ℕ) (report : Report) → EndsAs c p (record { image = i; stage = stage }) IsInApp report
       → TookWell (record { image = i; stage = stage }) (ToLoad p) up (record { session = Nobody; answer = record { report = Some report; gave = None } })
-  over_well i InApp p up Installed h = record { says = says_installed i h.1 h.0; fact = tt; offer = tt; done = λ e. refl }
+  over_well i InAppIdle p up Installed h = record { says = says_installed i h.1 h.0; fact = tt; offer = tt; done = λ e. refl }
   over_well i stage p up Installed h = elim h.2 [ ]
   over_well i stage p up report h = record { says = says_other h (live_goal_one (ToLoad p)); fact = tt; offer = tt; done = λ e. cc }
 

@@ -3,24 +3,24 @@ use Rattle.std.proofs.Common.{ℕ, ◌==◌, List, ◌++◌}
 use Rattle.dfu_wire.specs.declared.codes.Code.TheVariants.{Write as ErrWrite, Prog as ErrProg}
 use Rattle.dfu_wire.specs.declared.states.State.{State}
 use Rattle.dfu_wire.specs.declared.states.State.TheVariants.{DfuIdle, DownloadSync, DownloadIdle, ManifestSync}
-use Rattle.dfu_device.specs.Stage.{GetStatus, GetState, Profile, Stage, InApp, Idle, Unwritten, Written, Ready, Closed, Complete, Broken, status_of}
+use Rattle.dfu_device.specs.Stage.{GetStatus, GetState, Profile, Stage, InAppIdle, InDfuIdle, InDownloadSync, InDownloadSyncWritten, InDownloadIdle, InManifestSync, InManifestSyncComplete, InError, status_of}
 use Rattle.dfu_device.specs.Table.{Writes, Commits, plan, time_plan}
 use Rattle.dfu_device.specs.Outcome.{Luck, Works, FailsOld, FailsNew, outcome}
-use Rattle.dfu_device.specs.TakenRow.{either_way}
+use Rattle.dfu_device.specs.Cases.{either_way}
 use Rattle.dfu_host.specs.Table.{Heard, Status, StateIs}
 use Rattle.dfu_link.specs.Play.{heard_as}
 
 -- a state that was told, where it stays as time passes
 abbrev pub Tells : State → Stage → Type 0
-Tells DfuIdle Idle = Unit {0}
+Tells DfuIdle InDfuIdle = Unit {0}
 Tells DfuIdle stage = ⊥
-Tells DownloadIdle (Ready taken number) = Unit {0}
+Tells DownloadIdle (InDownloadIdle taken number) = Unit {0}
 Tells DownloadIdle stage = ⊥
-Tells DownloadSync (Unwritten before block number) = Unit {0}
-Tells DownloadSync (Written taken number) = Unit {0}
+Tells DownloadSync (InDownloadSync before block number) = Unit {0}
+Tells DownloadSync (InDownloadSyncWritten taken number) = Unit {0}
 Tells DownloadSync stage = ⊥
-Tells ManifestSync (Closed taken) = Unit {0}
-Tells ManifestSync Complete = Unit {0}
+Tells ManifestSync (InManifestSync taken) = Unit {0}
+Tells ManifestSync InManifestSyncComplete = Unit {0}
 Tells ManifestSync stage = ⊥
 Tells state stage = Unit {0}
 
@@ -32,15 +32,15 @@ ToldBy heard stage = Unit {0}
 
 module _ (c : Profile) (i : List ℕ) where
   pub tells_time : (state : State) (stage : Stage) (ms : ℕ) (luck : Luck) → Tells state stage → Tells state (outcome i (time_plan c stage ms) luck).after.stage
-  tells_time DfuIdle Idle ms luck h = tt
+  tells_time DfuIdle InDfuIdle ms luck h = tt
   tells_time DfuIdle stage ms luck h = elim h [ ]
-  tells_time DownloadIdle (Ready taken number) ms luck h = tt
+  tells_time DownloadIdle (InDownloadIdle taken number) ms luck h = tt
   tells_time DownloadIdle stage ms luck h = elim h [ ]
-  tells_time DownloadSync (Unwritten before block number) ms luck h = tt
-  tells_time DownloadSync (Written taken number) ms luck h = tt
+  tells_time DownloadSync (InDownloadSync before block number) ms luck h = tt
+  tells_time DownloadSync (InDownloadSyncWritten taken number) ms luck h = tt
   tells_time DownloadSync stage ms luck h = elim h [ ]
-  tells_time ManifestSync (Closed taken) ms luck h = tt
-  tells_time ManifestSync Complete ms luck h = tt
+  tells_time ManifestSync (InManifestSync taken) ms luck h = tt
+  tells_time ManifestSync InManifestSyncComplete ms luck h = tt
   tells_time ManifestSync stage ms luck h = elim h [ ]
   tells_time state stage ms luck h = tt
 
@@ -51,16 +51,16 @@ module _ (c : Profile) (i : List ℕ) where
 
   -- the answer to GETSTATUS
   pub status_told : (stage : Stage) (luck : Luck) → ToldBy (heard_as (outcome i (plan c i stage GetStatus) luck).reply) (outcome i (plan c i stage GetStatus) luck).after.stage
-  status_told (Unwritten before block number) luck =
+  status_told (InDownloadSync before block number) luck =
       either_way (λ p. ToldBy (heard_as (outcome i p luck).reply) (outcome i p luck).after.stage) (c.busy == 0) _ _
-      (elim luck as (λ l. let o = outcome i (Writes before block (status_of c (Ready (before ++ block) number)) (Ready (before ++ block) number) (status_of c (Broken ErrWrite))) l in ToldBy (heard_as o.reply) o.after.stage) [ Works ↦ tt | FailsOld ↦ tt | FailsNew ↦ tt ])
+      (elim luck as (λ l. let o = outcome i (Writes before block (status_of c (InDownloadIdle (before ++ block) number)) (InDownloadIdle (before ++ block) number) (status_of c (InError ErrWrite))) l in ToldBy (heard_as o.reply) o.after.stage) [ Works ↦ tt | FailsOld ↦ tt | FailsNew ↦ tt ])
       tt
-  status_told (Closed taken) luck =
+  status_told (InManifestSync taken) luck =
       either_way (λ p. ToldBy (heard_as (outcome i p luck).reply) (outcome i p luck).after.stage) (c.manifest == 0) _ _
-      (elim luck as (λ l. let o = outcome i (Commits taken (status_of c Idle) Idle (status_of c (Broken ErrProg))) l in ToldBy (heard_as o.reply) o.after.stage) [ Works ↦ tt | FailsOld ↦ tt | FailsNew ↦ tt ])
+      (elim luck as (λ l. let o = outcome i (Commits taken (status_of c InDfuIdle) InDfuIdle (status_of c (InError ErrProg))) l in ToldBy (heard_as o.reply) o.after.stage) [ Works ↦ tt | FailsOld ↦ tt | FailsNew ↦ tt ])
       tt
   status_told stage luck = tt
 
   pub state_told : (stage : Stage) (luck : Luck) → ToldBy (heard_as (outcome i (plan c i stage GetState) luck).reply) (outcome i (plan c i stage GetState) luck).after.stage
-  state_told InApp luck = tt
+  state_told InAppIdle luck = tt
   state_told stage luck = tt

@@ -1,9 +1,9 @@
 -- Each event of the link is a step of the session machine, and a list of events is a legal run.
 use Rattle.std.proofs.Common.{◌≡◌, ℕ, ◌+◌, ◌<◌, ◌==◌, nat_le, max, Bool, List, ◌∷◌, ◌++◌, length, Some, None, refl, sym, subst, arith, inl, inr}
-use Rattle.dfu_device.specs.Stage.{Ack, Profile, Stage, InApp, Detaching, Idle, Writing, Closed, Complete, Committing, Waiting, Sending}
+use Rattle.dfu_device.specs.Stage.{Ack, Profile, Stage, InAppIdle, InAppDetach, InDfuIdle, InDownloadBusy, InManifestSync, InManifestSyncComplete, InManifest, InManifestWaitReset, InUploadIdle}
 use Rattle.dfu_device.specs.Table.{Plan, Commits, time_plan, reset_stage}
 use Rattle.dfu_device.specs.Outcome.{Situation, Luck, Works, outcome, elapsed}
-use Rattle.dfu_device.specs.TakenRow.{either_way}
+use Rattle.dfu_device.specs.Cases.{either_way}
 use Rattle.dfu_host.specs.declared.report.Report.{Report}
 use Rattle.dfu_host.specs.Blocks.{blocks}
 use Rattle.dfu_host.specs.BlockLaws.{block_counts}
@@ -24,29 +24,29 @@ module _ (c : Profile) (offers : List (List ℕ)) where
   time_steps : (i : List ℕ) (ms : ℕ) (stage : Stage) (live : Live) (up : List ℕ) → IsSound offers stage →
       let s = (outcome i (time_plan c stage ms) Works).after in
       Step c.tolerant c.transfer ATime (shown offers i (pending_of stage) live up) None (shown offers s.image (pending_of s.stage) live up) × IsSound offers s.stage
-  time_steps i ms (Detaching timer passed) live up h =
+  time_steps i ms (InAppDetach timer passed) live up h =
       let P : Plan → Type 0 = λ p. let s = (outcome i p Works).after in Step c.tolerant c.transfer ATime (shown offers i None live up) None (shown offers s.image (pending_of s.stage) live up) × IsSound offers s.stage in
       either_way P (ms == 0) _ _ (passes, tt)
       (either_way P c.will_detach _ _ (passes, tt)
       (either_way P (nat_le (max 1 timer) (passed + ms)) _ _ (passes, tt) (passes, tt)))
-  time_steps i ms (Writing before block number passed) live up h =
+  time_steps i ms (InDownloadBusy before block number passed) live up h =
       let P : Plan → Type 0 = λ p. let s = (outcome i p Works).after in Step c.tolerant c.transfer ATime (shown offers i (Some (before ++ block)) live up) None (shown offers s.image (pending_of s.stage) live up) × IsSound offers s.stage in
       either_way P (ms == 0) _ _ (passes, tt) (either_way P (nat_le c.busy (passed + ms)) _ _ (passes, tt) (passes, tt))
-  time_steps i ms (Committing taken passed) live up h =
+  time_steps i ms (InManifest taken passed) live up h =
       let P : Plan → Type 0 = λ p. let s = (outcome i p Works).after in Step c.tolerant c.transfer ATime (shown offers i (Some taken) live up) None (shown offers s.image (pending_of s.stage) live up) × IsSound offers s.stage in
       either_way P (ms == 0) _ _ (passes, h)
       (either_way P (nat_le c.manifest (passed + ms)) _ _
-      (either_way (λ st. P (Commits taken Ack st Ack)) c.tolerant Complete Waiting (passes_installed h, tt) (passes_installed h, tt))
+      (either_way (λ st. P (Commits taken Ack st Ack)) c.tolerant InManifestSyncComplete InManifestWaitReset (passes_installed h, tt) (passes_installed h, tt))
       (passes, h))
   time_steps i ms stage live up h = (passes, h)
 
   fetches_time : (n : ℕ) (kept image : List ℕ) (ms : ℕ) (stage : Stage) → Fetches n kept image stage → Fetches n kept (outcome image (time_plan c stage ms) Works).after.image (outcome image (time_plan c stage ms) Works).after.stage
-  fetches_time n kept image ms Idle f = f
-  fetches_time n kept image ms (Sending place number) f = f
+  fetches_time n kept image ms InDfuIdle f = f
+  fetches_time n kept image ms (InUploadIdle place number) f = f
   fetches_time n kept image ms stage f = elim f [ ]
 
   idle_time : (kept image : List ℕ) (ms : ℕ) (stage : Stage) → (kept ≡ image) × IsIdle stage → let d = (outcome image (time_plan c stage ms) Works).after in (kept ≡ d.image) × IsIdle d.stage
-  idle_time kept image ms Idle f = f
+  idle_time kept image ms InDfuIdle f = f
   idle_time kept image ms stage f = elim f.1 [ ]
 
   fetch_time : (s : Situation) (ms : ℕ) (phase : Phase) → IsOn phase → FetchFact phase s → FetchFact phase (elapsed c s ms Works)
@@ -65,11 +65,11 @@ module _ (c : Profile) (offers : List (List ℕ)) where
   time_fact s ms (Hosted h) f = record { task_is = f.task_is; on = f.on; some = f.some; fact = goal_time s ms h.task.goal h.phase f.on f.fact }
 
   nothing_pends : (stage : Stage) → pending_of (reset_stage stage) ≡ None
-  nothing_pends (Detaching timer passed) = refl
+  nothing_pends (InAppDetach timer passed) = refl
   nothing_pends stage = refl
 
   nothing_closed : (stage : Stage) → IsSound offers (reset_stage stage)
-  nothing_closed (Detaching timer passed) = tt
+  nothing_closed (InAppDetach timer passed) = tt
   nothing_closed stage = tt
 
   -- a restart that comes from outside
@@ -83,8 +83,8 @@ module _ (c : Profile) (offers : List (List ℕ)) where
       record { step = restarts (subst (λ r. Says c.tolerant (shown offers s.image r (live_goal h.task.goal) up) taken.answer.report (shown offers s.image (pending_of next) (live_of taken.session) (given taken.answer.gave up))) n t.says) (restart_plain c offers h f.on); sound = q; offer = t.offer; fact = t.fact; done = t.done }
 
   more_sound : (p : List ℕ) (stage : Stage) → IsSound offers stage → IsSound (p ∷ offers) stage
-  more_sound p (Closed taken) h = inr h
-  more_sound p (Committing taken passed) h = inr h
+  more_sound p (InManifestSync taken) h = inr h
+  more_sound p (InManifest taken passed) h = inr h
   more_sound p stage h = tt
 
 -- the offers after an event
@@ -130,7 +130,7 @@ module _ (c : Profile) where
       let t = time_steps c offers s.image ms s.stage (live_of session) up q in
       record { step = t.0; sound = t.1; offer = o; fact = time_fact c offers s ms session f; done = λ e. cc }
   simulated offers s session up ResetBus l k room z a q o f = restart_simulated c offers s (reset_stage s.stage) session up (nothing_pends c offers s.stage) (nothing_closed c offers s.stage) o f
-  simulated offers s session up Cut l k room z a q o f = restart_simulated c offers s InApp session up refl tt o f
+  simulated offers s session up Cut l k room z a q o f = restart_simulated c offers s InAppIdle session up refl tt o f
 
   -- a machine that agrees is the one that is shown
   is_shown : (w : Link) (up : List ℕ) (m : Machine) → Agrees w up m → shown m.offers w.device.image (pending_of w.device.stage) (live_of w.session) up ≡ m

@@ -1,7 +1,7 @@
 -- What a link shows of the session machine.
 use Rattle.std.specs.Prelude.{◌≡◌, ℕ, List, [], ◌++◌, Option, Some, None}
 use Rattle.dfu_slots.specs.Image.{Active}
-use Rattle.dfu_device.specs.Stage.{Stage, Unwritten, Written, Writing, Ready, Closed, Committing}
+use Rattle.dfu_device.specs.Stage.{Stage, InDownloadSync, InDownloadSyncWritten, InDownloadBusy, InDownloadIdle, InManifestSync, InManifest}
 use Rattle.dfu_host.specs.Table.{Goal, ToLoad, ToFetch}
 use Rattle.dfu_link.specs.Session.{IsOneOf, Machine, Live, NoOne, Loading, Fetching}
 use Rattle.dfu_link.specs.Play.{Link, Session, Nobody, Hosted}
@@ -9,12 +9,12 @@ use Rattle.dfu_link.specs.Bytes.{Bench, link_of, ShowsActive}
 
 -- What is pending: the bytes taken, where the device takes an image and has not put it in place.
 abbrev pub pending_of : Stage → Option (List ℕ)
-pending_of (Unwritten before block number) = Some (before ++ block)
-pending_of (Written taken number) = Some taken
-pending_of (Writing before block number passed) = Some (before ++ block)
-pending_of (Ready taken number) = Some taken
-pending_of (Closed taken) = Some taken
-pending_of (Committing taken passed) = Some taken
+pending_of (InDownloadSync before block number) = Some (before ++ block)
+pending_of (InDownloadSyncWritten taken number) = Some taken
+pending_of (InDownloadBusy before block number passed) = Some (before ++ block)
+pending_of (InDownloadIdle taken number) = Some taken
+pending_of (InManifestSync taken) = Some taken
+pending_of (InManifest taken passed) = Some taken
 pending_of stage = None
 
 -- What a session is for is what is live.
@@ -29,8 +29,8 @@ live_of (Hosted h) = live_goal h.task.goal
 
 -- Bytes that were closed are one of the offers.
 abbrev pub IsSound : List (List ℕ) → Stage → Type 0
-IsSound offers (Closed taken) = IsOneOf taken offers
-IsSound offers (Committing taken passed) = IsOneOf taken offers
+IsSound offers (InManifestSync taken) = IsOneOf taken offers
+IsSound offers (InManifest taken passed) = IsOneOf taken offers
 IsSound offers stage = Unit {0}
 
 -- The payload that a session is to install is one of the offers.
@@ -60,8 +60,8 @@ pub record AgreesOn (b : Bench) (up : List ℕ) (m : Machine) : Type 0 where
 
 -- No bytes are closed, which a host asked to be put in place.
 abbrev pub NothingClosed : Stage → Type 0
-NothingClosed (Closed taken) = ⊥
-NothingClosed (Committing taken passed) = ⊥
+NothingClosed (InManifestSync taken) = ⊥
+NothingClosed (InManifest taken passed) = ⊥
 NothingClosed stage = Unit {0}
 
 -- The session machine of a link with no session, before anything is offered.

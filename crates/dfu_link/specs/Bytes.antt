@@ -7,7 +7,7 @@ use Rattle.dfu_slots.specs.Seen.{fused, restarted}
 use Rattle.dfu_slots.specs.Image.{Active}
 use Rattle.dfu_device.specs.declared.answer.Answer.{Answer}
 use Rattle.dfu_device.specs.declared.answer.Answer.TheVariants as answer
-use Rattle.dfu_device.specs.Stage.{InApp}
+use Rattle.dfu_device.specs.Stage.{InAppIdle}
 use Rattle.dfu_device.specs.Table.{reset_stage}
 use Rattle.dfu_device.specs.Shown.{Shown, profile, situation}
 use Rattle.dfu_device.specs.Rows.{Handles, Elapses}
@@ -33,7 +33,7 @@ armed w fuse = record w { slots = fused w.slots fuse }
 
 -- A device after its power went and came back: its medium is not armed, and what was put there is forgotten.
 abbrev pub powered_up : Shown → Shown
-powered_up w = record { config = w.config; slots = restarted w.slots Whole; stage = InApp }
+powered_up w = record { config = w.config; slots = restarted w.slots Whole; stage = InAppIdle }
 
 -- A device after a reset of the bus.
 abbrev pub bus_was_reset : Shown → Shown

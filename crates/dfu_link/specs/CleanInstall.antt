@@ -3,7 +3,7 @@ use Rattle.std.specs.Prelude.{◌≡◌, ℕ, ◌<◌, ◌≤◌, true, List, []
 use Rattle.std.specs.declared.vec.Vec.{Vec}
 use Rattle.std.specs.declared.alloc.Global.{Global}
 use Rattle.dfu_slots.specs.Seen.{room_of}
-use Rattle.dfu_device.specs.Stage.{InApp}
+use Rattle.dfu_device.specs.Stage.{InAppIdle}
 use Rattle.dfu_device.specs.Setting.{Setting}
 use Rattle.dfu_host.specs.declared.limits.Limits.{Limits}
 use Rattle.dfu_host.specs.declared.report.Report.{Report}
@@ -24,7 +24,7 @@ clean_passes s payload = clean (length (blocks payload s.functional.transfer)) s
 -- A file can be installed cleanly: a tolerant device rests in appIDLE with no session, takes the file, has room for its payload, and the actions suffice.
 pub record CanInstall (b : Bench) (file : List ℕ) (limits : Limits) (payload : List ℕ) : Type 0 where
   pub free : b.session ≡ Nobody
-  pub rests : b.device.stage ≡ InApp
+  pub rests : b.device.stage ≡ InAppIdle
   pub tolerant : b.device.config.functional.tolerant ≡ true
   pub offered : IsOffered b.device.config file payload
   pub least : b.device.config.least ≤ length payload

@@ -3,7 +3,7 @@ use Rattle.std.specs.Prelude.{◌≡◌, ℕ, suc, ◌-◌, ◌<◌, ◌≤◌, 
 use Rattle.dfu_host.specs.declared.report.Report.TheVariants.{Installed}
 use Rattle.dfu_host.specs.Blocks.{blocks}
 use Rattle.dfu_host.specs.Clean.{clean}
-use Rattle.dfu_device.specs.Stage.{Profile, InApp}
+use Rattle.dfu_device.specs.Stage.{Profile, InAppIdle}
 use Rattle.dfu_device.specs.Outcome.{Luck, Works}
 use Rattle.dfu_link.specs.Play.{Pass, Offer, Go, Nobody, Link, Answered, silent, played}
 
@@ -18,7 +18,7 @@ pub data Quietly (c : Profile) : Link → ℕ → Link → Type 0 where
 
 -- A device in appIDLE with this image active, and no session.
 abbrev pub resting : List ℕ → Link
-resting image = record { device = record { image = image; stage = InApp }; session = Nobody }
+resting image = record { device = record { image = image; stage = InAppIdle }; session = Nobody }
 
 -- After so many passes the payload is installed: none but the last reports, and the last reports Installed, with the payload active.
 pub record InstalledAfter (c : Profile) (w : Link) (count : ℕ) (payload : List ℕ) : Type 0 where

@@ -3,7 +3,7 @@ use Rattle.std.specs.Prelude.{[], ◌%◌, take, ◌≡◌, ℕ, suc, ◌<◌, I
 use Rattle.dfu_host.specs.declared.report.Report.{Report}
 use Rattle.dfu_host.specs.declared.report.Report.TheVariants.{Installed}
 use Rattle.dfu_host.specs.Blocks.{blocks, first}
-use Rattle.dfu_device.specs.Stage.{Profile, Stage, InApp, Idle, Unwritten, Written, Writing, Ready, Closed, Complete, Committing, Waiting, Sending, Broken}
+use Rattle.dfu_device.specs.Stage.{Profile, Stage, InAppIdle, InDfuIdle, InDownloadSync, InDownloadSyncWritten, InDownloadBusy, InDownloadIdle, InManifestSync, InManifestSyncComplete, InManifest, InManifestWaitReset, InUploadIdle, InError}
 use Rattle.dfu_device.specs.Outcome.{Situation}
 use Rattle.dfu_host.specs.Table.{Goal, ToLoad, ToFetch, Task, Phase, Block, Ask, Poll, WaitPoll, Close, AskLast, Manifest, WaitManifest, WaitLast, Fetch, LastUploaded, Last, Over, OverUploaded}
 use Rattle.dfu_host.specs.Host.{HostState, IsOn}
@@ -14,57 +14,57 @@ use Rattle.dfu_link.specs.Play.{Session, Nobody, Hosted}
 
 -- The device is in dfuIDLE.
 abbrev pub IsIdle : Stage → Type 0
-IsIdle Idle = Unit {0}
+IsIdle InDfuIdle = Unit {0}
 IsIdle stage = ⊥
 
 -- The device is in appIDLE.
 abbrev pub IsInApp : Stage → Type 0
-IsInApp InApp = Unit {0}
+IsInApp InAppIdle = Unit {0}
 IsInApp stage = ⊥
 
 -- Block n: the first n blocks are taken, and the device waits for one more.
 abbrev pub Begun : List ℕ → (t n : ℕ) → Stage → Type 0
-Begun p t n Idle = n ≡ 0
-Begun p t n (Ready taken number) = (0 < n) × (taken ≡ first p t n)
+Begun p t n InDfuIdle = n ≡ 0
+Begun p t n (InDownloadIdle taken number) = (0 < n) × (taken ≡ first p t n)
 Begun p t n stage = ⊥
 
 -- Ask n: so it is, or one more block is taken and not yet written, or there was a fault.
 abbrev pub Asking : List ℕ → (t n : ℕ) → Stage → Type 0
-Asking p t n Idle = n ≡ 0
-Asking p t n (Ready taken number) = (0 < n) × (taken ≡ first p t n)
-Asking p t n (Unwritten before block number) = before ++ block ≡ first p t (suc n)
-Asking p t n (Broken code) = Unit {0}
+Asking p t n InDfuIdle = n ≡ 0
+Asking p t n (InDownloadIdle taken number) = (0 < n) × (taken ≡ first p t n)
+Asking p t n (InDownloadSync before block number) = before ++ block ≡ first p t (suc n)
+Asking p t n (InError code) = Unit {0}
 Asking p t n stage = ⊥
 
 -- Poll: these bytes are taken, or there was a fault.
 abbrev pub Holds : List ℕ → Stage → Type 0
-Holds x (Unwritten before block number) = before ++ block ≡ x
-Holds x (Written taken number) = taken ≡ x
-Holds x (Writing before block number passed) = before ++ block ≡ x
-Holds x (Ready taken number) = taken ≡ x
-Holds x (Broken code) = Unit {0}
+Holds x (InDownloadSync before block number) = before ++ block ≡ x
+Holds x (InDownloadSyncWritten taken number) = taken ≡ x
+Holds x (InDownloadBusy before block number passed) = before ++ block ≡ x
+Holds x (InDownloadIdle taken number) = taken ≡ x
+Holds x (InError code) = Unit {0}
 Holds x stage = ⊥
 
 -- Close: the whole payload is taken, and the device waits for more.
 abbrev pub Whole : List ℕ → Stage → Type 0
-Whole p (Ready taken number) = taken ≡ p
+Whole p (InDownloadIdle taken number) = taken ≡ p
 Whole p stage = ⊥
 
 -- Ask last: so it is, or it is closed, or there was a fault.
 abbrev pub AskingLast : List ℕ → Stage → Type 0
-AskingLast p (Ready taken number) = taken ≡ p
-AskingLast p (Closed taken) = taken ≡ p
-AskingLast p (Broken code) = Unit {0}
+AskingLast p (InDownloadIdle taken number) = taken ≡ p
+AskingLast p (InManifestSync taken) = taken ≡ p
+AskingLast p (InError code) = Unit {0}
 AskingLast p stage = ⊥
 
 -- Manifest: the whole payload is closed, or it is the active image, or there was a fault.
 abbrev pub Managing : List ℕ → (image : List ℕ) → Stage → Type 0
-Managing p image (Closed taken) = taken ≡ p
-Managing p image (Committing taken passed) = taken ≡ p
-Managing p image Complete = image ≡ p
-Managing p image Idle = image ≡ p
-Managing p image Waiting = image ≡ p
-Managing p image (Broken code) = Unit {0}
+Managing p image (InManifestSync taken) = taken ≡ p
+Managing p image (InManifest taken passed) = taken ≡ p
+Managing p image InManifestSyncComplete = image ≡ p
+Managing p image InDfuIdle = image ≡ p
+Managing p image InManifestWaitReset = image ≡ p
+Managing p image (InError code) = Unit {0}
 Managing p image stage = ⊥
 
 -- Where a session ends with Installed the device is tolerant, the payload is active and the state is this one; no download ends with Uploaded.
@@ -74,8 +74,8 @@ EndsAs c p s P report = IsPlain report
 
 -- Fetch k: what was kept is the active image as far as the device's place, and the number that is expected is k.
 abbrev pub Fetches : (k : ℕ) → (kept image : List ℕ) → Stage → Type 0
-Fetches k kept image Idle = (k ≡ 0) × (kept ≡ [])
-Fetches k kept image (Sending place number) = (0 < k) × (number ≡ k % 65536) × (kept ≡ take place image)
+Fetches k kept image InDfuIdle = (k ≡ 0) × (kept ≡ [])
+Fetches k kept image (InUploadIdle place number) = (0 < k) × (number ≡ k % 65536) × (kept ≡ take place image)
 Fetches k kept image stage = ⊥
 
 -- The fact.

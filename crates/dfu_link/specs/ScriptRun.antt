@@ -8,7 +8,7 @@ use Rattle.dfu_slots.specs.Units.{gate_size, IsMultiple}
 use Rattle.dfu_slots.specs.Medium.{MediumState, AllWrites}
 use Rattle.dfu_slots.specs.Medium.Fuse.{Whole}
 use Rattle.dfu_slots.specs.Seen.{image_of, format_series}
-use Rattle.dfu_device.specs.Stage.{InApp}
+use Rattle.dfu_device.specs.Stage.{InAppIdle}
 use Rattle.dfu_device.specs.Setting.{IsAllowed, of_this_version}
 use Rattle.dfu_device.specs.Setting.{Setting as DeviceSetting}
 use Rattle.dfu_device.specs.Shown.{Shown}
@@ -83,7 +83,7 @@ pub record Starts (s : Stand) (d : Shown) : Type 0 where
   pub fits : length s.image ≤ s.capacity
   pub formatted : AllWrites (blank s.unit s.capacity) (format_series (blank s.unit s.capacity) s.image) d.slots.medium
   pub image : image_of d.slots ≡ s.image
-  pub stage : d.stage ≡ InApp
+  pub stage : d.stage ≡ InAppIdle
 
 -- A device with no session.
 abbrev pub at_rest : Shown → Bench

@@ -3,7 +3,7 @@ use Rattle.std.specs.Prelude.{◌≡◌, ℕ, ◌<◌, false, List, [], Option, 
 use Rattle.dfu_slots.specs.Medium.Fuse.{Whole}
 use Rattle.dfu_slots.specs.declared.unit.Unit.TheVariants.{Byte}
 use Rattle.dfu_slots.specs.Seen.{store_on}
-use Rattle.dfu_device.specs.Stage.{InApp}
+use Rattle.dfu_device.specs.Stage.{InAppIdle}
 use Rattle.dfu_device.specs.Shown.{Shown, profile, situation}
 use Rattle.dfu_host.specs.Host.{HostState, IsOn}
 use Rattle.dfu_host.specs.Counting.{IsCounted}
@@ -24,7 +24,7 @@ off_port = record {
     manifest_ms = 0;
   };
   slots = store_on (record { bytes = []; failures = 0; fuse = Whole; unit = Byte });
-  stage = InApp;
+  stage = InAppIdle;
 }
 
 -- The device that is on a port.

@@ -1,3 +1,5 @@
+//! Every pair of kind and request, in each state.
+
 use super::{CLOSE, CLR_STATUS, Cause, DETACH, FIRST, GET_STATUS, device, functional};
 use crate::{Answer, Device};
 use arrayvec::ArrayVec;
@@ -219,9 +221,10 @@ fn every_setup_is_answered_while_the_image_is_put_in_place(rt: HostRuntime) -> R
 fn every_setup_is_answered_at_the_end(rt: HostRuntime) -> Result<(), Fail> {
     let mut waiting = device(rt.alloc(), functional(0x03), 1, 5, 10)?;
     check_all(&rt, &mut waiting, &after(9, State::ManifestWaitReset, None, State::ManifestWaitReset, &[]));
-    let mut broken = device(rt.alloc(), functional(0x07), 1, 5, 10)?;
-    let trouble = Station { way: &TROUBLE, state: State::Error, polled: Some(State::Error), sends: false, other: State::Error, acknowledged: &[(4, 0, State::DfuIdle)] };
-    check_all(&rt, &mut broken, &trouble);
+    let mut in_error = device(rt.alloc(), functional(0x07), 1, 5, 10)?;
+    let trouble = Station { way: &TROUBLE, state: State::Error, polled: Some(State::Error), sends: false,
+        other: State::Error, acknowledged: &[(4, 0, State::DfuIdle)] };
+    check_all(&rt, &mut in_error, &trouble);
     Ok(())
 }
 
@@ -229,7 +232,8 @@ fn every_setup_is_answered_at_the_end(rt: HostRuntime) -> Result<(), Fail> {
 #[test]
 fn every_setup_is_answered_during_an_upload(rt: HostRuntime) -> Result<(), Fail> {
     let mut device = device(rt.alloc(), functional(0x06), 1, 5, 10)?;
-    let sending = Station { way: &SENDING, state: State::UploadIdle, polled: Some(State::UploadIdle), sends: false, other: State::Error, acknowledged: &[(6, 0, State::DfuIdle)] };
+    let sending = Station { way: &SENDING, state: State::UploadIdle, polled: Some(State::UploadIdle), sends: false,
+        other: State::Error, acknowledged: &[(6, 0, State::DfuIdle)] };
     check_all(&rt, &mut device, &sending);
     Ok(())
 }

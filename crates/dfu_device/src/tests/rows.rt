@@ -1,3 +1,5 @@
+//! Downloads row by row, with bytes worked out by hand.
+
 use super::restart::restarted;
 use super::{
     ABORT, BLOCK, CLOSE, CLR_STATUS, DETACH, FIRST, GET_STATE, GET_STATUS, IDS, SECOND, ask,

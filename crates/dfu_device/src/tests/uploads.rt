@@ -1,3 +1,5 @@
+//! Uploads row by row, with bytes worked out by hand.
+
 use super::{
     ABORT, BLOCK, CLOSE, CLR_STATUS, DETACH, FIRST, GET_STATE, GET_STATUS, IDS, Row, UPLOAD, ask,
     device, device_on, functional, play, reset, send,
@@ -23,7 +25,7 @@ fn upload(number: u16, len: u16) -> [u8; 8] {
 
 /// The status that is answered in dfuERROR with this code.
 #[rattlefmt::skip]
-fn broken(status: &'static [u8; 6]) -> Row {
+fn status_of_error(status: &'static [u8; 6]) -> Row {
     ask(GET_STATUS, Answer::Bytes, status, State::Error)
 }
 
@@ -84,16 +86,16 @@ fn an_upload_does_not_begin_wrongly(rt: HostRuntime) -> Result<(), Fail> {
     ] {
         play(&rt, &mut device, &[
             ask(setup, Answer::Stall, &[], State::Error),
-            broken(status),
+            status_of_error(status),
             ask(upload(0, 8), Answer::Stall, &[], State::Error),
-            broken(status),
+            status_of_error(status),
             ask(CLR_STATUS, Answer::Ack, &[], State::DfuIdle),
         ]);
     }
     Ok(())
 }
 
-/// In dfuUPLOAD-IDLE, where number 1 is due; another request is a fault too.
+/// In dfuUPLOAD-IDLE, where number 1 is due; another request is an error too.
 #[rattlefmt::skip]
 #[test]
 fn an_upload_does_not_go_on_wrongly(rt: HostRuntime) -> Result<(), Fail> {
@@ -111,7 +113,7 @@ fn an_upload_does_not_go_on_wrongly(rt: HostRuntime) -> Result<(), Fail> {
         play(&rt, &mut device, &[
             ask(upload(0, 8), Answer::Bytes, &[10, 11, 12, 13, 14, 15, 16, 17], State::UploadIdle),
             ask(setup, Answer::Stall, &[], State::Error),
-            broken(status),
+            status_of_error(status),
             ask(CLR_STATUS, Answer::Ack, &[], State::DfuIdle),
         ]);
     }
@@ -128,12 +130,12 @@ fn an_upload_and_a_download_do_not_mix(rt: HostRuntime) -> Result<(), Fail> {
         ask([0xa1, 2, 1, 0, 1, 0, 8, 0], Answer::Stall, &[], State::UploadIdle),
         send(upload(1, 8), &[0; 8], Answer::Stall, State::UploadIdle),
         send(FIRST, &BLOCK, Answer::Stall, State::Error),
-        broken(&STALLED_PKT),
+        status_of_error(&STALLED_PKT),
         ask(CLR_STATUS, Answer::Ack, &[], State::DfuIdle),
         send(FIRST, &BLOCK, Answer::Ack, State::DownloadSync),
         ask(GET_STATUS, Answer::Bytes, &[0, 0, 0, 0, 5, 0], State::DownloadIdle),
         ask(upload(0, 8), Answer::Stall, &[], State::Error),
-        broken(&STALLED_PKT),
+        status_of_error(&STALLED_PKT),
     ]);
     Ok(())
 }
@@ -146,10 +148,10 @@ fn a_device_that_cannot_upload_takes_it_as_a_fault(rt: HostRuntime) -> Result<()
         ask(DETACH, Answer::Ack, &[], State::AppDetach),
         reset(State::DfuIdle),
         ask(upload(0, 8), Answer::Stall, &[], State::Error),
-        broken(&STALLED_PKT),
+        status_of_error(&STALLED_PKT),
         ask(CLR_STATUS, Answer::Ack, &[], State::DfuIdle),
         ask(upload(1, 8), Answer::Stall, &[], State::Error),
-        broken(&STALLED_PKT),
+        status_of_error(&STALLED_PKT),
     ]);
     Ok(())
 }

@@ -1,6 +1,5 @@
-use Rattle.dfu_device.proofs.SentHistory.{sends, step_sends, history_sends}
+use Rattle.dfu_device.proofs.SentHistory.{sends, step_sends, history_sends, one_sent}
 use Rattle.dfu_device.proofs.Uploaded.{upload_ends, upload_gives}
-use Rattle.dfu_device.proofs.OneHistory.{one_sent}
 use Rattle.dfu_device.proofs.laws.rows_send.Goals as goal
 
 pub returns : goal.returns

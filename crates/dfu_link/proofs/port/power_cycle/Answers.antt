@@ -3,7 +3,7 @@ use Rattle.dfu_slots.specs.Medium.{MediumState}
 use Rattle.dfu_slots.specs.Medium.Fuse.{Whole}
 use Rattle.dfu_slots.specs.Image.{HasImage, has_image_fused}
 use Rattle.dfu_slots.specs.Seen.{store_on}
-use Rattle.dfu_device.specs.Stage.{InApp}
+use Rattle.dfu_device.specs.Stage.{InAppIdle}
 use Rattle.dfu_link.proofs.port.power_cycle.Goals as goal
 
 pub unreachable-requires : goal.unreachable-requires
@@ -15,5 +15,5 @@ returns g c =
     ∙ (λ i. record {
       config = c.config-config.ensures i;
       slots = store_on ((c.disarm.ensures ∙ ap (λ (m : MediumState). record m { fuse = Whole }) c.into_medium-medium.ensures.medium) i);
-      stage = InApp;
+      stage = InAppIdle;
     })

@@ -6,13 +6,18 @@ pub returns-in-Ok-clause-done : goal.returns-in-Ok-clause-done
 returns-in-Ok-clause-done g c =
     let d = c.args.self.now in
     let r = commit_ready d.mode (length d.block.items) c.args.written d.slots c.requires.mode d.sound in
-    λ done. committed d.config d.slots c.commit.new.self c.args.next d.block.items c.args.written r (c.in-Ok.ensures.call r.begun r.room) c.in-Ok.ensures.image c.in-Ok.ensures.room c.requires.next
+    λ done. committed d.config d.slots c.commit.new.self c.args.next d.block.items c.args.written r
+    (c.in-Ok.ensures.call r.begun r.room) c.in-Ok.ensures.image c.in-Ok.ensures.room c.requires.next
 
 pub returns-in-Err-clause-failed : goal.returns-in-Err-clause-failed
 returns-in-Err-clause-failed g c =
     let d = c.args.self.now in
     let r = commit_ready d.mode (length d.block.items) c.args.written d.slots c.requires.mode d.sound in
-    λ off. not_committed d.config d.slots c.commit.new.self d.block.items c.args.written r (c.in-Err.ensures.call r.begun r.room) c.in-Err.ensures.kept c.in-Err.ensures.room
+    λ off. not_committed d.config d.slots c.commit.new.self d.block.items c.args.written r
+    (c.in-Err.ensures.call r.begun r.room) c.in-Err.ensures.kept c.in-Err.ensures.room
 
 pub invariant_of-self : goal.invariant_of-self
-invariant_of-self g c = record { sound = rested_sound c.args.next (length c.args.self.now.block.items) c.commit.new.self c.requires.next c.in-Ok.ensures.shape }
+invariant_of-self g c = record {
+  sound = rested_sound c.args.next
+      (length c.args.self.now.block.items) c.commit.new.self c.requires.next c.in-Ok.ensures.shape;
+}

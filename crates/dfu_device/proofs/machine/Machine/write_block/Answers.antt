@@ -1,6 +1,6 @@
 use Rattle.std.proofs.Common.{◌≡◌, ◌⊎◌, ℕ, ◌+◌, inl, inr, true, length, arith, ap, sym, ◌∙◌, subst}
 use Rattle.dfu_device.specs.declared.mode.Mode.TheVariants as mode
-use Rattle.dfu_device.specs.Inside.{is_put}
+use Rattle.dfu_device.specs.inside.Fields.{is_put}
 use Rattle.dfu_device.proofs.Commits.{block_room, written_sound}
 use Rattle.dfu_device.proofs.machine.Machine.write_block.Goals as goal
 use Rattle.dfu_device.proofs.machine.Machine.write_block.Goals.{then-late, else-late}
@@ -11,9 +11,11 @@ invariant_of-self g c =
     let s = c.put_block.new.slots in
     let n = c.args.written + c.len.result in
     let found = block_room d.mode (length d.block.items) c.args.written c.args.number d.slots c.requires d.sound in
-    let either : (c.if-late.self ≡ mode.Written n c.args.number) ⊎ (c.if-late.self ≡ mode.Ready n c.args.number) =
+    let either : (c.if-late.self ≡ mode.DownloadSyncWritten n c.args.number) ⊎ (c.if-late.self ≡ mode.DownloadIdle n c.args.number) =
     elim c.if-late.branch [ then-late w ↦ inl w.self-is | else-late w ↦ inr w.self-is ] in
     record {
-      sound = written_sound c.if-late.self (length d.block.items) n c.args.number s either (omega (arith, found.some, c.len.ensures.value)) (omega (arith, found.room, c.len.ensures.value, c.in-Ok.ensures.room)) c.in-Ok.ensures.shape
-          (subst (λ (k : ℕ). is_put (c.args.written + k) s ≡ true) (ap length c.as_slice.ensures.value ∙ sym c.len.ensures.value) c.in-Ok.ensures.put);
+      sound = written_sound c.if-late.self (length d.block.items) n c.args.number s either (omega (arith, found.some, c.len.ensures.value))
+          (omega (arith, found.room, c.len.ensures.value, c.in-Ok.ensures.room)) c.in-Ok.ensures.shape
+          (subst (λ (k : ℕ). is_put (c.args.written + k) s ≡ true) (ap length c.as_slice.ensures.value
+          ∙ sym c.len.ensures.value) c.in-Ok.ensures.put);
     }

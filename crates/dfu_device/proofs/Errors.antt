@@ -1,0 +1,50 @@
+-- Where an error of the medium comes from.
+use Rattle.std.specs.Prelude.{◌⊎◌, ℕ, List, []}
+use Rattle.std.proofs.Common.{ap, inl, inr, subst}
+use Rattle.dfu_slots.specs.Seen.{image_of}
+use Rattle.dfu_device.specs.declared.answer.Answer.{Answer}
+use Rattle.dfu_device.specs.declared.answer.Answer.TheVariants as answer
+use Rattle.dfu_device.specs.Stage.{Stage, InAppIdle, InAppDetach, InDfuIdle, InDownloadSync, InDownloadSyncWritten, InDownloadBusy, InDownloadIdle, InManifestSync, InManifestSyncComplete, InManifest, InManifestWaitReset, InUploadIdle, InError}
+use Rattle.dfu_device.specs.Table.{reset_stage, Plan, Sure, Writes, Commits, time_plan}
+use Rattle.dfu_device.specs.Shown.{Shown, profile}
+use Rattle.dfu_device.specs.Rows.{meant, asked_length, Done, is_served, setup_plan, handled_as, Transfer, Passing, BusReset, PowerOn}
+use Rattle.dfu_device.specs.Cases.{either_way}
+use Rattle.dfu_device.specs.Errors.{IsMediumError, MediumFailed, ErrorsHaveCause}
+use Rattle.dfu_device.proofs.Leads.{WorksWell, row_leads, time_leads}
+
+done_works : (p : Plan) (len : ℕ) (w : Shown) (a : Answer) (out : List ℕ) (w' : Shown) → WorksWell w.stage p → Done p len w a out w'
+    → IsMediumError w'.stage → IsMediumError w.stage ⊎ MediumFailed w w'
+done_works (Sure reply stage) len w a out w' well (says, is) broken =
+    inl (well (subst IsMediumError (ap (λ (z : Shown). z.stage) is) broken))
+done_works (Writes before block reply stage bad) len w a out w' well (inl (says, h)) broken =
+    inl (well (subst IsMediumError h.stage_is broken))
+done_works (Writes before block reply stage bad) len w a out w' well (inr (says, h)) broken = inr h.failed
+done_works (Commits taken reply stage bad) len w a out w' well (inl (says, h)) broken = inl (well (subst IsMediumError h.stage_is broken))
+done_works (Commits taken reply stage bad) len w a out w' well (inr (says, h)) broken = inr h.failed
+
+reset_works : (st : Stage) → IsMediumError (reset_stage st) → ⊥
+reset_works InAppIdle x = x
+reset_works (InAppDetach timer passed) x = x
+reset_works InDfuIdle x = x
+reset_works (InDownloadSync before block number) x = x
+reset_works (InDownloadSyncWritten taken number) x = x
+reset_works (InDownloadBusy before block number passed) x = x
+reset_works (InDownloadIdle taken number) x = x
+reset_works (InManifestSync taken) x = x
+reset_works InManifestSyncComplete x = x
+reset_works (InManifest taken passed) x = x
+reset_works InManifestWaitReset x = x
+reset_works (InUploadIdle place number) x = x
+reset_works (InError code) x = x
+
+-- An error of the medium comes only where the medium failed.
+pub errors_have_cause : ErrorsHaveCause
+errors_have_cause w (Transfer setup body) a out w' (handled_as p q reads asks done) broken =
+    done_works (setup_plan w p q body) (asked_length q) w a out w'
+    (either_way (WorksWell w.stage) (is_served p q body) _ _ (row_leads (profile w) (image_of w.slots) w.stage (meant q body)).1
+    (λ y. y)) done broken
+errors_have_cause w (Passing ms) a out w' (is, none, row) broken =
+    done_works (time_plan (profile w) w.stage ms) 0 w answer.Ack [] w' (time_leads (profile w) (image_of w.slots) w.stage ms).1 row broken
+errors_have_cause w BusReset a out w' (is, none, same) broken =
+    absurd (reset_works w.stage (subst IsMediumError (ap (λ (z : Shown). z.stage) same) broken))
+errors_have_cause w PowerOn a out w' (is, none, same) broken = absurd (subst IsMediumError (ap (λ (z : Shown). z.stage) same) broken)

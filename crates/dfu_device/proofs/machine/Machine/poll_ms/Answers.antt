@@ -1,0 +1,27 @@
+use Rattle.std.proofs.Common.{◌≡◌, ℕ, List, refl, arith}
+use Rattle.dfu_slots.specs.Seen.{spare_of}
+use Rattle.dfu_device.specs.declared.mode.Mode.{Mode}
+use Rattle.dfu_device.specs.declared.mode.Mode.TheVariants as mode
+use Rattle.dfu_device.specs.Stage.{Profile, poll_of}
+use Rattle.dfu_device.specs.Shown.{profile}
+use Rattle.dfu_device.specs.inside.Fields.{stage_of}
+use Rattle.dfu_device.specs.inside.View.{shown}
+use Rattle.dfu_device.proofs.machine.Machine.poll_ms.Goals as goal
+
+-- In every other state a host has not to wait.
+no_poll : (c : Profile) (m : Mode) (spare block : List ℕ) → ((written number passed : ℕ) → m ≡ mode.DownloadBusy written number passed → ⊥)
+    → ((written passed : ℕ) → m ≡ mode.Manifest written passed → ⊥) → 0 ≡ poll_of c (stage_of m spare block)
+no_poll c (mode.DownloadBusy written number passed) spare block busy manifest = absurd (busy written number passed refl)
+no_poll c (mode.Manifest written passed) spare block busy manifest = absurd (manifest written passed refl)
+no_poll c m spare block busy manifest = refl
+
+pub returns-in_default : goal.returns-in_default
+returns-in_default g c =
+    let d = c.args.self.now in
+    record {
+      value = no_poll (profile (shown d)) d.mode
+          (spare_of d.slots) d.block.items c.in_default.not-DownloadBusy c.in_default.not-Manifest;
+      fits = omega arith;
+    }
+
+-- Touch.
