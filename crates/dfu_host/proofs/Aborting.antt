@@ -15,15 +15,19 @@ then_ends : (h : HostState) (heard : Heard) → (after_phase h GiveUp heard).pha
 then_ends h Restarted = refl
 then_ends h heard = refl
 
+-- A session that is given up ends as Aborted.
 pub ends_aborted : EndsAborted
 ends_aborted h h' seen on step =
     ap (λ (z : HostState). z.phase) step.same
-    ∙ subst (λ (p : Phase). (after_phase (aborted h) p step.heard).phase ≡ Over report.Aborted) (sym (gives_up h h.phase on)) (then_ends (aborted h) step.heard)
+    ∙ subst (λ (p : Phase). (after_phase (aborted h) p step.heard).phase ≡ Over report.Aborted) (sym (gives_up h h.phase on))
+    (then_ends (aborted h) step.heard)
 
-spent_in : (h : HostState) (phase : Phase) → takes_in phase h.actions ≡ takes_left h → takes_left (aborted_in h phase) ≡ takes_in phase h.actions
+spent_in : (h : HostState) (phase : Phase) → takes_in phase h.actions ≡ takes_left h
+    → takes_left (aborted_in h phase) ≡ takes_in phase h.actions
 spent_in h (Over r) e = sym e
 spent_in h (OverUploaded kept) e = sym e
 spent_in h phase e = refl
 
+-- To give a session up spends no action.
 pub spends_nothing : SpendsNothing
 spends_nothing h = spent_in h h.phase refl

@@ -17,6 +17,7 @@ over_stays h phase heard over = elim over [ ]
 pub row_over : (h h' : HostState) (seen : Seen) → HostRow h seen h' → IsOver h.phase → h' ≡ h
 row_over h h' seen step over = step.same ∙ over_stays h h.phase step.heard over
 
+-- A host that is done stays done.
 pub stays_done : StaysDone
 stays_done h h' [] seen_all over = refl
 stays_done h h' (seen ∷ more) (sees {mid = mid} step rows) over =
@@ -40,7 +41,8 @@ takes_told h phase Restarted = takes_restarted phase h.restarts
     takes_restarted phase (suc restarts) = takes_spent (pred h.actions) Find
 takes_told h phase heard = takes_spent (pred h.actions) (row h.task phase heard)
 
-takes_after : (h : HostState) (phase : Phase) (heard : Heard) → takes_in phase h.actions ≡ takes_left h → takes_left (after_phase h phase heard) ≤ pred (takes_in phase h.actions)
+takes_after : (h : HostState) (phase : Phase) (heard : Heard) → takes_in phase h.actions ≡ takes_left h
+    → takes_left (after_phase h phase heard) ≤ pred (takes_in phase h.actions)
 takes_after h (Over r) heard e = omega (arith, e)
 takes_after h (OverUploaded kept) heard e = omega (arith, e)
 takes_after h Find heard e = omega (arith, takes_told h Find heard)
@@ -66,6 +68,7 @@ rows_take : (h h' : HostState) (seens : List Seen) → HostRows h seens h' → t
 rows_take h h' [] seen_all l = omega (arith, l)
 rows_take h h' (seen ∷ more) (sees {mid = mid} step rows) l = rows_take mid h' more rows (omega (arith, l, row_takes h mid seen step))
 
+-- A host is done in time.
 pub done_in_time : DoneInTime
 done_in_time h h' seens rows l =
     takes_none h'.phase h'.actions (rows_take h h' seens rows (omega (arith, l, takes_some h.phase h.actions)))

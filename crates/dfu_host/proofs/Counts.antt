@@ -1,13 +1,13 @@
 -- The blocks of a payload as the code counts and cuts them.
 use Rattle.std.proofs.Common.{◌≡◌, ℕ, suc, ◌+◌, ◌-◌, ◌*◌, ◌/◌, ◌<◌, ◌≤◌, ◌==◌, nat_le, min, true, false, List, [], length, take, drop, slice_index_or, refl, sym, ap, ◌∙◌, arith, inl, inr}
 use Rattle.std.proofs.Math.Nat.{suc-mul, lt-div-mul-add, div-mul-le_self, eq-or-lt_of_le}
-use Rattle.std.proofs.lemmas.Bool.Decides.{nat_tests}
-use Rattle.std.proofs.lemmas.Bool.{cases_lt}
+use Rattle.std.proofs.lemmas.Bool.{cases_lt, eqb-false, eq-eqb, le-leb, lt-leb, ne_eqb}
 use Rattle.std.proofs.lemmas.List.{take_min, take_rest}
+use Rattle.std.specs.Borrow.{Bor}
 use Rattle.dfu_host.specs.Blocks.{blocks}
 use Rattle.dfu_host.specs.declared.goal.Goal.{Goal}
 use Rattle.dfu_host.specs.declared.goal.Goal.TheVariants as goal
-use Rattle.dfu_host.specs.Goals.{goal_of, payload_of}
+use Rattle.dfu_host.specs.inside.Goals.{goal_of, payload_of, size_of}
 use Rattle.dfu_host.specs.Table as table
 use Rattle.dfu_host.specs.BlockLaws.{block_is, block_starts, block_counts}
 
@@ -16,6 +16,11 @@ pub pieces_are : (g : Goal) (t : ℕ) → table.blocks_of (goal_of g) t ≡ bloc
 unfolding blocks
 pieces_are (goal.Load payload) t = refl
 pieces_are (goal.Fetch bytes) t = refl
+
+-- A payload that is sent has a first block.
+pub first_starts : (g : Goal) (t : ℕ) (payload : Bor (List ℕ)) → g ≡ goal.Load payload → 0 < size_of g → 0 * t < length (payload_of g)
+first_starts (goal.Load payload) t other e some = omega (arith, some)
+first_starts (goal.Fetch bytes) t other e some = absurd cc
 
 module _ (p : List ℕ) (t : ℕ) where
   -- A block as a slice of what is left of the payload.
@@ -30,16 +35,16 @@ module _ (p : List ℕ) (t : ℕ) where
   last_test n ht h = elim (cases_lt t (length p - n * t)) [
     | inl more ↦
         let next : suc n < length (blocks p t) = block_counts p t (suc n) ht (omega (arith, suc-mul n t, more)) in
-        let e : nat_le (length p - n * t) t ≡ false = grind (arith, nat_tests) in
-        let f : (suc n == length (blocks p t)) ≡ false = grind (arith, nat_tests) in
+        let e : nat_le (length p - n * t) t ≡ false = lt-leb _ _ more in
+        let f : (suc n == length (blocks p t)) ≡ false = ne_eqb _ _ (λ same. absurd (omega (arith, same, next))) in
         e ∙ sym f
     | inr fits ↦
         let is : suc n ≡ length (blocks p t) = elim (eq-or-lt_of_le (block_counts p t n ht h)) [
           | inl same ↦ same
           | inr less ↦ absurd (omega (arith, block_starts p t (suc n) less, suc-mul n t, fits))
         ] in
-        let e : nat_le (length p - n * t) t ≡ true = grind (arith, nat_tests) in
-        let f : (suc n == length (blocks p t)) ≡ true = grind (arith, nat_tests) in
+        let e : nat_le (length p - n * t) t ≡ true = le-leb _ _ fits in
+        let f : (suc n == length (blocks p t)) ≡ true = eq-eqb _ _ is in
         e ∙ sym f
   ]
 
@@ -59,7 +64,7 @@ module _ (p : List ℕ) (t : ℕ) where
   pub next_starts : (n : ℕ) → 0 < t → n * t < length p → (suc n == length (blocks p t)) ≡ false → (n + 1) * t < length p
   next_starts n ht h e =
       let some : suc n < length (blocks p t) = elim (eq-or-lt_of_le (block_counts p t n ht h)) [
-        | inl same ↦ let is : (suc n == length (blocks p t)) ≡ true = grind (arith, nat_tests) in absurd (let clash : true ≡ false = sym is ∙ e in cc)
+        | inl same ↦ absurd (eqb-false _ _ e same)
         | inr less ↦ less
       ] in
       omega (arith, block_starts p t (suc n) some, suc-mul n t)

@@ -48,17 +48,21 @@ asked_last_plain state.ManifestSync = λ h. h
 asked_last_plain state.DownloadIdle = λ h. h
 asked_last_plain s = λ h. h
 
-on_status_plain : (heard : Heard) (told : Code → ℕ → State → Phase) (stalled nothing : Phase) → ((c : Code) (poll : ℕ) (s : State) → Plain (told c poll s)) → Plain stalled → Plain nothing → Plain (on_status heard told stalled nothing)
+on_status_plain : (heard : Heard) (told : Code → ℕ → State → Phase) (stalled nothing : Phase)
+    → ((c : Code) (poll : ℕ) (s : State) → Plain (told c poll s)) → Plain stalled → Plain nothing
+    → Plain (on_status heard told stalled nothing)
 on_status_plain (Status c poll s) told stalled nothing p q r = p c poll s
 on_status_plain Stalled told stalled nothing p q r = q
 on_status_plain heard told stalled nothing p q r = r
 
-on_state_plain : (heard : Heard) (told : State → Phase) (stalled nothing : Phase) → ((s : State) → Plain (told s)) → Plain stalled → Plain nothing → Plain (on_state heard told stalled nothing)
+on_state_plain : (heard : Heard) (told : State → Phase) (stalled nothing : Phase) → ((s : State) → Plain (told s)) → Plain stalled
+    → Plain nothing → Plain (on_state heard told stalled nothing)
 on_state_plain (StateIs s) told stalled nothing p q r = p s
 on_state_plain Stalled told stalled nothing p q r = q
 on_state_plain heard told stalled nothing p q r = r
 
-on_ack_plain : (heard : Heard) (acked stalled nothing : Phase) → Plain acked → Plain stalled → Plain nothing → Plain (on_ack heard acked stalled nothing)
+on_ack_plain : (heard : Heard) (acked stalled nothing : Phase) → Plain acked → Plain stalled → Plain nothing
+    → Plain (on_ack heard acked stalled nothing)
 on_ack_plain Acked acked stalled nothing p q r = p
 on_ack_plain Stalled acked stalled nothing p q r = q
 on_ack_plain heard acked stalled nothing p q r = r
@@ -73,7 +77,8 @@ on_reset_plain heard done again p q = q
 
 on_part_plain : (t k : ℕ) (kept : List ℕ) (heard : Heard) → Plain (on_part t k kept heard)
 on_part_plain t k kept (Part bytes) =
-    either_plain (length bytes == t) _ _ (either_plain (suc k == 65535) _ _ (λ h. h) (λ h. h)) (either_plain (nat_lt (length bytes) t) _ _ (λ h. h) (λ h. h))
+    either_plain (length bytes == t) _ _ (either_plain (suc k == 65535) _ _ (λ h. h) (λ h. h))
+    (either_plain (nat_lt (length bytes) t) _ _ (λ h. h) (λ h. h))
 on_part_plain t k kept NoRoom = λ h. h
 on_part_plain t k kept heard = λ h. h
 
@@ -86,29 +91,39 @@ IsOther (OverUploaded kept) = ⊥
 IsOther phase = Unit {0}
 
 other_plain : (task : Task) (phase : Phase) (heard : Heard) → IsOther phase → Plain (row task phase heard)
-other_plain task Find heard o = on_status_plain heard _ FindAgain Find (λ c poll s. listed_plain (start_of task.goal) s poll (start_plain task.goal)) (λ h. h) (λ h. h)
-other_plain task FindAgain heard o = on_status_plain heard _ ResetFind FindAgain (λ c poll s. listed_plain (start_of task.goal) s poll (start_plain task.goal)) (λ h. h) (λ h. h)
+other_plain task Find heard o =
+    on_status_plain heard _ FindAgain Find (λ c poll s. listed_plain (start_of task.goal) s poll (start_plain task.goal)) (λ h. h) (λ h. h)
+other_plain task FindAgain heard o =
+    on_status_plain heard _ ResetFind FindAgain (λ c poll s. listed_plain (start_of task.goal) s poll (start_plain task.goal)) (λ h. h)
+    (λ h. h)
 other_plain task Detach heard o = on_ack_plain heard Enter Find Find (λ h. h) (λ h. h) (λ h. h)
-other_plain task Enter heard o = either_plain task.will_detach _ _ (on_waited_plain heard Find Enter (λ h. h) (λ h. h)) (on_reset_plain heard Find Enter (λ h. h) (λ h. h))
+other_plain task Enter heard o =
+    either_plain task.will_detach _ _ (on_waited_plain heard Find Enter (λ h. h) (λ h. h))
+    (on_reset_plain heard Find Enter (λ h. h) (λ h. h))
 other_plain task Clear heard o = λ h. h
 other_plain task Quit heard o = λ h. h
 other_plain task (WaitFind poll) heard o = on_waited_plain heard Find (WaitFind poll) (λ h. h) (λ h. h)
 other_plain task ResetFind heard o = on_reset_plain heard Find ResetFind (λ h. h) (λ h. h)
 other_plain task (Block n) heard o = on_ack_plain heard (Poll n) Trouble (Ask n) (λ h. h) (λ h. h) (λ h. h)
 other_plain task (Ask n) heard o = on_state_plain heard (asked n) Trouble (Ask n) (asked_plain n) (λ h. h) (λ h. h)
-other_plain task (Poll n) heard o = on_status_plain heard _ Trouble (Poll n) (λ c poll s. polled_plain (start_of task.goal) (length (pieces task)) n c poll s (start_plain task.goal)) (λ h. h) (λ h. h)
+other_plain task (Poll n) heard o =
+    on_status_plain heard _ Trouble (Poll n)
+    (λ c poll s. polled_plain (start_of task.goal) (length (pieces task)) n c poll s (start_plain task.goal)) (λ h. h) (λ h. h)
 other_plain task (WaitPoll n poll) heard o = on_waited_plain heard (Poll n) (WaitPoll n poll) (λ h. h) (λ h. h)
 other_plain task Close heard o = on_ack_plain heard Manifest Trouble AskLast (λ h. h) (λ h. h) (λ h. h)
 other_plain task AskLast heard o = on_state_plain heard asked_last Trouble AskLast asked_last_plain (λ h. h) (λ h. h)
 other_plain task (WaitManifest poll) heard o = on_waited_plain heard Manifest (WaitManifest poll) (λ h. h) (λ h. h)
 other_plain task (WaitLast poll) heard o = on_waited_plain heard (Last report.Unconfirmed) (WaitLast poll) (λ h. h) (λ h. h)
-other_plain task Trouble heard o = on_status_plain heard _ FindAgain Trouble (λ c poll s. troubled_plain (start_of task.goal) c poll s (start_plain task.goal)) (λ h. h) (λ h. h)
+other_plain task Trouble heard o =
+    on_status_plain heard _ FindAgain Trouble (λ c poll s. troubled_plain (start_of task.goal) c poll s (start_plain task.goal)) (λ h. h)
+    (λ h. h)
 other_plain task (Fetch k kept) heard o = on_part_plain task.transfer k kept heard
 other_plain task (LastUploaded kept) heard o = on_reset_plain heard (OverUploaded kept) (LastUploaded kept) (λ h. h) (λ h. h)
 other_plain task GiveUp heard o = λ h. h
 other_plain task phase heard o = elim o [ ]
 
-manifested_only : (task : Task) (start : Phase) (tolerant : Bool) (c : Code) (poll : ℕ) (s : State) → Plain start → task.tolerant ≡ tolerant → IsInstalling (manifested start tolerant c poll s) → IsConfirmed task Manifest (Status c poll s)
+manifested_only : (task : Task) (start : Phase) (tolerant : Bool) (c : Code) (poll : ℕ) (s : State) → Plain start → task.tolerant ≡ tolerant
+    → IsInstalling (manifested start tolerant c poll s) → IsConfirmed task Manifest (Status c poll s)
 manifested_only task start true c poll state.ManifestSync plain e h = absurd h
 manifested_only task start true c poll state.Manifest plain e h = absurd h
 manifested_only task start true code.Ok poll state.DfuIdle plain e h = record { closed = refl; tolerant = e; poll = poll; told = refl }
@@ -128,6 +143,7 @@ last_only : (r : Report) (heard : Heard) → IsInstalling (on_reset heard (Over 
 last_only report.Installed heard h = tt
 last_only r heard h = absurd (on_reset_plain heard (Over r) (Last r) (λ x. x) (λ x. x) h)
 
+-- Installed is told only where a tolerant device confirmed it.
 pub only_confirmed : OnlyConfirmed
 only_confirmed task Manifest heard h = inr (manifest_only task heard h)
 only_confirmed task (Last r) heard h = inl (last_only r heard h)

@@ -6,7 +6,8 @@ use Rattle.std.proofs.lemmas.List.{drop-drop}
 use Rattle.dfu_host.specs.Blocks.{joined, AreFull, Blocks, blocks_in, blocks, first}
 
 -- The first n + 1 pieces joined are the first n, and the piece after them.
-pub joined_suc : (pieces : List (List ℕ)) (n : ℕ) → n < length pieces → joined (take (suc n) pieces) ≡ joined (take n pieces) ++ slice_index_or pieces n []
+pub joined_suc : (pieces : List (List ℕ)) (n : ℕ) → n < length pieces
+    → joined (take (suc n) pieces) ≡ joined (take n pieces) ++ slice_index_or pieces n []
 joined_suc [] n h = absurd (omega arith)
 joined_suc (x ∷ xs) zero h = append-nil x
 joined_suc (x ∷ xs) (suc n) h = ap (λ r. x ++ r) (joined_suc xs n (le_of_suc-le-suc h)) ∙ sym (append_assoc x _ _)
@@ -27,11 +28,13 @@ joined_blocks_in zero t [] ht h = refl
 joined_blocks_in zero t (x ∷ xs) ht h = absurd (omega arith)
 joined_blocks_in (suc turns) t [] ht h = refl
 joined_blocks_in (suc turns) t (x ∷ xs) ht h =
-    let e : joined (blocks_in turns t (drop t (x ∷ xs))) ≡ drop t (x ∷ xs) = joined_blocks_in turns t (drop t (x ∷ xs)) ht (omega (arith, length-drop t (x ∷ xs))) in
+    let e : joined (blocks_in turns t (drop t (x ∷ xs))) ≡ drop t (x ∷ xs) =
+    joined_blocks_in turns t (drop t (x ∷ xs)) ht (omega (arith, length-drop t (x ∷ xs))) in
     ap (λ r. take t (x ∷ xs) ++ r) e ∙ take-append-drop t (x ∷ xs)
 
 -- A piece in front of full ones.
-full_cons : (t : ℕ) (piece : List ℕ) (pieces : List (List ℕ)) → 0 < length piece → length piece ≤ t → (0 < length pieces → length piece ≡ t) → AreFull t pieces → AreFull t (piece ∷ pieces)
+full_cons : (t : ℕ) (piece : List ℕ) (pieces : List (List ℕ)) → 0 < length piece → length piece ≤ t → (0 < length pieces → length piece ≡ t)
+    → AreFull t pieces → AreFull t (piece ∷ pieces)
 full_cons t piece [] some small whole full = (some, small)
 full_cons t piece (next ∷ pieces) some small whole full = (whole (omega arith), full)
 
@@ -50,7 +53,8 @@ full_blocks_in (suc turns) t (x ∷ xs) ht =
     (full_blocks_in turns t (drop t (x ∷ xs)) ht)
 
 -- Pieces that are full are what is cut from what they join to.
-only_in : (t : ℕ) (pieces : List (List ℕ)) (turns : ℕ) → 0 < t → AreFull t pieces → length (joined pieces) ≤ turns → pieces ≡ blocks_in turns t (joined pieces)
+only_in : (t : ℕ) (pieces : List (List ℕ)) (turns : ℕ) → 0 < t → AreFull t pieces → length (joined pieces) ≤ turns
+    → pieces ≡ blocks_in turns t (joined pieces)
 only_in t [] turns ht full h = sym (nothing_in turns t)
 only_in t ([] ∷ []) turns ht full h = absurd (omega (arith, full.0))
 only_in t ([] ∷ next ∷ more) turns ht full h = absurd (omega (arith, full.0))
@@ -59,7 +63,8 @@ only_in t ((y ∷ ys) ∷ []) (suc turns) ht full h =
     let e : (y ∷ ys) ++ [] ≡ y ∷ ys = append-nil (y ∷ ys) in
     let f : take t ((y ∷ ys) ++ []) ≡ y ∷ ys = ap (take t) e ∙ take_all t (y ∷ ys) full.1 in
     let g : drop t ((y ∷ ys) ++ []) ≡ [] = ap (drop t) e ∙ drop_all t (y ∷ ys) full.1 in
-    sym (ap (λ z. z ∷ blocks_in turns t (drop t ((y ∷ ys) ++ []))) f ∙ ap (λ z. (y ∷ ys) ∷ blocks_in turns t z) g ∙ ap (λ z. (y ∷ ys) ∷ z) (nothing_in turns t))
+    sym (ap (λ z. z ∷ blocks_in turns t (drop t ((y ∷ ys) ++ []))) f ∙ ap (λ z. (y ∷ ys) ∷ blocks_in turns t z) g
+    ∙ ap (λ z. (y ∷ ys) ∷ z) (nothing_in turns t))
   where
     drop_all : (n : ℕ) (l : List ℕ) → length l ≤ n → drop n l ≡ []
     drop_all zero [] h = refl
@@ -71,10 +76,13 @@ only_in t ((y ∷ ys) ∷ next ∷ more) (suc turns) ht full h =
     let rest = joined (next ∷ more) in
     let f : take t ((y ∷ ys) ++ rest) ≡ y ∷ ys = subst (λ n. take n ((y ∷ ys) ++ rest) ≡ y ∷ ys) full.0 (take-append_seam (y ∷ ys) rest) in
     let g : drop t ((y ∷ ys) ++ rest) ≡ rest = subst (λ n. drop n ((y ∷ ys) ++ rest) ≡ rest) full.0 (drop-append_seam (y ∷ ys) rest) in
-    let i : next ∷ more ≡ blocks_in turns t rest = only_in t (next ∷ more) turns ht full.1 (omega (arith, h, length-append (y ∷ ys) rest)) in
-    sym (ap (λ z. z ∷ blocks_in turns t (drop t ((y ∷ ys) ++ rest))) f ∙ ap (λ z. (y ∷ ys) ∷ blocks_in turns t z) g ∙ ap (λ z. (y ∷ ys) ∷ z) (sym i))
+    let i : next ∷ more ≡ blocks_in turns t rest =
+    only_in t (next ∷ more) turns ht full.1 (omega (arith, h, length-append (y ∷ ys) rest)) in
+    sym (ap (λ z. z ∷ blocks_in turns t (drop t ((y ∷ ys) ++ rest))) f ∙ ap (λ z. (y ∷ ys) ∷ blocks_in turns t z) g
+    ∙ ap (λ z. (y ∷ ys) ∷ z) (sym i))
 
-block_in : (turns t : ℕ) (p : List ℕ) (n : ℕ) → n < length (blocks_in turns t p) → slice_index_or (blocks_in turns t p) n [] ≡ take t (drop (n * t) p)
+block_in : (turns t : ℕ) (p : List ℕ) (n : ℕ) → n < length (blocks_in turns t p)
+    → slice_index_or (blocks_in turns t p) n [] ≡ take t (drop (n * t) p)
 block_in zero t p n h = absurd (omega arith)
 block_in (suc turns) t [] n h = absurd (omega arith)
 block_in (suc turns) t (x ∷ xs) zero h = let e : 0 * t ≡ 0 = omega arith in rw e refl
@@ -86,14 +94,17 @@ starts_in : (turns t : ℕ) (p : List ℕ) (n : ℕ) → n < length (blocks_in t
 starts_in zero t p n h = absurd (omega arith)
 starts_in (suc turns) t [] n h = absurd (omega arith)
 starts_in (suc turns) t (x ∷ xs) zero h = omega arith
-starts_in (suc turns) t (x ∷ xs) (suc n) h = omega (arith, suc-mul n t, length-drop t (x ∷ xs), starts_in turns t (drop t (x ∷ xs)) n (le_of_suc-le-suc h))
+starts_in (suc turns) t (x ∷ xs) (suc n) h =
+    omega (arith, suc-mul n t, length-drop t (x ∷ xs), starts_in turns t (drop t (x ∷ xs)) n (le_of_suc-le-suc h))
 
 counted_in : (turns t : ℕ) (p : List ℕ) (n : ℕ) → 0 < t → length p ≤ turns → n * t < length p → n < length (blocks_in turns t p)
 counted_in zero t p n ht l h = absurd (omega arith)
 counted_in (suc turns) t [] n ht l h = absurd (omega arith)
 counted_in (suc turns) t (x ∷ xs) zero ht l h = omega arith
 counted_in (suc turns) t (x ∷ xs) (suc n) ht l h =
-    let i : n < length (blocks_in turns t (drop t (x ∷ xs))) = counted_in turns t (drop t (x ∷ xs)) n ht (omega (arith, length-drop t (x ∷ xs))) (omega (arith, h, suc-mul n t, length-drop t (x ∷ xs))) in
+    let i : n < length (blocks_in turns t (drop t (x ∷ xs))) =
+    counted_in turns t (drop t (x ∷ xs)) n ht (omega (arith, length-drop t (x ∷ xs)))
+    (omega (arith, h, suc-mul n t, length-drop t (x ∷ xs))) in
     omega (arith, i)
 
 module _ (p : List ℕ) (t : ℕ) where
@@ -124,7 +135,8 @@ module _ (p : List ℕ) (t : ℕ) where
 
   -- The first n blocks have no more bytes than the payload.
   pub first_le : (n : ℕ) → 0 < t → length (first p t n) ≤ length p
-  first_le n ht = let e : length (joined (blocks p t)) ≡ length p = ap length (joined_blocks ht) in omega (arith, joined_le (blocks p t) n, e)
+  first_le n ht =
+      let e : length (joined (blocks p t)) ≡ length p = ap length (joined_blocks ht) in omega (arith, joined_le (blocks p t) n, e)
 
   -- Block n is the t bytes at n times t, or what is left there.
   pub block_is : (n : ℕ) → n < length (blocks p t) → slice_index_or (blocks p t) n [] ≡ take t (drop (n * t) p)
@@ -157,5 +169,6 @@ module _ (p : List ℕ) (t : ℕ) where
 abbrev pub OneCut : Type 0
 OneCut = (payload : List ℕ) (t : ℕ) (pieces : List (List ℕ)) → 0 < t → Blocks payload t pieces ↔ (pieces ≡ blocks payload t)
 
+-- A payload is cut into blocks in one way.
 pub one_cut : OneCut
 one_cut payload t pieces ht = (blocks_only payload t pieces ht, λ e. subst (Blocks payload t) (sym e) (blocks_are payload t ht))

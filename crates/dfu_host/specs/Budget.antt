@@ -6,7 +6,8 @@ use Rattle.dfu_host.specs.declared.seen.Seen.{Seen}
 use Rattle.dfu_host.specs.Table.{Phase, Over, OverUploaded}
 use Rattle.dfu_host.specs.Host.{HostState, IsOver, HostRows}
 
--- How often a host in this phase takes what is seen, at most, until it is done: as often as it has actions left, and once at least.
+-- How often a host in this phase takes what is seen, at most, until it is done: as often as it has actions left, and once at least, in
+-- each phase that is not over.
 abbrev pub takes_in : Phase → (actions : ℕ) → ℕ
 takes_in (Over r) actions = 0
 takes_in (OverUploaded kept) actions = 0
@@ -18,12 +19,15 @@ takes_left h = takes_in h.phase h.actions
 
 -- The action says that the host is done.
 abbrev pub is_done : Action → Bool
-is_done (action.Done r) = true
-is_done a = false
+is_done (action.Done report) = true
+is_done (action.Send setup body) = false
+is_done (action.Wait ms) = false
+is_done action.Reset = false
 
 -- Whatever is seen, a host is done after as many `take`s as it has actions left, and after one where it has none.
 abbrev pub DoneInTime : Type 0
-DoneInTime = (h h' : HostState) (seens : List Seen) → HostRows h seens h' → max 1 h.actions ≤ length seens → IsOver h'.phase
+DoneInTime =
+    (h h' : HostState) (seens : List Seen) → HostRows h seens h' → max 1 h.actions ≤ length seens → IsOver h'.phase
 
 -- A host that is done stays as it is, whatever is seen.
 abbrev pub StaysDone : Type 0

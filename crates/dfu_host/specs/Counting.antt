@@ -1,198 +1,54 @@
--- How much an upload keeps: so many full parts as it counts, and at the end fewer than 65,535 of them and a shorter one. No other session keeps anything, or ends as Uploaded.
-use Rattle.std.proofs.Common.{◌≡◌, ℕ, zero, suc, pred, ◌*◌, ◌<◌, ◌≤◌, nat_lt, ◌==◌, Bool, true, false, cond, List, [], ◌∷◌, length, refl, sym, ap, ◌∙◌, subst, arith, length-append}
-use Rattle.std.proofs.Math.Nat.{suc-mul, mul-le-mul_right}
-use Rattle.std.proofs.lemmas.Bool.Decides.{nat_tests}
-use Rattle.dfu_wire.specs.declared.codes.Code.{Code}
-use Rattle.dfu_wire.specs.declared.codes.Code.TheVariants as code
-use Rattle.dfu_wire.specs.declared.states.State.{State}
-use Rattle.dfu_wire.specs.declared.states.State.TheVariants as state
+-- How much an upload keeps: so many full parts as it counts, and at the end fewer than 65,535 of them and a shorter one. No other
+-- session keeps anything, or ends as Uploaded.
+use Rattle.std.specs.Prelude.{◌≡◌, ◌*◌, ◌<◌, List, length}
 use Rattle.dfu_host.specs.declared.report.Report.{Report}
 use Rattle.dfu_host.specs.declared.report.Report.TheVariants as report
 use Rattle.dfu_host.specs.declared.seen.Seen.{Seen}
-use Rattle.dfu_host.specs.Table.{Goal, ToLoad, ToFetch, Task, Phase, Find, FindAgain, Detach, Enter, Clear, Quit, WaitFind, ResetFind, Block, Ask, Poll, WaitPoll, Close, AskLast, Manifest, WaitManifest, WaitLast, Trouble, Fetch, LastUploaded, Last, GiveUp, Over, OverUploaded, Heard, Acked, Status, StateIs, Part, Stalled, Waited, WasReset, Restarted, start_of, pieces, listed, troubled, polled, manifested, asked, asked_last, on_status, on_state, on_ack, on_waited, on_reset, on_part, row}
-use Rattle.dfu_host.specs.Host.{HostState, budgeted, restarted, told, after_phase, after, HostRows, seen_all, sees}
+use Rattle.dfu_host.specs.Table.{ToFetch, Task, Phase, Find, FindAgain, Detach, Enter, Clear, Quit, WaitFind, ResetFind, Block, Ask, Poll, WaitPoll, Close, AskLast, Manifest, WaitManifest, WaitLast, Trouble, Fetch, LastUploaded, Last, GiveUp, Over, OverUploaded}
+use Rattle.dfu_host.specs.Host.{HostState, HostRows}
 
 -- A report that gives no bytes: any but Uploaded.
 abbrev pub GivesNothing : Report → Type 0
 GivesNothing report.Uploaded = ⊥
-GivesNothing r = Unit {0}
+GivesNothing report.Installed = Unit {0}
+GivesNothing report.Unconfirmed = Unit {0}
+GivesNothing report.Aborted = Unit {0}
+GivesNothing report.GaveUp = Unit {0}
+GivesNothing (report.Refused code) = Unit {0}
+GivesNothing report.RestartsSpent = Unit {0}
+GivesNothing report.TooManyBlocks = Unit {0}
+GivesNothing report.NoMemory = Unit {0}
 
--- What is kept in a phase: k full parts of an upload while part k is fetched, and at the end fewer bytes than 65,535 full parts have. A phase that keeps nothing
--- ends in no Uploaded.
+-- What is kept in a phase: k full parts of an upload while part k is fetched, and at the end fewer bytes than 65,535 full parts have.
+-- A phase that keeps nothing ends in no Uploaded.
 abbrev pub IsCounted : Task → Phase → Type 0
+IsCounted task Find = Unit {0}
+IsCounted task FindAgain = Unit {0}
+IsCounted task Detach = Unit {0}
+IsCounted task Enter = Unit {0}
+IsCounted task Clear = Unit {0}
+IsCounted task Quit = Unit {0}
+IsCounted task (WaitFind poll) = Unit {0}
+IsCounted task ResetFind = Unit {0}
+IsCounted task (Block n) = Unit {0}
+IsCounted task (Ask n) = Unit {0}
+IsCounted task (Poll n) = Unit {0}
+IsCounted task (WaitPoll n poll) = Unit {0}
+IsCounted task Close = Unit {0}
+IsCounted task AskLast = Unit {0}
+IsCounted task Manifest = Unit {0}
+IsCounted task (WaitManifest poll) = Unit {0}
+IsCounted task (WaitLast poll) = Unit {0}
+IsCounted task Trouble = Unit {0}
 IsCounted task (Fetch k kept) = (task.goal ≡ ToFetch) × (k < 65535) × (length kept ≡ k * task.transfer)
 IsCounted task (LastUploaded kept) = (task.goal ≡ ToFetch) × (length kept < 65535 * task.transfer)
+IsCounted task (Last report) = GivesNothing report
+IsCounted task GiveUp = Unit {0}
+IsCounted task (Over report) = GivesNothing report
 IsCounted task (OverUploaded kept) = (task.goal ≡ ToFetch) × (length kept < 65535 * task.transfer)
-IsCounted task (Last r) = GivesNothing r
-IsCounted task (Over r) = GivesNothing r
-IsCounted task phase = Unit {0}
 
 -- Whatever is seen, what a host keeps is counted, if it was so at first. It is so where a session begins, and after an abort.
 abbrev pub StaysCounted : Type 0
-StaysCounted = (h h' : HostState) (seens : List Seen) → 0 < h.task.transfer → IsCounted h.task h.phase → HostRows h seens h' → IsCounted h.task h'.phase
-
-start_counted : (task : Task) (goal : Goal) → task.goal ≡ goal → IsCounted task (start_of goal)
-start_counted task (ToLoad payload) e = tt
-start_counted task ToFetch e = (e, omega arith, omega arith)
-
-listed_counted : (task : Task) (start : Phase) (s : State) (poll : ℕ) → IsCounted task start → IsCounted task (listed start s poll)
-listed_counted task start state.DfuIdle poll c = c
-listed_counted task start s poll c = tt
-
-troubled_counted : (task : Task) (start : Phase) (c : Code) (poll : ℕ) (s : State) → IsCounted task start → IsCounted task (troubled start c poll s)
-troubled_counted task start code.Ok poll s h = listed_counted task start s poll h
-troubled_counted task start code.StalledPkt poll s h = listed_counted task start s poll h
-troubled_counted task start c poll state.Error h = tt
-troubled_counted task start c poll s h = listed_counted task start s poll h
-
-either_counted : (task : Task) (b : Bool) (x y : Phase) → (b ≡ true → IsCounted task x) → (b ≡ false → IsCounted task y) → IsCounted task (cond b x y)
-either_counted task true x y p q = p refl
-either_counted task false x y p q = q refl
-
-polled_counted : (task : Task) (start : Phase) (b n : ℕ) (c : Code) (poll : ℕ) (s : State) → IsCounted task start → IsCounted task (polled start b n c poll s)
-polled_counted task start b n c poll state.DownloadSync h = tt
-polled_counted task start b n c poll state.DownloadBusy h = tt
-polled_counted task start b n c poll state.DownloadIdle h = either_counted task (suc n == b) Close (Block (suc n)) (λ e. tt) (λ e. tt)
-polled_counted task start b n c poll s h = troubled_counted task start c poll s h
-
-manifested_counted : (task : Task) (start : Phase) (tolerant : Bool) (c : Code) (poll : ℕ) (s : State) → IsCounted task start → IsCounted task (manifested start tolerant c poll s)
-manifested_counted task start true c poll state.ManifestSync h = tt
-manifested_counted task start true c poll state.Manifest h = tt
-manifested_counted task start true code.Ok poll state.DfuIdle h = tt
-manifested_counted task start true c poll s h = troubled_counted task start c poll s h
-manifested_counted task start false c poll state.ManifestSync h = tt
-manifested_counted task start false c poll state.Manifest h = tt
-manifested_counted task start false c poll state.DfuIdle h = tt
-manifested_counted task start false c poll state.ManifestWaitReset h = tt
-manifested_counted task start false c poll s h = troubled_counted task start c poll s h
-
-asked_counted : (task : Task) (n : ℕ) (s : State) → IsCounted task (asked n s)
-asked_counted task n state.DownloadSync = tt
-asked_counted task zero state.DfuIdle = tt
-asked_counted task (suc n) state.DownloadIdle = tt
-asked_counted task n s = tt
-
-asked_last_counted : (task : Task) (s : State) → IsCounted task (asked_last s)
-asked_last_counted task state.ManifestSync = tt
-asked_last_counted task state.DownloadIdle = tt
-asked_last_counted task s = tt
-
-status_counted : (task : Task) (heard : Heard) (told : Code → ℕ → State → Phase) (stalled nothing : Phase) → ((c : Code) (poll : ℕ) (s : State) → IsCounted task (told c poll s)) → IsCounted task stalled → IsCounted task nothing → IsCounted task (on_status heard told stalled nothing)
-status_counted task (Status c poll s) told stalled nothing p q r = p c poll s
-status_counted task Stalled told stalled nothing p q r = q
-status_counted task heard told stalled nothing p q r = r
-
-state_counted : (task : Task) (heard : Heard) (told : State → Phase) (stalled nothing : Phase) → ((s : State) → IsCounted task (told s)) → IsCounted task stalled → IsCounted task nothing → IsCounted task (on_state heard told stalled nothing)
-state_counted task (StateIs s) told stalled nothing p q r = p s
-state_counted task Stalled told stalled nothing p q r = q
-state_counted task heard told stalled nothing p q r = r
-
-ack_counted : (task : Task) (heard : Heard) (acked stalled nothing : Phase) → IsCounted task acked → IsCounted task stalled → IsCounted task nothing → IsCounted task (on_ack heard acked stalled nothing)
-ack_counted task Acked acked stalled nothing p q r = p
-ack_counted task Stalled acked stalled nothing p q r = q
-ack_counted task heard acked stalled nothing p q r = r
-
-waited_counted : (task : Task) (heard : Heard) (waited again : Phase) → IsCounted task waited → IsCounted task again → IsCounted task (on_waited heard waited again)
-waited_counted task Waited waited again p q = p
-waited_counted task heard waited again p q = q
-
-reset_counted : (task : Task) (heard : Heard) (done again : Phase) → IsCounted task done → IsCounted task again → IsCounted task (on_reset heard done again)
-reset_counted task WasReset done again p q = p
-reset_counted task heard done again p q = q
-
-part_counted : (task : Task) (k : ℕ) (kept : List ℕ) (heard : Heard) → 0 < task.transfer → IsCounted task (Fetch k kept) → IsCounted task (on_part task.transfer k kept heard)
-part_counted task k kept (Part bytes) some c =
-    let t = task.transfer in
-    either_counted task (length bytes == t) _ _
-    (λ full. either_counted task (suc k == 65535) _ _ (λ e. tt) (λ more.
-    let f : length bytes ≡ t = grind (arith, nat_tests) in
-    let g : suc k < 65535 = grind (arith, nat_tests) in
-    (c.0, g, omega (arith, c.2, f, length-append kept bytes, suc-mul k t))))
-    (λ other. either_counted task (nat_lt (length bytes) t) _ _
-    (λ short.
-    let f : length bytes < t = grind (arith, nat_tests) in
-    let g : suc k * t ≤ 65535 * t = mul-le-mul_right t (omega (arith, c.1)) in
-    (c.0, omega (arith, c.2, f, g, length-append kept bytes, suc-mul k t)))
-    (λ long. tt))
-part_counted task k kept heard some c = tt
-
-row_counted : (task : Task) (phase : Phase) (heard : Heard) → 0 < task.transfer → IsCounted task phase → IsCounted task (row task phase heard)
-row_counted task Find heard some c = status_counted task heard _ FindAgain Find (λ a poll s. listed_counted task (start_of task.goal) s poll (start_counted task task.goal refl)) tt tt
-row_counted task FindAgain heard some c = status_counted task heard _ ResetFind FindAgain (λ a poll s. listed_counted task (start_of task.goal) s poll (start_counted task task.goal refl)) tt tt
-row_counted task Detach heard some c = ack_counted task heard Enter Find Find tt tt tt
-row_counted task Enter heard some c = either_counted task task.will_detach _ _ (λ x. waited_counted task heard Find Enter tt tt) (λ x. reset_counted task heard Find Enter tt tt)
-row_counted task Clear heard some c = tt
-row_counted task Quit heard some c = tt
-row_counted task (WaitFind poll) heard some c = waited_counted task heard Find (WaitFind poll) tt tt
-row_counted task ResetFind heard some c = reset_counted task heard Find ResetFind tt tt
-row_counted task (Block n) heard some c = ack_counted task heard (Poll n) Trouble (Ask n) tt tt tt
-row_counted task (Ask n) heard some c = state_counted task heard (asked n) Trouble (Ask n) (asked_counted task n) tt tt
-row_counted task (Poll n) heard some c = status_counted task heard _ Trouble (Poll n) (λ a poll s. polled_counted task (start_of task.goal) (length (pieces task)) n a poll s (start_counted task task.goal refl)) tt tt
-row_counted task (WaitPoll n poll) heard some c = waited_counted task heard (Poll n) (WaitPoll n poll) tt tt
-row_counted task Close heard some c = ack_counted task heard Manifest Trouble AskLast tt tt tt
-row_counted task AskLast heard some c = state_counted task heard asked_last Trouble AskLast (asked_last_counted task) tt tt
-row_counted task Manifest heard some c = status_counted task heard _ Trouble Manifest (λ a poll s. manifested_counted task (start_of task.goal) task.tolerant a poll s (start_counted task task.goal refl)) tt tt
-row_counted task (WaitManifest poll) heard some c = waited_counted task heard Manifest (WaitManifest poll) tt tt
-row_counted task (WaitLast poll) heard some c = waited_counted task heard (Last report.Unconfirmed) (WaitLast poll) tt tt
-row_counted task Trouble heard some c = status_counted task heard _ FindAgain Trouble (λ a poll s. troubled_counted task (start_of task.goal) a poll s (start_counted task task.goal refl)) tt tt
-row_counted task (Fetch k kept) heard some c = part_counted task k kept heard some c
-row_counted task (LastUploaded kept) heard some c = reset_counted task heard (OverUploaded kept) (LastUploaded kept) c c
-row_counted task (Last r) heard some c = reset_counted task heard (Over r) (Last r) c c
-row_counted task GiveUp heard some c = tt
-row_counted task (Over r) heard some c = c
-row_counted task (OverUploaded kept) heard some c = c
-
-budgeted_counted : (task : Task) (left : ℕ) (phase : Phase) → IsCounted task phase → IsCounted task (budgeted left phase)
-budgeted_counted task left (Over r) c = c
-budgeted_counted task left (OverUploaded kept) c = c
-budgeted_counted task zero phase c = tt
-budgeted_counted task (suc left) phase c = c
-
-told_counted : (h : HostState) (phase : Phase) (heard : Heard) → 0 < h.task.transfer → IsCounted h.task phase → IsCounted h.task (told h phase heard).phase
-told_counted h phase Restarted some c = restarted_counted phase h.restarts
-  where
-    restarted_counted : (phase : Phase) (restarts : ℕ) → IsCounted h.task (restarted h phase restarts).phase
-    restarted_counted GiveUp restarts = tt
-    restarted_counted phase zero = tt
-    restarted_counted phase (suc restarts) = budgeted_counted h.task (pred h.actions) Find tt
-told_counted h phase heard some c = budgeted_counted h.task (pred h.actions) (row h.task phase heard) (row_counted h.task phase heard some c)
-
-after_counted : (h : HostState) (phase : Phase) (heard : Heard) → h.phase ≡ phase → 0 < h.task.transfer → IsCounted h.task phase → IsCounted h.task (after_phase h phase heard).phase
-after_counted h (Over r) heard same some c = rw same c
-after_counted h (OverUploaded kept) heard same some c = rw same c
-after_counted h Find heard same some c = told_counted h Find heard some c
-after_counted h phase heard same some c = told_counted h phase heard some c
-
-restarted_task : (h : HostState) (phase : Phase) (restarts : ℕ) → (restarted h phase restarts).task ≡ h.task
-restarted_task h GiveUp restarts = refl
-restarted_task h phase zero = refl
-restarted_task h phase (suc restarts) = refl
-
-told_task : (h : HostState) (phase : Phase) (heard : Heard) → (told h phase heard).task ≡ h.task
-told_task h phase Restarted = restarted_task h phase h.restarts
-told_task h phase heard = refl
-
-same_task : (h : HostState) (phase : Phase) (heard : Heard) → (after_phase h phase heard).task ≡ h.task
-same_task h (Over r) heard = refl
-same_task h (OverUploaded kept) heard = refl
-same_task h Find heard = told_task h Find heard
-same_task h phase heard = told_task h phase heard
-
--- What is kept is counted, whatever is heard.
-pub after_stays : (h : HostState) (heard : Heard) → 0 < h.task.transfer → IsCounted h.task h.phase → IsCounted h.task (after h heard).phase
-after_stays h heard some c = after_counted h h.phase heard refl some c
-
--- The task stays, whatever is heard.
-pub after_same_task : (h : HostState) (heard : Heard) → (after h heard).task ≡ h.task
-after_same_task h heard = same_task h h.phase heard
-
-stays_in : (task : Task) (h h' : HostState) (seens : List Seen) → h.task ≡ task → 0 < task.transfer → IsCounted task h.phase → HostRows h seens h' → IsCounted task h'.phase
-stays_in task h h' [] e some c seen_all = c
-stays_in task h h' (seen ∷ more) e some c (sees {mid = mid} step rows) =
-    let f : mid.task ≡ task = ap (λ (z : HostState). z.task) step.same ∙ after_same_task h step.heard ∙ e in
-    let d : IsCounted h.task (after h step.heard).phase = after_stays h step.heard (subst (λ (z : Task). 0 < z.transfer) (sym e) some) (subst (λ (z : Task). IsCounted z h.phase) (sym e) c) in
-    let g : IsCounted task mid.phase = subst (λ (z : HostState). IsCounted task z.phase) (sym step.same) (subst (λ (z : Task). IsCounted z (after h step.heard).phase) e d) in
-    stays_in task mid h' more f some g rows
-
-pub stays_counted : StaysCounted
-stays_counted h h' seens some c rows = stays_in h.task h h' seens refl some c rows
+StaysCounted =
+    (h h' : HostState) (seens : List Seen) → 0 < h.task.transfer → IsCounted h.task h.phase → HostRows h seens h'
+    → IsCounted h.task h'.phase

@@ -1,13 +1,10 @@
--- When a download is refused, and how it begins.
+-- When a download is refused.
 use Rattle.std.specs.Prelude.{ℕ, ◌==◌, ◌&&◌, ◌||◌, not, Bool, List, [], ◌∷◌, length, find, Option}
 use Rattle.dfu_wire.specs.declared.functionals.Functional.{Functional}
 use Rattle.dfu_wire.specs.declared.ids.Ids.{Ids}
 use Rattle.dfu_suffix.specs.Grammar.{Content}
-use Rattle.dfu_host.specs.declared.limits.Limits.{Limits}
 use Rattle.dfu_host.specs.declared.fault.HostFault.{HostFault}
 use Rattle.dfu_host.specs.declared.fault.HostFault.TheVariants as fault
-use Rattle.dfu_host.specs.Table.{ToLoad, Task}
-use Rattle.dfu_host.specs.Host.{HostState, begun}
 
 -- An identifier of a file goes with a device that has the same; FFFFh goes with every device.
 abbrev pub goes_with : (file device : ℕ) → Bool
@@ -17,30 +14,18 @@ goes_with file device = (file == 0xFFFF) || (file == device)
 abbrev pub is_for : (file device : Ids) → Bool
 is_for file device = goes_with file.vendor device.vendor && goes_with file.product device.product
 
--- The condition of each refusal.
-abbrev pub is_refused : Content → Functional → Ids → HostFault → Bool
-is_refused file functional device fault.EmptyPayload = length file.payload == 0
-is_refused file functional device fault.WrongTarget = not (is_for file.ids device)
-is_refused file functional device fault.CannotDownload = not functional.can_download
-is_refused file functional device fault.CannotUpload = not functional.can_upload
-is_refused file functional device fault.BadDescriptor = functional.transfer == 0
+-- The condition of each refusal, for a download.
+abbrev pub refuses_download : Content → Functional → Ids → HostFault → Bool
+refuses_download file functional device fault.EmptyPayload = length file.payload == 0
+refuses_download file functional device fault.WrongTarget = not (is_for file.ids device)
+refuses_download file functional device fault.CannotDownload = not functional.can_download
+refuses_download file functional device fault.CannotUpload = not functional.can_upload
+refuses_download file functional device fault.BadDescriptor = functional.transfer == 0
 
 -- The refusals of a download, in the order in which they are looked for.
 abbrev pub download_faults : List HostFault
 download_faults = fault.EmptyPayload ∷ fault.WrongTarget ∷ fault.CannotDownload ∷ fault.BadDescriptor ∷ []
 
--- The first refusal whose condition holds.
-abbrev pub first_fault : Content → Functional → Ids → Option HostFault
-first_fault file functional device = find (is_refused file functional device) download_faults
-
--- A download that begins: its task is to load the file's payload, and all else goes by the descriptor and the limits.
-abbrev pub started : Content → Functional → Limits → HostState
-started file functional limits =
-    let task : Task = record {
-      goal = ToLoad file.payload;
-      transfer = functional.transfer;
-      tolerant = functional.tolerant;
-      will_detach = functional.will_detach;
-      detach_ms = functional.detach_ms;
-    } in
-    begun task limits.actions limits.restarts
+-- The first refusal of a download whose condition holds.
+abbrev pub first_download_fault : Content → Functional → Ids → Option HostFault
+first_download_fault file functional device = find (refuses_download file functional device) download_faults

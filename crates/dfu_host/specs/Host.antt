@@ -1,9 +1,11 @@
 -- A host as one value, what it does, and what one more thing seen makes of it.
 use Rattle.std.specs.Prelude.{◌≡◌, ℕ, zero, suc, pred, max, List, [], ◌∷◌}
+use Rattle.dfu_wire.specs.declared.functionals.Functional.{Functional}
+use Rattle.dfu_host.specs.declared.limits.Limits.{Limits}
 use Rattle.dfu_host.specs.declared.report.Report.TheVariants as report
 use Rattle.dfu_host.specs.declared.action.Action.{Action}
 use Rattle.dfu_host.specs.declared.seen.Seen.{Seen}
-use Rattle.dfu_host.specs.Table.{Task, Phase, Find, GiveUp, Over, OverUploaded, deed, Heard, Restarted, row}
+use Rattle.dfu_host.specs.Table.{Goal, Task, Phase, Find, FindAgain, Detach, Enter, Clear, Quit, WaitFind, ResetFind, Block, Ask, Poll, WaitPoll, Close, AskLast, Manifest, WaitManifest, WaitLast, Trouble, Fetch, LastUploaded, Last, GiveUp, Over, OverUploaded, deed, Heard, Restarted, row}
 use Rattle.dfu_host.specs.Wire.{Hears, Spells}
 
 -- A host: its task, its phase, the actions that it has left, and the restarts of its device that it still takes.
@@ -17,19 +19,54 @@ pub record HostState : Type 0 where
 abbrev pub begun : Task → (actions restarts : ℕ) → HostState
 begun task actions restarts = record { task = task; phase = Find; actions = max 1 actions; restarts = restarts }
 
--- The host is done.
-abbrev pub IsOver : Phase → Type 0
-IsOver (Over r) = Unit {0}
-IsOver (OverUploaded kept) = Unit {0}
-IsOver phase = ⊥
+-- The task of a session with this goal: all else goes by what its device's descriptor says.
+abbrev pub task_for : Functional → Goal → Task
+task_for functional goal = record {
+  goal = goal;
+  transfer = functional.transfer;
+  tolerant = functional.tolerant;
+  will_detach = functional.will_detach;
+  detach_ms = functional.detach_ms;
+}
+
+-- A session with this goal that begins, by its device's descriptor and the limits.
+abbrev pub started : Functional → Goal → Limits → HostState
+started functional goal limits = begun (task_for functional goal) limits.actions limits.restarts
 
 -- The host is not done.
 abbrev pub IsOn : Phase → Type 0
-IsOn (Over r) = ⊥
+IsOn Find = Unit {0}
+IsOn FindAgain = Unit {0}
+IsOn Detach = Unit {0}
+IsOn Enter = Unit {0}
+IsOn Clear = Unit {0}
+IsOn Quit = Unit {0}
+IsOn (WaitFind poll) = Unit {0}
+IsOn ResetFind = Unit {0}
+IsOn (Block n) = Unit {0}
+IsOn (Ask n) = Unit {0}
+IsOn (Poll n) = Unit {0}
+IsOn (WaitPoll n poll) = Unit {0}
+IsOn Close = Unit {0}
+IsOn AskLast = Unit {0}
+IsOn Manifest = Unit {0}
+IsOn (WaitManifest poll) = Unit {0}
+IsOn (WaitLast poll) = Unit {0}
+IsOn Trouble = Unit {0}
+IsOn (Fetch k kept) = Unit {0}
+IsOn (LastUploaded kept) = Unit {0}
+IsOn (Last report) = Unit {0}
+IsOn GiveUp = Unit {0}
+IsOn (Over report) = ⊥
 IsOn (OverUploaded kept) = ⊥
-IsOn phase = Unit {0}
 
--- The budget: a host that is not done and has no action left gives up.
+-- The host is done: in the two phases that are not on.
+abbrev pub IsOver : Phase → Type 0
+IsOver (Over report) = Unit {0}
+IsOver (OverUploaded kept) = Unit {0}
+IsOver phase = ⊥
+
+-- The budget: a host that is not done, whatever its phase, and has no action left gives up.
 abbrev pub budgeted : (left : ℕ) → Phase → Phase
 budgeted left (Over r) = Over r
 budgeted left (OverUploaded kept) = OverUploaded kept
@@ -38,20 +75,25 @@ budgeted (suc left) phase = phase
 
 -- A host after one action that leads to this phase.
 abbrev pub spent : HostState → Phase → (restarts : ℕ) → HostState
-spent h phase restarts = record { task = h.task; phase = budgeted (pred h.actions) phase; actions = pred h.actions; restarts = restarts }
+spent h phase restarts = record {
+  task = h.task;
+  phase = budgeted (pred h.actions) phase;
+  actions = pred h.actions;
+  restarts = restarts;
+}
 
--- A restart of the device: from the beginning, unless the host gives up anyway or takes no more of them.
+-- A restart of the device: in each phase from the beginning, unless the host gives up anyway or takes no more of them.
 abbrev pub restarted : HostState → Phase → (restarts : ℕ) → HostState
 restarted h GiveUp restarts = spent h (Over report.Aborted) restarts
 restarted h phase zero = spent h (Over report.RestartsSpent) zero
 restarted h phase (suc restarts) = spent h Find restarts
 
--- What is heard: a restart, or what the table's row takes.
+-- What is heard: a restart, or else what the table's row takes.
 abbrev pub told : HostState → Phase → Heard → HostState
 told h phase Restarted = restarted h phase h.restarts
 told h phase heard = spent h (row h.task phase heard) h.restarts
 
--- A host that is done stays as it is.
+-- A host that is done stays as it is, and every other takes what it is told.
 abbrev pub after_phase : HostState → Phase → Heard → HostState
 after_phase h (Over r) heard = h
 after_phase h (OverUploaded kept) heard = h
@@ -61,7 +103,7 @@ after_phase h phase heard = told h phase heard
 abbrev pub after : HostState → Heard → HostState
 after h heard = after_phase h h.phase heard
 
--- A host in this phase that its caller gives up: it leaves the transfer next, unless it is done.
+-- A host in this phase that its caller gives up: it leaves the transfer next, whatever its phase, unless it is done.
 abbrev pub aborted_in : HostState → Phase → HostState
 aborted_in h (Over r) = h
 aborted_in h (OverUploaded kept) = h
@@ -84,4 +126,5 @@ pub record HostRow (h : HostState) (seen : Seen) (h' : HostState) : Type 0 where
 -- A host sees these, one after the other, and becomes what each makes of it.
 pub data HostRows : HostState → List Seen → HostState → Type 0 where
   seen_all : {h : HostState} → HostRows h [] h
-  sees : {h mid h' : HostState} {seen : Seen} {more : List Seen} → HostRow h seen mid → HostRows mid more h' → HostRows h (seen ∷ more) h'
+  sees : {h mid h' : HostState} {seen : Seen} {more : List Seen}
+      → HostRow h seen mid → HostRows mid more h' → HostRows h (seen ∷ more) h'

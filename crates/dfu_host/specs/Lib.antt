@@ -11,7 +11,6 @@ pub mod Aborting
 pub mod WireLaws
 pub mod Uploading
 pub mod Counting
-pub mod Goals
-pub mod View
-pub mod Keeping
+pub mod CountingLaws
 pub mod FaultName
+pub mod inside

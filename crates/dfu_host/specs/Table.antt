@@ -50,7 +50,7 @@ pub data Phase : Type 0 where
   Over : Report → Phase
   OverUploaded : (kept : List ℕ) → Phase
 
--- What a host does: it sends a request with its body, waits, resets the bus, or is done.
+-- What a host does, of which the code's `Action` is the spelling: it sends a request with its body, waits, resets the bus, or is done.
 pub data Deed : Type 0 where
   Send : (request : Request) (body : List ℕ) → Deed
   Wait : (ms : ℕ) → Deed
@@ -144,14 +144,14 @@ troubled start code.StalledPkt poll s = listed start s poll
 troubled start c poll state.Error = Over (report.Refused c)
 troubled start c poll s = listed start s poll
 
--- Poll: the block is being written, or is written, or there is trouble.
+-- Poll: the block is being written, or is written; every other state is trouble.
 abbrev pub polled : Phase → (blocks n : ℕ) → Code → ℕ → State → Phase
 polled start blocks n c poll state.DownloadSync = WaitPoll n poll
 polled start blocks n c poll state.DownloadBusy = WaitPoll n poll
 polled start blocks n c poll state.DownloadIdle = if suc n == blocks then Close else Block (suc n)
 polled start blocks n c poll s = troubled start c poll s
 
--- Manifest: of a tolerant device only dfuIDLE with OK is an install; of another nothing confirms one.
+-- Manifest: of a tolerant device only dfuIDLE with OK is an install; of another nothing confirms one. Every other status is trouble.
 abbrev pub manifested : Phase → (tolerant : Bool) → Code → ℕ → State → Phase
 manifested start true c poll state.ManifestSync = WaitManifest poll
 manifested start true c poll state.Manifest = WaitManifest poll
@@ -163,14 +163,14 @@ manifested start false c poll state.DfuIdle = Last report.Unconfirmed
 manifested start false c poll state.ManifestWaitReset = Last report.Unconfirmed
 manifested start false c poll s = troubled start c poll s
 
--- Ask: whether the block whose answer was lost has come.
+-- Ask: whether the block whose answer was lost has come. Every other state is trouble.
 abbrev pub asked : ℕ → State → Phase
 asked n state.DownloadSync = Poll n
 asked zero state.DfuIdle = Block zero
 asked (suc n) state.DownloadIdle = Block (suc n)
 asked n s = Trouble
 
--- Ask last: whether the closing request whose answer was lost has come.
+-- Ask last: whether the closing request whose answer was lost has come. Every other state is trouble.
 abbrev pub asked_last : State → Phase
 asked_last state.ManifestSync = Manifest
 asked_last state.DownloadIdle = Close
@@ -183,35 +183,35 @@ fetched t k kept bytes =
     else if nat_lt (length bytes) t then LastUploaded (kept ++ bytes)
     else Find
 
--- What follows GETSTATUS: by the status, a stall, or nothing. What does not fit is nothing.
+-- What follows GETSTATUS: by the status, by a stall, or by nothing, which is all else that is heard.
 abbrev pub on_status : Heard → (Code → ℕ → State → Phase) → (stalled nothing : Phase) → Phase
 on_status (Status c poll s) told stalled nothing = told c poll s
 on_status Stalled told stalled nothing = stalled
 on_status heard told stalled nothing = nothing
 
--- What follows GETSTATE: by the state, a stall, or nothing.
+-- What follows GETSTATE: by the state, by a stall, or by nothing, which is all else that is heard.
 abbrev pub on_state : Heard → (State → Phase) → (stalled nothing : Phase) → Phase
 on_state (StateIs s) told stalled nothing = told s
 on_state Stalled told stalled nothing = stalled
 on_state heard told stalled nothing = nothing
 
--- What follows a request without an answer of bytes: by its acknowledgement, a stall, or nothing.
+-- What follows a request without an answer of bytes: by its acknowledgement, by a stall, or by nothing, which is all else that is heard.
 abbrev pub on_ack : Heard → (acked stalled nothing : Phase) → Phase
 on_ack Acked acked stalled nothing = acked
 on_ack Stalled acked stalled nothing = stalled
 on_ack heard acked stalled nothing = nothing
 
--- What follows a wait, which is asked again until it was waited.
+-- What follows a wait: whatever else is heard, it is asked again until it was waited.
 abbrev pub on_waited : Heard → (waited again : Phase) → Phase
 on_waited Waited waited again = waited
 on_waited heard waited again = again
 
--- What follows a reset, which is asked again until it was done.
+-- What follows a reset: whatever else is heard, it is asked again until it was done.
 abbrev pub on_reset : Heard → (done again : Phase) → Phase
 on_reset WasReset done again = done
 on_reset heard done again = again
 
--- What follows UPLOAD: by the bytes of a part, or, where no memory was found for them, the end.
+-- What follows UPLOAD: by the bytes of a part, or, where no memory was found for them, the end. All else that is heard goes to Find.
 abbrev pub on_part : (t k : ℕ) (kept : List ℕ) → Heard → Phase
 on_part t k kept (Part bytes) = fetched t k kept bytes
 on_part t k kept NoRoom = Over report.NoMemory

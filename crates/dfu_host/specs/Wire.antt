@@ -21,7 +21,7 @@ pub record IsAsked (q : Request) (bytes : List ℕ) : Type 0 where
   pub asks : Asks setup q
   pub plain : IsPlain setup q
 
--- An action as it is handed out: a request is the bytes of its setup, with its body.
+-- An action as it is handed out: a request is the bytes of its setup, with its body. No other pair spells.
 abbrev pub Spells : Deed → Action → Type 0
 Spells (Send q body) (action.Send setup given) = IsAsked q setup × (given.now ≡ body)
 Spells (Wait ms) (action.Wait given) = given ≡ ms
@@ -41,7 +41,8 @@ ReadsState bytes (StateIs state) = bytes ≡ state_byte state ∷ []
 ReadsState bytes Nothing = (state : State) → bytes ≢ state_byte state ∷ []
 ReadsState bytes heard = ⊥
 
--- Part k of an upload is kept where it is shorter than a block, which makes it the last, or where it is full, but for the full one that is one too many.
+-- Part k of an upload is kept where it is shorter than a block, which makes it the last, or where it is full, but for the full one that is
+-- one too many.
 abbrev pub is_kept : (t k length : ℕ) → Bool
 is_kept t k length = nat_lt length t || ((length == t) && not (suc k == 65535))
 
@@ -50,15 +51,16 @@ pub record NeedsRoom (t k length : ℕ) : Type 0 where
   pub kept : IsTrue (is_kept t k length)
   pub some : 0 < length
 
--- Bytes that answer a request: to UPLOAD they are a part, or, where that part needs memory, there may have been none for it; where a request has no
--- answer of bytes, it is as if nothing came. The number in an UPLOAD is that of the part, since only the parts 0 to 65,534 are asked for.
+-- Bytes that answer a request: to UPLOAD they are a part, or, where that part needs memory, there may have been none for it; every other
+-- request has no answer of bytes, and it is as if nothing came. The number in an UPLOAD is that of the part, since only the parts 0 to
+-- 65,534 are asked for.
 abbrev pub Reads : Request → List ℕ → Heard → Type 0
 Reads (request.GetStatus len) bytes heard = ReadsStatus bytes heard
 Reads (request.GetState len) bytes heard = ReadsState bytes heard
 Reads (request.Upload block len) bytes heard = (heard ≡ Part bytes) ⊎ ((heard ≡ NoRoom) × NeedsRoom len block (length bytes))
 Reads q bytes heard = heard ≡ Nothing
 
--- Bytes that come of an action: where the action is no request, it is as if nothing came.
+-- Bytes that come of an action: where the action is anything but a request, it is as if nothing came.
 abbrev pub HearsBytes : Deed → List ℕ → Heard → Type 0
 HearsBytes (Send q body) bytes heard = Reads q bytes heard
 HearsBytes deed bytes heard = heard ≡ Nothing

@@ -1,33 +1,62 @@
 -- Laws of what is understood: what a device means by its bytes is what the host hears.
-use Rattle.std.proofs.Common.{◌≡◌, ℕ, List, [], ◌∷◌, refl, sym, ap, ◌∙◌, subst, arith}
+use Rattle.std.proofs.Common.{◌≡◌, ℕ, List, [], ◌∷◌, slice_index_or, refl, sym, ap, ◌∙◌, subst}
 use Rattle.dfu_wire.specs.declared.requests.Request.{Request}
 use Rattle.dfu_wire.specs.declared.requests.Request.TheVariants as request
 use Rattle.dfu_wire.specs.declared.states.State.{State}
+use Rattle.dfu_wire.specs.declared.states.State.TheVariants as state
 use Rattle.dfu_wire.specs.State.{state_byte}
 use Rattle.dfu_wire.specs.Status.{StatusFields, IsStatus}
 use Rattle.dfu_wire.specs.OneStatus.{IsStatus-one}
 use Rattle.dfu_host.specs.declared.seen.Seen.{Seen}
 use Rattle.dfu_host.specs.declared.seen.Seen.TheVariants as seen
-use Rattle.dfu_host.specs.Table.{Deed, Send, Heard, Status, StateIs, Nothing}
+use Rattle.dfu_host.specs.Table.{Deed, Send, Wait, Reset, Done, Heard, Status, StateIs, Nothing}
 use Rattle.dfu_host.specs.Wire.{ReadsStatus, ReadsState, Reads, HearsBytes, Hears}
 
 -- Bytes that spell a status are understood as that status.
 abbrev pub StatusUnderstood : Type 0
-StatusUnderstood = (s : StatusFields) (bytes : List ℕ) (heard : Heard) → IsStatus s bytes → ReadsStatus bytes heard → heard ≡ Status s.code s.poll_ms s.state
+StatusUnderstood =
+    (s : StatusFields) (bytes : List ℕ) (heard : Heard) → IsStatus s bytes → ReadsStatus bytes heard
+    → heard ≡ Status s.code s.poll_ms s.state
 
 -- The one byte of a state is understood as that state.
 abbrev pub StateUnderstood : Type 0
 StateUnderstood = (state : State) (heard : Heard) → ReadsState (state_byte state ∷ []) heard → heard ≡ StateIs state
 
+-- A status is understood as it was meant.
 pub status_understood : StatusUnderstood
 status_understood s bytes (Status code poll state) is reads =
-    ap (λ (z : StatusFields). Status z.code z.poll_ms z.state) (IsStatus-one (record { code = code; poll_ms = poll; state = state }) s bytes reads is)
+    ap (λ (z : StatusFields). Status z.code z.poll_ms z.state)
+    (IsStatus-one (record { code = code; poll_ms = poll; state = state }) s bytes reads is)
 status_understood s bytes Nothing is reads = absurd (reads s is)
 status_understood s bytes heard is reads = elim reads [ ]
 
-one_state : (s t : State) → state_byte s ≡ state_byte t → s ≡ t
-one_state s t e = grind arith
+-- The states in the order of their numbers.
+abbrev states : List State
+states =
+    state.AppIdle ∷ state.AppDetach ∷ state.DfuIdle ∷ state.DownloadSync ∷ state.DownloadBusy ∷ state.DownloadIdle
+    ∷ state.ManifestSync ∷ state.Manifest ∷ state.ManifestWaitReset ∷ state.UploadIdle ∷ state.Error ∷ []
 
+-- The state of a number.
+abbrev state_numbered : ℕ → State
+state_numbered n = slice_index_or states n state.Error
+
+state_back : (s : State) → state_numbered (state_byte s) ≡ s
+state_back state.AppIdle = refl
+state_back state.AppDetach = refl
+state_back state.DfuIdle = refl
+state_back state.DownloadSync = refl
+state_back state.DownloadBusy = refl
+state_back state.DownloadIdle = refl
+state_back state.ManifestSync = refl
+state_back state.Manifest = refl
+state_back state.ManifestWaitReset = refl
+state_back state.UploadIdle = refl
+state_back state.Error = refl
+
+one_state : (s t : State) → state_byte s ≡ state_byte t → s ≡ t
+one_state s t e = sym (state_back s) ∙ ap state_numbered e ∙ state_back t
+
+-- A state is understood as it was meant.
 pub state_understood : StateUnderstood
 state_understood state (StateIs s) reads = let e : state_byte s ≡ state_byte state = cc in ap StateIs (one_state s state e)
 state_understood state Nothing reads = absurd (reads state refl)
@@ -36,19 +65,29 @@ state_understood state heard reads = elim reads [ ]
 -- A request whose answer is understood in one way: of a part of an upload, memory decides.
 abbrev pub IsReadOnce : Request → Type 0
 IsReadOnce (request.Upload block len) = ⊥
-IsReadOnce q = Unit {0}
+IsReadOnce (request.GetStatus len) = Unit {0}
+IsReadOnce (request.GetState len) = Unit {0}
+IsReadOnce (request.Detach timeout) = Unit {0}
+IsReadOnce (request.Dnload block len) = Unit {0}
+IsReadOnce request.ClrStatus = Unit {0}
+IsReadOnce request.Abort = Unit {0}
+IsReadOnce request.OtherClass = Unit {0}
+IsReadOnce request.NotDfu = Unit {0}
 
 -- An action of which what is seen is understood in one way: any but an UPLOAD.
 abbrev pub IsHeardOnce : Deed → Type 0
 IsHeardOnce (Send q body) = IsReadOnce q
-IsHeardOnce deed = Unit {0}
+IsHeardOnce (Wait ms) = Unit {0}
+IsHeardOnce Reset = Unit {0}
+IsHeardOnce (Done report) = Unit {0}
 
 -- What is seen of an action is understood in one way, but for a part of an upload.
 abbrev pub OneMeaning : Type 0
 OneMeaning = (d : Deed) (what : Seen) (x y : Heard) → IsHeardOnce d → Hears d what x → Hears d what y → x ≡ y
 
 status_once : (bytes : List ℕ) (x y : Heard) → ReadsStatus bytes x → ReadsStatus bytes y → x ≡ y
-status_once bytes (Status code poll state) y a b = sym (status_understood (record { code = code; poll_ms = poll; state = state }) bytes y a b)
+status_once bytes (Status code poll state) y a b =
+    sym (status_understood (record { code = code; poll_ms = poll; state = state }) bytes y a b)
 status_once bytes Nothing (Status code poll state) a b = absurd (a (record { code = code; poll_ms = poll; state = state }) b)
 status_once bytes Nothing Nothing a b = refl
 status_once bytes Nothing y a b = elim b [ ]
@@ -71,6 +110,7 @@ bytes_once : (d : Deed) (bytes : List ℕ) (x y : Heard) → IsHeardOnce d → H
 bytes_once (Send q body) bytes x y o a b = reads_once q bytes x y o a b
 bytes_once d bytes x y o a b = a ∙ sym b
 
+-- What is seen of an action has one meaning, but for a part of an upload.
 pub one_meaning : OneMeaning
 one_meaning d (seen.Bytes bytes) x y o a b = bytes_once d bytes.now x y o a b
 one_meaning d seen.Ack x y o a b = a ∙ sym b

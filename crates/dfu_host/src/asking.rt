@@ -4,8 +4,8 @@ ghost use Rattle.std.specs.Prelude.{◌≡◌, ◌≤◌, ◌*◌, ◌<◌, ◌^
 ghost use Rattle.dfu_wire.specs.Request.{IsUnnamed};
 ghost use Rattle.dfu_host.specs.Table as table;
 ghost use Rattle.dfu_host.specs.Wire.{Spells};
-ghost use Rattle.dfu_host.specs.Goals.{memory_of};
-ghost use Rattle.dfu_host.specs.View.{IsWithin, phase_of, task_of};
+ghost use Rattle.dfu_host.specs.inside.Goals.{memory_of};
+ghost use Rattle.dfu_host.specs.inside.View.{IsWithin, phase_of, task_of};
 
 use crate::action::Action;
 use crate::phase::Phase;

@@ -1,9 +1,9 @@
 //! The rows of the phases that follow the last block, and of the one that follows a refusal.
 
 ghost use Rattle.std.specs.Prelude.{◌≡◌, true, false, List, ℕ};
-ghost use Rattle.dfu_host.specs.Goals.{goal_of};
+ghost use Rattle.dfu_host.specs.inside.Goals.{goal_of};
 ghost use Rattle.dfu_host.specs.Table as table;
-ghost use Rattle.dfu_host.specs.View.{IsWithin, heard_of, phase_of, task_of};
+ghost use Rattle.dfu_host.specs.inside.View.{IsWithin, heard_of, phase_of, task_of};
 
 use crate::heard::Heard;
 use crate::phase::Phase;
@@ -15,12 +15,15 @@ impl Task<'_> {
     /// What follows a status where something was refused: dfuERROR with a code of its own ends
     /// the session, and all else goes by the list.
     pub(crate) fn troubled(&self, status: Status) -> Phase
-        ensures next { (memory : List ℕ) → phase_of memory result ≡ table.troubled (table.start_of (goal_of self.now.goal)) status.code status.poll_ms status.state }
+        ensures next { (memory : List ℕ)
+            → phase_of memory result ≡ table.troubled (table.start_of (goal_of self.now.goal)) status.code status.poll_ms status.state }
         ensures within { IsWithin self.now result }
     {
-        match (status.state(), status.code()) {
-            (State::Error, Code::Ok | Code::StalledPkt) => self.listed(status),
-            (State::Error, code) => Phase::Over(Report::Refused(code)),
+        match status.state() {
+            State::Error => match status.code() {
+                Code::Ok | Code::StalledPkt => self.listed(status),
+                code => Phase::Over(Report::Refused(code)),
+            },
             _ => self.listed(status),
         }
     }
@@ -39,7 +42,8 @@ impl Task<'_> {
 
     /// A wait until the new image should be in place.
     pub(crate) fn after_wait_manifest(&self, poll_ms: u32, heard: Heard) -> Phase
-        ensures next { (memory part : List ℕ) → phase_of memory result ≡ table.row (task_of self.now) (table.WaitManifest poll_ms) (heard_of part heard) }
+        ensures next { (memory part : List ℕ)
+            → phase_of memory result ≡ table.row (task_of self.now) (table.WaitManifest poll_ms) (heard_of part heard) }
         ensures within { IsWithin self.now result }
     {
         match heard {
@@ -50,7 +54,8 @@ impl Task<'_> {
 
     /// The same wait, for a device that won't answer after it.
     pub(crate) fn after_wait_last(&self, poll_ms: u32, heard: Heard) -> Phase
-        ensures next { (memory part : List ℕ) → phase_of memory result ≡ table.row (task_of self.now) (table.WaitLast poll_ms) (heard_of part heard) }
+        ensures next { (memory part : List ℕ)
+            → phase_of memory result ≡ table.row (task_of self.now) (table.WaitLast poll_ms) (heard_of part heard) }
         ensures within { IsWithin self.now result }
     {
         match heard {
@@ -73,7 +78,8 @@ impl Task<'_> {
 
     /// The last reset.
     pub(crate) fn after_last(&self, report: Report, heard: Heard) -> Phase
-        ensures next { (memory part : List ℕ) → phase_of memory result ≡ table.row (task_of self.now) (table.Last report) (heard_of part heard) }
+        ensures next { (memory part : List ℕ)
+            → phase_of memory result ≡ table.row (task_of self.now) (table.Last report) (heard_of part heard) }
         ensures within { IsWithin self.now result }
     {
         match heard {
@@ -84,7 +90,9 @@ impl Task<'_> {
 
     /// What follows a status that was asked for behind the close.
     fn manifested(&self, status: Status) -> Phase
-        ensures next { (memory : List ℕ) → phase_of memory result ≡ table.manifested (table.start_of (goal_of self.now.goal)) self.now.tolerant status.code status.poll_ms status.state }
+        ensures next { (memory : List ℕ)
+            → phase_of memory result
+            ≡ table.manifested (table.start_of (goal_of self.now.goal)) self.now.tolerant status.code status.poll_ms status.state }
         ensures within { IsWithin self.now result }
     {
         if self.tolerant {
@@ -96,7 +104,9 @@ impl Task<'_> {
 
     /// What a tolerant device's status says of the new image: dfuIDLE with OK alone is an install.
     fn confirmed(&self, status: Status) -> Phase
-        ensures next { (memory : List ℕ) → phase_of memory result ≡ table.manifested (table.start_of (goal_of self.now.goal)) true status.code status.poll_ms status.state }
+        ensures next { (memory : List ℕ)
+            → phase_of memory result
+            ≡ table.manifested (table.start_of (goal_of self.now.goal)) true status.code status.poll_ms status.state }
         ensures within { IsWithin self.now result }
     {
         match (status.state(), status.code()) {
@@ -109,7 +119,9 @@ impl Task<'_> {
 
     /// What the status of a device that isn't tolerant says of it: nothing confirms an install.
     fn unconfirmed(&self, status: Status) -> Phase
-        ensures next { (memory : List ℕ) → phase_of memory result ≡ table.manifested (table.start_of (goal_of self.now.goal)) false status.code status.poll_ms status.state }
+        ensures next { (memory : List ℕ)
+            → phase_of memory result
+            ≡ table.manifested (table.start_of (goal_of self.now.goal)) false status.code status.poll_ms status.state }
         ensures within { IsWithin self.now result }
     {
         match status.state() {

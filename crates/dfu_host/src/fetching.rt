@@ -1,10 +1,10 @@
 //! The rows of the phases that fetch the image, and its parts in memory.
 
 ghost use Rattle.std.specs.Prelude.{◌≡◌, ◌⊎◌, ◌+◌, ◌<◌, List, ℕ, length};
-ghost use Rattle.dfu_host.specs.Goals.{capacity_of, memory_of};
-ghost use Rattle.dfu_host.specs.Keeping.{Joined, Keeps, RefusedRoom};
+ghost use Rattle.dfu_host.specs.inside.Goals.{capacity_of, memory_of};
+ghost use Rattle.dfu_host.specs.inside.Keeping.{Joined, Keeps, RefusedRoom};
 ghost use Rattle.dfu_host.specs.Table as table;
-ghost use Rattle.dfu_host.specs.View.{IsWithin, heard_of, kept_at, phase_of, task_of};
+ghost use Rattle.dfu_host.specs.inside.View.{IsWithin, heard_of, kept_at, phase_of, task_of};
 ghost use Rattle.dfu_host.specs.Wire.{is_kept};
 
 use crate::goal::Goal;
@@ -28,7 +28,8 @@ impl Task<'_> {
         ensures heard { (result ≡ Heard.Part (length part.now)) ⊎ (result ≡ Heard.NoRoom) }
         ensures keeps { Keeps self.old.transfer (memory_of self.old.goal) (Phase.Fetch number) part.now result (memory_of self.new.goal) }
         ensures room { RefusedRoom self.old (Phase.Fetch number) part.now result }
-        ensures full { result ≡ Heard.NoRoom → capacity_of self.old.goal < length (kept_at number (memory_of self.old.goal)) + length part.now }
+        ensures full { result ≡ Heard.NoRoom
+            → capacity_of self.old.goal < length (kept_at number (memory_of self.old.goal)) + length part.now }
     {
         let heard = Heard::Part(part.len());
         if !self.is_kept(number, part.len()) {
@@ -61,7 +62,10 @@ impl Task<'_> {
     /// UPLOAD of a part, which is kept by now.
     pub(crate) fn after_fetch(&self, number: u16, heard: Heard) -> Phase
         requires { IsWithin self.now (Phase.Fetch number) }
-        ensures next { (memory part : List ℕ) → Keeps self.now.transfer memory (Phase.Fetch number) part heard (memory_of self.now.goal) → phase_of (memory_of self.now.goal) result ≡ table.row (task_of self.now) (table.Fetch number (kept_at number memory)) (heard_of part heard) }
+        ensures next { (memory part : List ℕ)
+            → Keeps self.now.transfer memory (Phase.Fetch number) part heard (memory_of self.now.goal)
+            → phase_of (memory_of self.now.goal) result
+            ≡ table.row (task_of self.now) (table.Fetch number (kept_at number memory)) (heard_of part heard) }
         ensures within { IsWithin self.now result }
     {
         match heard {
@@ -74,7 +78,9 @@ impl Task<'_> {
     /// What follows a part of so many bytes.
     fn fetched(&self, number: u16, len: usize) -> Phase
         requires { IsWithin self.now (Phase.Fetch number) }
-        ensures next { (memory part : List ℕ) → Joined self.now.transfer number memory part len (memory_of self.now.goal) → phase_of (memory_of self.now.goal) result ≡ table.fetched self.now.transfer number (kept_at number memory) part }
+        ensures next { (memory part : List ℕ)
+            → Joined self.now.transfer number memory part len (memory_of self.now.goal)
+            → phase_of (memory_of self.now.goal) result ≡ table.fetched self.now.transfer number (kept_at number memory) part }
         ensures within { IsWithin self.now result }
     {
         let transfer = self.transfer as usize;
@@ -91,7 +97,8 @@ impl Task<'_> {
 
     /// The last reset, with all parts kept.
     pub(crate) fn after_last_uploaded(&self, heard: Heard) -> Phase
-        ensures next { (memory part : List ℕ) → phase_of memory result ≡ table.row (task_of self.now) (table.LastUploaded memory) (heard_of part heard) }
+        ensures next { (memory part : List ℕ)
+            → phase_of memory result ≡ table.row (task_of self.now) (table.LastUploaded memory) (heard_of part heard) }
         ensures within { IsWithin self.now result }
     {
         match heard {

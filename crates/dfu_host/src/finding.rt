@@ -2,9 +2,9 @@
 //! goes by (states: USB DFU 1.1, appendix A).
 
 ghost use Rattle.std.specs.Prelude.{◌≡◌, List, ℕ};
-ghost use Rattle.dfu_host.specs.Goals.{goal_of};
+ghost use Rattle.dfu_host.specs.inside.Goals.{goal_of};
 ghost use Rattle.dfu_host.specs.Table as table;
-ghost use Rattle.dfu_host.specs.View.{IsWithin, heard_of, phase_of, task_of};
+ghost use Rattle.dfu_host.specs.inside.View.{IsWithin, heard_of, phase_of, task_of};
 
 use crate::goal::Goal;
 use crate::heard::Heard;
@@ -27,7 +27,8 @@ impl Task<'_> {
 
     /// The list: what follows a status, by its state.
     pub(crate) fn listed(&self, status: Status) -> Phase
-        ensures next { (memory : List ℕ) → phase_of memory result ≡ table.listed (table.start_of (goal_of self.now.goal)) status.state status.poll_ms }
+        ensures next { (memory : List ℕ)
+            → phase_of memory result ≡ table.listed (table.start_of (goal_of self.now.goal)) status.state status.poll_ms }
         ensures within { IsWithin self.now result }
     {
         match status.state() {
@@ -56,7 +57,8 @@ impl Task<'_> {
 
     /// GETSTATUS once more, after a stall.
     pub(crate) fn after_find_again(&self, heard: Heard) -> Phase
-        ensures next { (memory part : List ℕ) → phase_of memory result ≡ table.row (task_of self.now) table.FindAgain (heard_of part heard) }
+        ensures next { (memory part : List ℕ)
+            → phase_of memory result ≡ table.row (task_of self.now) table.FindAgain (heard_of part heard) }
         ensures within { IsWithin self.now result }
     {
         match heard {
@@ -91,7 +93,8 @@ impl Task<'_> {
 
     /// A wait for what an earlier session left running.
     pub(crate) fn after_wait_find(&self, poll_ms: u32, heard: Heard) -> Phase
-        ensures next { (memory part : List ℕ) → phase_of memory result ≡ table.row (task_of self.now) (table.WaitFind poll_ms) (heard_of part heard) }
+        ensures next { (memory part : List ℕ)
+            → phase_of memory result ≡ table.row (task_of self.now) (table.WaitFind poll_ms) (heard_of part heard) }
         ensures within { IsWithin self.now result }
     {
         match heard {
@@ -102,7 +105,8 @@ impl Task<'_> {
 
     /// A reset, to begin anew.
     pub(crate) fn after_reset_find(&self, heard: Heard) -> Phase
-        ensures next { (memory part : List ℕ) → phase_of memory result ≡ table.row (task_of self.now) table.ResetFind (heard_of part heard) }
+        ensures next { (memory part : List ℕ)
+            → phase_of memory result ≡ table.row (task_of self.now) table.ResetFind (heard_of part heard) }
         ensures within { IsWithin self.now result }
     {
         match heard {

@@ -1,10 +1,10 @@
 //! What is understood of what is seen.
 
 ghost use Rattle.std.specs.Prelude.{◌≡◌, List, ℕ};
-ghost use Rattle.dfu_host.specs.Goals.{memory_of};
-ghost use Rattle.dfu_host.specs.Keeping.{Keeps, RefusedRoom};
+ghost use Rattle.dfu_host.specs.inside.Goals.{memory_of};
+ghost use Rattle.dfu_host.specs.inside.Keeping.{Keeps, RefusedRoom};
 ghost use Rattle.dfu_host.specs.Table.{deed};
-ghost use Rattle.dfu_host.specs.View.{IsWithin, heard_of, part_of, phase_of, task_of};
+ghost use Rattle.dfu_host.specs.inside.View.{IsWithin, heard_of, part_of, phase_of, task_of};
 ghost use Rattle.dfu_host.specs.Wire.{Hears, HearsBytes, ReadsStatus, ReadsState};
 ghost use Rattle.dfu_host.specs.declared.phase.Phase.{Phase};
 ghost use Rattle.dfu_host.specs.declared.task.Task.{Task};
@@ -38,7 +38,8 @@ impl Task<'_> {
         requires { IsWithin self.old phase }
         ensures task { task_of self.new ≡ task_of self.old }
         ensures within { IsWithin self.new phase }
-        ensures hears { Hears (deed (task_of self.old) (phase_of (memory_of self.old.goal) phase)) seen.entry (heard_of (part_of seen.entry) result) }
+        ensures hears { Hears (deed (task_of self.old) (phase_of (memory_of self.old.goal) phase)) seen.entry
+            (heard_of (part_of seen.entry) result) }
         ensures keeps { Keeps self.old.transfer (memory_of self.old.goal) phase (part_of seen.entry) result (memory_of self.new.goal) }
         ensures room { RefusedRoom self.old phase (part_of seen.entry) result }
     {
@@ -58,7 +59,8 @@ impl Task<'_> {
         requires { IsWithin self.old phase }
         ensures task { task_of self.new ≡ task_of self.old }
         ensures within { IsWithin self.new phase }
-        ensures hears { HearsBytes (deed (task_of self.old) (phase_of (memory_of self.old.goal) phase)) bytes.now (heard_of bytes.now result) }
+        ensures hears { HearsBytes (deed (task_of self.old) (phase_of (memory_of self.old.goal) phase)) bytes.now
+            (heard_of bytes.now result) }
         ensures keeps { Keeps self.old.transfer (memory_of self.old.goal) phase bytes.now result (memory_of self.new.goal) }
         ensures room { RefusedRoom self.old phase bytes.now result }
     {

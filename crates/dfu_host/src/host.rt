@@ -1,6 +1,6 @@
 //! The host machine.
 
-ghost use Rattle.std.specs.Prelude.{◌≡◌, ◌≤◌, ◌-◌, ◌↔◌, IsTrue, IfOk, Err, Some};
+ghost use Rattle.std.specs.Prelude.{◌≡◌, ◌≤◌, ◌<◌, ◌-◌, ◌↔◌, IsTrue, IfOk, Err, Some};
 
 use crate::action::Action;
 use crate::fault::HostFault;
@@ -30,7 +30,7 @@ pub struct Host<'f> {
 
 impl<'f> Model for Host<'f> {
     ghost use Rattle.dfu_host.specs.Host.{HostState};
-    ghost use Rattle.dfu_host.specs.View.{IsWithin, state_of};
+    ghost use Rattle.dfu_host.specs.inside.View.{IsWithin, state_of};
 
     ghost Value = { HostState };
 
@@ -40,11 +40,12 @@ impl<'f> Model for Host<'f> {
 }
 
 impl<'f> Host<'f> {
-    ghost use Rattle.dfu_host.specs.Host.{Act, HostRow, IsOver, aborted};
+    ghost use Rattle.dfu_host.specs.Host.{Act, HostRow, IsOver, aborted, started};
     ghost use Rattle.dfu_host.specs.Budget.{is_done, takes_left};
-    ghost use Rattle.dfu_host.specs.Download.{first_fault, started};
-    ghost use Rattle.dfu_host.specs.Uploading.{TakesPart, kept_in};
-    ghost use Rattle.dfu_host.specs.Uploading as uploading;
+    ghost use Rattle.dfu_host.specs.Download.{first_download_fault};
+    ghost use Rattle.dfu_host.specs.Table.{ToFetch, ToLoad};
+    ghost use Rattle.dfu_host.specs.Uploading.{TakesPart, first_upload_fault, kept_in};
+    ghost use Rattle.dfu_host.specs.inside.Goals.{goal_of, size_of};
     ghost use Rattle.dfu_host.specs.declared.fault.HostFault.{HostFault};
 
     /// A host that is to install a file on the device with this descriptor and these
@@ -62,8 +63,8 @@ impl<'f> Host<'f> {
         device: Ids,
         limits: Limits,
     ) -> Result<Host<'f>, HostFault>
-        ensures refused { (fault : HostFault) → (result ≡ Err fault) ↔ (first_fault file.now functional.now device ≡ Some fault) }
-        ensures started { IfOk result (λ h. h ≡ started file.now functional.now limits) }
+        ensures refused { (fault : HostFault) → (result ≡ Err fault) ↔ (first_download_fault file.now functional.now device ≡ Some fault) }
+        ensures started { IfOk result (λ h. h ≡ started functional.now (ToLoad file.now.payload) limits) }
     {
         let payload = file.payload();
         if payload.is_empty() {
@@ -78,21 +79,11 @@ impl<'f> Host<'f> {
         if functional.transfer == 0 {
             return Err(HostFault::BadDescriptor);
         }
-        Ok(Host {
-            task: Task {
-                goal: Goal::Load(payload),
-                transfer: functional.transfer,
-                tolerant: functional.tolerant,
-                will_detach: functional.will_detach,
-                detach_ms: functional.detach_ms,
-            },
-            progress: beginning(limits),
-        })
+        Ok(Host::begin(Goal::Load(payload), functional, limits))
     }
 
-    /// A host that is to fetch the active image of the device with this descriptor. It takes no
-    /// memory itself, and keeps the allocator for the parts to come; the transfer size is 1 to
-    /// 65,535.
+    /// A host that is to fetch the active image of the device with this descriptor. It keeps the
+    /// allocator for the parts to come; the transfer size is 1 to 65,535.
     ///
     /// The faults, in the order in which they are looked for:
     ///
@@ -103,8 +94,8 @@ impl<'f> Host<'f> {
         functional: &Functional,
         limits: Limits,
     ) -> Result<Host<'f>, HostFault>
-        ensures refused { (fault : HostFault) → (result ≡ Err fault) ↔ (uploading.first_fault functional.now ≡ Some fault) }
-        ensures started { IfOk result (λ h. h ≡ uploading.started functional.now limits) }
+        ensures refused { (fault : HostFault) → (result ≡ Err fault) ↔ (first_upload_fault functional.now ≡ Some fault) }
+        ensures started { IfOk result (λ h. h ≡ started functional.now ToFetch limits) }
     {
         if !functional.can_upload {
             return Err(HostFault::CannotUpload);
@@ -112,16 +103,26 @@ impl<'f> Host<'f> {
         if functional.transfer == 0 {
             return Err(HostFault::BadDescriptor);
         }
-        Ok(Host {
+        Ok(Host::begin(Goal::Fetch(Vec::new(alloc)), functional, limits))
+    }
+
+    /// A host that begins: its task is this goal, and all else goes by the descriptor and the
+    /// limits.
+    fn begin(goal: Goal<'f>, functional: &Functional, limits: Limits) -> Host<'f>
+        requires some { 0 < size_of goal }
+        requires transfers { 0 < functional.now.transfer }
+        ensures { result ≡ started functional.now (goal_of goal.entry) limits }
+    {
+        Host {
             task: Task {
-                goal: Goal::Fetch(Vec::new(alloc)),
+                goal,
                 transfer: functional.transfer,
                 tolerant: functional.tolerant,
                 will_detach: functional.will_detach,
                 detach_ms: functional.detach_ms,
             },
             progress: beginning(limits),
-        })
+        }
     }
 
     /// What the host wants done next. It changes nothing, so it may be asked again.

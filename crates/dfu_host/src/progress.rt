@@ -1,11 +1,11 @@
 //! How far a session has come: its phase, the budget of actions, and the count of restarts.
 
 ghost use Rattle.std.specs.Prelude.{◌≡◌, List, ℕ, max};
-ghost use Rattle.dfu_host.specs.Goals.{memory_of};
+ghost use Rattle.dfu_host.specs.inside.Goals.{memory_of};
 ghost use Rattle.dfu_host.specs.Host as host;
-ghost use Rattle.dfu_host.specs.Keeping.{Keeps};
+ghost use Rattle.dfu_host.specs.inside.Keeping.{Keeps};
 ghost use Rattle.dfu_host.specs.Table as table;
-ghost use Rattle.dfu_host.specs.View.{IsWithin, heard_of, phase_of, state_of, state_with};
+ghost use Rattle.dfu_host.specs.inside.View.{IsWithin, heard_of, phase_of, state_of, state_with};
 ghost use Rattle.dfu_host.specs.declared.task.Task.{Task};
 
 use crate::heard::Heard;
@@ -39,7 +39,9 @@ impl Progress {
     /// Where the session stands after one action of which this was heard, and is kept.
     pub(crate) fn after(self, task: &Task<'_>, heard: Heard) -> Progress
         requires { IsWithin task.now self.phase }
-        ensures state { (memory part : List ℕ) → Keeps task.now.transfer memory self.phase part heard (memory_of task.now.goal) → state_of task.now result ≡ host.after (state_with memory task.now self) (heard_of part heard) }
+        ensures state { (memory part : List ℕ)
+            → Keeps task.now.transfer memory self.phase part heard (memory_of task.now.goal)
+            → state_of task.now result ≡ host.after (state_with memory task.now self) (heard_of part heard) }
         ensures within { IsWithin task.now result.phase }
     {
         if let Phase::Over(_) | Phase::OverUploaded = self.phase {
@@ -53,7 +55,8 @@ impl Progress {
 
     /// After a restart of the device.
     fn restarted(self) -> Progress
-        ensures state { (task : Task) (memory old : List ℕ) → state_with memory task result ≡ host.restarted (state_with old task self) (phase_of old self.phase) self.restarts }
+        ensures state { (task : Task) (memory old : List ℕ) → state_with memory task result
+            ≡ host.restarted (state_with old task self) (phase_of old self.phase) self.restarts }
         ensures within { (task : Task) → IsWithin task result.phase }
     {
         if let Phase::GiveUp = self.phase {
@@ -68,7 +71,8 @@ impl Progress {
 
     /// After one action that leads to a phase.
     fn spent(self, next: Phase, restarts: u16) -> Progress
-        ensures state { (task : Task) (memory old : List ℕ) → state_with memory task result ≡ host.spent (state_with old task self) (phase_of memory next) restarts }
+        ensures state { (task : Task) (memory old : List ℕ) → state_with memory task result
+            ≡ host.spent (state_with old task self) (phase_of memory next) restarts }
         ensures within { (task : Task) → IsWithin task next → IsWithin task result.phase }
     {
         let actions = self.actions.saturating_sub(1);

@@ -1,9 +1,9 @@
 //! The rows of the phases that send the blocks and close the transfer.
 
 ghost use Rattle.std.specs.Prelude.{◌≡◌, ◌*◌, ◌<◌, length, List, ℕ};
-ghost use Rattle.dfu_host.specs.Goals.{goal_of, payload_of};
+ghost use Rattle.dfu_host.specs.inside.Goals.{goal_of, payload_of};
 ghost use Rattle.dfu_host.specs.Table as table;
-ghost use Rattle.dfu_host.specs.View.{IsWithin, heard_of, phase_of, task_of};
+ghost use Rattle.dfu_host.specs.inside.View.{IsWithin, heard_of, phase_of, task_of};
 
 use crate::heard::Heard;
 use crate::phase::Phase;
@@ -14,7 +14,8 @@ impl Task<'_> {
     /// DNLOAD of a block.
     pub(crate) fn after_block(&self, number: usize, heard: Heard) -> Phase
         requires { number * self.now.transfer < length (payload_of self.now.goal) }
-        ensures next { (memory part : List ℕ) → phase_of memory result ≡ table.row (task_of self.now) (table.Block number) (heard_of part heard) }
+        ensures next { (memory part : List ℕ)
+            → phase_of memory result ≡ table.row (task_of self.now) (table.Block number) (heard_of part heard) }
         ensures within { IsWithin self.now result }
     {
         match heard {
@@ -27,7 +28,8 @@ impl Task<'_> {
     /// GETSTATE, to learn whether a block came whose answer was lost.
     pub(crate) fn after_ask(&self, number: usize, heard: Heard) -> Phase
         requires { number * self.now.transfer < length (payload_of self.now.goal) }
-        ensures next { (memory part : List ℕ) → phase_of memory result ≡ table.row (task_of self.now) (table.Ask number) (heard_of part heard) }
+        ensures next { (memory part : List ℕ)
+            → phase_of memory result ≡ table.row (task_of self.now) (table.Ask number) (heard_of part heard) }
         ensures within { IsWithin self.now result }
     {
         match heard {
@@ -42,7 +44,8 @@ impl Task<'_> {
     /// GETSTATUS, to learn whether a block is written.
     pub(crate) fn after_poll(&self, number: usize, heard: Heard) -> Phase
         requires { number * self.now.transfer < length (payload_of self.now.goal) }
-        ensures next { (memory part : List ℕ) → phase_of memory result ≡ table.row (task_of self.now) (table.Poll number) (heard_of part heard) }
+        ensures next { (memory part : List ℕ)
+            → phase_of memory result ≡ table.row (task_of self.now) (table.Poll number) (heard_of part heard) }
         ensures within { IsWithin self.now result }
     {
         match heard {
@@ -55,7 +58,10 @@ impl Task<'_> {
     /// What follows a status that was asked for behind a block.
     fn polled(&self, number: usize, status: Status) -> Phase
         requires { number * self.now.transfer < length (payload_of self.now.goal) }
-        ensures next { (memory : List ℕ) → phase_of memory result ≡ table.polled (table.start_of (goal_of self.now.goal)) (length (table.pieces (task_of self.now))) number status.code status.poll_ms status.state }
+        ensures next { (memory : List ℕ)
+            → phase_of memory result
+            ≡ table.polled (table.start_of (goal_of self.now.goal)) (length (table.pieces (task_of self.now))) number
+            status.code status.poll_ms status.state }
         ensures within { IsWithin self.now result }
     {
         match status.state() {
@@ -71,7 +77,8 @@ impl Task<'_> {
     /// A wait until a block should be written.
     pub(crate) fn after_wait_poll(&self, number: usize, poll_ms: u32, heard: Heard) -> Phase
         requires { number * self.now.transfer < length (payload_of self.now.goal) }
-        ensures next { (memory part : List ℕ) → phase_of memory result ≡ table.row (task_of self.now) (table.WaitPoll number poll_ms) (heard_of part heard) }
+        ensures next { (memory part : List ℕ)
+            → phase_of memory result ≡ table.row (task_of self.now) (table.WaitPoll number poll_ms) (heard_of part heard) }
         ensures within { IsWithin self.now result }
     {
         match heard {

@@ -1,7 +1,7 @@
 //! What a session is to do.
 
 ghost use Rattle.std.specs.Prelude.{◌≡◌, ℕ, suc, ◌+◌, ◌*◌, ◌<◌, ◌^◌, ◌==◌, length, IsTrue, ◌↔◌, slice_index_or, []};
-ghost use Rattle.dfu_host.specs.Goals.{size_of};
+ghost use Rattle.dfu_host.specs.inside.Goals.{size_of};
 
 use crate::goal::Goal;
 
@@ -20,9 +20,9 @@ pub(crate) struct Task<'f> {
 }
 
 impl<'f> Task<'f> {
-    ghost use Rattle.dfu_host.specs.Goals.{memory_of, payload_of};
+    ghost use Rattle.dfu_host.specs.inside.Goals.{memory_of, payload_of};
     ghost use Rattle.dfu_host.specs.Table.{pieces};
-    ghost use Rattle.dfu_host.specs.View.{task_of};
+    ghost use Rattle.dfu_host.specs.inside.View.{task_of};
 
     /// The payload that is sent; an upload sends none.
     fn payload(&self) -> &'f [u8]

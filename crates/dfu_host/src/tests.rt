@@ -121,13 +121,13 @@ fn block_number_wraps(rt: HostRuntime) -> Result<(), Fail> {
     Ok(())
 }
 
-/// A port on which everything is lost, and how often it was used.
+/// A carrier with which everything is lost, and how often it was used.
 #[derive(Drop)]
 struct Lost {
     used: u32,
 }
 
-impl played::Port for Lost {
+impl played::Carrier for Lost {
     fn perform(&mut self, _action: Action<'_>) -> Seen<'_> {
         self.used = self.used.saturating_add(1);
         Seen::Nothing
@@ -143,9 +143,9 @@ fn nothing_but_losses_end_by_the_budget(rt: HostRuntime) -> Result<(), Fail> {
             restarts: 0,
         };
         let mut host = Host::download(&file, &TOLERANT, DEVICE, limits)?;
-        let mut port = Lost { used: 0 };
-        assert_eq!(rt; play(&mut host, &mut port), Report::GaveUp);
-        assert_eq!(rt; port.used, uses);
+        let mut carrier = Lost { used: 0 };
+        assert_eq!(rt; play(&mut host, &mut carrier), Report::GaveUp);
+        assert_eq!(rt; carrier.used, uses);
     }
     Ok(())
 }

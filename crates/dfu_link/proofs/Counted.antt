@@ -4,7 +4,8 @@ use Rattle.dfu_host.specs.declared.report.Report.{Report}
 use Rattle.dfu_host.specs.declared.report.Report.TheVariants.{Uploaded}
 use Rattle.dfu_host.specs.Table.{Task, Phase, Over, OverUploaded, Heard, Restarted}
 use Rattle.dfu_host.specs.Host.{HostState, after, aborted_in}
-use Rattle.dfu_host.specs.Counting.{IsCounted, after_stays, after_same_task}
+use Rattle.dfu_host.specs.Counting.{IsCounted}
+use Rattle.dfu_host.specs.CountingLaws.{after_stays, after_same_task}
 use Rattle.dfu_device.specs.Stage.{Profile}
 use Rattle.dfu_device.specs.Outcome.{Situation}
 use Rattle.dfu_link.specs.Play.{Fate, Event, Offer, UploadIt, AbortIt, Go, Time, ResetBus, Cut, Session, Nobody, Hosted, Answered, settled, took, told, aborted}

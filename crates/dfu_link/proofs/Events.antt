@@ -8,11 +8,12 @@ use Rattle.dfu_device.specs.Shown.{Shown}
 use Rattle.dfu_device.specs.Rows.{Elapses}
 use Rattle.dfu_wire.specs.declared.functionals.Functional.{Functional}
 use Rattle.dfu_wire.specs.declared.ids.Ids.{Ids}
-use Rattle.dfu_host.specs.Download.{is_for, first_fault, started}
+use Rattle.dfu_host.specs.Download.{is_for, first_download_fault}
 use Rattle.dfu_host.specs.declared.fault.HostFault.{HostFault}
 use Rattle.dfu_host.specs.declared.limits.Limits.{Limits}
 use Rattle.dfu_host.specs.declared.report.Report.{Report}
-use Rattle.dfu_host.specs.Host.{HostState}
+use Rattle.dfu_host.specs.Host.{HostState, started}
+use Rattle.dfu_host.specs.Table.{ToLoad}
 use Rattle.dfu_link.specs.declared.fault.LinkFault.TheVariants as fault
 use Rattle.dfu_link.specs.declared.fault.OfferFault.{OfferFault}
 use Rattle.dfu_link.specs.declared.fault.OfferFault.TheVariants as offer_fault
@@ -160,11 +161,11 @@ Found file content = (extra : List ℕ) × IsFile content.payload content.ids co
 
 -- a file that is read but not taken
 pub offer_bad : (s : Setting) (file : List ℕ) (content : Content) (f : Functional) (ids : Ids) (why : HostFault) → f ≡ s.functional → ids ≡ s.ids → Found file content
-    → first_fault content f ids ≡ Some why → IsBadOffer s file (offer_fault.Host why)
+    → first_download_fault content f ids ≡ Some why → IsBadOffer s file (offer_fault.Host why)
 offer_bad s file content f ids why e k found h = (
   content,
   record { extra = found.0; reads = found.1; suffix = found.2 },
-  subst (λ (x : Functional). first_fault content x s.ids ≡ Some why) e (subst (λ (y : Ids). first_fault content f y ≡ Some why) k h),
+  subst (λ (x : Functional). first_download_fault content x s.ids ≡ Some why) e (subst (λ (y : Ids). first_download_fault content f y ≡ Some why) k h),
 )
 
 pub none_of : (o : Option HostFault) (h : HostState) → ((why : HostFault) → (◌≡◌ {A = Result HostState HostFault} (Ok h) (Err why)) ↔ (o ≡ Some why)) → o ≡ None
@@ -173,12 +174,12 @@ none_of (Some why) h f = let e : ◌≡◌ {A = Result HostState HostFault} (Ok 
 
 -- a file that is read and taken
 pub offer_begins : (s : Setting) (file : List ℕ) (limits : Limits) (content : Content) (f : Functional) (ids : Ids) (h : HostState) → f ≡ s.functional → ids ≡ s.ids → Found file content
-    → ((why : HostFault) → (◌≡◌ {A = Result HostState HostFault} (Ok h) (Err why)) ↔ (first_fault content f ids ≡ Some why)) → h ≡ started content f limits → HasBegun s file limits h
+    → ((why : HostFault) → (◌≡◌ {A = Result HostState HostFault} (Ok h) (Err why)) ↔ (first_download_fault content f ids ≡ Some why)) → h ≡ started f (ToLoad content.payload) limits → HasBegun s file limits h
 offer_begins s file limits content f ids h e k found none is =
-    let taken : first_fault content s.functional s.ids ≡ None =
-    subst (λ (x : Functional). first_fault content x s.ids ≡ None) e (subst (λ (y : Ids). first_fault content f y ≡ None) k (none_of (first_fault content f ids) h none)) in
+    let taken : first_download_fault content s.functional s.ids ≡ None =
+    subst (λ (x : Functional). first_download_fault content x s.ids ≡ None) e (subst (λ (y : Ids). first_download_fault content f y ≡ None) k (none_of (first_download_fault content f ids) h none)) in
     record {
       content = content;
       offered = record { ids = content.ids; dfu = content.dfu; extra = found.0; reads = found.1; taken = taken };
-      host = is ∙ ap (λ (x : Functional). started content x limits) e;
+      host = is ∙ ap (λ (x : Functional). started x (ToLoad content.payload) limits) e;
     }

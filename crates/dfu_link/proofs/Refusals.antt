@@ -5,7 +5,7 @@ use Rattle.dfu_wire.specs.declared.ids.Ids.{Ids}
 use Rattle.dfu_suffix.specs.Grammar.{Content}
 use Rattle.dfu_suffix.proofs.ForCallers.{never_both, one_reading}
 use Rattle.dfu_host.specs.declared.fault.HostFault.{HostFault}
-use Rattle.dfu_host.specs.Download.{first_fault}
+use Rattle.dfu_host.specs.Download.{first_download_fault}
 use Rattle.dfu_device.specs.Setting.{Setting}
 use Rattle.dfu_link.specs.declared.fault.LinkFault.TheVariants as fault
 use Rattle.dfu_link.specs.declared.fault.OfferFault.{OfferFault}
@@ -15,15 +15,15 @@ use Rattle.dfu_link.specs.Comes.{Offers, Uploads, Aborts, Goes, Passes, Resets, 
 use Rattle.dfu_link.specs.OneAnswer.{OneRefusal, RefusedIsNoPlay, OneEvent}
 
 -- the faults of a download go by the payload and the identifiers alone
-same_fault : (c d : Content) (f : Functional) (ids : Ids) → c.payload ≡ d.payload → c.ids ≡ d.ids → first_fault c f ids ≡ first_fault d f ids
-same_fault c d f ids p q = λ i. first_fault (record { payload = p i; ids = q i; dfu = c.dfu; suffix = c.suffix }) f ids
+same_fault : (c d : Content) (f : Functional) (ids : Ids) → c.payload ≡ d.payload → c.ids ≡ d.ids → first_download_fault c f ids ≡ first_download_fault d f ids
+same_fault c d f ids p q = λ i. first_download_fault (record { payload = p i; ids = q i; dfu = c.dfu; suffix = c.suffix }) f ids
 
 -- a file that is taken has no fault
 pub offered_not_bad : (s : Setting) (file payload : List ℕ) (why : OfferFault) → IsOffered s file payload → IsBadOffer s file why → ⊥
 offered_not_bad s file payload (offer_fault.Suffix f) o first = never_both file f (payload, o.ids, o.dfu, o.extra, o.reads) first
 offered_not_bad s file payload (offer_fault.Host f) o (content, says, first) =
     let same = one_reading file content.payload payload _ _ _ _ _ _ says.reads o.reads in
-    let taken : first_fault content s.functional s.ids ≡ None = same_fault content (record { payload = payload; ids = o.ids; dfu = content.dfu; suffix = content.suffix }) s.functional s.ids same.0 same.1 ∙ o.taken in
+    let taken : first_download_fault content s.functional s.ids ≡ None = same_fault content (record { payload = payload; ids = o.ids; dfu = content.dfu; suffix = content.suffix }) s.functional s.ids same.0 same.1 ∙ o.taken in
     absurd cc
 
 -- a file that is not taken has one fault

@@ -5,11 +5,12 @@ use Rattle.dfu_slots.specs.Medium.Fuse.{Whole}
 use Rattle.dfu_device.specs.Setting.{Setting}
 use Rattle.dfu_device.specs.Shown.{Shown}
 use Rattle.dfu_wire.specs.declared.functionals.Functional.{Functional}
-use Rattle.dfu_host.specs.Uploading as uploading
+use Rattle.dfu_host.specs.Uploading.{first_upload_fault}
 use Rattle.dfu_host.specs.declared.fault.HostFault.{HostFault}
 use Rattle.dfu_host.specs.declared.limits.Limits.{Limits}
 use Rattle.dfu_host.specs.declared.report.Report.{Report}
-use Rattle.dfu_host.specs.Host.{HostState}
+use Rattle.dfu_host.specs.Host.{HostState, started}
+use Rattle.dfu_host.specs.Table.{ToFetch}
 use Rattle.dfu_link.specs.declared.fault.LinkFault.{LinkFault}
 use Rattle.dfu_link.specs.declared.fault.LinkFault.TheVariants as fault
 use Rattle.dfu_link.specs.declared.fault.OfferFault.TheVariants as offer_fault
@@ -33,20 +34,20 @@ upload_busy limits w (Some h) e up = record { answer = Err fault.HostBusy; comes
 upload_busy limits w None e up = absurd cc
 
 -- an upload from a device that gives no image
-pub upload_refused : (limits : Limits) (w : Shown) (host : Option HostState) (f : Functional) (why : HostFault) → is_some host ≡ false → f ≡ w.config.functional → uploading.first_fault f ≡ Some why
+pub upload_refused : (limits : Limits) (w : Shown) (host : Option HostState) (f : Functional) (why : HostFault) → is_some host ≡ false → f ≡ w.config.functional → first_upload_fault f ≡ Some why
     → HasComeAlone (bench_of w host) (Uploads limits) (bench_of w host) (Err (fault.BadOffer (offer_fault.Host why)))
 upload_refused limits w None f why n e bad up =
-    let first : uploading.first_fault w.config.functional ≡ Some why = subst (λ (x : Functional). uploading.first_fault x ≡ Some why) e bad in
+    let first : first_upload_fault w.config.functional ≡ Some why = subst (λ (x : Functional). first_upload_fault x ≡ Some why) e bad in
     record { answer = Err (fault.BadOffer (offer_fault.Host why)); comes = refuses (refl, first); whole = tt; up_is = refl; told = refl }
 upload_refused limits w (Some h) f why n e bad up = absurd cc
 
 -- an upload that begins
 pub upload_comes : (limits : Limits) (w : Shown) (host : Option HostState) (h : HostState) (f : Functional) → is_some host ≡ false → w.slots.medium.fuse ≡ Whole → f ≡ w.config.functional
-    → ((why : HostFault) → (◌≡◌ {A = Result HostState HostFault} (Ok h) (Err why)) ↔ (uploading.first_fault f ≡ Some why)) → h ≡ uploading.started f limits
+    → ((why : HostFault) → (◌≡◌ {A = Result HostState HostFault} (Ok h) (Err why)) ↔ (first_upload_fault f ≡ Some why)) → h ≡ started f ToFetch limits
     → HasComeAlone (bench_of w host) (Uploads limits) (bench_of w (Some h)) (Ok None)
 upload_comes limits w None h f n e k none is up =
-    let gives : CanGive w.config = subst (λ (x : Functional). uploading.first_fault x ≡ None) k (none_of (uploading.first_fault f) h none) in
-    let begun : h ≡ uploading.started w.config.functional limits = is ∙ ap (λ (x : Functional). uploading.started x limits) k in
+    let gives : CanGive w.config = subst (λ (x : Functional). first_upload_fault x ≡ None) k (none_of (first_upload_fault f) h none) in
+    let begun : h ≡ started w.config.functional ToFetch limits = is ∙ ap (λ (x : Functional). started x ToFetch limits) k in
     record {
       answer = Ok silent;
       whole = tt;

@@ -7,11 +7,10 @@ use Rattle.dfu_device.specs.Shown.{Shown}
 use Rattle.dfu_host.specs.declared.limits.Limits.{Limits}
 use Rattle.dfu_host.specs.declared.report.Report.{Report}
 use Rattle.dfu_host.specs.declared.report.Report.TheVariants.{Uploaded}
-use Rattle.dfu_host.specs.Download.{started}
 use Rattle.dfu_host.specs.declared.seen.Seen.{Seen}
-use Rattle.dfu_host.specs.Host.{HostState, after}
+use Rattle.dfu_host.specs.Host.{HostState, after, started}
 use Rattle.dfu_host.specs.Wire.{Hears}
-use Rattle.dfu_host.specs.Table.{Phase, Over, OverUploaded, Deed, Send, deed, Heard, Nothing, Restarted}
+use Rattle.dfu_host.specs.Table.{Phase, Over, OverUploaded, Deed, Send, deed, Heard, Nothing, Restarted, ToLoad}
 use Rattle.dfu_link.specs.declared.back.Back.{Back}
 use Rattle.dfu_link.specs.declared.back.Back.TheVariants as back
 use Rattle.dfu_link.specs.declared.fault.LinkFault.{LinkFault}
@@ -76,4 +75,4 @@ abort_told (Hosted h) = Ok None
 pub record HasBegun (s : Setting) (file : List ℕ) (limits : Limits) (h : HostState) : Type 0 where
   pub content : Content
   pub offered : IsOffered s file content.payload
-  pub host : h ≡ started content s.functional limits
+  pub host : h ≡ started s.functional (ToLoad content.payload) limits

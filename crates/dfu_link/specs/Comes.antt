@@ -5,8 +5,8 @@ use Rattle.dfu_suffix.specs.Grammar.{Content, IsFile, First}
 use Rattle.dfu_host.specs.declared.limits.Limits.{Limits}
 use Rattle.dfu_host.specs.declared.report.Report.{Report}
 use Rattle.dfu_host.specs.declared.report.Report.TheVariants.{Uploaded}
-use Rattle.dfu_host.specs.Download.{first_fault}
-use Rattle.dfu_host.specs.Uploading as uploading
+use Rattle.dfu_host.specs.Download.{first_download_fault}
+use Rattle.dfu_host.specs.Uploading.{first_upload_fault}
 use Rattle.dfu_device.specs.Setting.{Setting}
 use Rattle.dfu_link.specs.declared.fate.Fate.{Fate as GivenFate}
 use Rattle.dfu_link.specs.declared.fate.Fate.TheVariants as fate
@@ -75,7 +75,7 @@ pub record IsOffered (s : Setting) (file payload : List ℕ) : Type 0 where
   pub dfu : ℕ
   pub extra : List ℕ
   pub reads : IsFile payload ids dfu extra file
-  pub taken : first_fault (record { payload = payload; ids = ids; dfu = dfu; suffix = 16 + length extra }) s.functional s.ids ≡ None
+  pub taken : first_download_fault (record { payload = payload; ids = ids; dfu = dfu; suffix = 16 + length extra }) s.functional s.ids ≡ None
 
 -- What the bytes say, as a file of the grammar with these contents.
 pub record SaysContent (file : List ℕ) (content : Content) : Type 0 where
@@ -86,16 +86,16 @@ pub record SaysContent (file : List ℕ) (content : Content) : Type 0 where
 -- Why an offer is refused: the first fault of the bytes, or the first fault of the download that they would be.
 abbrev pub IsBadOffer : Setting → List ℕ → OfferFault → Type 0
 IsBadOffer s file (offer_fault.Suffix fault) = First fault file
-IsBadOffer s file (offer_fault.Host fault) = (content : Content) × SaysContent file content × (first_fault content s.functional s.ids ≡ Some fault)
+IsBadOffer s file (offer_fault.Host fault) = (content : Content) × SaysContent file content × (first_download_fault content s.functional s.ids ≡ Some fault)
 
 -- A device of these settings gives its image: no fault of an upload.
 abbrev pub CanGive : Setting → Type 0
-CanGive s = uploading.first_fault s.functional ≡ None
+CanGive s = first_upload_fault s.functional ≡ None
 
 -- Why an upload is refused: its first fault, by the device's descriptor.
 abbrev pub IsBadUpload : Setting → OfferFault → Type 0
 IsBadUpload s (offer_fault.Suffix fault) = ⊥
-IsBadUpload s (offer_fault.Host fault) = uploading.first_fault s.functional ≡ Some fault
+IsBadUpload s (offer_fault.Host fault) = first_upload_fault s.functional ≡ Some fault
 
 -- What happens, as an event of a device of these settings: an offer is that of the file's payload.
 abbrev pub Means : Setting → Happening → Event → Type 0

@@ -3,17 +3,17 @@
 use crate::{Action, Host, Report, Seen};
 
 /// What carries out the actions of a host.
-pub(crate) trait Port {
+pub(crate) trait Carrier {
     /// Does what a host wants, and says what came of it.
     fn perform(&mut self, action: Action<'_>) -> Seen<'_>;
 }
 
 /// Plays a session to its end.
-pub(crate) fn play<P: Port>(host: &mut Host<'_>, port: &mut P) -> Report {
+pub(crate) fn play<C: Carrier>(host: &mut Host<'_>, carrier: &mut C) -> Report {
     loop {
         match host.next() {
             Action::Done(report) => return report,
-            action => host.take(port.perform(action)),
+            action => host.take(carrier.perform(action)),
         }
     }
 }

@@ -8,4 +8,6 @@ pub returns-in-Ask-clause-room : goal.returns-in-Ask-clause-room
 returns-in-Ask-clause-room c = c.state_in.ensures.room c.args.self.now c.args.phase c.args.bytes.now
 
 pub returns-in-Fetch-clause-hears : goal.returns-in-Fetch-clause-hears
-returns-in-Fetch-clause-hears c = rw c.in-Fetch.is (reads_part c.args.self.now c.in-Fetch.number c.args.bytes.now c.keep.result c.keep.ensures.within.1 c.keep.ensures.heard c.keep.ensures.room)
+returns-in-Fetch-clause-hears c =
+    rw c.in-Fetch.is (reads_part c.args.self.now c.in-Fetch.number c.args.bytes.now c.keep.result c.keep.ensures.within.1
+    c.keep.ensures.heard c.keep.ensures.room)

@@ -8,7 +8,7 @@ use Rattle.dfu_host.specs.declared.seen.Seen.{Seen}
 use Rattle.dfu_host.specs.declared.seen.Seen.TheVariants as seen
 use Rattle.dfu_host.specs.declared.task.Task.{Task}
 use Rattle.dfu_host.specs.declared.progress.Progress.{Progress}
-use Rattle.dfu_host.specs.Goals.{goal_of, payload_of, memory_of, IsFetch}
+use Rattle.dfu_host.specs.inside.Goals.{goal_of, payload_of, memory_of, IsFetch}
 use Rattle.dfu_host.specs.Table as table
 use Rattle.dfu_host.specs.Host.{HostState}
 
@@ -44,16 +44,33 @@ phase_of memory phase.GiveUp = table.GiveUp
 phase_of memory (phase.Over report) = table.Over report
 phase_of memory phase.OverUploaded = table.OverUploaded memory
 
--- What a phase needs of its task: a block that there is, a payload to close, or an image to fetch, of which the parts 0 to 65,534 are asked for.
+-- What a phase needs of its task: a block that there is, a payload to close, or an image to fetch, of which the parts 0 to 65,534 are
+-- asked for, or nothing.
 abbrev pub IsWithin : Task → Phase → Type 0
+IsWithin t phase.Find = Unit {0}
+IsWithin t phase.FindAgain = Unit {0}
+IsWithin t phase.Detach = Unit {0}
+IsWithin t phase.Enter = Unit {0}
+IsWithin t phase.Clear = Unit {0}
+IsWithin t phase.Quit = Unit {0}
+IsWithin t (phase.WaitFind poll) = Unit {0}
+IsWithin t phase.ResetFind = Unit {0}
 IsWithin t (phase.Block n) = n * t.transfer < length (payload_of t.goal)
 IsWithin t (phase.Ask n) = n * t.transfer < length (payload_of t.goal)
 IsWithin t (phase.Poll n) = n * t.transfer < length (payload_of t.goal)
 IsWithin t (phase.WaitPoll n poll) = n * t.transfer < length (payload_of t.goal)
 IsWithin t phase.Close = 0 < length (payload_of t.goal)
 IsWithin t phase.AskLast = 0 < length (payload_of t.goal)
+IsWithin t phase.Manifest = Unit {0}
+IsWithin t (phase.WaitManifest poll) = Unit {0}
+IsWithin t (phase.WaitLast poll) = Unit {0}
+IsWithin t phase.Trouble = Unit {0}
 IsWithin t (phase.Fetch k) = IsFetch t.goal × (k < 65535)
-IsWithin t phase = Unit {0}
+IsWithin t phase.LastUploaded = Unit {0}
+IsWithin t (phase.Last report) = Unit {0}
+IsWithin t phase.GiveUp = Unit {0}
+IsWithin t (phase.Over report) = Unit {0}
+IsWithin t phase.OverUploaded = Unit {0}
 
 -- What the code heard, where the part of an upload has these bytes.
 abbrev pub heard_of : (part : List ℕ) → Heard → table.Heard
@@ -71,7 +88,12 @@ heard_of part heard.Restarted = table.Restarted
 -- The bytes that are seen, which may be a part of an upload; what is no bytes has none.
 abbrev pub part_of : Seen → List ℕ
 part_of (seen.Bytes bytes) = bytes.now
-part_of seen = []
+part_of seen.Ack = []
+part_of seen.Stall = []
+part_of seen.Nothing = []
+part_of seen.Waited = []
+part_of seen.WasReset = []
+part_of seen.Restarted = []
 
 -- The task of a session.
 abbrev pub task_of : Task → table.Task
@@ -85,7 +107,12 @@ task_of t = record {
 
 -- A host of its task and how far it has come, with these bytes in memory.
 abbrev pub state_with : List ℕ → Task → Progress → HostState
-state_with memory t p = record { task = task_of t; phase = phase_of memory p.phase; actions = p.actions; restarts = p.restarts }
+state_with memory t p = record {
+  task = task_of t;
+  phase = phase_of memory p.phase;
+  actions = p.actions;
+  restarts = p.restarts;
+}
 
 -- A host, of its task and how far it has come.
 abbrev pub state_of : Task → Progress → HostState
