@@ -8,19 +8,20 @@ use Rattle.dfu_slots.specs.Units.{gate_size, IsMultiple}
 use Rattle.dfu_slots.specs.Image.{capacity_of, IsSized}
 use Rattle.dfu_link.specs.ScriptRun.{blank}
 
--- it is what the medium in memory is made as
-pub made_blank : (u : WriteUnit) (n len : ℕ) → len ≡ 2 * (2 * gate_size u + n) → ◌≡◌ {A = MediumState} (record { bytes = replicate len 255; failures = 0; fuse = Whole; unit = u }) (blank u n)
+-- It is what the medium in memory is made as.
+pub made_blank : (u : WriteUnit) (n len : ℕ) → len ≡ 2 * (2 * gate_size u + n)
+    → ◌≡◌ {A = MediumState} (record { bytes = replicate len 255; failures = 0; fuse = Whole; unit = u }) (blank u n)
 made_blank u n len is = λ i. record { bytes = replicate (is i) 255; failures = 0; fuse = Whole; unit = u }
 
--- so many bytes it has
+-- So many bytes it has.
 blank_len : (u : WriteUnit) (n : ℕ) → length (blank u n).bytes ≡ 2 * (2 * gate_size u + n)
 blank_len u n = length-replicate {A = ℕ} (2 * (2 * gate_size u + n)) 255
 
--- each of its slots has so much room
+-- Each of its slots has so much room.
 pub room_blank : (u : WriteUnit) (n : ℕ) → capacity_of (blank u n) ≡ n
 room_blank u n = omega (arith, blank_len u n)
 
--- two slots can stand on it
+-- Two slots can stand on it.
 pub blank_sized : (u : WriteUnit) (n : ℕ) → 1 ≤ n → n ≤ 1048576 → IsMultiple u n → IsSized (blank u n)
 blank_sized u n some most whole = record {
   even = omega (arith, blank_len u n);

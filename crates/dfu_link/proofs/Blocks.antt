@@ -10,28 +10,35 @@ use Rattle.dfu_host.specs.Blocks.{blocks, first}
 use Rattle.dfu_host.specs.BlockLaws.{first_suc, full_block}
 use Rattle.dfu_host.specs.Table.{ToLoad, Phase, Block, Ask, Close, AskLast, row}
 use Rattle.dfu_link.specs.Session.{IsOneOf, IsFirst}
-use Rattle.dfu_link.specs.Play.{Fate, Pass, LostOut, LostBack, Twice, TwiceLostBack, Slip, CutIn, Fail, task_for, Passed, sent_by, sent}
-use Rattle.dfu_link.specs.Agreement.{pending_of, IsSound}
-use Rattle.dfu_link.specs.Fact.{Begun, Asking, Whole, Fact}
+use Rattle.dfu_link.specs.Happening.{Fate, Pass, LostOut, LostBack, Twice, TwiceLostBack, Slip, CutIn, Fail}
+use Rattle.dfu_link.specs.Play.{task_for, Passed, sent_by, sent}
+use Rattle.dfu_link.specs.LinkAgreement.{pending_of, IsSound}
+use Rattle.dfu_link.specs.Fact.{Begun, AllTaken, Fact}
 use Rattle.dfu_link.proofs.Quiet.{Quiet, stays, forgets}
 use Rattle.dfu_link.proofs.Fates.{IfHeard}
 
--- what an action does to the image and the pending bytes
-pub data Moves (offers : List (List ℕ)) (p : List ℕ) (t : ℕ) : List ℕ → Option (List ℕ) → List ℕ → Option (List ℕ) → Type 0 where
-  quietly : {i j : List ℕ} {q r : Option (List ℕ)} → Quiet offers i q j r → Moves offers p t i q j r
-  takes_block : {i : List ℕ} {q : Option (List ℕ)} (n : ℕ) (more : List ℕ) → n < length (blocks p t) → IsFirst p t n q → more ≡ first p t (suc n) → Moves offers p t i q i (Some more)
-  loses_block : {i : List ℕ} {q : Option (List ℕ)} (n : ℕ) (more : List ℕ) → n < length (blocks p t) → IsFirst p t n q → more ≡ first p t (suc n) → Moves offers p t i q i None
+-- What an action does to the image and the pending bytes.
+pub data ImageMoves (offers : List (List ℕ)) (p : List ℕ) (t : ℕ) : List ℕ → Option (List ℕ) → List ℕ → Option (List ℕ) → Type 0 where
+  quietly : {i j : List ℕ} {q r : Option (List ℕ)} → Quiet offers i q j r → ImageMoves offers p t i q j r
+  takes_block : {i : List ℕ} {q : Option (List ℕ)} (n : ℕ) (more : List ℕ) → n < length (blocks p t) → IsFirst p t n q
+      → more ≡ first p t (suc n) → ImageMoves offers p t i q i (Some more)
+  loses_block : {i : List ℕ} {q : Option (List ℕ)} (n : ℕ) (more : List ℕ) → n < length (blocks p t) → IsFirst p t n q
+      → more ≡ first p t (suc n) → ImageMoves offers p t i q i None
 
+-- Bytes that equal one of the offers are one of them.
 pub is_one : (offers : List (List ℕ)) {x y : List ℕ} → x ≡ y → IsOneOf y offers → IsOneOf x offers
 is_one offers e h = subst (λ z. IsOneOf z offers) (sym e) h
 
 module _ (c : Profile) (offers : List (List ℕ)) (p : List ℕ) where
-  pub record Goes (phase : Phase) (s : Situation) (d : Passed) : Type 0 where
-    pub moves : Moves offers p c.transfer s.image (pending_of s.stage) d.device.image (pending_of d.device.stage)
+  -- A request of this phase goes well by its fate: the image and the pending bytes move as they may, bytes that were closed stay an offer,
+  -- and the fact of the next phase holds.
+  pub record GoesWell (phase : Phase) (s : Situation) (d : Passed) : Type 0 where
+    pub moves : ImageMoves offers p c.transfer s.image (pending_of s.stage) d.device.image (pending_of d.device.stage)
     pub sound : IsSound offers d.device.stage
     pub next : IfHeard d.heard (λ heard. Fact c p (row (task_for c (ToLoad p)) phase heard) d.device)
 
-  block_fault : (n num : ℕ) (body : List ℕ) (s : Situation) (code : Code) → n < length (blocks p c.transfer) → Fact c p (Ask n) s → IsSound offers s.stage → (fate : Fate) (l k : Luck) → Goes (Block n) s (sent_by c s (Dnload num body) (error code) fate l k)
+  block_fault : (n num : ℕ) (body : List ℕ) (s : Situation) (code : Code) → n < length (blocks p c.transfer) → Fact c p (Ask n) s
+      → IsSound offers s.stage → (fate : Fate) (l k : Luck) → GoesWell (Block n) s (sent_by c s (Dnload num body) (error code) fate l k)
   block_fault n num body s code b a h Pass l k = record { moves = quietly forgets; sound = tt; next = tt }
   block_fault n num body s code b a h LostOut l k = record { moves = quietly stays; sound = h; next = a }
   block_fault n num body s code b a h LostBack l k = record { moves = quietly forgets; sound = tt; next = (b, tt) }
@@ -41,7 +48,9 @@ module _ (c : Profile) (offers : List (List ℕ)) (p : List ℕ) where
   block_fault n num body s code b a h CutIn l k = record { moves = quietly forgets; sound = tt; next = tt }
   block_fault n num body s code b a h Fail l k = record { moves = quietly forgets; sound = tt; next = tt }
 
-  block_taken : (n num : ℕ) (before body : List ℕ) (number : ℕ) (s : Situation) → n < length (blocks p c.transfer) → Fact c p (Ask n) s → IsSound offers s.stage → IsFirst p c.transfer n (pending_of s.stage) → before ++ body ≡ first p c.transfer (suc n) → (fate : Fate) (l k : Luck) → Goes (Block n) s (sent_by c s (Dnload num body) (Sure Ack (InDownloadSync before body number)) fate l k)
+  block_taken : (n num : ℕ) (before body : List ℕ) (number : ℕ) (s : Situation) → n < length (blocks p c.transfer) → Fact c p (Ask n) s
+      → IsSound offers s.stage → IsFirst p c.transfer n (pending_of s.stage) → before ++ body ≡ first p c.transfer (suc n)
+      → (fate : Fate) (l k : Luck) → GoesWell (Block n) s (sent_by c s (Dnload num body) (Sure Ack (InDownloadSync before body number)) fate l k)
   block_taken n num before body number s b a h f e Pass l k = record { moves = takes_block n _ b f e; sound = tt; next = (b, e) }
   block_taken n num before body number s b a h f e LostOut l k = record { moves = quietly stays; sound = h; next = a }
   block_taken n num before body number s b a h f e LostBack l k = record { moves = takes_block n _ b f e; sound = tt; next = (b, e) }
@@ -51,7 +60,8 @@ module _ (c : Profile) (offers : List (List ℕ)) (p : List ℕ) where
   block_taken n num before body number s b a h f e CutIn l k = record { moves = loses_block n _ b f e; sound = tt; next = tt }
   block_taken n num before body number s b a h f e Fail l k = record { moves = takes_block n _ b f e; sound = tt; next = (b, e) }
 
-  close_fault : (num : ℕ) (s : Situation) (code : Code) → Fact c p AskLast s → IsSound offers s.stage → (fate : Fate) (l k : Luck) → Goes Close s (sent_by c s (Dnload num []) (error code) fate l k)
+  close_fault : (num : ℕ) (s : Situation) (code : Code) → Fact c p AskLast s → IsSound offers s.stage → (fate : Fate) (l k : Luck)
+      → GoesWell Close s (sent_by c s (Dnload num []) (error code) fate l k)
   close_fault num s code a h Pass l k = record { moves = quietly forgets; sound = tt; next = tt }
   close_fault num s code a h LostOut l k = record { moves = quietly stays; sound = h; next = a }
   close_fault num s code a h LostBack l k = record { moves = quietly forgets; sound = tt; next = tt }
@@ -61,7 +71,9 @@ module _ (c : Profile) (offers : List (List ℕ)) (p : List ℕ) where
   close_fault num s code a h CutIn l k = record { moves = quietly forgets; sound = tt; next = tt }
   close_fault num s code a h Fail l k = record { moves = quietly forgets; sound = tt; next = tt }
 
-  close_taken : (num : ℕ) (image taken : List ℕ) (number : ℕ) → taken ≡ p → IsOneOf taken offers → (fate : Fate) (l k : Luck) → let s : Situation = record { image = image; stage = InDownloadIdle taken number } in Goes Close s (sent_by c s (Dnload num []) (Sure Ack (InManifestSync taken)) fate l k)
+  close_taken : (num : ℕ) (image taken : List ℕ) (number : ℕ) → taken ≡ p → IsOneOf taken offers → (fate : Fate) (l k : Luck)
+      → let s : Situation = record { image = image; stage = InDownloadIdle taken number } in
+      GoesWell Close s (sent_by c s (Dnload num []) (Sure Ack (InManifestSync taken)) fate l k)
   close_taken num image taken number e o Pass l k = record { moves = quietly stays; sound = o; next = e }
   close_taken num image taken number e o LostOut l k = record { moves = quietly stays; sound = tt; next = e }
   close_taken num image taken number e o LostBack l k = record { moves = quietly stays; sound = o; next = e }
@@ -71,64 +83,65 @@ module _ (c : Profile) (offers : List (List ℕ)) (p : List ℕ) where
   close_taken num image taken number e o CutIn l k = record { moves = quietly forgets; sound = tt; next = tt }
   close_taken num image taken number e o Fail l k = record { moves = quietly stays; sound = o; next = e }
 
--- cases on the plan of a block
-block_cases : (P : Plan → Type 0) (c : Profile) (before : List ℕ) (expected number : ℕ) (body : List ℕ) → ((code : Code) → P (error code)) → P (Sure Ack (InDownloadSync before body (next_number expected))) → P (block_plan c before expected number body)
+-- Cases on the plan of a block.
+block_cases : (P : Plan → Type 0) (c : Profile) (before : List ℕ) (expected number : ℕ) (body : List ℕ) → ((code : Code) → P (error code))
+    → P (Sure Ack (InDownloadSync before body (next_number expected))) → P (block_plan c before expected number body)
 block_cases P c before expected number body pf pt =
     either_way P (nat_lt c.transfer (length body)) _ _ (pf ErrStalledPkt)
     (either_way P (not (number == expected)) _ _ (pf ErrAddress)
     (either_way P (nat_lt c.capacity (length before + length body)) _ _ (pf ErrAddress) pt))
 
-first_cases : (P : Plan → Type 0) (c : Profile) (number : ℕ) (body : List ℕ) → ((code : Code) → P (error code)) → P (Sure Ack (InDownloadSync [] body (next_number 0))) → P (first_plan c number body)
+first_cases : (P : Plan → Type 0) (c : Profile) (number : ℕ) (body : List ℕ) → ((code : Code) → P (error code))
+    → P (Sure Ack (InDownloadSync [] body (next_number 0))) → P (first_plan c number body)
 first_cases P c number body pf pt =
     either_way P (not c.can_download) _ _ (pf ErrStalledPkt)
     (either_way P (is_empty body) _ _ (pf ErrStalledPkt) (block_cases P c [] 0 number body pf pt))
 
-further_cases : (P : Plan → Type 0) (c : Profile) (taken : List ℕ) (expected number : ℕ) (body : List ℕ) → is_empty body ≡ false → ((code : Code) → P (error code)) → P (Sure Ack (InDownloadSync taken body (next_number expected))) → P (further_plan c taken expected number body)
+further_cases : (P : Plan → Type 0) (c : Profile) (taken : List ℕ) (expected number : ℕ) (body : List ℕ) → is_empty body ≡ false
+    → ((code : Code) → P (error code)) → P (Sure Ack (InDownloadSync taken body (next_number expected)))
+    → P (further_plan c taken expected number body)
 further_cases P c taken expected number body e pf pt =
-    subst (λ t. P (cond t (cond (nat_le c.least (length taken)) (Sure Ack (InManifestSync taken)) (error ErrNotDone)) (block_plan c taken expected number body))) (sym e) (block_cases P c taken expected number body pf pt)
+    subst (λ t. P (cond t (cond (nat_le c.least (length taken)) (Sure Ack (InManifestSync taken)) (error ErrNotDone))
+    (block_plan c taken expected number body))) (sym e) (block_cases P c taken expected number body pf pt)
 
+-- Bytes that are at least one are not none.
 pub not_empty : (body : List ℕ) → 0 < length body → is_empty body ≡ false
 not_empty [] h = absurd (omega arith)
 not_empty (x ∷ xs) h = refl
 
-begun_asking : (p : List ℕ) (t n : ℕ) (stage : Stage) → Begun p t n stage → Asking p t n stage
-begun_asking p t n InDfuIdle h = h
-begun_asking p t n (InDownloadIdle taken number) h = h
-begun_asking p t n stage h = elim h [ ]
-
-begun_first : (p : List ℕ) (t n : ℕ) (stage : Stage) → Begun p t n stage → IsFirst p t n (pending_of stage)
-begun_first p t n InDfuIdle h = h
-begun_first p t n (InDownloadIdle taken number) h = h
-begun_first p t n stage h = elim h [ ]
-
 module _ (c : Profile) (sized : 0 < c.transfer) (offers : List (List ℕ)) (p : List ℕ) where
-  body_of : ℕ → List ℕ
-  body_of n = slice_index_or (blocks p c.transfer) n []
-
-  first_body : (n : ℕ) → n < length (blocks p c.transfer) → n ≡ 0 → [] ++ slice_index_or (blocks p c.transfer) n [] ≡ first p c.transfer (suc n)
+  first_body : (n : ℕ) → n < length (blocks p c.transfer) → n ≡ 0
+      → [] ++ slice_index_or (blocks p c.transfer) n [] ≡ first p c.transfer (suc n)
   first_body n b e = sym (first_suc p c.transfer n b ∙ ap (λ m. first p c.transfer m ++ slice_index_or (blocks p c.transfer) n []) e)
 
-  pub go_block : (n : ℕ) (i : List ℕ) (stage : Stage) → n < length (blocks p c.transfer) → Begun p c.transfer n stage → IsSound offers stage → (fate : Fate) (l k : Luck) → let s : Situation = record { image = i; stage = stage } in Goes c offers p (Block n) s (sent c s (Dnload (n % 65536) (slice_index_or (blocks p c.transfer) n [])) fate l k)
+  -- The phase that sends block n goes well by each fate.
+  pub go_block : (n : ℕ) (i : List ℕ) (stage : Stage) → n < length (blocks p c.transfer) → Begun p c.transfer n stage → IsSound offers stage
+      → (fate : Fate) (l k : Luck) → let s : Situation = record { image = i; stage = stage } in
+      GoesWell c offers p (Block n) s (sent c s (Dnload (n % 65536) (slice_index_or (blocks p c.transfer) n [])) fate l k)
   go_block n i InDfuIdle b g h fate l k =
       let body = slice_index_or (blocks p c.transfer) n [] in
       let s : Situation = record { image = i; stage = InDfuIdle } in
-      let P : Plan → Type 0 = λ q. Goes c offers p (Block n) s (sent_by c s (Dnload (n % 65536) body) q fate l k) in
+      let P : Plan → Type 0 = λ q. GoesWell c offers p (Block n) s (sent_by c s (Dnload (n % 65536) body) q fate l k) in
       first_cases P c (n % 65536) body
       (λ code. block_fault c offers p n (n % 65536) body s code b (b, g) h fate l k)
       (block_taken c offers p n (n % 65536) [] body _ s b (b, g) h g (first_body n b g) fate l k)
   go_block n i (InDownloadIdle taken number) b g h fate l k =
       let body = slice_index_or (blocks p c.transfer) n [] in
       let s : Situation = record { image = i; stage = InDownloadIdle taken number } in
-      let P : Plan → Type 0 = λ q. Goes c offers p (Block n) s (sent_by c s (Dnload (n % 65536) body) q fate l k) in
+      let P : Plan → Type 0 = λ q. GoesWell c offers p (Block n) s (sent_by c s (Dnload (n % 65536) body) q fate l k) in
       further_cases P c taken number (n % 65536) body (not_empty _ (full_block p c.transfer n sized b))
       (λ code. block_fault c offers p n (n % 65536) body s code b (b, g) h fate l k)
-      (block_taken c offers p n (n % 65536) taken body _ s b (b, g) h g (ap (λ x. x ++ body) g.1 ∙ sym (first_suc p c.transfer n b)) fate l k)
+      (block_taken c offers p n (n % 65536) taken body _ s b (b, g) h g (ap (λ x. x ++ body) g.1 ∙ sym (first_suc p c.transfer n b)) fate l
+      k)
   go_block n i stage b g h fate l k = elim g [ ]
 
-  pub go_close : (num : ℕ) (i : List ℕ) (stage : Stage) → Whole p stage → IsSound offers stage → IsOneOf p offers → (fate : Fate) (l k : Luck) → let s : Situation = record { image = i; stage = stage } in Goes c offers p Close s (sent c s (Dnload num []) fate l k)
+  -- The phase that closes the download goes well by each fate.
+  pub go_close : (num : ℕ) (i : List ℕ) (stage : Stage) → AllTaken p stage → IsSound offers stage → IsOneOf p offers
+      → (fate : Fate) (l k : Luck) → let s : Situation = record { image = i; stage = stage } in
+      GoesWell c offers p Close s (sent c s (Dnload num []) fate l k)
   go_close num i (InDownloadIdle taken number) w h o fate l k =
       let s : Situation = record { image = i; stage = InDownloadIdle taken number } in
-      let P : Plan → Type 0 = λ q. Goes c offers p Close s (sent_by c s (Dnload num []) q fate l k) in
+      let P : Plan → Type 0 = λ q. GoesWell c offers p Close s (sent_by c s (Dnload num []) q fate l k) in
       either_way P (nat_le c.least (length taken)) _ _
       (close_taken c offers p num i taken number w (is_one offers w o) fate l k)
       (close_fault c offers p num s ErrNotDone w h fate l k)

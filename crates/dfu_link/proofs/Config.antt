@@ -7,8 +7,10 @@ use Rattle.dfu_device.specs.Table.{Plan, Sure, Writes, Commits, time_plan}
 use Rattle.dfu_device.specs.Shown.{Shown, profile}
 use Rattle.dfu_device.specs.Rows.{asked_length, setup_plan, Done, Handles, handled_as, Elapses}
 use Rattle.dfu_host.specs.Table.{Deed, Send, Wait, Reset, Done as IsDone, deed, Heard}
-use Rattle.dfu_link.specs.Play.{Fate, Slip, CutIn, Event, Offer, UploadIt, AbortIt, Go, Time, ResetBus, Cut, Answered}
-use Rattle.dfu_link.specs.Bytes.{Harm, fuse_of, armed, bus_was_reset, Sends, passes, goes_lost, comes_lost, repeats, repeats_lost, slips, cuts, fails, Waits, Resets, Acts, after_fate, Bench, Happens}
+use Rattle.dfu_link.specs.Happening.{Fate, Slip, CutIn, Harm}
+use Rattle.dfu_link.specs.Play.{Event, Offer, UploadIt, AbortIt, Go, Time, ResetBus, Cut, Answered}
+use Rattle.dfu_link.specs.Bytes.{fuse_of, armed, bus_was_reset, Sends, passes, goes_lost, comes_lost, repeats, repeats_lost, slips, cuts, fails, Waits, Resets, Acts, after_fate, Happens}
+use Rattle.dfu_link.specs.Bench.{Bench}
 
 done_config : (p : Plan) (len : ℕ) (w : Shown) (a : Answer) (out : List ℕ) (w' : Shown) → Done p len w a out w' → w'.config ≡ w.config
 done_config (Sure reply stage) len w a out w' (says, is) = ap (λ (x : Shown). x.config) is
@@ -18,12 +20,14 @@ done_config (Commits taken reply stage bad) len w a out w' (inl (says, h)) = h.c
 done_config (Commits taken reply stage bad) len w a out w' (inr (says, h)) = h.config_is
 
 handles_config : {setup body out : List ℕ} {w w' : Shown} {a : Answer} → Handles setup body w a out w' → w'.config ≡ w.config
-handles_config {body = body} {out = out} {w = w} {w' = w'} {a = a} (handled_as p q reads asks done) = done_config (setup_plan w p q body) (asked_length q) w a out w' done
+handles_config {body = body} {out = out} {w = w} {w' = w'} {a = a} (handled_as p q reads asks done) =
+    done_config (setup_plan w p q body) (asked_length q) w a out w' done
 
 elapses_config : (ms : ℕ) (w w' : Shown) → Elapses ms w w' → w'.config ≡ w.config
 elapses_config ms w w' h = done_config (time_plan (profile w) w.stage ms) 0 w answer.Ack [] w' h
 
-sends_config : {q : Asked} {setup body : List ℕ} {f : Fate} {w w' : Shown} {heard : Heard} → Sends q setup body f w w' heard → w'.config ≡ w.config
+sends_config : {q : Asked} {setup body : List ℕ} {f : Fate} {w w' : Shown} {heard : Heard} → Sends q setup body f w w' heard
+    → w'.config ≡ w.config
 sends_config (passes h r) = handles_config h
 sends_config goes_lost = refl
 sends_config (comes_lost h) = handles_config h
@@ -53,12 +57,15 @@ after_config : (f : Fate) (w : Shown) → (after_fate f w).config ≡ w.config
 after_config CutIn w = refl
 after_config f w = refl
 
-pub happens_config : (event : Event) (harm : Harm) (b b' : Bench) (answer : Answered) → Happens event harm b b' answer → b'.device.config ≡ b.device.config
+-- No event changes what a device is set up as.
+pub happens_config : (event : Event) (harm : Harm) (b b' : Bench) (answer : Answered) → Happens event harm b b' answer
+    → b'.device.config ≡ b.device.config
 happens_config (Offer payload actions restarts) harm b b' answer (e, f) = ap (λ (x : Bench). x.device.config) e
 happens_config (UploadIt actions restarts) harm b b' answer (e, f) = ap (λ (x : Bench). x.device.config) e
 happens_config AbortIt harm b b' answer (e, f) = ap (λ (x : Bench). x.device.config) e
 happens_config (Go fate) harm b b' answer g =
-    ap (λ (x : Shown). x.config) g.device ∙ after_config fate g.last ∙ acts_config (deed g.host.task g.host.phase) fate (armed b.device (fuse_of fate harm)) g.last g.heard g.acts
+    ap (λ (x : Shown). x.config) g.device ∙ after_config fate g.last
+    ∙ acts_config (deed g.host.task g.host.phase) fate (armed b.device (fuse_of fate harm)) g.last g.heard g.acts
 happens_config (Time ms) harm b b' answer (e, s, n) = elapses_config ms b.device b'.device e
 happens_config ResetBus harm b b' answer (e, f) = ap (λ (x : Bench). x.device.config) e
 happens_config Cut harm b b' answer (e, f) = ap (λ (x : Bench). x.device.config) e

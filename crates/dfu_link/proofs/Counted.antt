@@ -8,25 +8,28 @@ use Rattle.dfu_host.specs.Counting.{IsCounted}
 use Rattle.dfu_host.specs.CountingLaws.{after_stays, after_same_task}
 use Rattle.dfu_device.specs.Stage.{Profile}
 use Rattle.dfu_device.specs.Outcome.{Situation}
-use Rattle.dfu_link.specs.Play.{Fate, Event, Offer, UploadIt, AbortIt, Go, Time, ResetBus, Cut, Session, Nobody, Hosted, Answered, settled, took, told, aborted}
+use Rattle.dfu_link.specs.Happening.{Fate, Harm}
+use Rattle.dfu_link.specs.Play.{Event, Offer, UploadIt, AbortIt, Go, Time, ResetBus, Cut, Answered, settled, took, told, aborted}
+use Rattle.dfu_link.specs.Bench.{Session, Nobody, Hosted, Bench}
 use Rattle.dfu_link.specs.Fact.{SessionFact}
-use Rattle.dfu_link.specs.Bytes.{Harm, Bench, Happens}
+use Rattle.dfu_link.specs.Bytes.{Happens}
 use Rattle.dfu_device.specs.Shown.{Shown}
-use Rattle.dfu_link.specs.Comes.{ComesWith, IsWhole}
+use Rattle.dfu_link.specs.Comes.{ComesWith, GivesWithUploaded}
 use Rattle.dfu_link.specs.Acting.{HasActed}
-use Rattle.dfu_link.specs.Standing.{IsOnIn, IsSized, IsCountedIn}
+use Rattle.dfu_link.specs.Standing.{SendsBytes, IsCountedIn}
 
--- bytes are given with Uploaded alone, and then fewer than 65,535 blocks of them
+-- Bytes are given with Uploaded alone, and then fewer than 65,535 blocks of them.
 abbrev pub FitsIn : (t : ℕ) → Option Report → Option (List ℕ) → Type 0
 FitsIn t (Some Uploaded) (Some bytes) = length bytes < 65535 * t
 FitsIn t (Some Uploaded) None = ⊥
 FitsIn t report (Some bytes) = ⊥
 FitsIn t report None = Unit {0}
 
+-- So it is of an answer.
 abbrev pub Fits : (t : ℕ) → Answered → Type 0
 Fits t answer = FitsIn t answer.report answer.gave
 
--- a session that goes on is counted, and one that ends gives what is counted
+-- A session that goes on is counted, and one that ends gives what is counted.
 
 settled_counted : (h : HostState) (phase : Phase) → h.phase ≡ phase → IsCounted h.task phase → IsCountedIn (settled h phase).session
 settled_counted h (Over r) e c = tt
@@ -42,21 +45,24 @@ settled_fits task h (Over r) c = over_fits task r c
 settled_fits task h (OverUploaded kept) c = c.1
 settled_fits task h phase c = tt
 
--- a host that took something
-pub after_counted_in : (h : HostState) (heard : Heard) → 0 < h.task.transfer → IsCounted h.task h.phase → IsCountedIn (Hosted (after h heard))
-after_counted_in h heard some c = subst (λ (task : Task). IsCounted task (after h heard).phase) (sym (after_same_task h heard)) (after_stays h heard some c)
+-- A host that took something.
+pub after_counted_in : (h : HostState) (heard : Heard) → 0 < h.task.transfer → IsCounted h.task h.phase
+    → IsCountedIn (Hosted (after h heard))
+after_counted_in h heard some c = subst (λ (task : Task). IsCounted task (after h heard).phase) (sym (after_same_task h heard))
+    (after_stays h heard some c)
 
-took_counted : (h : HostState) (heard : Heard) → IsSized (Hosted h) → IsCountedIn (Hosted h) → IsCountedIn (took h heard).session
+took_counted : (h : HostState) (heard : Heard) → SendsBytes (Hosted h) → IsCountedIn (Hosted h) → IsCountedIn (took h heard).session
 took_counted h heard some c = settled_counted (after h heard) (after h heard).phase refl (after_counted_in h heard some c)
 
-took_fits : (h : HostState) (heard : Heard) → IsSized (Hosted h) → IsCountedIn (Hosted h) → Fits h.task.transfer (took h heard).answer
+took_fits : (h : HostState) (heard : Heard) → SendsBytes (Hosted h) → IsCountedIn (Hosted h) → Fits h.task.transfer (took h heard).answer
 took_fits h heard some c = settled_fits h.task (after h heard) (after h heard).phase (after_stays h heard some c)
 
-told_counted : (session : Session) → IsSized session → IsCountedIn session → IsCountedIn (told session).session
+told_counted : (session : Session) → SendsBytes session → IsCountedIn session → IsCountedIn (told session).session
 told_counted Nobody some c = tt
 told_counted (Hosted h) some c = took_counted h Restarted some c
 
-told_fits : (p : Profile) (s : Situation) (session : Session) → SessionFact p s session → IsSized session → IsCountedIn session → Fits p.transfer (told session).answer
+told_fits : (p : Profile) (s : Situation) (session : Session) → SessionFact p s session → SendsBytes session → IsCountedIn session
+    → Fits p.transfer (told session).answer
 told_fits p s Nobody f some c = tt
 told_fits p s (Hosted h) f some c = subst (λ (n : ℕ). Fits n (took h Restarted).answer) f.task_is.transfer (took_fits h Restarted some c)
 
@@ -75,42 +81,48 @@ fits_whole t (Some Uploaded) None fits = elim fits [ ]
 fits_whole t report (Some bytes) fits = elim fits [ ]
 fits_whole t report None fits = tt
 
--- and bytes come with Uploaded alone
-pub took_whole : (h : HostState) (heard : Heard) → IsSized (Hosted h) → IsCountedIn (Hosted h) → IsWhole (Ok (took h heard).answer)
-took_whole h heard some c = let answer = (took h heard).answer in fits_whole h.task.transfer answer.report answer.gave (took_fits h heard some c)
+-- And bytes come with Uploaded alone.
+pub took_whole : (h : HostState) (heard : Heard) → SendsBytes (Hosted h) → IsCountedIn (Hosted h)
+    → GivesWithUploaded (Ok (took h heard).answer)
+took_whole h heard some c = let answer = (took h heard).answer in
+    fits_whole h.task.transfer answer.report answer.gave (took_fits h heard some c)
 
-pub told_whole : (session : Session) → IsSized session → IsCountedIn session → IsWhole (Ok (told session).answer)
+-- What a session answers to a restart gives bytes with Uploaded alone.
+pub told_whole : (session : Session) → SendsBytes session → IsCountedIn session → GivesWithUploaded (Ok (told session).answer)
 told_whole Nobody some c = tt
 told_whole (Hosted h) some c = took_whole h Restarted some c
 
--- a host that took the answer of its action
-pub acted_counted : (fate : Fate) (w w' : Shown) (h h' : HostState) → IsSized (Hosted h) → IsCountedIn (Hosted h) → HasActed h fate w w' h' → IsCountedIn (Hosted h')
-acted_counted fate w w' h h' some c acted = subst (λ (x : HostState). IsCountedIn (Hosted x)) (sym acted.same) (after_counted_in h acted.heard some c)
+-- A host that took the answer of its action.
+pub acted_counted : (fate : Fate) (w w' : Shown) (h h' : HostState) → SendsBytes (Hosted h) → IsCountedIn (Hosted h)
+    → HasActed h fate w w' h' → IsCountedIn (Hosted h')
+acted_counted fate w w' h h' some c acted = subst (λ (x : HostState). IsCountedIn (Hosted x)) (sym acted.same)
+    (after_counted_in h acted.heard some c)
 
--- a live session is not done
-pub fact_on : (p : Profile) (s : Situation) (session : Session) → SessionFact p s session → IsOnIn session
-fact_on p s Nobody f = tt
-fact_on p s (Hosted h) f = f.on
+-- Each event.
 
--- each event
-
-pub happens_counted : (event : Event) (harm : Harm) (b b' : Bench) (answer : Answered) → IsSized b.session → IsCountedIn b.session → Happens event harm b b' answer → IsCountedIn b'.session
+-- After each event what a live session keeps is counted.
+pub happens_counted : (event : Event) (harm : Harm) (b b' : Bench) (answer : Answered) → SendsBytes b.session → IsCountedIn b.session
+    → Happens event harm b b' answer → IsCountedIn b'.session
 happens_counted (Offer payload actions restarts) harm b b' answer some c (e, f) = subst (λ (x : Bench). IsCountedIn x.session) (sym e) tt
 happens_counted (UploadIt actions restarts) harm b b' answer some c (e, f) = subst (λ (x : Bench). IsCountedIn x.session) (sym e) tt
 happens_counted AbortIt harm b b' answer some c (e, f) = subst (λ (x : Bench). IsCountedIn x.session) (sym e) (aborted_counted b.session c)
-happens_counted (Go fate) harm b b' answer some c g = subst IsCountedIn (sym g.session) (took_counted g.host g.heard (subst IsSized g.live some) (subst IsCountedIn g.live c))
+happens_counted (Go fate) harm b b' answer some c g = subst IsCountedIn (sym g.session)
+    (took_counted g.host g.heard (subst SendsBytes g.live some) (subst IsCountedIn g.live c))
 happens_counted (Time ms) harm b b' answer some c (e, s, n) = subst IsCountedIn (sym s) c
-happens_counted ResetBus harm b b' answer some c (e, f) = subst (λ (x : Bench). IsCountedIn x.session) (sym e) (told_counted b.session some c)
+happens_counted ResetBus harm b b' answer some c (e, f) = subst (λ (x : Bench). IsCountedIn x.session) (sym e)
+    (told_counted b.session some c)
 happens_counted Cut harm b b' answer some c (e, f) = subst (λ (x : Bench). IsCountedIn x.session) (sym e) (told_counted b.session some c)
 
--- what an answer gives, by the device's transfer size
-pub happens_fits : (p : Profile) (s : Situation) (event : Event) (harm : Harm) (b b' : Bench) (answer : Answered) → SessionFact p s b.session → IsSized b.session → IsCountedIn b.session → Happens event harm b b' answer → Fits p.transfer answer
+-- What an answer gives, by the device's transfer size.
+pub happens_fits : (p : Profile) (s : Situation) (event : Event) (harm : Harm) (b b' : Bench) (answer : Answered)
+    → SessionFact p s b.session → SendsBytes b.session → IsCountedIn b.session → Happens event harm b b' answer → Fits p.transfer answer
 happens_fits p s (Offer payload actions restarts) harm b b' answer f some c (e, a) = subst (Fits p.transfer) (sym a) tt
 happens_fits p s (UploadIt actions restarts) harm b b' answer f some c (e, a) = subst (Fits p.transfer) (sym a) tt
 happens_fits p s AbortIt harm b b' answer f some c (e, a) = subst (Fits p.transfer) (sym a) tt
 happens_fits p s (Go fate) harm b b' answer f some c g =
     let fact = subst (SessionFact p s) g.live f in
-    subst (Fits p.transfer) (sym g.answered) (subst (λ (n : ℕ). Fits n (took g.host g.heard).answer) fact.task_is.transfer (took_fits g.host g.heard (subst IsSized g.live some) (subst IsCountedIn g.live c)))
+    subst (Fits p.transfer) (sym g.answered) (subst (λ (n : ℕ). Fits n (took g.host g.heard).answer) fact.task_is.transfer
+    (took_fits g.host g.heard (subst SendsBytes g.live some) (subst IsCountedIn g.live c)))
 happens_fits p s (Time ms) harm b b' answer f some c (e, k, a) = subst (Fits p.transfer) (sym a) tt
 happens_fits p s ResetBus harm b b' answer f some c (e, a) = subst (Fits p.transfer) (sym a) (told_fits p s b.session f some c)
 happens_fits p s Cut harm b b' answer f some c (e, a) = subst (Fits p.transfer) (sym a) (told_fits p s b.session f some c)

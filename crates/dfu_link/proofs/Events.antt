@@ -17,10 +17,13 @@ use Rattle.dfu_host.specs.Table.{ToLoad}
 use Rattle.dfu_link.specs.declared.fault.LinkFault.TheVariants as fault
 use Rattle.dfu_link.specs.declared.fault.OfferFault.{OfferFault}
 use Rattle.dfu_link.specs.declared.fault.OfferFault.TheVariants as offer_fault
-use Rattle.dfu_link.specs.Play.{Fate, Offer, Go, Time, ResetBus, Cut, Session, Nobody, Hosted, given, silent, told, took, settled, IsAllowed}
-use Rattle.dfu_link.specs.Bytes.{Harm, powered_up, bus_was_reset}
-use Rattle.dfu_link.specs.Comes.{Offers, Goes, Passes, Resets, Cuts, IsOffered, IsBadOffer, refuses, happens, HasCome, HasComeAlone}
-use Rattle.dfu_link.specs.Standing.{session_of, given_by, bench_of, link_state, IsSized, IsCountedIn}
+use Rattle.dfu_link.specs.Happening.{Fate, Harm, Offers, Goes, Passes, Resets, Cuts}
+use Rattle.dfu_link.specs.Play.{Offer, Go, Time, ResetBus, Cut, given, silent, told, took, settled, IsAllowed}
+use Rattle.dfu_link.specs.Bench.{Session, Nobody, Hosted}
+use Rattle.dfu_link.specs.Bytes.{powered_up, bus_was_reset}
+use Rattle.dfu_link.specs.Refusing.{IsOffered, IsBadOffer}
+use Rattle.dfu_link.specs.Comes.{refuses, happens, HasCome, HasComeAlone}
+use Rattle.dfu_link.specs.Standing.{session_of, given_by, bench_of, link_state, SendsBytes, IsCountedIn}
 use Rattle.dfu_link.specs.Acting.{HasGone, ended, HasBegun}
 use Rattle.dfu_link.proofs.Counted.{took_whole, told_whole}
 
@@ -36,8 +39,9 @@ cut_allowed : (s : Session) → IsAllowed s Cut
 cut_allowed Nobody = tt
 cut_allowed (Hosted h) = tt
 
--- time that passes
-pub time_comes : (ms : ℕ) (w w' : Shown) (host gave : Option HostState) → w.slots.medium.fuse ≡ Whole → Elapses ms w w' → HasCome (link_state w host gave) (Passes ms) (link_state w' host gave) (Ok None)
+-- Time that passes.
+pub time_comes : (ms : ℕ) (w w' : Shown) (host gave : Option HostState) → w.slots.medium.fuse ≡ Whole → Elapses ms w w'
+    → HasCome (link_state w host gave) (Passes ms) (link_state w' host gave) (Ok None)
 time_comes ms w w' host gave e row = record {
   answer = Ok silent;
   whole = tt;
@@ -46,31 +50,46 @@ time_comes ms w w' host gave e row = record {
   told = refl;
 }
 
--- a reset of the bus, not by the host
-pub reset_comes : (w w' : Shown) (host host' gave gave' : Option HostState) (report : Option Report) → IsSized (session_of host) → IsCountedIn (session_of host) → w.slots.medium.fuse ≡ Whole → w' ≡ bus_was_reset w → session_of host' ≡ (told (session_of host)).session
-    → given_by gave' ≡ given (told (session_of host)).answer.gave (given_by gave) → report ≡ (told (session_of host)).answer.report → HasCome (link_state w host gave) Resets (link_state w' host' gave') (Ok report)
+-- A reset of the bus, not by the host.
+pub reset_comes : (w w' : Shown) (host host' gave gave' : Option HostState) (report : Option Report) → SendsBytes (session_of host)
+    → IsCountedIn (session_of host) → w.slots.medium.fuse ≡ Whole → w' ≡ bus_was_reset w
+    → session_of host' ≡ (told (session_of host)).session
+    → given_by gave' ≡ given (told (session_of host)).answer.gave (given_by gave) → report ≡ (told (session_of host)).answer.report
+    → HasCome (link_state w host gave) Resets (link_state w' host' gave') (Ok report)
 reset_comes w w' host host' gave gave' report sized counted e device session kept says = record {
   answer = Ok (told (session_of host)).answer;
   whole = told_whole (session_of host) sized counted;
   up_is = kept;
-  comes = happens {event = ResetBus} tt (record { allowed = reset_allowed (session_of host); unarmed = e; happens = ((λ i. record { device = device i; session = session i }), refl) });
+  comes = happens {event = ResetBus} tt (record {
+    allowed = reset_allowed (session_of host);
+    unarmed = e;
+    happens = ((λ i. record { device = device i; session = session i }), refl);
+  });
   told = ap Ok says;
 }
 
--- a cut of the power, not in an action of the host
-pub cut_comes : (w w' : Shown) (host host' gave gave' : Option HostState) (report : Option Report) → IsSized (session_of host) → IsCountedIn (session_of host) → w.slots.medium.fuse ≡ Whole → w' ≡ powered_up w → session_of host' ≡ (told (session_of host)).session
-    → given_by gave' ≡ given (told (session_of host)).answer.gave (given_by gave) → report ≡ (told (session_of host)).answer.report → HasCome (link_state w host gave) Cuts (link_state w' host' gave') (Ok report)
+-- A cut of the power, not in an action of the host.
+pub cut_comes : (w w' : Shown) (host host' gave gave' : Option HostState) (report : Option Report) → SendsBytes (session_of host)
+    → IsCountedIn (session_of host) → w.slots.medium.fuse ≡ Whole → w' ≡ powered_up w → session_of host' ≡ (told (session_of host)).session
+    → given_by gave' ≡ given (told (session_of host)).answer.gave (given_by gave) → report ≡ (told (session_of host)).answer.report
+    → HasCome (link_state w host gave) Cuts (link_state w' host' gave') (Ok report)
 cut_comes w w' host host' gave gave' report sized counted e device session kept says = record {
   answer = Ok (told (session_of host)).answer;
   whole = told_whole (session_of host) sized counted;
   up_is = kept;
-  comes = happens {event = Cut} tt (record { allowed = cut_allowed (session_of host); unarmed = e; happens = ((λ i. record { device = device i; session = session i }), refl) });
+  comes = happens {event = Cut} tt (record {
+    allowed = cut_allowed (session_of host);
+    unarmed = e;
+    happens = ((λ i. record { device = device i; session = session i }), refl);
+  });
   told = ap Ok says;
 }
 
--- the host's next action
-pub go_comes : (fate : Fate) (harm : Harm) (w w' : Shown) (h h' : HostState) (host' gave gave' : Option HostState) (report : Option Report) → IsSized (Hosted h) → IsCountedIn (Hosted h) → w.slots.medium.fuse ≡ Whole → HasGone h fate harm w w' h'
-    → session_of host' ≡ (ended (Hosted h')).session → given_by gave' ≡ given (ended (Hosted h')).answer.gave (given_by gave) → report ≡ (ended (Hosted h')).answer.report
+-- The host's next action.
+pub go_comes : (fate : Fate) (harm : Harm) (w w' : Shown) (h h' : HostState) (host' gave gave' : Option HostState) (report : Option Report)
+    → SendsBytes (Hosted h) → IsCountedIn (Hosted h) → w.slots.medium.fuse ≡ Whole → HasGone h fate harm w w' h'
+    → session_of host' ≡ (ended (Hosted h')).session → given_by gave' ≡ given (ended (Hosted h')).answer.gave (given_by gave)
+    → report ≡ (ended (Hosted h')).answer.report
     → HasCome (link_state w (Some h) gave) (Goes fate harm) (link_state w' host' gave') (Ok report)
 go_comes fate harm w w' h h' host' gave gave' report sized counted e gone session kept says = record {
   answer = Ok (took h gone.acted.heard).answer;
@@ -93,22 +112,24 @@ go_comes fate harm w w' h h' host' gave gave' report sized counted e gone sessio
   told = ap Ok (says ∙ ap (λ (x : HostState). (settled x x.phase).answer.report) gone.acted.same);
 }
 
--- an action where no session is live
-pub go_refused : (f : Fate) (harm : Harm) (w : Shown) (gave : Option HostState) → HasCome (link_state w None gave) (Goes f harm) (link_state w None gave) (Err fault.NoHost)
+-- An action where no session is live.
+pub go_refused : (f : Fate) (harm : Harm) (w : Shown) (gave : Option HostState)
+    → HasCome (link_state w None gave) (Goes f harm) (link_state w None gave) (Err fault.NoHost)
 go_refused f harm w gave = record { answer = Err fault.NoHost; comes = refuses refl; whole = tt; up_is = refl; told = refl }
 
--- the first of these faults is none, so it is none of them
+-- The first of these faults is none, so it is none of them.
 pub not_first : (t : Bool) (fault : HostFault) (rest : Option HostFault) → cond t (Some fault) rest ≡ None → (t ≡ false) × (rest ≡ None)
 not_first true fault rest e = absurd cc
 not_first false fault rest e = (refl, e)
 
--- a file that is taken has bytes of payload, and the device takes blocks of some bytes
+-- A file that is taken has bytes of payload, and the device takes blocks of some bytes.
 pub bytes_of : {s : Setting} {file payload : List ℕ} → IsOffered s file payload → 0 < length payload
 bytes_of {payload = payload} offered =
     let a = not_first (length payload == 0) _ _ offered.taken in
     let e : (length payload == 0) ≡ false = a.0 in
     grind (arith, nat_tests)
 
+-- A device to which a file can be offered has a transfer size.
 pub has_transfer : {s : Setting} {file payload : List ℕ} → IsOffered s file payload → 0 < s.functional.transfer
 has_transfer {s = s} {payload = payload} offered =
     let a = not_first (length payload == 0) _ _ offered.taken in
@@ -118,6 +139,7 @@ has_transfer {s = s} {payload = payload} offered =
     let e : (s.functional.transfer == 0) ≡ false = z.0 in
     grind (arith, nat_tests)
 
+-- It can download.
 pub can_download : {s : Setting} {file payload : List ℕ} → IsOffered s file payload → s.functional.can_download ≡ true
 can_download {s = s} {payload = payload} offered =
     let a = not_first (length payload == 0) _ _ offered.taken in
@@ -129,18 +151,27 @@ can_download {s = s} {payload = payload} offered =
     is_true true e = refl
     is_true false e = absurd cc
 
--- an offer while a session is live
-pub offer_busy : (file : List ℕ) (limits : Limits) (w : Shown) (host : Option HostState) → is_some host ≡ true → HasComeAlone (bench_of w host) (Offers file limits) (bench_of w host) (Err fault.HostBusy)
+-- An offer while a session is live.
+pub offer_busy : (file : List ℕ) (limits : Limits) (w : Shown) (host : Option HostState) → is_some host ≡ true
+    → HasComeAlone (bench_of w host) (Offers file limits) (bench_of w host) (Err fault.HostBusy)
 offer_busy file limits w (Some h) e up = record { answer = Err fault.HostBusy; comes = refuses tt; whole = tt; up_is = refl; told = refl }
 offer_busy file limits w None e up = absurd cc
 
--- an offer of a file that is not taken
-pub offer_refused : (file : List ℕ) (limits : Limits) (w : Shown) (host : Option HostState) (why : OfferFault) → is_some host ≡ false → IsBadOffer w.config file why → HasComeAlone (bench_of w host) (Offers file limits) (bench_of w host) (Err (fault.BadOffer why))
-offer_refused file limits w None why e bad up = record { answer = Err (fault.BadOffer why); comes = refuses (refl, bad); whole = tt; up_is = refl; told = refl }
+-- An offer of a file that is not taken.
+pub offer_refused : (file : List ℕ) (limits : Limits) (w : Shown) (host : Option HostState) (why : OfferFault) → is_some host ≡ false
+    → IsBadOffer w.config file why → HasComeAlone (bench_of w host) (Offers file limits) (bench_of w host) (Err (fault.BadOffer why))
+offer_refused file limits w None why e bad up = record {
+  answer = Err (fault.BadOffer why);
+  comes = refuses (refl, bad);
+  whole = tt;
+  up_is = refl;
+  told = refl;
+}
 offer_refused file limits w (Some h) why e bad up = absurd cc
 
--- an offer with which a session begins
-pub offer_comes : (file : List ℕ) (limits : Limits) (w : Shown) (host : Option HostState) (h : HostState) → is_some host ≡ false → w.slots.medium.fuse ≡ Whole → HasBegun w.config file limits h
+-- An offer with which a session begins.
+pub offer_comes : (file : List ℕ) (limits : Limits) (w : Shown) (host : Option HostState) (h : HostState) → is_some host ≡ false
+    → w.slots.medium.fuse ≡ Whole → HasBegun w.config file limits h
     → HasComeAlone (bench_of w host) (Offers file limits) (bench_of w (Some h)) (Ok None)
 offer_comes file limits w None h n e begun up = record {
   answer = Ok silent;
@@ -155,12 +186,13 @@ offer_comes file limits w None h n e begun up = record {
 }
 offer_comes file limits w (Some h) k n e begun up = absurd cc
 
--- what was found of a file
+-- What was found of a file.
 abbrev Found : List ℕ → Content → Type 0
 Found file content = (extra : List ℕ) × IsFile content.payload content.ids content.dfu extra file × (content.suffix ≡ 16 + length extra)
 
--- a file that is read but not taken
-pub offer_bad : (s : Setting) (file : List ℕ) (content : Content) (f : Functional) (ids : Ids) (why : HostFault) → f ≡ s.functional → ids ≡ s.ids → Found file content
+-- A file that is read but not taken.
+pub offer_bad : (s : Setting) (file : List ℕ) (content : Content) (f : Functional) (ids : Ids) (why : HostFault) → f ≡ s.functional
+    → ids ≡ s.ids → Found file content
     → first_download_fault content f ids ≡ Some why → IsBadOffer s file (offer_fault.Host why)
 offer_bad s file content f ids why e k found h = (
   content,
@@ -168,16 +200,21 @@ offer_bad s file content f ids why e k found h = (
   subst (λ (x : Functional). first_download_fault content x s.ids ≡ Some why) e (subst (λ (y : Ids). first_download_fault content f y ≡ Some why) k h),
 )
 
-pub none_of : (o : Option HostFault) (h : HostState) → ((why : HostFault) → (◌≡◌ {A = Result HostState HostFault} (Ok h) (Err why)) ↔ (o ≡ Some why)) → o ≡ None
+-- Where a session begins, the download has no fault.
+pub none_of : (o : Option HostFault) (h : HostState) → ((why : HostFault)
+    → (◌≡◌ {A = Result HostState HostFault} (Ok h) (Err why)) ↔ (o ≡ Some why)) → o ≡ None
 none_of None h f = refl
 none_of (Some why) h f = let e : ◌≡◌ {A = Result HostState HostFault} (Ok h) (Err why) = (f why).1 refl in absurd cc
 
--- a file that is read and taken
-pub offer_begins : (s : Setting) (file : List ℕ) (limits : Limits) (content : Content) (f : Functional) (ids : Ids) (h : HostState) → f ≡ s.functional → ids ≡ s.ids → Found file content
-    → ((why : HostFault) → (◌≡◌ {A = Result HostState HostFault} (Ok h) (Err why)) ↔ (first_download_fault content f ids ≡ Some why)) → h ≡ started f (ToLoad content.payload) limits → HasBegun s file limits h
+-- A file that is read and taken.
+pub offer_begins : (s : Setting) (file : List ℕ) (limits : Limits) (content : Content) (f : Functional) (ids : Ids) (h : HostState)
+    → f ≡ s.functional → ids ≡ s.ids → Found file content
+    → ((why : HostFault) → (◌≡◌ {A = Result HostState HostFault} (Ok h) (Err why)) ↔ (first_download_fault content f ids ≡ Some why))
+    → h ≡ started f (ToLoad content.payload) limits → HasBegun s file limits h
 offer_begins s file limits content f ids h e k found none is =
     let taken : first_download_fault content s.functional s.ids ≡ None =
-    subst (λ (x : Functional). first_download_fault content x s.ids ≡ None) e (subst (λ (y : Ids). first_download_fault content f y ≡ None) k (none_of (first_download_fault content f ids) h none)) in
+    subst (λ (x : Functional). first_download_fault content x s.ids ≡ None) e
+    (subst (λ (y : Ids). first_download_fault content f y ≡ None) k (none_of (first_download_fault content f ids) h none)) in
     record {
       content = content;
       offered = record { ids = content.ids; dfu = content.dfu; extra = found.0; reads = found.1; taken = taken };

@@ -9,19 +9,22 @@ use Rattle.dfu_device.specs.Outcome.{Situation, Luck, outcome, handled}
 use Rattle.dfu_device.specs.Cases.{either_way}
 use Rattle.dfu_host.specs.declared.report.Report.TheVariants.{TooManyBlocks}
 use Rattle.dfu_host.specs.Table.{Find, Fetch, LastUploaded, Over, fetched, on_part}
-use Rattle.dfu_link.specs.Play.{Fate, Pass, LostOut, LostBack, Twice, TwiceLostBack, Slip, CutIn, Fail, heard_as, Passed, sent_by, sent}
-use Rattle.dfu_link.specs.Agreement.{pending_of, IsSound}
+use Rattle.dfu_link.specs.Happening.{Fate, Pass, LostOut, LostBack, Twice, TwiceLostBack, Slip, CutIn, Fail}
+use Rattle.dfu_link.specs.Play.{heard_as, Passed, sent_by, sent}
+use Rattle.dfu_link.specs.LinkAgreement.{pending_of, IsSound}
 use Rattle.dfu_link.specs.Fact.{Fetches, FetchFact}
 use Rattle.dfu_link.proofs.Quiet.{Quiet, stays, forgets, quiet_on}
 use Rattle.dfu_link.proofs.Fates.{IfHeard, heard_some}
 
 module _ (c : Profile) (offers : List (List ℕ)) (k : ℕ) (kept : List ℕ) where
+  -- A request for part k goes well by its fate: the image moves quietly, and the fact of the next phase holds.
   pub record Fetched (s : Situation) (d : Passed) : Type 0 where
     pub moves : Quiet offers s.image (pending_of s.stage) d.device.image (pending_of d.device.stage)
     pub sound : IsSound offers d.device.stage
     pub next : IfHeard d.heard (λ heard. FetchFact (on_part c.transfer k kept heard) d.device)
 
-  fetch_fault : (number size : ℕ) (s : Situation) (code : Code) → IsSound offers s.stage → (fate : Fate) (l r : Luck) → Fetched s (sent_by c s (Upload number size) (error code) fate l r)
+  fetch_fault : (number size : ℕ) (s : Situation) (code : Code) → IsSound offers s.stage → (fate : Fate) (l r : Luck)
+      → Fetched s (sent_by c s (Upload number size) (error code) fate l r)
   fetch_fault number size s code h Pass l r = record { moves = forgets; sound = tt; next = tt }
   fetch_fault number size s code h LostOut l r = record { moves = stays; sound = h; next = tt }
   fetch_fault number size s code h LostBack l r = record { moves = forgets; sound = tt; next = tt }
@@ -31,31 +34,44 @@ module _ (c : Profile) (offers : List (List ℕ)) (k : ℕ) (kept : List ℕ) wh
   fetch_fault number size s code h CutIn l r = record { moves = forgets; sound = tt; next = tt }
   fetch_fault number size s code h Fail l r = record { moves = forgets; sound = tt; next = tt }
 
-  -- the end of the image
-  part_ends : (image : List ℕ) (place t : ℕ) → length (take t (drop place image)) < t → kept ≡ take place image → kept ++ take t (drop place image) ≡ image
+  -- The end of the image.
+  part_ends : (image : List ℕ) (place t : ℕ) → length (take t (drop place image)) < t → kept ≡ take place image
+      → kept ++ take t (drop place image) ≡ image
   part_ends image place t h e =
       let f : length (drop place image) ≤ t = omega (arith, length-take t (drop place image)) in
-      ap (λ x. x ++ take t (drop place image)) e ∙ ap (λ x. take place image ++ x) (take_all t (drop place image) f) ∙ take-append-drop place image
+      ap (λ x. x ++ take t (drop place image)) e ∙ ap (λ x. take place image ++ x) (take_all t (drop place image) f)
+      ∙ take-append-drop place image
 
-  short_after : (image part : List ℕ) → length part < c.transfer → kept ++ part ≡ image → FetchFact (fetched c.transfer k kept part) (record { image = image; stage = InDfuIdle })
+  short_after : (image part : List ℕ) → length part < c.transfer → kept ++ part ≡ image
+      → FetchFact (fetched c.transfer k kept part) (record { image = image; stage = InDfuIdle })
   short_after image part h e =
       let f : (length part == c.transfer) ≡ false = grind (arith, nat_tests) in
       let g : nat_lt (length part) c.transfer ≡ true = grind (arith, nat_tests) in
-      subst (λ t. FetchFact (cond t (cond (suc k == 65535) (Over TooManyBlocks) (Fetch (suc k) (kept ++ part))) (cond (nat_lt (length part) c.transfer) (LastUploaded (kept ++ part)) Find)) (record { image = image; stage = InDfuIdle })) (sym f)
+      subst (λ t. FetchFact (cond t (cond (suc k == 65535) (Over TooManyBlocks) (Fetch (suc k) (kept ++ part)))
+      (cond (nat_lt (length part) c.transfer) (LastUploaded (kept ++ part)) Find)) (record { image = image; stage = InDfuIdle })) (sym f)
       (subst (λ t. FetchFact (cond t (LastUploaded (kept ++ part)) Find) (record { image = image; stage = InDfuIdle })) (sym g) (e, tt))
 
-  many_after : (image part : List ℕ) (place number : ℕ) (t : Bool) → (suc k == 65535) ≡ t → k < 65535 → number ≡ suc k % 65536 → kept ++ part ≡ take place image → FetchFact (cond t (Over TooManyBlocks) (Fetch (suc k) (kept ++ part))) (record { image = image; stage = InUploadIdle place number })
+  many_after : (image part : List ℕ) (place number : ℕ) (t : Bool) → (suc k == 65535) ≡ t → k < 65535 → number ≡ suc k % 65536
+      → kept ++ part ≡ take place image → FetchFact (cond t (Over TooManyBlocks) (Fetch (suc k) (kept ++ part)))
+      (record { image = image; stage = InUploadIdle place number })
   many_after image part place number true f b n e = tt
   many_after image part place number false f b n e = (grind (arith, nat_tests), (omega arith, n, e))
 
-  full_after : (image part : List ℕ) (place number : ℕ) → k < 65535 → length part ≡ c.transfer → number ≡ suc k % 65536 → kept ++ part ≡ take place image → FetchFact (fetched c.transfer k kept part) (record { image = image; stage = InUploadIdle place number })
+  full_after : (image part : List ℕ) (place number : ℕ) → k < 65535 → length part ≡ c.transfer → number ≡ suc k % 65536
+      → kept ++ part ≡ take place image → FetchFact (fetched c.transfer k kept part)
+      (record { image = image; stage = InUploadIdle place number })
   full_after image part place number b h n e =
       let f : (length part == c.transfer) ≡ true = grind (arith, nat_tests) in
-      subst (λ t. FetchFact (cond t (cond (suc k == 65535) (Over TooManyBlocks) (Fetch (suc k) (kept ++ part))) (cond (nat_lt (length part) c.transfer) (LastUploaded (kept ++ part)) Find)) (record { image = image; stage = InUploadIdle place number })) (sym f)
+      subst (λ t. FetchFact (cond t (cond (suc k == 65535) (Over TooManyBlocks) (Fetch (suc k) (kept ++ part)))
+      (cond (nat_lt (length part) c.transfer) (LastUploaded (kept ++ part)) Find))
+      (record { image = image; stage = InUploadIdle place number })) (sym f)
       (many_after image part place number (suc k == 65535) refl b n e)
 
-  upload_cases : (P : Plan → Type 0) (image : List ℕ) (place expected number : ℕ) → let part = take c.transfer (drop place image) in ((code : Code) → P (error code)) →
-      (number ≡ expected → length part < c.transfer → P (Sure (Data part) InDfuIdle)) → (number ≡ expected → length part ≡ c.transfer → P (Sure (Data part) (InUploadIdle (place + c.transfer) (next_number expected)))) → P (upload_plan c image place expected number c.transfer)
+  upload_cases : (P : Plan → Type 0) (image : List ℕ) (place expected number : ℕ) → let part = take c.transfer (drop place image) in
+      ((code : Code) → P (error code)) →
+      (number ≡ expected → length part < c.transfer → P (Sure (Data part) InDfuIdle))
+      → (number ≡ expected → length part ≡ c.transfer → P (Sure (Data part) (InUploadIdle (place + c.transfer) (next_number expected))))
+      → P (upload_plan c image place expected number c.transfer)
   upload_cases P image place expected number pf ps pl =
       let part = take c.transfer (drop place image) in
       either_way P (c.transfer == 0) _ _ (pf ErrStalledPkt)
@@ -63,15 +79,19 @@ module _ (c : Profile) (offers : List (List ℕ)) (k : ℕ) (kept : List ℕ) wh
       (by_number (number == expected) refl))
     where
       by_short : (t : Bool) → nat_lt (length (take c.transfer (drop place image))) c.transfer ≡ t → number ≡ expected →
-          P (cond t (Sure (Data (take c.transfer (drop place image))) InDfuIdle) (Sure (Data (take c.transfer (drop place image))) (InUploadIdle (place + c.transfer) (next_number expected))))
+          P (cond t (Sure (Data (take c.transfer (drop place image))) InDfuIdle)
+          (Sure (Data (take c.transfer (drop place image))) (InUploadIdle (place + c.transfer) (next_number expected))))
       by_short true e n = ps n (grind (arith, nat_tests))
-      by_short false e n = pl n (let h : c.transfer ≤ length (take c.transfer (drop place image)) = grind (arith, nat_tests) in omega (arith, length-take c.transfer (drop place image)))
+      by_short false e n = pl n (let h : c.transfer ≤ length (take c.transfer (drop place image)) = grind (arith, nat_tests) in
+          omega (arith, length-take c.transfer (drop place image)))
 
-      by_number : (t : Bool) → (number == expected) ≡ t → P (cond (not t) (error ErrAddress) (cond (nat_lt (length (take c.transfer (drop place image))) c.transfer) (Sure (Data (take c.transfer (drop place image))) InDfuIdle) (Sure (Data (take c.transfer (drop place image))) (InUploadIdle (place + c.transfer) (next_number expected)))))
+      by_number : (t : Bool) → (number == expected) ≡ t → P (cond (not t) (error ErrAddress)
+          (cond (nat_lt (length (take c.transfer (drop place image))) c.transfer) (Sure (Data (take c.transfer (drop place image))) InDfuIdle)
+          (Sure (Data (take c.transfer (drop place image))) (InUploadIdle (place + c.transfer) (next_number expected)))))
       by_number true e = by_short (nat_lt (length (take c.transfer (drop place image))) c.transfer) refl (grind (arith, nat_tests))
       by_number false e = pf ErrAddress
 
-  -- a second time
+  -- A second time.
   record Second (image : List ℕ) (p : Plan) : Type 0 where
     moves : (luck : Luck) → Quiet offers image None (outcome image p luck).after.image (pending_of (outcome image p luck).after.stage)
     sound : (luck : Luck) → IsSound offers (outcome image p luck).after.stage
@@ -80,67 +100,92 @@ module _ (c : Profile) (offers : List (List ℕ)) (k : ℕ) (kept : List ℕ) wh
   second_fault : (image : List ℕ) (code : Code) → Second image (error code)
   second_fault image code = record { moves = λ luck. forgets; sound = λ luck. tt; next = λ luck. tt }
 
-  -- from state 2, where nothing was kept
+  -- From state 2, where nothing was kept.
   from_idle : (image : List ℕ) → k < 65535 → (k ≡ 0 → kept ≡ []) → Second image (plan c image InDfuIdle (Upload (k % 65536) c.transfer))
   from_idle image b e =
       either_way (Second image) c.can_upload _ _
       (upload_cases (Second image) image 0 0 (k % 65536) (second_fault image)
-      (λ n h. record { moves = λ luck. stays; sound = λ luck. tt; next = λ luck. short_after image _ h (part_ends image 0 c.transfer h (e (omega arith))) })
-      (λ n h. record { moves = λ luck. stays; sound = λ luck. tt; next = λ luck. full_after image _ _ _ b h (omega arith) (ap (λ x. x ++ take c.transfer image) (e (omega arith)) ∙ sym (ap (λ z. take z image) (zero_add c.transfer))) }))
+      (λ n h. record {
+        moves = λ luck. stays;
+        sound = λ luck. tt;
+        next = λ luck. short_after image _ h (part_ends image 0 c.transfer h (e (omega arith)));
+      })
+      (λ n h. record {
+        moves = λ luck. stays;
+        sound = λ luck. tt;
+        next = λ luck. full_after image _ _ _ b h (omega arith)
+            (ap (λ x. x ++ take c.transfer image) (e (omega arith)) ∙ sym (ap (λ z. take z image) (zero_add c.transfer)));
+      }))
       (second_fault image ErrStalledPkt)
     where
       zero_add : (n : ℕ) → 0 + n ≡ n
       zero_add n = omega arith
 
-  from_sending : (image : List ℕ) (place number : ℕ) → k < 65535 → Fetches k kept image (InUploadIdle place number) → Second image (plan c image (InUploadIdle place number) (Upload (k % 65536) c.transfer))
-  from_sending image place number b f =
-      upload_cases (Second image) image place number (k % 65536) (second_fault image)
-      (λ n h. record { moves = λ luck. stays; sound = λ luck. tt; next = λ luck. short_after image _ h (part_ends image place c.transfer h f.2) })
-      (λ n h. record { moves = λ luck. stays; sound = λ luck. tt; next = λ luck. full_after image _ _ _ b h (omega (arith, f.1)) (ap (λ x. x ++ take c.transfer (drop place image)) f.2 ∙ sym (take-add place c.transfer image)) })
-
-  sent_part : (part : List ℕ) (s : Situation) → IsSound offers s.stage → FetchFact (fetched c.transfer k kept part) (record { image = s.image; stage = InDfuIdle }) → Second s.image (plan c s.image InDfuIdle (Upload (k % 65536) c.transfer)) → (fate : Fate) (l r : Luck) → Fetched s (sent_by c s (Upload (k % 65536) c.transfer) (Sure (Data part) InDfuIdle) fate l r)
+  sent_part : (part : List ℕ) (s : Situation) → IsSound offers s.stage
+      → FetchFact (fetched c.transfer k kept part) (record { image = s.image; stage = InDfuIdle })
+      → Second s.image (plan c s.image InDfuIdle (Upload (k % 65536) c.transfer)) → (fate : Fate) (l r : Luck)
+      → Fetched s (sent_by c s (Upload (k % 65536) c.transfer) (Sure (Data part) InDfuIdle) fate l r)
   sent_part part s h n q Pass l r = record { moves = forgets; sound = tt; next = n }
   sent_part part s h n q LostOut l r = record { moves = stays; sound = h; next = tt }
   sent_part part s h n q LostBack l r = record { moves = forgets; sound = tt; next = tt }
   sent_part part s h n q Twice l r =
       let o = handled c (record { image = s.image; stage = InDfuIdle }) (Upload (k % 65536) c.transfer) r in
-      record { moves = quiet_on forgets (q.moves r); sound = q.sound r; next = heard_some o.reply (λ heard. FetchFact (on_part c.transfer k kept heard) o.after) (q.next r) }
+      record {
+        moves = quiet_on forgets (q.moves r);
+        sound = q.sound r;
+        next = heard_some o.reply (λ heard. FetchFact (on_part c.transfer k kept heard) o.after) (q.next r);
+      }
   sent_part part s h n q TwiceLostBack l r = record { moves = quiet_on forgets (q.moves r); sound = q.sound r; next = tt }
   sent_part part s h n q (Slip ms) l r = record { moves = forgets; sound = tt; next = n }
   sent_part part s h n q CutIn l r = record { moves = forgets; sound = tt; next = tt }
   sent_part part s h n q Fail l r = record { moves = forgets; sound = tt; next = n }
 
-  sent_full : (part : List ℕ) (place number : ℕ) (s : Situation) → IsSound offers s.stage → FetchFact (fetched c.transfer k kept part) (record { image = s.image; stage = InUploadIdle place number }) → Second s.image (plan c s.image (InUploadIdle place number) (Upload (k % 65536) c.transfer)) → (fate : Fate) (l r : Luck) → Fetched s (sent_by c s (Upload (k % 65536) c.transfer) (Sure (Data part) (InUploadIdle place number)) fate l r)
+  sent_full : (part : List ℕ) (place number : ℕ) (s : Situation) → IsSound offers s.stage
+      → FetchFact (fetched c.transfer k kept part) (record { image = s.image; stage = InUploadIdle place number })
+      → Second s.image (plan c s.image (InUploadIdle place number) (Upload (k % 65536) c.transfer)) → (fate : Fate) (l r : Luck)
+      → Fetched s (sent_by c s (Upload (k % 65536) c.transfer) (Sure (Data part) (InUploadIdle place number)) fate l r)
   sent_full part place number s h n q Pass l r = record { moves = forgets; sound = tt; next = n }
   sent_full part place number s h n q LostOut l r = record { moves = stays; sound = h; next = tt }
   sent_full part place number s h n q LostBack l r = record { moves = forgets; sound = tt; next = tt }
   sent_full part place number s h n q Twice l r =
       let o = handled c (record { image = s.image; stage = InUploadIdle place number }) (Upload (k % 65536) c.transfer) r in
-      record { moves = quiet_on forgets (q.moves r); sound = q.sound r; next = heard_some o.reply (λ heard. FetchFact (on_part c.transfer k kept heard) o.after) (q.next r) }
+      record {
+        moves = quiet_on forgets (q.moves r);
+        sound = q.sound r;
+        next = heard_some o.reply (λ heard. FetchFact (on_part c.transfer k kept heard) o.after) (q.next r);
+      }
   sent_full part place number s h n q TwiceLostBack l r = record { moves = quiet_on forgets (q.moves r); sound = q.sound r; next = tt }
   sent_full part place number s h n q (Slip ms) l r = record { moves = forgets; sound = tt; next = n }
   sent_full part place number s h n q CutIn l r = record { moves = forgets; sound = tt; next = tt }
   sent_full part place number s h n q Fail l r = record { moves = forgets; sound = tt; next = n }
 
-  -- a second time, where the number is past
-  past : (image : List ℕ) (place number : ℕ) → number ≡ k % 65536 → Second image (plan c image (InUploadIdle place (next_number number)) (Upload (k % 65536) c.transfer))
+  -- A second time, where the number is past.
+  past : (image : List ℕ) (place number : ℕ) → number ≡ k % 65536
+      → Second image (plan c image (InUploadIdle place (next_number number)) (Upload (k % 65536) c.transfer))
   past image place number e =
       upload_cases (Second image) image place (next_number number) (k % 65536) (second_fault image)
       (λ n h. absurd (omega arith)) (λ n h. absurd (omega arith))
 
-  pub go_fetch : (image : List ℕ) (stage : Stage) → k < 65535 → Fetches k kept image stage → IsSound offers stage → (fate : Fate) (l r : Luck) → let s : Situation = record { image = image; stage = stage } in Fetched s (sent c s (Upload (k % 65536) c.transfer) fate l r)
+  -- The phase that fetches part k goes well by each fate.
+  pub go_fetch : (image : List ℕ) (stage : Stage) → k < 65535 → Fetches k kept image stage → IsSound offers stage
+      → (fate : Fate) (l r : Luck) → let s : Situation = record { image = image; stage = stage } in
+      Fetched s (sent c s (Upload (k % 65536) c.transfer) fate l r)
   go_fetch image InDfuIdle b f h fate l r =
       let s : Situation = record { image = image; stage = InDfuIdle } in
       let P : Plan → Type 0 = λ p. Fetched s (sent_by c s (Upload (k % 65536) c.transfer) p fate l r) in
       either_way P c.can_upload _ _
       (upload_cases P image 0 0 (k % 65536) (λ code. fetch_fault (k % 65536) c.transfer s code h fate l r)
       (λ n g. sent_part _ s h (short_after image _ g (part_ends image 0 c.transfer g f.1)) (from_idle image b (λ e. f.1)) fate l r)
-      (λ n g. sent_full _ _ _ s h (full_after image _ _ _ b g (omega (arith, f.0)) (ap (λ x. x ++ take c.transfer (drop 0 image)) f.1 ∙ sym (take-add 0 c.transfer image))) (past image _ 0 (sym n)) fate l r))
+      (λ n g. sent_full _ _ _ s h (full_after image _ _ _ b g (omega (arith, f.0))
+      (ap (λ x. x ++ take c.transfer (drop 0 image)) f.1 ∙ sym (take-add 0 c.transfer image))) (past image _ 0 (sym n)) fate l r))
       (fetch_fault (k % 65536) c.transfer s ErrStalledPkt h fate l r)
   go_fetch image (InUploadIdle place number) b f h fate l r =
       let s : Situation = record { image = image; stage = InUploadIdle place number } in
       let P : Plan → Type 0 = λ p. Fetched s (sent_by c s (Upload (k % 65536) c.transfer) p fate l r) in
       upload_cases P image place number (k % 65536) (λ code. fetch_fault (k % 65536) c.transfer s code h fate l r)
-      (λ n g. sent_part _ s h (short_after image _ g (part_ends image place c.transfer g f.2)) (from_idle image b (λ e. absurd (omega (arith, f.0)))) fate l r)
-      (λ n g. sent_full _ _ _ s h (full_after image _ _ _ b g (omega (arith, f.1)) (ap (λ x. x ++ take c.transfer (drop place image)) f.2 ∙ sym (take-add place c.transfer image))) (past image _ number (sym n)) fate l r)
+      (λ n g. sent_part _ s h (short_after image _ g (part_ends image place c.transfer g f.2))
+      (from_idle image b (λ e. absurd (omega (arith, f.0)))) fate l r)
+      (λ n g. sent_full _ _ _ s h (full_after image _ _ _ b g (omega (arith, f.1))
+      (ap (λ x. x ++ take c.transfer (drop place image)) f.2 ∙ sym (take-add place c.transfer image))) (past image _ number (sym n))
+      fate l r)
   go_fetch image stage b f h fate l r = elim f [ ]

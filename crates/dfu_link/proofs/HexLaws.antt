@@ -1,7 +1,7 @@
 -- Hexadecimal text, piece by piece.
-use Rattle.std.proofs.Common.{◌≡◌, ℕ, ◌+◌, ◌-◌, ◌/◌, ◌%◌, ◌≤◌, slice_index, List, [], ◌∷◌, ◌++◌, length, take, drop, Option, refl, sym, ap, ◌∙◌, subst, arith}
+use Rattle.std.proofs.Common.{◌≡◌, ℕ, ◌+◌, ◌-◌, ◌/◌, ◌%◌, slice_index, List, [], ◌∷◌, ◌++◌, length, take, drop, Option, refl, sym, ap, ◌∙◌, subst, arith}
 use Rattle.std.specs.List.{slice_range}
-use Rattle.std.proofs.lemmas.List.{take-append-drop, take_all}
+use Rattle.std.proofs.lemmas.List.{take-append-drop}
 use Rattle.std.proofs.lemmas.List.Folds.{drop_split}
 use Rattle.std.proofs.Math.Seq.{take-add}
 use Rattle.std.specs.Io.KnownBytes.{Appends}
@@ -21,24 +21,27 @@ piece_more bytes at n =
     take-add at n bytes ∙ ap (λ (k : ℕ). take at bytes ++ take k (drop at bytes)) (sym same)
 
 -- A piece more is out.
-pub pieces_more : (bytes : List ℕ) (at n : ℕ) (old mid new : Option (List ℕ)) → Appends old mid (encode_lower (take at bytes)) → Appends mid new (encode_lower (slice_range bytes at (at + n))) → Appends old new (encode_lower (take (at + n) bytes))
+pub pieces_more : (bytes : List ℕ) (at n : ℕ) (old mid new : Option (List ℕ)) → Appends old mid (encode_lower (take at bytes))
+    → Appends mid new (encode_lower (slice_range bytes at (at + n))) → Appends old new (encode_lower (take (at + n) bytes))
 pieces_more bytes at n old mid new before piece =
-    let text : encode_lower (take (at + n) bytes) ≡ encode_lower (take at bytes) ++ encode_lower (slice_range bytes at (at + n)) = ap encode_lower (piece_more bytes at n) ∙ encode-append lower_digits (take at bytes) (slice_range bytes at (at + n)) in
+    let text : encode_lower (take (at + n) bytes) ≡ encode_lower (take at bytes)
+    ++ encode_lower (slice_range bytes at (at + n)) = ap encode_lower (piece_more bytes at n)
+    ∙ encode-append lower_digits (take at bytes) (slice_range bytes at (at + n)) in
     subst (λ (xs : List ℕ). Appends old new xs) (sym text) (appends_more old mid new _ _ before piece)
 
 -- A piece broke.
-pub pieces_broke : (bytes : List ℕ) (at n : ℕ) (old mid new : Option (List ℕ)) → Appends old mid (encode_lower (take at bytes)) → Broke mid new (encode_lower (slice_range bytes at (at + n))) → Broke old new (encode_lower bytes)
+pub pieces_broke : (bytes : List ℕ) (at n : ℕ) (old mid new : Option (List ℕ)) → Appends old mid (encode_lower (take at bytes))
+    → Broke mid new (encode_lower (slice_range bytes at (at + n))) → Broke old new (encode_lower bytes)
 pieces_broke bytes at n old mid new before piece =
     let front = encode_lower (take at bytes) in
     let part = encode_lower (slice_range bytes at (at + n)) in
     let rest = encode_lower (drop (at + n) bytes) in
-    let tail : encode_lower (drop at bytes) ≡ part ++ rest = ap encode_lower (drop_split bytes at (at + n) (omega arith)) ∙ encode-append lower_digits (slice_range bytes at (at + n)) (drop (at + n) bytes) in
-    let text : encode_lower bytes ≡ front ++ (part ++ rest) = ap encode_lower (sym (take-append-drop at bytes)) ∙ (encode-append lower_digits (take at bytes) (drop at bytes) ∙ ap (λ (xs : List ℕ). front ++ xs) tail) in
-    subst (λ (xs : List ℕ). Broke old new xs) (sym text) (broke_after old mid new front (part ++ rest) before (broke_before mid new part rest piece))
-
--- All pieces are out.
-pub pieces_all : (bytes : List ℕ) (at : ℕ) (old new : Option (List ℕ)) → length bytes ≤ at → Appends old new (encode_lower (take at bytes)) → Appends old new (encode_lower bytes)
-pieces_all bytes at old new all h = subst (λ (xs : List ℕ). Appends old new (encode_lower xs)) (take_all at bytes all) h
+    let tail : encode_lower (drop at bytes) ≡ part ++ rest = ap encode_lower (drop_split bytes at (at + n) (omega arith))
+    ∙ encode-append lower_digits (slice_range bytes at (at + n)) (drop (at + n) bytes) in
+    let text : encode_lower bytes ≡ front ++ (part ++ rest) = ap encode_lower (sym (take-append-drop at bytes))
+    ∙ (encode-append lower_digits (take at bytes) (drop at bytes) ∙ ap (λ (xs : List ℕ). front ++ xs) tail) in
+    subst (λ (xs : List ℕ). Broke old new xs) (sym text) (broke_after old mid new front (part ++ rest) before
+    (broke_before mid new part rest piece))
 
 -- At first nothing is out.
 pub pieces_none : (old : Option (List ℕ)) → Appends old old (encode_lower [])

@@ -8,25 +8,25 @@ use Rattle.dfu_host.specs.declared.report.Report.{Report}
 use Rattle.dfu_host.specs.declared.report.Report.TheVariants.{Installed}
 use Rattle.dfu_host.specs.Blocks.{first}
 use Rattle.dfu_host.specs.Table.{Phase, Find, FindAgain, Block, Ask, Poll, WaitPoll, Close, AskLast, Manifest, WaitManifest, Trouble, Fetch, LastUploaded, Last, Over, OverUploaded}
-use Rattle.dfu_link.specs.Fact.{IsIdle, IsInApp, Begun, Asking, Holds, Whole, AskingLast, Managing, EndsAs, Fact}
+use Rattle.dfu_link.specs.Fact.{IsIdle, IsInApp, Begun, Asking, BlockIn, AllTaken, AskingLast, Managing, EndsAs, Fact}
 
 module _ (c : Profile) (i : List ℕ) where
-  -- after a plan, whatever the medium does
+  -- After a plan, whatever the medium does.
   abbrev pub Then : (Situation → Type 0) → Plan → Type 0
   Then F p = (luck : Luck) → F (outcome i p luck).after
 
-  holds_status : (x : List ℕ) (stage : Stage) → Holds x stage → Then (λ s. Holds x s.stage) (plan c i stage GetStatus)
+  holds_status : (x : List ℕ) (stage : Stage) → BlockIn x stage → Then (λ s. BlockIn x s.stage) (plan c i stage GetStatus)
   holds_status x (InDownloadSync before block number) h =
-      either_way (Then (λ s. Holds x s.stage)) (c.busy == 0) _ _ (elim [ Works ↦ h | FailsOld ↦ tt | FailsNew ↦ tt ]) (λ luck. h)
+      either_way (Then (λ s. BlockIn x s.stage)) (c.busy == 0) _ _ (elim [ Works ↦ h | FailsOld ↦ tt | FailsNew ↦ tt ]) (λ luck. h)
   holds_status x (InDownloadSyncWritten taken number) h = λ luck. h
   holds_status x (InDownloadBusy before block number passed) h = λ luck. tt
   holds_status x (InDownloadIdle taken number) h = λ luck. h
   holds_status x (InError code) h = λ luck. tt
   holds_status x stage h = λ luck. elim h [ ]
 
-  holds_time : (x : List ℕ) (ms : ℕ) (stage : Stage) → Holds x stage → Then (λ s. Holds x s.stage) (time_plan c stage ms)
+  holds_time : (x : List ℕ) (ms : ℕ) (stage : Stage) → BlockIn x stage → Then (λ s. BlockIn x s.stage) (time_plan c stage ms)
   holds_time x ms (InDownloadBusy before block number passed) h =
-      let F : Plan → Type 0 = Then (λ s. Holds x s.stage) in
+      let F : Plan → Type 0 = Then (λ s. BlockIn x s.stage) in
       either_way F (ms == 0) _ _ (λ luck. h)
       (either_way F (nat_le c.busy (passed + ms)) _ _ (elim [ Works ↦ h | FailsOld ↦ tt | FailsNew ↦ tt ]) (λ luck. h))
   holds_time x ms (InDownloadSync before block number) h = λ luck. h
@@ -37,7 +37,8 @@ module _ (c : Profile) (i : List ℕ) where
 
   managing_status : (p : List ℕ) (stage : Stage) → Managing p i stage → Then (λ s. Managing p s.image s.stage) (plan c i stage GetStatus)
   managing_status p (InManifestSync taken) h =
-      either_way (Then (λ s. Managing p s.image s.stage)) (c.manifest == 0) _ _ (elim [ Works ↦ h | FailsOld ↦ tt | FailsNew ↦ tt ]) (λ luck. h)
+      either_way (Then (λ s. Managing p s.image s.stage)) (c.manifest == 0) _ _ (elim [ Works ↦ h | FailsOld ↦ tt | FailsNew ↦ tt ])
+      (λ luck. h)
   managing_status p (InManifest taken passed) h = λ luck. tt
   managing_status p InManifestSyncComplete h = λ luck. h
   managing_status p InDfuIdle h = λ luck. h
@@ -92,22 +93,25 @@ module _ (c : Profile) (i : List ℕ) where
   last_time p ms (InError code) h luck = tt
   last_time p ms stage h luck = elim h [ ]
 
-  whole_time : (p : List ℕ) (ms : ℕ) (stage : Stage) → Whole p stage → Then (λ s. Whole p s.stage) (time_plan c stage ms)
+  whole_time : (p : List ℕ) (ms : ℕ) (stage : Stage) → AllTaken p stage → Then (λ s. AllTaken p s.stage) (time_plan c stage ms)
   whole_time p ms (InDownloadIdle taken number) h luck = h
   whole_time p ms stage h luck = elim h [ ]
 
-  last_report_time : (p : List ℕ) (ms : ℕ) (report : Report) (stage : Stage) → EndsAs c p (record { image = i; stage = stage }) IsIdle report → Then (λ s. EndsAs c p s IsIdle report) (time_plan c stage ms)
+  last_report_time : (p : List ℕ) (ms : ℕ) (report : Report) (stage : Stage)
+      → EndsAs c p (record { image = i; stage = stage }) IsIdle report → Then (λ s. EndsAs c p s IsIdle report) (time_plan c stage ms)
   last_report_time p ms Installed InDfuIdle h luck = h
   last_report_time p ms Installed stage h luck = elim h.2 [ ]
   last_report_time p ms report stage h luck = h
 
-  over_time : (p : List ℕ) (ms : ℕ) (report : Report) (stage : Stage) → EndsAs c p (record { image = i; stage = stage }) IsInApp report → Then (λ s. EndsAs c p s IsInApp report) (time_plan c stage ms)
+  over_time : (p : List ℕ) (ms : ℕ) (report : Report) (stage : Stage) → EndsAs c p (record { image = i; stage = stage }) IsInApp report
+      → Then (λ s. EndsAs c p s IsInApp report) (time_plan c stage ms)
   over_time p ms Installed InAppIdle h luck = h
   over_time p ms Installed stage h luck = elim h.2 [ ]
   over_time p ms report stage h luck = h
 
-  -- each fact stays as time passes
-  pub fact_time : (p : List ℕ) (phase : Phase) (ms : ℕ) (stage : Stage) → Fact c p phase (record { image = i; stage = stage }) → Then (Fact c p phase) (time_plan c stage ms)
+  -- Each fact stays as time passes.
+  pub fact_time : (p : List ℕ) (phase : Phase) (ms : ℕ) (stage : Stage) → Fact c p phase (record { image = i; stage = stage })
+      → Then (Fact c p phase) (time_plan c stage ms)
   fact_time p (Block n) ms stage h luck = (h.0, begun_time p c.transfer n ms stage h.1 luck)
   fact_time p (Ask n) ms stage h luck = (h.0, asking_time p c.transfer n ms stage h.1 luck)
   fact_time p (Poll n) ms stage h luck = (h.0, holds_time (first p c.transfer (suc n)) ms stage h.1 luck)
@@ -123,7 +127,7 @@ module _ (c : Profile) (i : List ℕ) where
   fact_time p (OverUploaded kept) ms stage h luck = elim h [ ]
   fact_time p phase ms stage h luck = tt
 
-  -- the phases that ask for the status, and what they know
+  -- The phases that ask for the status, and what they know.
   abbrev pub AsksStatus : Phase → Type 0
   AsksStatus Find = Unit {0}
   AsksStatus FindAgain = Unit {0}
@@ -132,12 +136,15 @@ module _ (c : Profile) (i : List ℕ) where
   AsksStatus Manifest = Unit {0}
   AsksStatus phase = ⊥
 
+  -- A phase that asks for the state alone.
   abbrev pub AsksState : Phase → Type 0
   AsksState (Ask n) = Unit {0}
   AsksState AskLast = Unit {0}
   AsksState phase = ⊥
 
-  pub fact_status : (p : List ℕ) (phase : Phase) (stage : Stage) → AsksStatus phase → Fact c p phase (record { image = i; stage = stage }) → Then (Fact c p phase) (plan c i stage GetStatus)
+  -- GETSTATUS keeps the fact of the phases that ask for it.
+  pub fact_status : (p : List ℕ) (phase : Phase) (stage : Stage) → AsksStatus phase → Fact c p phase (record { image = i; stage = stage })
+      → Then (Fact c p phase) (plan c i stage GetStatus)
   fact_status p (Poll n) stage a h luck = (h.0, holds_status (first p c.transfer (suc n)) stage h.1 luck)
   fact_status p Manifest stage a h luck = managing_status p stage h luck
   fact_status p Find stage a h luck = tt
@@ -145,7 +152,9 @@ module _ (c : Profile) (i : List ℕ) where
   fact_status p Trouble stage a h luck = tt
   fact_status p phase stage a h luck = elim a [ ]
 
-  pub fact_state : (p : List ℕ) (phase : Phase) (stage : Stage) → AsksState phase → Fact c p phase (record { image = i; stage = stage }) → Then (Fact c p phase) (plan c i stage GetState)
+  -- GETSTATE keeps the fact of the phases that ask for it.
+  pub fact_state : (p : List ℕ) (phase : Phase) (stage : Stage) → AsksState phase → Fact c p phase (record { image = i; stage = stage })
+      → Then (Fact c p phase) (plan c i stage GetState)
   fact_state p (Ask n) stage a h luck = (h.0, asking_state p c.transfer n stage h.1 luck)
   fact_state p AskLast stage a h luck = last_state p stage h luck
   fact_state p phase stage a h luck = elim a [ ]

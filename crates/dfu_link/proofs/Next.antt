@@ -10,7 +10,7 @@ use Rattle.dfu_device.specs.Outcome.{Situation}
 use Rattle.dfu_host.specs.Blocks.{blocks, first}
 use Rattle.dfu_host.specs.BlockLaws.{first_all}
 use Rattle.dfu_host.specs.Table.{Phase, Block, Close, Heard, Acked, Status, StateIs, Stalled, Waited, WasReset, listed, troubled, polled, manifested, asked, asked_last, on_status, on_state, on_ack, on_waited, on_reset}
-use Rattle.dfu_link.specs.Fact.{IsIdle, Begun, Asking, Holds, Whole, AskingLast, Managing, Fact}
+use Rattle.dfu_link.specs.Fact.{IsIdle, Begun, Asking, BlockIn, AllTaken, AskingLast, Managing, Fact}
 use Rattle.dfu_link.proofs.Tells.{Tells, ToldBy}
 use Rattle.dfu_link.proofs.Fates.{IsWaited, IsReset}
 
@@ -22,21 +22,26 @@ module _ (c : Profile) (p : List ℕ) (some : 0 < length (blocks p c.transfer)) 
   begun_zero InDfuIdle h = refl
   begun_zero stage h = elim h [ ]
 
+  -- The fact of the phase that a state leads to.
   pub listed_fact : (state : State) (poll : ℕ) (s : Situation) → Tells state s.stage → Fact c p (listed (Block 0) state poll) s
   listed_fact DfuIdle poll s h = (some, begun_zero s.stage h)
   listed_fact state poll s h = tt
 
-  pub troubled_fact : (code : Code) (poll : ℕ) (state : State) (s : Situation) → Tells state s.stage → Fact c p (troubled (Block 0) code poll state) s
+  -- The fact of the phase after a status in trouble.
+  pub troubled_fact : (code : Code) (poll : ℕ) (state : State) (s : Situation) → Tells state s.stage
+      → Fact c p (troubled (Block 0) code poll state) s
   troubled_fact NoFault poll state s h = listed_fact state poll s h
   troubled_fact ErrStalledPkt poll state s h = listed_fact state poll s h
   troubled_fact code poll InError s h = tt
   troubled_fact code poll state s h = listed_fact state poll s h
 
-  whole_holds : (n : ℕ) (stage : Stage) → suc n ≡ b → Tells DownloadIdle stage → Holds (first p c.transfer (suc n)) stage → Whole p stage
+  whole_holds : (n : ℕ) (stage : Stage) → suc n ≡ b → Tells DownloadIdle stage → BlockIn (first p c.transfer (suc n)) stage
+      → AllTaken p stage
   whole_holds n (InDownloadIdle taken number) e t h = h ∙ ap (first p c.transfer) e ∙ first_all p c.transfer sized
   whole_holds n stage e t h = elim t [ ]
 
-  begun_holds : (n : ℕ) (stage : Stage) → Tells DownloadIdle stage → Holds (first p c.transfer (suc n)) stage → Begun p c.transfer (suc n) stage
+  begun_holds : (n : ℕ) (stage : Stage) → Tells DownloadIdle stage → BlockIn (first p c.transfer (suc n)) stage
+      → Begun p c.transfer (suc n) stage
   begun_holds n (InDownloadIdle taken number) t h = (omega arith, h)
   begun_holds n stage t h = elim t [ ]
 
@@ -46,21 +51,27 @@ module _ (c : Profile) (p : List ℕ) (some : 0 < length (blocks p c.transfer)) 
   test_false : (x y : ℕ) → (x == y) ≡ false → x ≤ y → x < y
   test_false x y e h = grind (arith, nat_tests)
 
-  block_next : (n : ℕ) (s : Situation) (test : Bool) → (suc n == b) ≡ test → n < b → Tells DownloadIdle s.stage → Holds (first p c.transfer (suc n)) s.stage → Fact c p (cond test Close (Block (suc n))) s
+  block_next : (n : ℕ) (s : Situation) (test : Bool) → (suc n == b) ≡ test → n < b → Tells DownloadIdle s.stage
+      → BlockIn (first p c.transfer (suc n)) s.stage → Fact c p (cond test Close (Block (suc n))) s
   block_next n s true e l t h = whole_holds n s.stage (test_true (suc n) b e) t h
   block_next n s false e l t h = (test_false (suc n) b e l, begun_holds n s.stage t h)
 
-  pub polled_fact : (n : ℕ) (code : Code) (poll : ℕ) (state : State) (s : Situation) → n < b → Holds (first p c.transfer (suc n)) s.stage → Tells state s.stage → Fact c p (polled (Block 0) b n code poll state) s
+  -- The fact of the phase after a status while block n is written.
+  pub polled_fact : (n : ℕ) (code : Code) (poll : ℕ) (state : State) (s : Situation) → n < b → BlockIn (first p c.transfer (suc n)) s.stage
+      → Tells state s.stage → Fact c p (polled (Block 0) b n code poll state) s
   polled_fact n code poll DownloadSync s l h t = (l, h)
   polled_fact n code poll DownloadBusy s l h t = (l, h)
   polled_fact n code poll DownloadIdle s l h t = block_next n s (suc n == b) refl l t h
   polled_fact n code poll state s l h t = troubled_fact code poll state s t
 
-  installed : (s : Situation) (stage : Stage) → IsTrue c.tolerant → Tells DfuIdle stage → Managing p s.image stage → IsTrue c.tolerant × (s.image ≡ p) × IsIdle stage
+  installed : (s : Situation) (stage : Stage) → IsTrue c.tolerant → Tells DfuIdle stage → Managing p s.image stage
+      → IsTrue c.tolerant × (s.image ≡ p) × IsIdle stage
   installed s InDfuIdle tol t h = (tol, h, tt)
   installed s stage tol t h = elim t [ ]
 
-  pub manifested_fact : (tolerant : Bool) (code : Code) (poll : ℕ) (state : State) (s : Situation) → (IsTrue tolerant → IsTrue c.tolerant) → Managing p s.image s.stage → Tells state s.stage → Fact c p (manifested (Block 0) tolerant code poll state) s
+  -- The fact of the phase after a status while the image is put in place.
+  pub manifested_fact : (tolerant : Bool) (code : Code) (poll : ℕ) (state : State) (s : Situation) → (IsTrue tolerant → IsTrue c.tolerant)
+      → Managing p s.image s.stage → Tells state s.stage → Fact c p (manifested (Block 0) tolerant code poll state) s
   manifested_fact true code poll ManifestSync s f h t = h
   manifested_fact true code poll Manifesting s f h t = h
   manifested_fact true NoFault poll DfuIdle s f h t = installed s s.stage (f refl) t h
@@ -71,7 +82,7 @@ module _ (c : Profile) (p : List ℕ) (some : 0 < length (blocks p c.transfer)) 
   manifested_fact false code poll ManifestWaitReset s f h t = tt
   manifested_fact false code poll state s f h t = troubled_fact code poll state s t
 
-  sync_holds : (n : ℕ) (stage : Stage) → Tells DownloadSync stage → Asking p c.transfer n stage → Holds (first p c.transfer (suc n)) stage
+  sync_holds : (n : ℕ) (stage : Stage) → Tells DownloadSync stage → Asking p c.transfer n stage → BlockIn (first p c.transfer (suc n)) stage
   sync_holds n (InDownloadSync before block number) t h = h
   sync_holds n (InDownloadSyncWritten taken number) t h = elim h [ ]
   sync_holds n stage t h = elim t [ ]
@@ -84,7 +95,9 @@ module _ (c : Profile) (p : List ℕ) (some : 0 < length (blocks p c.transfer)) 
   ready_begun n (InDownloadIdle taken number) t h = h
   ready_begun n stage t h = elim t [ ]
 
-  pub asked_fact : (n : ℕ) (state : State) (s : Situation) → n < b → Asking p c.transfer n s.stage → Tells state s.stage → Fact c p (asked n state) s
+  -- The fact of the phase after a state, where the answer to block n was lost.
+  pub asked_fact : (n : ℕ) (state : State) (s : Situation) → n < b → Asking p c.transfer n s.stage → Tells state s.stage
+      → Fact c p (asked n state) s
   asked_fact n DownloadSync s l h t = (l, sync_holds n s.stage t h)
   asked_fact zero DfuIdle s l h t = (l, idle_begun zero s.stage t h)
   asked_fact (suc n) DownloadIdle s l h t = (l, ready_begun (suc n) s.stage t h)
@@ -95,34 +108,47 @@ module _ (c : Profile) (p : List ℕ) (some : 0 < length (blocks p c.transfer)) 
   last_manages image InManifestSyncComplete t h = elim h [ ]
   last_manages image stage t h = elim t [ ]
 
-  last_whole : (stage : Stage) → Tells DownloadIdle stage → AskingLast p stage → Whole p stage
+  last_whole : (stage : Stage) → Tells DownloadIdle stage → AskingLast p stage → AllTaken p stage
   last_whole (InDownloadIdle taken number) t h = h
   last_whole stage t h = elim t [ ]
 
+  -- The fact of the phase after a state, where the answer to the close was lost.
   pub asked_last_fact : (state : State) (s : Situation) → AskingLast p s.stage → Tells state s.stage → Fact c p (asked_last state) s
   asked_last_fact ManifestSync s h t = last_manages s.image s.stage t h
   asked_last_fact DownloadIdle s h t = last_whole s.stage t h
   asked_last_fact state s h t = tt
 
-  pub on_status_fact : (heard : Heard) (f : Code → ℕ → State → Phase) (stalled nothing : Phase) (s : Situation) → ((code : Code) (poll : ℕ) (state : State) → Tells state s.stage → Fact c p (f code poll state) s) → Fact c p stalled s → Fact c p nothing s → ToldBy heard s.stage → Fact c p (on_status heard f stalled nothing) s
+  -- The fact of the phase after what is heard of GETSTATUS.
+  pub on_status_fact : (heard : Heard) (f : Code → ℕ → State → Phase) (stalled nothing : Phase) (s : Situation)
+      → ((code : Code) (poll : ℕ) (state : State) → Tells state s.stage → Fact c p (f code poll state) s) → Fact c p stalled s
+      → Fact c p nothing s → ToldBy heard s.stage → Fact c p (on_status heard f stalled nothing) s
   on_status_fact (Status code poll state) f stalled nothing s ff fs fn t = ff code poll state t
   on_status_fact Stalled f stalled nothing s ff fs fn t = fs
   on_status_fact heard f stalled nothing s ff fs fn t = fn
 
-  pub on_state_fact : (heard : Heard) (f : State → Phase) (stalled nothing : Phase) (s : Situation) → ((state : State) → Tells state s.stage → Fact c p (f state) s) → Fact c p stalled s → Fact c p nothing s → ToldBy heard s.stage → Fact c p (on_state heard f stalled nothing) s
+  -- The fact of the phase after what is heard of GETSTATE.
+  pub on_state_fact : (heard : Heard) (f : State → Phase) (stalled nothing : Phase) (s : Situation)
+      → ((state : State) → Tells state s.stage → Fact c p (f state) s) → Fact c p stalled s → Fact c p nothing s → ToldBy heard s.stage
+      → Fact c p (on_state heard f stalled nothing) s
   on_state_fact (StateIs state) f stalled nothing s ff fs fn t = ff state t
   on_state_fact Stalled f stalled nothing s ff fs fn t = fs
   on_state_fact heard f stalled nothing s ff fs fn t = fn
 
-  pub on_ack_fact : (heard : Heard) (acked stalled nothing : Phase) (s : Situation) → Fact c p acked s → Fact c p stalled s → Fact c p nothing s → Fact c p (on_ack heard acked stalled nothing) s
+  -- The fact of the phase after what is heard of a request that is acknowledged.
+  pub on_ack_fact : (heard : Heard) (acked stalled nothing : Phase) (s : Situation) → Fact c p acked s → Fact c p stalled s
+      → Fact c p nothing s → Fact c p (on_ack heard acked stalled nothing) s
   on_ack_fact Acked acked stalled nothing s fa fs fn = fa
   on_ack_fact Stalled acked stalled nothing s fa fs fn = fs
   on_ack_fact heard acked stalled nothing s fa fs fn = fn
 
-  pub on_waited_fact : (heard : Heard) (next again : Phase) (s : Situation) → Fact c p next s → IsWaited heard → Fact c p (on_waited heard next again) s
+  -- The fact of the phase after a wait.
+  pub on_waited_fact : (heard : Heard) (next again : Phase) (s : Situation) → Fact c p next s → IsWaited heard
+      → Fact c p (on_waited heard next again) s
   on_waited_fact Waited next again s h w = h
   on_waited_fact heard next again s h w = elim w [ ]
 
-  pub on_reset_fact : (heard : Heard) (next again : Phase) (s : Situation) → Fact c p next s → IsReset heard → Fact c p (on_reset heard next again) s
+  -- The fact of the phase after a reset of the bus.
+  pub on_reset_fact : (heard : Heard) (next again : Phase) (s : Situation) → Fact c p next s → IsReset heard
+      → Fact c p (on_reset heard next again) s
   on_reset_fact WasReset next again s h w = h
   on_reset_fact heard next again s h w = elim w [ ]

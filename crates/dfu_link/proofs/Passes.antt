@@ -4,32 +4,37 @@ use Rattle.dfu_device.specs.Stage.{Profile, Stage}
 use Rattle.dfu_device.specs.Outcome.{Luck, Works}
 use Rattle.dfu_host.specs.Table.{ToLoad, Phase, Over, OverUploaded, deed, Heard}
 use Rattle.dfu_host.specs.Host.{HostState, IsOn, budgeted}
-use Rattle.dfu_link.specs.Play.{Pass, Hosted, Link, silent, task_for, Took, settled, took, remembered, Passed, acted}
+use Rattle.dfu_link.specs.Happening.{Pass}
+use Rattle.dfu_link.specs.Bench.{Hosted}
+use Rattle.dfu_link.specs.Play.{Link, silent, task_for, Took, settled, took, remembered, Passed, acted}
 use Rattle.dfu_link.specs.CleanRun.{PassesTo, Quietly, here, there}
 
 both_ways : {c : Profile} {a b d : Link} {j k : ℕ} → Quietly c a j b → Quietly c b k d → Quietly c a (j + k) d
 both_ways {c = c} {a = a} {d = d} {k = k} here q = subst (λ n. Quietly c a n d) (let e : k ≡ 0 + k = omega arith in e) q
-both_ways {c = c} {a = a} {d = d} {k = k} (there {n = j} e q) r = subst (λ n. Quietly c a n d) (let e : suc (j + k) ≡ suc j + k = omega arith in e) (there e (both_ways q r))
+both_ways {c = c} {a = a} {d = d} {k = k} (there {n = j} e q) r =
+    subst (λ n. Quietly c a n d) (let e : suc (j + k) ≡ suc j + k = omega arith in e) (there e (both_ways q r))
 
--- cases on a test, with its equation
+-- Cases on a test, with its equation.
 pub split : {P : Type 0} (t : Bool) → (t ≡ true → P) → (t ≡ false → P) → P
 split true f g = f refl
 split false f g = g refl
 
 module _ (c : Profile) (p : List ℕ) (again : ℕ) where
-  -- the host of this download, in a phase
+  -- The host of this download, in a phase.
   abbrev pub host_at : Phase → ℕ → HostState
   host_at phase left = record { task = task_for c (ToLoad p); phase = phase; actions = left; restarts = again }
 
-  -- a link with this download in a phase
+  -- A link with this download in a phase.
   abbrev pub at : List ℕ → Stage → Phase → ℕ → Link
   at image stage phase left = record { device = record { image = image; stage = stage }; session = Hosted (host_at phase left) }
 
-  -- with budget enough, k passes lead from one phase to another
+  -- With budget enough, k passes lead from one phase to another.
   pub record Leads (i : List ℕ) (s : Stage) (phase : Phase) (k : ℕ) (j : List ℕ) (t : Stage) (next : Phase) : Type 0 where
     pub by : (l : ℕ) → Quietly c (at i s phase (k + suc l)) k (at j t next (suc l))
 
-  pub leads_on : {i j m : List ℕ} {s t u : Stage} {a b d : Phase} {k n : ℕ} → Leads i s a k j t b → Leads j t b n m u d → Leads i s a (k + n) m u d
+  -- Passes lead on to where more passes lead.
+  pub leads_on : {i j m : List ℕ} {s t u : Stage} {a b d : Phase} {k n : ℕ} → Leads i s a k j t b → Leads j t b n m u d
+      → Leads i s a (k + n) m u d
   leads_on {i = i} {j = j} {m = m} {s = s} {t = t} {u = u} {a = a} {b = b} {d = d} {k = k} {n = n} x y = record {
     by = λ l.
         let e : n + suc l ≡ suc (n + l) = omega arith in
@@ -40,17 +45,23 @@ module _ (c : Profile) (p : List ℕ) (again : ℕ) where
         (both_ways q (subst (λ z. Quietly c (at j t b z) n (at m u d (suc l))) e r));
   }
 
+  -- No pass leads nowhere else.
   pub none : {i : List ℕ} {s : Stage} {phase : Phase} → Leads i s phase 0 i s phase
-  none {i = i} {s = s} {phase = phase} = record { by = λ l. let e : suc l ≡ 0 + suc l = omega arith in subst (λ z. Quietly c (at i s phase z) 0 (at i s phase (suc l))) e here }
+  none {i = i} {s = s} {phase = phase} = record {
+    by = λ l. let e : suc l ≡ 0 + suc l = omega arith in
+        subst (λ z. Quietly c (at i s phase z) 0 (at i s phase (suc l))) e here;
+  }
 
-  pub one : {i j : List ℕ} {s t : Stage} {phase next : Phase} → ((l : ℕ) → PassesTo c (at i s phase (suc (suc l))) (at j t next (suc l)) silent) → Leads i s phase 1 j t next
+  -- One pass leads one phase further.
+  pub one : {i j : List ℕ} {s t : Stage} {phase next : Phase}
+      → ((l : ℕ) → PassesTo c (at i s phase (suc (suc l))) (at j t next (suc l)) silent) → Leads i s phase 1 j t next
   one {i = i} {j = j} {s = s} {t = t} {phase = phase} {next = next} f = record {
     by = λ l.
         let e : suc (suc l) ≡ 1 + suc l = omega arith in
         subst (λ z. Quietly c (at i s phase z) 1 (at j t next (suc l))) e (there (f l) here);
   }
 
-  -- the host at this phase, where its budget lasts
+  -- The host at this phase, where its budget lasts.
   abbrev pub comes_to : Phase → ℕ → Took
   comes_to phase l = let q = budgeted (suc l) phase in settled (host_at q (suc l)) q
 
@@ -59,9 +70,14 @@ module _ (c : Profile) (p : List ℕ) (again : ℕ) where
   comes_on (OverUploaded kept) l on = elim on [ ]
   comes_on phase l on = refl
 
-  -- one action: what the device does, what the host hears, and the phase to which it comes
-  pub one_by : {i j : List ℕ} {s t : Stage} {phase next : Phase} (heard : Heard) (mid : Phase) → ((k : Luck) → acted c (record { image = i; stage = s }) (deed (task_for c (ToLoad p)) phase) Pass Works k ≡ record { device = record { image = j; stage = t }; heard = heard })
-      → ((l : ℕ) (room : Bool) → took (host_at phase (suc (suc l))) (remembered heard room) ≡ comes_to mid l) → mid ≡ next → IsOn next → Leads i s phase 1 j t next
+  -- One action: what the device does, what the host hears, and the phase to which it comes.
+  pub one_by : {i j : List ℕ} {s t : Stage} {phase next : Phase} (heard : Heard) (mid : Phase)
+      → ((k : Luck) → acted c (record { image = i; stage = s }) (deed (task_for c (ToLoad p)) phase) Pass Works k
+      ≡ record { device = record { image = j; stage = t }; heard = heard })
+      → ((l : ℕ) (room : Bool) → took (host_at phase (suc (suc l))) (remembered heard room) ≡ comes_to mid l) → mid ≡ next → IsOn next
+      → Leads i s phase 1 j t next
   one_by {j = j} {t = t} {phase = phase} {next = next} heard mid e f g on = one (λ l k room.
-      ap (λ (d : Passed). let q = took (host_at phase (suc (suc l))) (remembered d.heard room) in record { link = record { device = d.device; session = q.session }; answer = q.answer }) (e k)
-      ∙ ap (λ (q : Took). record { link = record { device = record { image = j; stage = t }; session = q.session }; answer = q.answer }) (f l room ∙ ap (λ x. comes_to x l) g ∙ comes_on next l on))
+      ap (λ (d : Passed). let q = took (host_at phase (suc (suc l))) (remembered d.heard room) in
+      record { link = record { device = d.device; session = q.session }; answer = q.answer }) (e k)
+      ∙ ap (λ (q : Took). record { link = record { device = record { image = j; stage = t }; session = q.session }; answer = q.answer })
+      (f l room ∙ ap (λ x. comes_to x l) g ∙ comes_on next l on))

@@ -1,121 +1,27 @@
 -- A play with its bytes is a play of what the benches show.
 use Rattle.std.proofs.Common.{◌≡◌, ℕ, Bool, true, List, refl, sym, ap, ◌∙◌, subst}
-use Rattle.dfu_wire.specs.declared.requests.Request.{Request as Asked}
 use Rattle.dfu_slots.specs.Medium.{Fuse}
 use Rattle.dfu_slots.specs.Medium.Fuse.{Whole}
-use Rattle.dfu_slots.specs.Seen.{image_of, image_fused, image_restarted, room_fused, room_restarted}
-use Rattle.dfu_device.specs.declared.answer.Answer.{Answer}
-use Rattle.dfu_device.specs.Stage.{Profile, InAppIdle, Reply}
-use Rattle.dfu_device.specs.Table.{plan}
-use Rattle.dfu_device.specs.Outcome.{Situation, Luck, Works, Outcome, handled, elapsed, powered}
+use Rattle.dfu_slots.specs.Seen.{image_restarted, room_restarted}
+use Rattle.dfu_device.specs.Stage.{Profile, InAppIdle}
+use Rattle.dfu_device.specs.Outcome.{Situation, Luck, Works, Outcome, elapsed, powered}
 use Rattle.dfu_device.specs.Shown.{Shown, profile, situation}
-use Rattle.dfu_device.specs.Rows.{meant, asked_length, Answers, Handles}
-use Rattle.dfu_device.specs.Came.{Came, asked_came, time_came}
-use Rattle.dfu_host.specs.Table.{Deed, Send, Wait, Reset, Done, deed, Heard}
-use Rattle.dfu_host.specs.Wire.{IsAsked}
-use Rattle.dfu_link.specs.Play.{Fate, Pass, LostOut, LostBack, Twice, TwiceLostBack, Slip, CutIn, Fail, Event, Offer, UploadIt, AbortIt, Go, Time, ResetBus, Cut, Session, Answered, heard_as, remembered, acted, took, told, played, Play, gone, IsAllowed}
-use Rattle.dfu_link.specs.Bytes.{Harm, fuse_of, armed, powered_up, bus_was_reset, HearsAnswer, Sends, passes, goes_lost, comes_lost, repeats, repeats_lost, slips, cuts, fails, Waits, Resets, Acts, after_fate, Bench, link_of, Goes, Happens, BytePlay}
+use Rattle.dfu_device.specs.Came.{time_came}
+use Rattle.dfu_host.specs.Table.{Deed, deed, Heard}
+use Rattle.dfu_link.specs.Happening.{Fate, CutIn, Harm}
+use Rattle.dfu_link.specs.Play.{Event, Offer, UploadIt, AbortIt, Go, Time, ResetBus, Cut, Answered, acted, took, told, played, Play, gone, IsAllowed}
+use Rattle.dfu_link.specs.Bench.{Session, Bench}
+use Rattle.dfu_link.specs.Bytes.{fuse_of, armed, powered_up, after_fate, link_of, NextAction, Happens, BytePlay}
 use Rattle.dfu_link.specs.Understood.{Shows, BytesShow, BytePlays, byte_ends, byte_plays, BytesHeadline}
 use Rattle.dfu_host.specs.declared.report.Report.{Report}
 use Rattle.dfu_link.specs.Headline.{Plays, ends, plays}
-use Rattle.dfu_link.proofs.Whole.{follows_all}
-use Rattle.dfu_link.proofs.Replies.{IsHosts, HostsDeed, hosts_deed, plan_heard, served}
+use Rattle.dfu_link.proofs.EachEvent.{follows_all}
+use Rattle.dfu_link.proofs.Replies.{hosts_deed}
+use Rattle.dfu_link.proofs.Actions.{armed_profile, armed_situation, ending, Went, acts_go}
 
--- the fuse of the medium is no part of what is shown
-armed_profile : (w : Shown) (fuse : Fuse) → profile (armed w fuse) ≡ profile w
-armed_profile w fuse = λ k. record (profile w) { capacity = room_fused w.slots fuse k }
-
-armed_situation : (w : Shown) (fuse : Fuse) → situation (armed w fuse) ≡ situation w
-armed_situation w fuse = λ k. record { image = image_fused w.slots fuse k; stage = w.stage }
-
--- the situation once an action is over
-abbrev ending : Fate → Shown → Situation
-ending CutIn w = powered (situation w)
-ending fate w = situation w
-
--- what a device went through is what its situation goes through by the table of fates; with a medium that is not armed, at the luck that it works
-record Went (fuse : Fuse) (c : Profile) (s : Situation) (d : Deed) (fate : Fate) (w' : Shown) (heard : Heard) : Type 0 where
-  first : Luck
-  second : Luck
-  room : Bool
-  device : (acted c s d fate first second).device ≡ ending fate w'
-  hears : heard ≡ remembered (acted c s d fate first second).heard room
-  fixed : profile w' ≡ c
-  lucky : fuse ≡ Whole → (first ≡ Works) × (second ≡ Works)
-
-module _ (q : Asked) (setup body : List ℕ) (is : IsHosts q body) (asked : IsAsked q setup) where
-  came_by : (w w' : Shown) (a : Answer) (out : List ℕ) → Handles setup body w a out w' → Came (plan (profile w) (image_of w.slots) w.stage (meant q body)) (asked_length q) w a out w'
-  came_by w w' a out h = asked_came asked.setup q setup body w a out w' asked.fields asked.asks (served asked.setup q body is asked.asks) h
-
-  -- what was heard of a row
-  heard_by : (w w' : Shown) (a : Answer) (out : List ℕ) (heard : Heard) (x : Came (plan (profile w) (image_of w.slots) w.stage (meant q body)) (asked_length q) w a out w') → HearsAnswer (Send q body) a out heard
-      → (room : Bool) × (heard ≡ remembered (heard_as (handled (profile w) (situation w) (meant q body) x.luck).reply) room)
-  heard_by w w' a out heard x h =
-      plan_heard q body (profile w) (image_of w.slots) w.stage x.luck a out heard is (subst (λ (r : Reply). Answers (asked_length q) r a out) (sym (ap (λ (o : Outcome). o.reply) x.same)) x.answers) h
-
-  sends_go : (fate : Fate) (w w' : Shown) (heard : Heard) → Sends q setup body fate w w' heard → Went w.slots.medium.fuse (profile w) (situation w) (Send q body) fate w' heard
-  sends_go Pass w w' heard (passes {a = a} {out = out} h r) =
-      let x = came_by w w' a out h in
-      let y = heard_by w w' a out heard x r in
-      record { first = x.luck; second = Works; room = y.0; device = ap (λ (o : Outcome). o.after) x.same; hears = y.1; fixed = x.fixed; lucky = λ e. ((x.unarmed e).0, refl) }
-  sends_go LostOut w w' heard goes_lost = record { first = Works; second = Works; room = true; device = refl; hears = refl; fixed = refl; lucky = λ e. (refl, refl) }
-  sends_go LostBack w w' heard (comes_lost {a = a} {out = out} h) =
-      let x = came_by w w' a out h in
-      record { first = x.luck; second = Works; room = true; device = ap (λ (o : Outcome). o.after) x.same; hears = refl; fixed = x.fixed; lucky = λ e. ((x.unarmed e).0, refl) }
-  sends_go Twice w w' heard (repeats {mid = mid} {a = a} {b = b} {out = out} {last = last} h k r) =
-      let x = came_by w mid a out h in
-      let y = came_by mid w' b last k in
-      let z = heard_by mid w' b last heard y r in
-      let again : handled (profile w) (handled (profile w) (situation w) (meant q body) x.luck).after (meant q body) y.luck ≡ handled (profile mid) (situation mid) (meant q body) y.luck =
-      λ j. handled (sym x.fixed j) (x.same j).after (meant q body) y.luck in
-      record {
-        first = x.luck;
-        second = y.luck;
-        room = z.0;
-        device = ap (λ (o : Outcome). o.after) again ∙ ap (λ (o : Outcome). o.after) y.same;
-        hears = z.1 ∙ sym (ap (λ (o : Outcome). remembered (heard_as o.reply) z.0) again);
-        fixed = y.fixed ∙ x.fixed;
-        lucky = λ e. let k = x.unarmed e in (k.0, (y.unarmed k.1).0);
-      }
-  sends_go TwiceLostBack w w' heard (repeats_lost {mid = mid} {a = a} {b = b} {out = out} {last = last} h k) =
-      let x = came_by w mid a out h in
-      let y = came_by mid w' b last k in
-      let again : handled (profile w) (handled (profile w) (situation w) (meant q body) x.luck).after (meant q body) y.luck ≡ handled (profile mid) (situation mid) (meant q body) y.luck =
-      λ j. handled (sym x.fixed j) (x.same j).after (meant q body) y.luck in
-      record { first = x.luck; second = y.luck; room = true; device = ap (λ (o : Outcome). o.after) again ∙ ap (λ (o : Outcome). o.after) y.same; hears = refl; fixed = y.fixed ∙ x.fixed; lucky = λ e. let k = x.unarmed e in (k.0, (y.unarmed k.1).0) }
-  sends_go (Slip ms) w w' heard (slips {mid = mid} {a = a} {out = out} h r e) =
-      let x = came_by w mid a out h in
-      let y = time_came ms mid w' e in
-      let z = heard_by w mid a out heard x r in
-      let late : elapsed (profile w) (handled (profile w) (situation w) (meant q body) x.luck).after ms y.luck ≡ situation w' =
-      (λ j. elapsed (sym x.fixed j) (x.same j).after ms y.luck) ∙ ap (λ (o : Outcome). o.after) y.same in
-      record { first = x.luck; second = y.luck; room = z.0; device = late; hears = z.1; fixed = y.fixed ∙ x.fixed; lucky = λ e. let k = x.unarmed e in (k.0, (y.unarmed k.1).0) }
-  sends_go CutIn w w' heard (cuts {a = a} {out = out} h) =
-      let x = came_by w w' a out h in
-      record { first = x.luck; second = Works; room = true; device = ap (λ (o : Outcome). powered o.after) x.same; hears = refl; fixed = x.fixed; lucky = λ e. ((x.unarmed e).0, refl) }
-  sends_go Fail w w' heard (fails {a = a} {out = out} h r) =
-      let x = came_by w w' a out h in
-      let y = heard_by w w' a out heard x r in
-      record { first = x.luck; second = Works; room = y.0; device = ap (λ (o : Outcome). o.after) x.same; hears = y.1; fixed = x.fixed; lucky = λ e. ((x.unarmed e).0, refl) }
-
-waits_go : (ms : ℕ) (fate : Fate) (w w' : Shown) (heard : Heard) → Waits ms fate w w' heard → Went w.slots.medium.fuse (profile w) (situation w) (Wait ms) fate w' heard
-waits_go ms (Slip other) w w' heard (e, h) = let y = time_came other w w' e in record { first = y.luck; second = Works; room = true; device = ap (λ (o : Outcome). o.after) y.same; hears = h; fixed = y.fixed; lucky = λ whole. ((y.unarmed whole).0, refl) }
-waits_go ms CutIn w w' heard (e, h) = let y = time_came ms w w' e in record { first = y.luck; second = Works; room = true; device = ap (λ (o : Outcome). powered o.after) y.same; hears = h; fixed = y.fixed; lucky = λ whole. ((y.unarmed whole).0, refl) }
-waits_go ms fate w w' heard (e, h) = let y = time_came ms w w' e in record { first = y.luck; second = Works; room = true; device = ap (λ (o : Outcome). o.after) y.same; hears = h; fixed = y.fixed; lucky = λ whole. ((y.unarmed whole).0, refl) }
-
-resets_go : (fate : Fate) (w w' : Shown) (heard : Heard) → Resets fate w w' heard → Went w.slots.medium.fuse (profile w) (situation w) Reset fate w' heard
-resets_go (Slip ms) w w' heard (e, h) = let y = time_came ms (bus_was_reset w) w' e in record { first = y.luck; second = Works; room = true; device = ap (λ (o : Outcome). o.after) y.same; hears = h; fixed = y.fixed; lucky = λ whole. ((y.unarmed whole).0, refl) }
-resets_go CutIn w w' heard (e, h) = record { first = Works; second = Works; room = true; device = sym (ap (λ (z : Shown). powered (situation z)) e); hears = h; fixed = ap profile e; lucky = λ whole. (refl, refl) }
-resets_go fate w w' heard (e, h) = record { first = Works; second = Works; room = true; device = sym (ap situation e); hears = h; fixed = ap profile e; lucky = λ whole. (refl, refl) }
-
-acts_go : (d : Deed) (fate : Fate) (w w' : Shown) (heard : Heard) → HostsDeed d → Acts d fate w w' heard → Went w.slots.medium.fuse (profile w) (situation w) d fate w' heard
-acts_go (Send q body) fate w w' heard is (setup, asked, h) = sends_go q setup body is asked fate w w' heard h
-acts_go (Wait ms) fate w w' heard is h = waits_go ms fate w w' heard h
-acts_go Reset fate w w' heard is h = resets_go fate w w' heard h
-acts_go (Done report) fate w w' heard is h = elim h [ ]
-
--- an action on an armed medium
-armed_goes : (d : Deed) (fate : Fate) (fuse : Fuse) (w w' : Shown) (heard : Heard) → Went fuse (profile (armed w fuse)) (situation (armed w fuse)) d fate w' heard → Went fuse (profile w) (situation w) d fate w' heard
+-- An action on an armed medium.
+armed_goes : (d : Deed) (fate : Fate) (fuse : Fuse) (w w' : Shown) (heard : Heard)
+    → Went fuse (profile (armed w fuse)) (situation (armed w fuse)) d fate w' heard → Went fuse (profile w) (situation w) d fate w' heard
 armed_goes d fate fuse w w' heard x =
     subst (λ (s : Situation). Went fuse (profile w) s d fate w' heard) (armed_situation w fuse)
     (subst (λ (c : Profile). Went fuse c (situation (armed w fuse)) d fate w' heard) (armed_profile w fuse) x)
@@ -138,21 +44,25 @@ after_whole : (fate : Fate) (w : Shown) → (after_fate fate w).slots.medium.fus
 after_whole CutIn w = refl
 after_whole fate w = refl
 
--- the fuse of the medium in an event: only an action can be harmed
+-- The fuse of the medium in an event: only an action can be harmed.
 abbrev pub fuse_in : Event → Harm → Fuse
 fuse_in (Go fate) harm = fuse_of fate harm
 fuse_in event harm = Whole
 
--- what benches show of an event; where no write is harmed it goes at the luck that the medium works
+-- What benches show of an event; where no write is harmed it goes at the luck that the medium works.
 record Showed (b : Bench) (event : Event) (fuse : Fuse) (b' : Bench) (answer : Answered) : Type 0 where
   shown : Shows b event b' answer
-  sure : fuse ≡ Whole → (room : Bool) × (played (profile b.device) (link_of b) event Works Works room ≡ record { link = link_of b'; answer = answer })
+  sure : fuse ≡ Whole → (room : Bool) × (played (profile b.device) (link_of b) event Works Works room
+      ≡ record { link = link_of b'; answer = answer })
 
-goes_show : (fate : Fate) (harm : Harm) (b b' : Bench) (answer : Answered) → IsAllowed b.session (Go fate) → Goes b.session fate harm b b' answer → Showed b (Go fate) (fuse_of fate harm) b' answer
+goes_show : (fate : Fate) (harm : Harm) (b b' : Bench) (answer : Answered) → IsAllowed b.session (Go fate)
+    → NextAction b.session fate harm b b' answer → Showed b (Go fate) (fuse_of fate harm) b' answer
 goes_show fate harm b b' answer allowed g =
     let d = deed g.host.task g.host.phase in
-    let x = armed_goes d fate (fuse_of fate harm) b.device g.last g.heard (acts_go d fate (armed b.device (fuse_of fate harm)) g.last g.heard (hosts_deed g.host.task g.host.phase) g.acts) in
-    let there : (acted (profile b.device) (situation b.device) d fate x.first x.second).device ≡ situation b'.device = x.device ∙ sym (after_situation fate g.last) ∙ sym (ap situation g.device) in
+    let x = armed_goes d fate (fuse_of fate harm) b.device g.last g.heard
+    (acts_go d fate (armed b.device (fuse_of fate harm)) g.last g.heard (hosts_deed g.host.task g.host.phase) g.acts) in
+    let there : (acted (profile b.device) (situation b.device) d fate x.first x.second).device ≡ situation b'.device = x.device
+    ∙ sym (after_situation fate g.last) ∙ sym (ap situation g.device) in
     let same : played (profile b.device) (link_of b) (Go fate) x.first x.second x.room ≡ record { link = link_of b'; answer = answer } =
     ap (λ (z : Session). gone (profile b.device) (link_of b) z fate x.first x.second x.room) g.live
     ∙ (λ i. record {
@@ -167,17 +77,21 @@ goes_show fate harm b b' answer allowed g =
       };
       sure = λ whole. (
         x.room,
-        subst (λ (k : Luck). played (profile b.device) (link_of b) (Go fate) Works k x.room ≡ record { link = link_of b'; answer = answer }) (x.lucky whole).1
-            (subst (λ (l : Luck). played (profile b.device) (link_of b) (Go fate) l x.second x.room ≡ record { link = link_of b'; answer = answer }) (x.lucky whole).0 same),
+        subst (λ (k : Luck). played (profile b.device) (link_of b) (Go fate) Works k x.room ≡ record { link = link_of b'; answer = answer })
+            (x.lucky whole).1
+            (subst (λ (l : Luck). played (profile b.device) (link_of b) (Go fate) l x.second x.room
+            ≡ record { link = link_of b'; answer = answer }) (x.lucky whole).0 same),
       );
     }
 
--- an event that comes at once to this bench, whatever the medium does
+-- An event that comes at once to this bench, whatever the medium does.
 at_once : (b b' now : Bench) (event : Event) (answer said : Answered) → IsAllowed b.session event → b.device.slots.medium.fuse ≡ Whole
-    → played (profile b.device) (link_of b) event Works Works true ≡ record { link = link_of now; answer = said } → profile now.device ≡ profile b.device → now.device.slots.medium.fuse ≡ Whole
+    → played (profile b.device) (link_of b) event Works Works true ≡ record { link = link_of now; answer = said }
+    → profile now.device ≡ profile b.device → now.device.slots.medium.fuse ≡ Whole
     → b' ≡ now → answer ≡ said → Showed b event Whole b' answer
 at_once b b' now event answer said allowed unarmed same fixed whole e f =
-    let there : played (profile b.device) (link_of b) event Works Works true ≡ record { link = link_of b'; answer = answer } = same ∙ (λ i. record { link = link_of (sym e i); answer = sym f i }) in
+    let there : played (profile b.device) (link_of b) event Works Works true ≡ record { link = link_of b'; answer = answer } = same
+    ∙ (λ i. record { link = link_of (sym e i); answer = sym f i }) in
     record {
       shown = record {
         play = record { allowed = allowed; first = Works; second = Works; room = true; same = there };
@@ -187,37 +101,57 @@ at_once b b' now event answer said allowed unarmed same fixed whole e f =
       sure = λ whole. (true, there);
     }
 
-shows : (event : Event) (b b' : Bench) (harm : Harm) (answer : Answered) → IsAllowed b.session event → b.device.slots.medium.fuse ≡ Whole → Happens event harm b b' answer → Showed b event (fuse_in event harm) b' answer
-shows (Offer payload actions restarts) b b' harm answer allowed unarmed (e, f) = at_once b b' _ (Offer payload actions restarts) answer _ allowed unarmed refl refl unarmed e f
-shows (UploadIt actions restarts) b b' harm answer allowed unarmed (e, f) = at_once b b' _ (UploadIt actions restarts) answer _ allowed unarmed refl refl unarmed e f
+shows : (event : Event) (b b' : Bench) (harm : Harm) (answer : Answered) → IsAllowed b.session event → b.device.slots.medium.fuse ≡ Whole
+    → Happens event harm b b' answer → Showed b event (fuse_in event harm) b' answer
+shows (Offer payload actions restarts) b b' harm answer allowed unarmed (e, f) =
+    at_once b b' _ (Offer payload actions restarts) answer _ allowed unarmed refl refl unarmed e f
+shows (UploadIt actions restarts) b b' harm answer allowed unarmed (e, f) =
+    at_once b b' _ (UploadIt actions restarts) answer _ allowed unarmed refl refl unarmed e f
 shows AbortIt b b' harm answer allowed unarmed (e, f) = at_once b b' _ AbortIt answer _ allowed unarmed refl refl unarmed e f
 shows (Go fate) b b' harm answer allowed unarmed g = goes_show fate harm b b' answer allowed g
 shows (Time ms) b b' harm answer allowed unarmed (e, s, n) =
     let y = time_came ms b.device b'.device e in
     let works = y.unarmed unarmed in
-    let there : elapsed (profile b.device) (situation b.device) ms Works ≡ situation b'.device = ap (λ (l : Luck). elapsed (profile b.device) (situation b.device) ms l) (sym works.0) ∙ ap (λ (o : Outcome). o.after) y.same in
-    let same : played (profile b.device) (link_of b) (Time ms) Works Works true ≡ record { link = link_of b'; answer = answer } = λ i. record { link = record { device = there i; session = sym s i }; answer = sym n i } in
+    let there : elapsed (profile b.device) (situation b.device) ms Works
+    ≡ situation b'.device = ap (λ (l : Luck). elapsed (profile b.device) (situation b.device) ms l) (sym works.0)
+    ∙ ap (λ (o : Outcome). o.after) y.same in
+    let same : played (profile b.device) (link_of b) (Time ms) Works Works true
+    ≡ record { link = link_of b'; answer = answer } = λ i. record {
+      link = record { device = there i; session = sym s i };
+      answer = sym n i;
+    } in
     record {
-      shown = record { play = record { allowed = allowed; first = Works; second = Works; room = true; same = same }; fixed = y.fixed; unarmed = works.1 };
+      shown = record {
+        play = record { allowed = allowed; first = Works; second = Works; room = true; same = same };
+        fixed = y.fixed;
+        unarmed = works.1;
+      };
       sure = λ whole. (true, same);
     }
 shows ResetBus b b' harm answer allowed unarmed (e, f) = at_once b b' _ ResetBus answer _ allowed unarmed refl refl unarmed e f
 shows Cut b b' harm answer allowed unarmed (e, f) =
-    at_once b b' _ Cut answer _ allowed unarmed (λ i. let t = told b.session in record { link = record { device = sym (powered_situation b.device) i; session = t.session }; answer = t.answer }) (powered_profile b.device) refl e f
+    at_once b b' _ Cut answer _ allowed unarmed (λ i. let t = told b.session in
+    record { link = record { device = sym (powered_situation b.device) i; session = t.session }; answer = t.answer })
+    (powered_profile b.device) refl e f
 
+-- Each play with its bytes is a play of the links that are shown.
 pub bytes_show : BytesShow
 bytes_show b b' event harm answer p = (shows event b b' harm answer p.allowed p.unarmed p.happens).shown
 
--- where no write is harmed, the play is the one at the luck that the medium works
-pub bytes_sure : (b b' : Bench) (event : Event) (harm : Harm) (answer : Answered) → BytePlay b event harm b' answer → fuse_in event harm ≡ Whole
+-- Where no write is harmed, the play is the one at the luck that the medium works.
+pub bytes_sure : (b b' : Bench) (event : Event) (harm : Harm) (answer : Answered) → BytePlay b event harm b' answer
+    → fuse_in event harm ≡ Whole
     → (room : Bool) × (played (profile b.device) (link_of b) event Works Works room ≡ record { link = link_of b'; answer = answer })
 bytes_sure b b' event harm answer p whole = (shows event b b' harm answer p.allowed p.unarmed p.happens).sure whole
 
-shows_all : {b b' : Bench} {up up' : List ℕ} {events : List Event} {reports : List Report} (c : Profile) → profile b.device ≡ c → BytePlays b up events reports b' up' → Plays c (link_of b) up events reports (link_of b') up'
+shows_all : {b b' : Bench} {up up' : List ℕ} {events : List Event} {reports : List Report} (c : Profile) → profile b.device ≡ c
+    → BytePlays b up events reports b' up' → Plays c (link_of b) up events reports (link_of b') up'
 shows_all c e byte_ends = ends
 shows_all {b = b} c e (byte_plays {mid = mid} {event = event} {answer = answer} harm p more) =
     let one = bytes_show b mid event harm answer p in
     plays (subst (λ (x : Profile). Play x (link_of b) event (link_of mid) answer) e one.play) (shows_all c (one.fixed ∙ e) more)
 
+-- So plays with their bytes are a legal run.
 pub bytes_headline : BytesHeadline
-bytes_headline b b' up up' m events reports sized f a run = follows_all (profile b.device) sized m f a (shows_all (profile b.device) refl run)
+bytes_headline b b' up up' m events reports sized f a run = follows_all (profile b.device) sized m f a
+    (shows_all (profile b.device) refl run)

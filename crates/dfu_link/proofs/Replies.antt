@@ -1,7 +1,7 @@
 -- What a device answers fits the request, and is heard as it was meant.
 use Rattle.std.proofs.Common.{◌≡◌, ℕ, ◌+◌, ◌==◌, nat_lt, nat_le, not, Bool, true, false, List, [], ◌∷◌, length, take, drop, refl, sym, ap, ◌∙◌, subst, arith, inl, inr}
 use Rattle.std.proofs.lemmas.Bool.Decides.{nat_tests}
-use Rattle.dfu_device.specs.Stage.{Request, Dnload, Upload, GetStatus, ClrStatus, GetState, Reply, Ack, StatusOf, StateOf, Data, Stall, Profile, Stage, InAppIdle, InAppDetach, InDfuIdle, InDownloadSync, InDownloadSyncWritten, InDownloadBusy, InDownloadIdle, InManifestSync, InManifestSyncComplete, InManifest, InManifestWaitReset, InUploadIdle, InError}
+use Rattle.dfu_device.specs.Stage.{Request, Dnload, Upload, GetStatus, ClrStatus, GetState, Reply, Ack, StatusOf, StateOf, Data, Stall, Profile, Stage, InAppIdle, InAppDetach, InDfuIdle, InDownloadSync, InDownloadSyncWritten, InDownloadBusy, InDownloadIdle, InManifestSync, InManifestSyncComplete, InManifest, InManifestWaitReset, InUploadIdle, InError, Detach as AskDetach}
 use Rattle.dfu_device.specs.Table.{Plan, Sure, Writes, Commits, plan, block_plan, upload_plan, is_empty, next_number}
 use Rattle.dfu_device.specs.Outcome.{Luck, Works, outcome}
 use Rattle.dfu_device.specs.Cases.{either_way}
@@ -13,7 +13,6 @@ use Rattle.dfu_wire.specs.declared.setups.Setup.{Setup}
 use Rattle.dfu_wire.specs.Request.{Asks}
 use Rattle.dfu_wire.specs.Status.{IsStatus}
 use Rattle.dfu_wire.specs.State.{state_byte}
-use Rattle.dfu_device.specs.Stage.{Detach as AskDetach}
 use Rattle.dfu_device.specs.declared.answer.Answer.{Answer}
 use Rattle.dfu_device.specs.declared.answer.Answer.TheVariants as answer
 use Rattle.dfu_device.specs.Rows.{meant, asked_length, Answers, body_length, is_served}
@@ -23,7 +22,7 @@ use Rattle.dfu_host.specs.WireLaws.{status_understood, state_understood}
 use Rattle.dfu_link.specs.Bytes.{HearsAnswer}
 use Rattle.dfu_link.specs.Understood.{Understood}
 
--- a reply of the kind that a request has
+-- A reply of the kind that a request has.
 abbrev pub Fitting : Request → Reply → Type 0
 Fitting GetStatus (StatusOf code poll state) = Unit {0}
 Fitting GetStatus Stall = Unit {0}
@@ -50,19 +49,23 @@ fits_outcome r i (Writes before block reply stage bad) luck f = f.1
 fits_outcome r i (Commits taken reply stage bad) Works f = f.0
 fits_outcome r i (Commits taken reply stage bad) luck f = f.1
 
-block_fits : (c : Profile) (before : List ℕ) (expected number : ℕ) (body : List ℕ) → FitsPlan (Dnload number body) (block_plan c before expected number body)
+block_fits : (c : Profile) (before : List ℕ) (expected number : ℕ) (body : List ℕ)
+    → FitsPlan (Dnload number body) (block_plan c before expected number body)
 block_fits c before expected number body =
     let P : Plan → Type 0 = FitsPlan (Dnload number body) in
-    either_way P (nat_lt c.transfer (length body)) _ _ tt (either_way P (not (number == expected)) _ _ tt (either_way P (nat_lt c.capacity (length before + length body)) _ _ tt tt))
+    either_way P (nat_lt c.transfer (length body)) _ _ tt (either_way P (not (number == expected)) _ _ tt
+    (either_way P (nat_lt c.capacity (length before + length body)) _ _ tt tt))
 
-upload_fits : (c : Profile) (i : List ℕ) (place expected number size : ℕ) → FitsPlan (Upload number size) (upload_plan c i place expected number size)
+upload_fits : (c : Profile) (i : List ℕ) (place expected number size : ℕ)
+    → FitsPlan (Upload number size) (upload_plan c i place expected number size)
 upload_fits c i place expected number size =
     let P : Plan → Type 0 = FitsPlan (Upload number size) in
     let part = take size (drop place i) in
     either_way P (size == 0) _ _ tt (either_way P (nat_lt c.transfer size) _ _ tt (either_way P (not (number == expected)) _ _ tt
-    (either_way P (nat_lt (length part) size) (Sure (Data part) InDfuIdle) (Sure (Data part) (InUploadIdle (place + size) (next_number expected))) tt tt)))
+    (either_way P (nat_lt (length part) size) (Sure (Data part) InDfuIdle) (Sure (Data part) (InUploadIdle (place + size) (next_number expected))) tt
+    tt)))
 
--- each row by state and request
+-- Each row by state and request.
 fits_plan : (c : Profile) (i : List ℕ) (st : Stage) (r : Request) → FitsPlan r (plan c i st r)
 fits_plan c i InAppIdle (AskDetach timeout) = tt
 fits_plan c i InAppIdle GetStatus = tt
@@ -97,7 +100,7 @@ fits_plan c i (InUploadIdle place number) r = tt
 fits_plan c i (InError code) ClrStatus = tt
 fits_plan c i (InError code) r = tt
 
--- a request as a host sends it
+-- A request as a host sends it.
 abbrev pub IsHosts : Asked → List ℕ → Type 0
 IsHosts (request.GetStatus len) body = (len ≡ 6) × (body ≡ [])
 IsHosts (request.GetState len) body = (len ≡ 1) × (body ≡ [])
@@ -108,10 +111,12 @@ IsHosts request.ClrStatus body = body ≡ []
 IsHosts request.Abort body = body ≡ []
 IsHosts q body = ⊥
 
+-- An action of a host: a request that hosts send, a wait, a reset, or none.
 abbrev pub HostsDeed : Deed → Type 0
 HostsDeed (Send q body) = IsHosts q body
 HostsDeed d = Unit {0}
 
+-- What a host does in each phase is such an action.
 pub hosts_deed : (task : Task) (phase : Phase) → HostsDeed (deed task phase)
 hosts_deed task Find = (refl, refl)
 hosts_deed task FindAgain = (refl, refl)
@@ -130,6 +135,7 @@ hosts_deed task (Fetch k kept) = refl
 hosts_deed task GiveUp = refl
 hosts_deed task phase = tt
 
+-- A request that a host sends is one of those.
 pub hosts : (task : Task) (phase : Phase) (q : Asked) (body : List ℕ) → deed task phase ≡ Send q body → IsHosts q body
 hosts task phase q body e = subst HostsDeed e (hosts_deed task phase)
 
@@ -145,25 +151,36 @@ heard_bytes d a out heard e h = subst (λ (x : Answer). HearsAnswer d x out hear
 abbrev HeardAs : Reply → Heard → Type 0
 HeardAs reply heard = (room : Bool) × (heard ≡ remembered (heard_as reply) room)
 
--- a reply that fits, as its bytes
-pub reply_heard : (q : Asked) (body : List ℕ) (reply : Reply) (a : Answer) (out : List ℕ) (heard : Heard) → IsHosts q body → Fitting (meant q body) reply
+-- A reply that fits, as its bytes.
+pub reply_heard : (q : Asked) (body : List ℕ) (reply : Reply) (a : Answer) (out : List ℕ) (heard : Heard) → IsHosts q body
+    → Fitting (meant q body) reply
     → Answers (asked_length q) reply a out → HearsAnswer (Send q body) a out heard → HeardAs reply heard
 reply_heard (request.GetStatus len) body (StatusOf code poll state) a out heard i f says h =
-    let whole : (a ≡ answer.Bytes) × IsStatus (record { code = code; poll_ms = poll; state = state }) out = status_whole len code poll state a out (omega (arith, i.0)) says in
-    (true, status_understood (record { code = code; poll_ms = poll; state = state }) out heard whole.1 (heard_bytes (Send (request.GetStatus len) body) a out heard whole.0 h))
-reply_heard (request.GetStatus len) body Stall a out heard i f says h = (true, heard_stall (Send (request.GetStatus len) body) a out heard says.0 h)
+    let whole : (a ≡ answer.Bytes) × IsStatus (record { code = code; poll_ms = poll; state = state }) out = status_whole len code poll state
+    a out (omega (arith, i.0)) says in (
+      true,
+      status_understood (record { code = code; poll_ms = poll; state = state }) out heard whole.1
+          (heard_bytes (Send (request.GetStatus len) body) a out heard whole.0 h),
+    )
+reply_heard (request.GetStatus len) body Stall a out heard i f says h =
+    (true, heard_stall (Send (request.GetStatus len) body) a out heard says.0 h)
 reply_heard (request.GetStatus len) body reply a out heard i f says h = elim f [ ]
 reply_heard (request.GetState len) body (StateOf state) a out heard i f says h =
-    let whole : out ≡ state_byte state ∷ [] = says.1 ∙ ap (λ n. take n (state_byte state ∷ [])) i.0 in
-    (true, state_understood state heard (subst (λ l. ReadsState l heard) whole (heard_bytes (Send (request.GetState len) body) a out heard says.0 h)))
-reply_heard (request.GetState len) body Stall a out heard i f says h = (true, heard_stall (Send (request.GetState len) body) a out heard says.0 h)
+    let whole : out ≡ state_byte state ∷ [] = says.1 ∙ ap (λ n. take n (state_byte state ∷ [])) i.0 in (
+      true,
+      state_understood state heard (subst (λ l. ReadsState l heard) whole
+          (heard_bytes (Send (request.GetState len) body) a out heard says.0 h)),
+    )
+reply_heard (request.GetState len) body Stall a out heard i f says h =
+    (true, heard_stall (Send (request.GetState len) body) a out heard says.0 h)
 reply_heard (request.GetState len) body reply a out heard i f says h = elim f [ ]
 reply_heard (request.Upload block len) body (Data bytes) a out heard i f says h =
     elim (heard_bytes (Send (request.Upload block len) body) a out heard says.0 h) [
       | inl part ↦ (true, part ∙ ap Part says.1)
       | inr (none, needs) ↦ (false, none)
     ]
-reply_heard (request.Upload block len) body Stall a out heard i f says h = (true, heard_stall (Send (request.Upload block len) body) a out heard says.0 h)
+reply_heard (request.Upload block len) body Stall a out heard i f says h =
+    (true, heard_stall (Send (request.Upload block len) body) a out heard says.0 h)
 reply_heard (request.Upload block len) body reply a out heard i f says h = elim f [ ]
 reply_heard request.OtherClass body reply a out heard i f says h = elim i [ ]
 reply_heard request.NotDfu body reply a out heard i f says h = elim i [ ]
@@ -171,22 +188,28 @@ reply_heard q body Ack a out heard i f says h = (true, heard_ack (Send q body) a
 reply_heard q body Stall a out heard i f says h = (true, heard_stall (Send q body) a out heard says.0 h)
 reply_heard q body reply a out heard i f says h = elim f [ ]
 
--- what a plan of the table answers
-pub plan_heard : (q : Asked) (body : List ℕ) (c : Profile) (i : List ℕ) (st : Stage) (luck : Luck) (a : Answer) (out : List ℕ) (heard : Heard) → IsHosts q body → let reply = (outcome i (plan c i st (meant q body)) luck).reply in
+-- What a plan of the table answers.
+pub plan_heard : (q : Asked) (body : List ℕ) (c : Profile) (i : List ℕ) (st : Stage) (luck : Luck) (a : Answer) (out : List ℕ)
+    (heard : Heard) → IsHosts q body → let reply = (outcome i (plan c i st (meant q body)) luck).reply in
     Answers (asked_length q) reply a out → HearsAnswer (Send q body) a out heard → HeardAs reply heard
 plan_heard q body c i st luck a out heard is says h =
-    reply_heard q body _ a out heard is (fits_outcome (meant q body) i (plan c i st (meant q body)) luck (fits_plan c i st (meant q body))) says h
+    reply_heard q body _ a out heard is (fits_outcome (meant q body) i (plan c i st (meant q body)) luck (fits_plan c i st (meant q body)))
+    says h
 
+-- What a device answers is heard as what it meant.
 pub understood : Understood
-understood task phase q body c image stage luck a out heard e says h = plan_heard q body c image stage luck a out heard (hosts task phase q body e) says h
+understood task phase q body c image stage luck a out heard e says h =
+    plan_heard q body c image stage luck a out heard (hosts task phase q body e) says h
 
 out_served : (p : Setup) (body : List ℕ) → p.kind ≡ 0x21 → length body ≡ p.length → (length body == body_length p) ≡ true
-out_served p body k e = let f : (p.kind == 0x21) ≡ true = grind (arith, nat_tests) in let g : (length body == p.length) ≡ true = grind (arith, nat_tests) in rw f g
+out_served p body k e = let f : (p.kind == 0x21) ≡ true = grind (arith, nat_tests) in
+    let g : (length body == p.length) ≡ true = grind (arith, nat_tests) in rw f g
 
 in_served : (p : Setup) (body : List ℕ) → p.kind ≡ 0xa1 → length body ≡ 0 → (length body == body_length p) ≡ true
-in_served p body k e = let f : (p.kind == 0x21) ≡ false = grind (arith, nat_tests) in let g : (length body == 0) ≡ true = grind (arith, nat_tests) in rw f g
+in_served p body k e = let f : (p.kind == 0x21) ≡ false = grind (arith, nat_tests) in
+    let g : (length body == 0) ≡ true = grind (arith, nat_tests) in rw f g
 
--- what a host sends goes by the device's table
+-- What a host sends goes by the device's table.
 pub served : (p : Setup) (q : Asked) (body : List ℕ) → IsHosts q body → Asks p q → is_served p q body ≡ true
 served p (request.Detach timeout) body i a = out_served p body a.0.kind (ap length i ∙ sym a.1)
 served p (request.Dnload block len) body i a = out_served p body a.0.kind (sym i ∙ a.2)

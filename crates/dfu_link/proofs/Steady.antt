@@ -1,94 +1,51 @@
 -- What holds of a link between events is kept by each, and the session machine follows.
-use Rattle.std.proofs.Common.{◌≡◌, ◌⊎◌, ℕ, ◌<◌, List, [], ◌∷◌, Option, Some, None, Result, Ok, Err, refl, sym, ap, ◌∙◌, subst, inl, inr}
+use Rattle.std.proofs.Common.{◌≡◌, ◌⊎◌, ℕ, ◌<◌, List, [], Option, Some, None, Result, Ok, Err, refl, sym, ap, ◌∙◌, subst, inl, inr}
 use Rattle.dfu_slots.specs.Medium.Fuse.{Whole}
-use Rattle.dfu_slots.specs.Image.{Active}
-use Rattle.dfu_device.specs.Stage.{Profile, Stage, InManifestSync, InManifest}
+use Rattle.dfu_device.specs.Stage.{Profile}
 use Rattle.dfu_device.specs.Shown.{Shown, profile, situation}
 use Rattle.dfu_host.specs.declared.report.Report.{Report}
 use Rattle.dfu_host.specs.declared.report.Report.TheVariants.{Uploaded}
 use Rattle.dfu_device.specs.Setting.{Setting}
-use Rattle.dfu_host.specs.Table.{Goal, ToLoad, ToFetch}
 use Rattle.dfu_link.specs.declared.fault.LinkFault.{LinkFault}
 use Rattle.dfu_link.specs.Session.{Machine, Loading}
-use Rattle.dfu_link.specs.Play.{Pass, CutIn, Fail, Event, Offer, UploadIt, AbortIt, Go, Time, ResetBus, Cut, Session, Nobody, Hosted, Link, Answered, given, IsAllowed}
-use Rattle.dfu_link.specs.Agreement.{pending_of, live_of, IsSound, IsGoalOffer, IsLiveOffer, Agrees, NothingClosed, SomeAgrees, FreshAgrees, LinkAgreesOn}
+use Rattle.dfu_link.specs.Play.{kind_of, Event, Offer, UploadIt, AbortIt, Go, Time, ResetBus, Cut, Answered, given, IsAllowed}
+use Rattle.dfu_link.specs.Happening.{Pass, CutIn, Fail, Harm, Happening, Offers, Uploads, Aborts, Goes, Passes, Resets, Cuts}
+use Rattle.dfu_link.specs.Bench.{Session, Nobody, Hosted, Bench, ShowsActive, LinkState, linked}
+use Rattle.dfu_link.specs.LinkAgreement.{Agrees}
 use Rattle.dfu_link.specs.Fact.{SessionFact}
 use Rattle.dfu_link.specs.Headline.{Follows}
-use Rattle.dfu_link.specs.Bytes.{Harm, Bench, link_of, ShowsActive, Happens, BytePlay}
-use Rattle.dfu_link.specs.Understood.{Shows}
-use Rattle.dfu_link.specs.Comes.{Happening, Offers, Uploads, Aborts, Goes, Passes, Resets, Cuts, harm_of, Means, Comes, refuses, happens, shown_as, gave_of, LinkState, linked, HasCome}
-use Rattle.dfu_link.specs.Standing.{IsSized, IsSteady}
-use Rattle.dfu_link.specs.Following.{AllFollow}
+use Rattle.dfu_link.specs.Bytes.{link_of, Happens, BytePlay}
+use Rattle.dfu_link.specs.Understood.{Shows, ImageShown}
+use Rattle.dfu_link.specs.Comes.{harm_of, Means, Comes, refuses, happens, shown_as, gave_of, HasCome}
+use Rattle.dfu_link.specs.Standing.{SendsBytes, IsSteady}
+use Rattle.dfu_link.specs.Following.{IsOfKind, AllFollow}
 use Rattle.dfu_link.specs.Giving.{Gives, UploadsGive, RestIsSteady}
 use Rattle.dfu_link.specs.Sure.{IsHarmless, IsAsPlayed, AllSure}
 use Rattle.dfu_link.proofs.Config.{happens_config}
 use Rattle.dfu_link.proofs.Projected.{fuse_in, bytes_show, bytes_sure}
-use Rattle.dfu_link.proofs.Whole.{Sizes, follows_sized}
+use Rattle.dfu_link.proofs.EachEvent.{Sizes, follows_sized}
 use Rattle.dfu_link.proofs.Saying.{step_up}
 use Rattle.dfu_link.proofs.Counted.{FitsIn, happens_counted, happens_fits}
 use Rattle.dfu_link.proofs.Events.{has_transfer}
 use Rattle.dfu_link.proofs.Uploads.{gives_transfer}
+use Rattle.dfu_link.proofs.Agreeing.{machine_of, machine_agrees, agrees_on, link_agrees}
 
--- Some machine agrees with each link.
-
-abbrev closed_in : Stage → List ℕ
-closed_in (InManifestSync taken) = taken
-closed_in (InManifest taken passed) = taken
-closed_in stage = []
-
-abbrev goal_bytes : Goal → List ℕ
-goal_bytes (ToLoad payload) = payload
-goal_bytes ToFetch = []
-
-abbrev payload_in : Session → List ℕ
-payload_in Nobody = []
-payload_in (Hosted h) = goal_bytes h.task.goal
-
-closed_sound : (stage : Stage) (rest : List (List ℕ)) → IsSound (closed_in stage ∷ rest) stage
-closed_sound (InManifestSync taken) rest = inl refl
-closed_sound (InManifest taken passed) rest = inl refl
-closed_sound stage rest = tt
-
-goal_offered : (goal : Goal) (x : List ℕ) → IsGoalOffer (x ∷ goal_bytes goal ∷ []) goal
-goal_offered (ToLoad payload) x = inr (inl refl)
-goal_offered ToFetch x = tt
-
-live_offered : (session : Session) (x : List ℕ) → IsLiveOffer (x ∷ payload_in session ∷ []) session
-live_offered Nobody x = tt
-live_offered (Hosted h) x = goal_offered h.task.goal x
-
-abbrev machine_of : Link → List ℕ → Machine
-machine_of w up = record { cur = w.device.image; offers = closed_in w.device.stage ∷ payload_in w.session ∷ []; pending = pending_of w.device.stage; live = live_of w.session; up = up }
-
-machine_agrees : (w : Link) (up : List ℕ) → Agrees w up (machine_of w up)
-machine_agrees w up = record { cur = refl; pending = refl; live = refl; up_is = refl; sound = closed_sound w.device.stage (payload_in w.session ∷ []); offered = live_offered w.session (closed_in w.device.stage) }
-
-pub some_agrees : SomeAgrees
-some_agrees w up = (machine_of w up, machine_agrees w up)
-
-open_sound : (stage : Stage) → NothingClosed stage → IsSound [] stage
-open_sound (InManifestSync taken) h = elim h [ ]
-open_sound (InManifest taken passed) h = elim h [ ]
-open_sound stage h = tt
-
-pub fresh_agrees : FreshAgrees
-fresh_agrees w none still = record {
-  cur = refl;
-  pending = refl;
-  live = ap (λ (s : Session). live_of s) (sym none);
-  up_is = refl;
-  sound = open_sound w.device.stage still;
-  offered = subst (λ (s : Session). IsLiveOffer [] s) (sym none) tt;
-}
-
--- The machine's active image is that of the medium's bytes.
-
-pub agrees_on : LinkAgreesOn
-agrees_on b up m shows agrees = record { active = subst (λ (image : List ℕ). Active b.device.slots.medium image) (sym agrees.cur) shows; agrees = agrees }
+-- What happens is of the kind that its event is of.
+kind_is : (s : Setting) (h : Happening) (event : Event) → Means s h event → IsOfKind h (kind_of event)
+kind_is s (Offers file limits) (Offer payload actions restarts) m =
+    record { ids = m.0.ids; dfu = m.0.dfu; extra = m.0.extra; reads = m.0.reads }
+kind_is s (Uploads limits) (UploadIt actions restarts) m = tt
+kind_is s Aborts AbortIt m = tt
+kind_is s (Goes f harm) (Go g) m = tt
+kind_is s (Passes ms) (Time n) m = tt
+kind_is s Resets ResetBus m = tt
+kind_is s Cuts Cut m = tt
+kind_is s h event m = elim m [ ]
 
 -- The transfer size, where it is needed.
 
-sizes : (w : Shown) (session : Session) (h : Happening) (event : Event) → Means w.config h event → SessionFact (profile w) (situation w) session → IsSized session → Sizes (profile w) session event
+sizes : (w : Shown) (session : Session) (h : Happening) (event : Event) → Means w.config h event
+    → SessionFact (profile w) (situation w) session → SendsBytes session → Sizes (profile w) session event
 sizes w Nobody (Offers file limits) (Offer payload actions restarts) m f z = has_transfer m.0
 sizes w Nobody (Goes fate harm) (Offer payload actions restarts) m f z = elim m [ ]
 sizes w Nobody (Passes ms) (Offer payload actions restarts) m f z = elim m [ ]
@@ -99,9 +56,11 @@ sizes w Nobody Aborts (Offer payload actions restarts) m f z = elim m [ ]
 sizes w (Hosted host) h (Go fate) m f z = subst (λ (n : ℕ). 0 < n) f.task_is.transfer z
 sizes w session h event m f z = tt
 
--- after an event no session is live, or the transfer size is known
-sized_or_none : (w : Shown) (session : Session) (h : Happening) (event : Event) (harm : Harm) (b' : Bench) (answer : Answered) → Means w.config h event → SessionFact (profile w) (situation w) session → IsSized session
-    → IsAllowed session event → Happens event harm (record { device = w; session = session }) b' answer → (0 < (profile w).transfer) ⊎ (b'.session ≡ Nobody)
+-- After an event no session is live, or the transfer size is known.
+sized_or_none : (w : Shown) (session : Session) (h : Happening) (event : Event) (harm : Harm) (b' : Bench) (answer : Answered)
+    → Means w.config h event → SessionFact (profile w) (situation w) session → SendsBytes session
+    → IsAllowed session event → Happens event harm (record { device = w; session = session }) b' answer
+    → (0 < (profile w).transfer) ⊎ (b'.session ≡ Nobody)
 sized_or_none w (Hosted host) h event harm b' answer m f z a x = inl (subst (λ (n : ℕ). 0 < n) f.task_is.transfer z)
 sized_or_none w Nobody (Offers file limits) (Offer payload actions restarts) harm b' answer m f z a x = inl (has_transfer m.0)
 sized_or_none w Nobody (Uploads limits) (UploadIt actions restarts) harm b' answer m f z a x = inl (gives_transfer w.config m.0)
@@ -112,19 +71,23 @@ sized_or_none w Nobody Cuts Cut harm b' answer m f z a x = inr (ap (λ (b : Benc
 sized_or_none w Nobody (Goes fate harm2) (Go g) harm b' answer m f z a x = elim a [ ]
 sized_or_none w Nobody h event harm b' answer m f z a x = elim m [ ]
 
-sized_by : (c : Profile) (w : Shown) (session : Session) → SessionFact c (situation w) session → (0 < c.transfer) ⊎ (session ≡ Nobody) → IsSized session
+sized_by : (c : Profile) (w : Shown) (session : Session) → SessionFact c (situation w) session → (0 < c.transfer) ⊎ (session ≡ Nobody)
+    → SendsBytes session
 sized_by c w Nobody f z = tt
 sized_by c w (Hosted host) f (inl z) = subst (λ (n : ℕ). 0 < n) (sym f.task_is.transfer) z
 sized_by c w (Hosted host) f (inr e) = absurd cc
 
 -- One event.
 
-follows_play : (b b' : Bench) (h : Happening) (event : Event) (harm : Harm) (answer : Answered) (up : List ℕ) (m : Machine) → IsSteady b → Means b.device.config h event → BytePlay b event harm b' answer → Agrees (link_of b) up m
+follows_play : (b b' : Bench) (h : Happening) (event : Event) (harm : Harm) (answer : Answered) (up : List ℕ) (m : Machine) → IsSteady b
+    → Means b.device.config h event → BytePlay b event harm b' answer → Agrees (link_of b) up m
     → Follows (profile b.device) m event (link_of b') (given answer.gave up) answer.report
 follows_play b b' h event harm answer up m steady means play agrees =
-    follows_sized (profile b.device) (link_of b) (link_of b') up m event answer (sizes b.device b.session h event means steady.fact steady.sized) steady.fact agrees (bytes_show b b' event harm answer play).play
+    follows_sized (profile b.device) (link_of b) (link_of b') up m event answer
+    (sizes b.device b.session h event means steady.fact steady.sized) steady.fact agrees (bytes_show b b' event harm answer play).play
 
-play_steady : (b b' : Bench) (h : Happening) (event : Event) (harm : Harm) (answer : Answered) → IsSteady b → Means b.device.config h event → BytePlay b event harm b' answer → IsSteady b'
+play_steady : (b b' : Bench) (h : Happening) (event : Event) (harm : Harm) (answer : Answered) → IsSteady b → Means b.device.config h event
+    → BytePlay b event harm b' answer → IsSteady b'
 play_steady b b' h event harm answer steady means play =
     let s : Shows b event b' answer = bytes_show b b' event harm answer play in
     let f = follows_play b b' h event harm answer [] (machine_of (link_of b) []) steady means play (machine_agrees (link_of b) []) in
@@ -132,63 +95,82 @@ play_steady b b' h event harm answer steady means play =
       fact = subst (λ (c : Profile). SessionFact c (situation b'.device) b'.session) (sym s.fixed) f.fact;
       unarmed = s.unarmed;
       counted = happens_counted event harm b b' answer steady.sized steady.counted play.happens;
-      sized = sized_by (profile b.device) b'.device b'.session f.fact (sized_or_none b.device b.session h event harm b' answer means steady.fact steady.sized play.allowed play.happens);
+      sized = sized_by (profile b.device) b'.device b'.session f.fact
+          (sized_or_none b.device b.session h event harm b' answer means steady.fact steady.sized play.allowed play.happens);
     }
 
 comes_steady : {b b' : Bench} {h : Happening} {answer : Result Answered LinkFault} → IsSteady b → Comes b h b' answer → IsSteady b'
 comes_steady steady (refuses why) = steady
-comes_steady {b = b} {b' = b'} {h = h} steady (happens {event = event} {answer = answer} means play) = play_steady b b' h event (harm_of h) answer steady means play
+comes_steady {b = b} {b' = b'} {h = h} steady (happens {event = event} {answer = answer} means play) =
+    play_steady b b' h event (harm_of h) answer steady means play
 
-pub come_steady : {w w' : LinkState} {h : Happening} {result : Result (Option Report) LinkFault} → IsSteady w.bench → HasCome w h w' result → IsSteady w'.bench
+-- What holds of a link between events holds after each event that comes.
+pub come_steady : {w w' : LinkState} {h : Happening} {result : Result (Option Report) LinkFault} → IsSteady w.bench → HasCome w h w' result
+    → IsSteady w'.bench
 come_steady steady x = comes_steady steady x.comes
 
-comes_follow : {b b' : Bench} {h : Happening} {answer : Result Answered LinkFault} (up : List ℕ) → IsSteady b → ShowsActive b' → Comes b h b' answer → AllFollow (linked b up) h (linked b' (given (gave_of answer) up)) (shown_as answer)
-comes_follow up steady shows (refuses why) = refl
-comes_follow {b = b} {b' = b'} {h = h} up steady shows (happens {event = event} {answer = answer} means play) = λ m agrees.
-    let f = follows_play b b' h event (harm_of h) answer up m steady means play agrees.agrees in
+comes_follow : ImageShown → {b b' : Bench} {h : Happening} {answer : Result Answered LinkFault} (up : List ℕ) → IsSteady b → ShowsActive b'
+    → Comes b h b' answer → AllFollow (linked b up) h (linked b' (given (gave_of answer) up)) (shown_as answer)
+comes_follow shown up steady shows (refuses why) = refl
+comes_follow shown {b = b} {b' = b'} {h = h} up steady shows (happens {event = event} {answer = answer} means play) = λ m agrees.
+    let f = follows_play b b' h event (harm_of h) answer up m steady means play (link_agrees shown b up m agrees) in
     record {
-      event = event;
-      means = means;
+      kind = kind_of event;
+      is = kind_is b.device.config h event means;
       after = f.after;
       step = f.step;
       agrees = agrees_on b' (given answer.gave up) f.after shows f.agrees;
       installed = λ e. let x = f.installed e in (x.0, x.1 ∙ ap Loading (sym f.agrees.cur));
     }
 
-pub come_follow : {w w' : LinkState} {h : Happening} {result : Result (Option Report) LinkFault} → IsSteady w.bench → ShowsActive w'.bench → HasCome w h w' result → AllFollow w h w' result
-come_follow {w = w} {w' = w'} {h = h} {result = result} steady shows x =
-    let follow = comes_follow w.up steady shows x.comes in
-    subst (λ (up : List ℕ). AllFollow w h (linked w'.bench up) result) (sym x.up_is) (subst (λ (r : Result (Option Report) LinkFault). AllFollow w h (linked w'.bench (given (gave_of x.answer) w.up)) r) (sym x.told) follow)
+-- The session machine follows each event that comes.
+pub come_follow : ImageShown → {w w' : LinkState} {h : Happening} {result : Result (Option Report) LinkFault} → IsSteady w.bench
+    → ShowsActive w'.bench → HasCome w h w' result → AllFollow w h w' result
+come_follow shown {w = w} {w' = w'} {h = h} {result = result} steady shows x =
+    let follow = comes_follow shown w.up steady shows x.comes in
+    subst (λ (up : List ℕ). AllFollow w h (linked w'.bench up) result) (sym x.up_is)
+    (subst (λ (r : Result (Option Report) LinkFault). AllFollow w h (linked w'.bench (given (gave_of x.answer) w.up)) r) (sym x.told)
+    follow)
 
 -- What an upload gives.
 
--- the active image, where Uploaded is reported
-image_given : (b b' : Bench) (h : Happening) (event : Event) (harm : Harm) (answer : Answered) (up : List ℕ) → IsSteady b → Means b.device.config h event → BytePlay b event harm b' answer → answer.report ≡ Some Uploaded
+-- The active image, where Uploaded is reported.
+image_given : (b b' : Bench) (h : Happening) (event : Event) (harm : Harm) (answer : Answered) (up : List ℕ) → IsSteady b
+    → Means b.device.config h event → BytePlay b event harm b' answer → answer.report ≡ Some Uploaded
     → given answer.gave up ≡ (link_of b').device.image
 image_given b b' h event harm answer up steady means play e =
     let f = follows_play b b' h event harm answer up (machine_of (link_of b) up) steady means play (machine_agrees (link_of b) up) in
     sym f.agrees.up_is ∙ (step_up f.step e ∙ f.agrees.cur)
 
-gives_in : (b' : Bench) (up : List ℕ) (report : Option Report) (gave : Option (List ℕ)) (w : LinkState) → w.up ≡ up → FitsIn b'.device.config.functional.transfer report gave → (report ≡ Some Uploaded → given gave up ≡ (link_of b').device.image)
+gives_in : (b' : Bench) (up : List ℕ) (report : Option Report) (gave : Option (List ℕ)) (w : LinkState) → w.up ≡ up
+    → FitsIn b'.device.config.functional.transfer report gave → (report ≡ Some Uploaded → given gave up ≡ (link_of b').device.image)
     → Gives w (linked b' (given gave up)) (Ok report)
 gives_in b' up (Some Uploaded) (Some bytes) w same fits image = record { image = image refl; short = fits }
 gives_in b' up (Some Uploaded) None w same fits image = elim fits [ ]
 gives_in b' up report (Some bytes) w same fits image = elim fits [ ]
 gives_in b' up report None w same fits image = sym same
 
-comes_give : {b b' : Bench} {h : Happening} {answer : Result Answered LinkFault} (up : List ℕ) → IsSteady b → Comes b h b' answer → Gives (linked b up) (linked b' (given (gave_of answer) up)) (shown_as answer)
+comes_give : {b b' : Bench} {h : Happening} {answer : Result Answered LinkFault} (up : List ℕ) → IsSteady b → Comes b h b' answer
+    → Gives (linked b up) (linked b' (given (gave_of answer) up)) (shown_as answer)
 comes_give up steady (refuses why) = refl
 comes_give {b = b} {b' = b'} {h = h} up steady (happens {event = event} {answer = answer} means play) =
-    let fits = happens_fits (profile b.device) (situation b.device) event (harm_of h) b b' answer steady.fact steady.sized steady.counted play.happens in
-    let same : b.device.config.functional.transfer ≡ b'.device.config.functional.transfer = ap (λ (s : Setting). s.functional.transfer) (sym (happens_config event (harm_of h) b b' answer play.happens)) in
-    gives_in b' up answer.report answer.gave (linked b up) refl (subst (λ (n : ℕ). FitsIn n answer.report answer.gave) same fits) (image_given b b' h event (harm_of h) answer up steady means play)
+    let fits = happens_fits (profile b.device) (situation b.device) event (harm_of h) b b' answer steady.fact steady.sized steady.counted
+    play.happens in
+    let same : b.device.config.functional.transfer ≡ b'.device.config.functional.transfer = ap (λ (s : Setting). s.functional.transfer)
+    (sym (happens_config event (harm_of h) b b' answer play.happens)) in
+    gives_in b' up answer.report answer.gave (linked b up) refl (subst (λ (n : ℕ). FitsIn n answer.report answer.gave) same fits)
+    (image_given b b' h event (harm_of h) answer up steady means play)
 
-pub come_gives : {w w' : LinkState} {h : Happening} {result : Result (Option Report) LinkFault} → IsSteady w.bench → HasCome w h w' result → Gives w w' result
+-- Each event that comes gives what it should.
+pub come_gives : {w w' : LinkState} {h : Happening} {result : Result (Option Report) LinkFault} → IsSteady w.bench → HasCome w h w' result
+    → Gives w w' result
 come_gives {w = w} {w' = w'} {result = result} steady x =
     let gives = comes_give w.up steady x.comes in
-    subst (λ (up : List ℕ). Gives w (linked w'.bench up) result) (sym x.up_is) (subst (λ (r : Result (Option Report) LinkFault). Gives w (linked w'.bench (given (gave_of x.answer) w.up)) r) (sym x.told) gives)
+    subst (λ (up : List ℕ). Gives w (linked w'.bench up) result) (sym x.up_is)
+    (subst (λ (r : Result (Option Report) LinkFault). Gives w (linked w'.bench (given (gave_of x.answer) w.up)) r) (sym x.told) gives)
 
-gave_image : (t : ℕ) (up image : List ℕ) (report : Option Report) (gave : Option (List ℕ)) → FitsIn t report gave → given gave up ≡ image → report ≡ Some Uploaded → gave ≡ Some image
+gave_image : (t : ℕ) (up image : List ℕ) (report : Option Report) (gave : Option (List ℕ)) → FitsIn t report gave → given gave up ≡ image
+    → report ≡ Some Uploaded → gave ≡ Some image
 gave_image t up image report (Some bytes) fits e u = ap Some e
 gave_image t up image report None fits e u = absurd (subst (λ (r : Option Report). FitsIn t r None) u fits)
 
@@ -200,12 +182,15 @@ gives_then : {b b' : Bench} {h : Happening} {result : Result Answered LinkFault}
 gives_then steady (refuses why) = tt
 gives_then {b = b} {b' = b'} {h = h} steady (happens {event = event} {answer = answer} means play) = λ e.
     gave_image (profile b.device).transfer [] (link_of b').device.image answer.report answer.gave
-    (happens_fits (profile b.device) (situation b.device) event (harm_of h) b b' answer steady.fact steady.sized steady.counted play.happens)
+    (happens_fits (profile b.device) (situation b.device) event (harm_of h) b b' answer steady.fact steady.sized steady.counted
+    play.happens)
     (image_given b b' h event (harm_of h) answer [] steady means play e) e
 
+-- With Uploaded come the bytes of the active image.
 pub uploads_give : UploadsGive
 uploads_give b b' h answer steady comes = (comes_steady steady comes, gives_then steady comes)
 
+-- What holds of a link between events holds of a device with no session that is not armed.
 pub rest_is_steady : RestIsSteady
 rest_is_steady device unarmed = record { fact = tt; unarmed = unarmed; sized = tt; counted = tt }
 
@@ -218,7 +203,8 @@ harmless_whole (Go Fail) harm h = elim h [ ]
 harmless_whole (Go fate) harm h = refl
 harmless_whole event harm h = refl
 
-as_played : (b b' : Bench) (event : Event) (harm : Harm) (answer : Answered) → BytePlay b event harm b' answer → IsHarmless event → IsAsPlayed b event b' answer.report
+as_played : (b b' : Bench) (event : Event) (harm : Harm) (answer : Answered) → BytePlay b event harm b' answer → IsHarmless event
+    → IsAsPlayed b event b' answer.report
 as_played b b' event harm answer play h =
     let s = bytes_sure b b' event harm answer play (harmless_whole event harm h) in
     record { room = s.0; answer = answer; same = s.1; told = refl }
@@ -228,9 +214,15 @@ comes_sure (refuses why) = tt
 comes_sure {b = b} {b' = b'} {h = h} (happens {event = event} {answer = answer} means play) = record {
   event = event;
   means = means;
-  kept = record { config = happens_config event (harm_of h) b b' answer play.happens; room = ap (λ (c : Profile). c.capacity) (bytes_show b b' event (harm_of h) answer play).fixed };
+  kept = record {
+    config = happens_config event (harm_of h) b b' answer play.happens;
+    room = ap (λ (c : Profile). c.capacity) (bytes_show b b' event (harm_of h) answer play).fixed;
+  };
   works = as_played b b' event (harm_of h) answer play;
 }
 
-pub come_sure : {w w' : LinkState} {h : Happening} {result : Result (Option Report) LinkFault} → HasCome w h w' result → AllSure w.bench h w'.bench result
-come_sure {w = w} {w' = w'} {h = h} x = subst (λ (r : Result (Option Report) LinkFault). AllSure w.bench h w'.bench r) (sym x.told) (comes_sure x.comes)
+-- Each event that comes goes as the table of fates says, where no write is harmed.
+pub come_sure : {w w' : LinkState} {h : Happening} {result : Result (Option Report) LinkFault} → HasCome w h w' result
+    → AllSure w.bench h w'.bench result
+come_sure {w = w} {w' = w'} {h = h} x = subst (λ (r : Result (Option Report) LinkFault). AllSure w.bench h w'.bench r) (sym x.told)
+    (comes_sure x.comes)

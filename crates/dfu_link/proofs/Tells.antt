@@ -10,7 +10,7 @@ use Rattle.dfu_device.specs.Cases.{either_way}
 use Rattle.dfu_host.specs.Table.{Heard, Status, StateIs}
 use Rattle.dfu_link.specs.Play.{heard_as}
 
--- a state that was told, where it stays as time passes
+-- A state that was told, where it stays as time passes.
 abbrev pub Tells : State → Stage → Type 0
 Tells DfuIdle InDfuIdle = Unit {0}
 Tells DfuIdle stage = ⊥
@@ -24,14 +24,16 @@ Tells ManifestSync InManifestSyncComplete = Unit {0}
 Tells ManifestSync stage = ⊥
 Tells state stage = Unit {0}
 
--- what was heard tells of the state that the device is in
+-- What was heard tells of the state that the device is in.
 abbrev pub ToldBy : Heard → Stage → Type 0
 ToldBy (Status code poll state) stage = Tells state stage
 ToldBy (StateIs state) stage = Tells state stage
 ToldBy heard stage = Unit {0}
 
 module _ (c : Profile) (i : List ℕ) where
-  pub tells_time : (state : State) (stage : Stage) (ms : ℕ) (luck : Luck) → Tells state stage → Tells state (outcome i (time_plan c stage ms) luck).after.stage
+  -- What the state tells still holds as time passes.
+  pub tells_time : (state : State) (stage : Stage) (ms : ℕ) (luck : Luck) → Tells state stage
+      → Tells state (outcome i (time_plan c stage ms) luck).after.stage
   tells_time DfuIdle InDfuIdle ms luck h = tt
   tells_time DfuIdle stage ms luck h = elim h [ ]
   tells_time DownloadIdle (InDownloadIdle taken number) ms luck h = tt
@@ -44,23 +46,31 @@ module _ (c : Profile) (i : List ℕ) where
   tells_time ManifestSync stage ms luck h = elim h [ ]
   tells_time state stage ms luck h = tt
 
-  pub told_time : (heard : Heard) (stage : Stage) (ms : ℕ) (luck : Luck) → ToldBy heard stage → ToldBy heard (outcome i (time_plan c stage ms) luck).after.stage
+  -- What was told still holds as time passes.
+  pub told_time : (heard : Heard) (stage : Stage) (ms : ℕ) (luck : Luck) → ToldBy heard stage
+      → ToldBy heard (outcome i (time_plan c stage ms) luck).after.stage
   told_time (Status code poll state) stage ms luck h = tells_time state stage ms luck h
   told_time (StateIs state) stage ms luck h = tells_time state stage ms luck h
   told_time heard stage ms luck h = tt
 
-  -- the answer to GETSTATUS
-  pub status_told : (stage : Stage) (luck : Luck) → ToldBy (heard_as (outcome i (plan c i stage GetStatus) luck).reply) (outcome i (plan c i stage GetStatus) luck).after.stage
+  -- The answer to GETSTATUS.
+  pub status_told : (stage : Stage) (luck : Luck) → ToldBy (heard_as (outcome i (plan c i stage GetStatus) luck).reply)
+      (outcome i (plan c i stage GetStatus) luck).after.stage
   status_told (InDownloadSync before block number) luck =
       either_way (λ p. ToldBy (heard_as (outcome i p luck).reply) (outcome i p luck).after.stage) (c.busy == 0) _ _
-      (elim luck as (λ l. let o = outcome i (Writes before block (status_of c (InDownloadIdle (before ++ block) number)) (InDownloadIdle (before ++ block) number) (status_of c (InError ErrWrite))) l in ToldBy (heard_as o.reply) o.after.stage) [ Works ↦ tt | FailsOld ↦ tt | FailsNew ↦ tt ])
+      (elim luck as (λ l. let o = outcome i (Writes before block (status_of c (InDownloadIdle (before ++ block) number))
+      (InDownloadIdle (before ++ block) number) (status_of c (InError ErrWrite))) l in
+      ToldBy (heard_as o.reply) o.after.stage) [ Works ↦ tt | FailsOld ↦ tt | FailsNew ↦ tt ])
       tt
   status_told (InManifestSync taken) luck =
       either_way (λ p. ToldBy (heard_as (outcome i p luck).reply) (outcome i p luck).after.stage) (c.manifest == 0) _ _
-      (elim luck as (λ l. let o = outcome i (Commits taken (status_of c InDfuIdle) InDfuIdle (status_of c (InError ErrProg))) l in ToldBy (heard_as o.reply) o.after.stage) [ Works ↦ tt | FailsOld ↦ tt | FailsNew ↦ tt ])
+      (elim luck as (λ l. let o = outcome i (Commits taken (status_of c InDfuIdle) InDfuIdle (status_of c (InError ErrProg))) l in
+      ToldBy (heard_as o.reply) o.after.stage) [ Works ↦ tt | FailsOld ↦ tt | FailsNew ↦ tt ])
       tt
   status_told stage luck = tt
 
-  pub state_told : (stage : Stage) (luck : Luck) → ToldBy (heard_as (outcome i (plan c i stage GetState) luck).reply) (outcome i (plan c i stage GetState) luck).after.stage
+  -- What GETSTATE tells holds of the device.
+  pub state_told : (stage : Stage) (luck : Luck) → ToldBy (heard_as (outcome i (plan c i stage GetState) luck).reply)
+      (outcome i (plan c i stage GetState) luck).after.stage
   state_told InAppIdle luck = tt
   state_told stage luck = tt

@@ -11,67 +11,81 @@ use Rattle.dfu_host.specs.Blocks.{blocks, first}
 use Rattle.dfu_host.specs.BlockLaws.{first_suc}
 use Rattle.dfu_host.specs.Table.{Phase, Find, Detach, Enter, Block, Poll, WaitPoll, Close, Manifest, WaitManifest, Last, Acked, Status, Waited}
 use Rattle.dfu_host.specs.Host.{IsOn}
-use Rattle.dfu_link.specs.Play.{Pass, heard_as, Passed, waited}
+use Rattle.dfu_link.specs.Happening.{Pass}
+use Rattle.dfu_link.specs.Play.{heard_as, Passed, waited}
 use Rattle.dfu_link.proofs.Passes.{split, Leads, leads_on, none, one, one_by}
 
 module _ (c : Profile) (p : List ℕ) (again : ℕ) where
   abbrev b : ℕ
   b = length (blocks p c.transfer)
 
-  abbrev Goes : List ℕ → Stage → Phase → ℕ → List ℕ → Stage → Phase → Type 0
-  Goes i s phase k j t next = Leads c p again i s phase k j t next
+  abbrev GoesWell : List ℕ → Stage → Phase → ℕ → List ℕ → Stage → Phase → Type 0
+  GoesWell i s phase k j t next = Leads c p again i s phase k j t next
 
-  pub find_app : (i : List ℕ) → Goes i InAppIdle Find 1 i InAppIdle Detach
+  -- The host finds the device in appIDLE.
+  pub find_app : (i : List ℕ) → GoesWell i InAppIdle Find 1 i InAppIdle Detach
   find_app i = one c p again (λ l k room. refl)
 
-  pub detach : (i : List ℕ) → Goes i InAppIdle Detach 1 i (InAppDetach (min c.detach_ms c.detach_ms) 0) Enter
+  -- The device gets DETACH.
+  pub detach : (i : List ℕ) → GoesWell i InAppIdle Detach 1 i (InAppDetach (min c.detach_ms c.detach_ms) 0) Enter
   detach i = one c p again (λ l k room. refl)
 
-  pub find_idle : (i : List ℕ) → Goes i InDfuIdle Find 1 i InDfuIdle (Block 0)
+  -- The host finds the device in dfuIDLE.
+  pub find_idle : (i : List ℕ) → GoesWell i InDfuIdle Find 1 i InDfuIdle (Block 0)
   find_idle i = one c p again (λ l k room. refl)
 
-  pub enter : (i : List ℕ) (timer : ℕ) → Goes i (InAppDetach timer 0) Enter 1 i InDfuIdle Find
+  -- The bus is reset, and the device stands in dfuIDLE.
+  pub enter : (i : List ℕ) (timer : ℕ) → GoesWell i (InAppDetach timer 0) Enter 1 i InDfuIdle Find
   enter i timer = split c.will_detach
       (λ e. one c p again (λ l k room. let f : (max 1 c.detach_ms == 0) ≡ false = grind (arith, nat_tests) in rw (e, f)))
       (λ e. one c p again (λ l k room. rw e))
 
   sync : (i before body : List ℕ) (number n : ℕ) (next : Phase) → cond (suc n == b) Close (Block (suc n)) ≡ next → IsOn next
-      → Goes i (InDownloadSync before body number) (Poll n) (cond (c.busy == 0) 1 3) i (InDownloadIdle (before ++ body) number) next
+      → GoesWell i (InDownloadSync before body number) (Poll n) (cond (c.busy == 0) 1 3) i (InDownloadIdle (before ++ body) number) next
   sync i before body number n next e on = split (c.busy == 0)
       (λ f. rw f (one_by c p again (Status NoFault 0 DownloadIdle) _ (λ k. rw f) (λ l room. refl) e on))
-      (λ f. rw f (leads_on c p again {j = i} {t = InDownloadBusy before body number 0} {b = WaitPoll n c.busy} {k = 1} {n = 2} (one_by c p again (Status NoFault c.busy DownloadBusy) (WaitPoll n c.busy) (λ k. rw f) (λ l room. refl) refl tt)
-      (leads_on c p again {j = i} {t = InDownloadSyncWritten (before ++ body) number} {b = Poll n} {k = 1} {n = 1} (one_by c p again Waited (Poll n) (λ k. busy_wait f) (λ l room. refl) refl tt)
+      (λ f. rw f (leads_on c p again {j = i} {t = InDownloadBusy before body number 0} {b = WaitPoll n c.busy} {k = 1} {n = 2}
+      (one_by c p again (Status NoFault c.busy DownloadBusy) (WaitPoll n c.busy) (λ k. rw f) (λ l room. refl) refl tt)
+      (leads_on c p again {j = i} {t = InDownloadSyncWritten (before ++ body) number} {b = Poll n} {k = 1} {n = 1}
+      (one_by c p again Waited (Poll n) (λ k. busy_wait f) (λ l room. refl) refl tt)
       (one_by c p again (Status NoFault 0 DownloadIdle) _ (λ k. refl) (λ l room. refl) e on))))
     where
-      busy_plan : (c.busy == 0) ≡ false → time_plan c (InDownloadBusy before body number 0) c.busy ≡ Writes before body Ack (InDownloadSyncWritten (before ++ body) number) Ack
+      busy_plan : (c.busy == 0) ≡ false → time_plan c (InDownloadBusy before body number 0) c.busy
+          ≡ Writes before body Ack (InDownloadSyncWritten (before ++ body) number) Ack
       busy_plan f = let g : nat_le c.busy (0 + c.busy) ≡ true = grind (arith, nat_tests) in rw (f, g)
 
-      busy_wait : (c.busy == 0) ≡ false → waited c (record { image = i; stage = InDownloadBusy before body number 0 }) c.busy Pass Works ≡ record { device = record { image = i; stage = InDownloadSyncWritten (before ++ body) number }; heard = Waited }
+      busy_wait : (c.busy == 0) ≡ false → waited c (record { image = i; stage = InDownloadBusy before body number 0 }) c.busy Pass Works
+          ≡ record { device = record { image = i; stage = InDownloadSyncWritten (before ++ body) number }; heard = Waited }
       busy_wait f = ap (λ q. record { device = (outcome i q Works).after; heard = Waited }) (busy_plan f)
 
-  -- the end of a download, by a tolerant device
-  pub manifest : (i taken : List ℕ) → c.tolerant ≡ true → Goes i (InManifestSync taken) Manifest (cond (c.manifest == 0) 1 3) taken InDfuIdle (Last Installed)
+  -- The end of a download, by a tolerant device.
+  pub manifest : (i taken : List ℕ) → c.tolerant ≡ true → GoesWell i (InManifestSync taken) Manifest (cond (c.manifest == 0) 1 3) taken InDfuIdle
+      (Last Installed)
   manifest i taken tol = split (c.manifest == 0)
       (λ f. rw f (one_by c p again (Status NoFault 0 DfuIdle) _ (λ k. rw f) (λ l room. refl) (rw tol) tt))
-      (λ f. rw f (leads_on c p again {j = i} {t = InManifest taken 0} {b = WaitManifest c.manifest} {k = 1} {n = 2} (one_by c p again (Status NoFault c.manifest Manifesting) _ (λ k. rw f) (λ l room. refl) (rw tol) tt)
-      (leads_on c p again {j = taken} {t = InManifestSyncComplete} {b = Manifest} {k = 1} {n = 1} (one_by c p again Waited Manifest (λ k. manifest_wait f) (λ l room. refl) refl tt)
+      (λ f. rw f (leads_on c p again {j = i} {t = InManifest taken 0} {b = WaitManifest c.manifest} {k = 1} {n = 2}
+      (one_by c p again (Status NoFault c.manifest Manifesting) _ (λ k. rw f) (λ l room. refl) (rw tol) tt)
+      (leads_on c p again {j = taken} {t = InManifestSyncComplete} {b = Manifest} {k = 1} {n = 1}
+      (one_by c p again Waited Manifest (λ k. manifest_wait f) (λ l room. refl) refl tt)
       (one_by c p again (Status NoFault 0 DfuIdle) _ (λ k. refl) (λ l room. refl) (rw tol) tt))))
     where
       manifest_plan : (c.manifest == 0) ≡ false → time_plan c (InManifest taken 0) c.manifest ≡ Commits taken Ack InManifestSyncComplete Ack
       manifest_plan f = let g : nat_le c.manifest (0 + c.manifest) ≡ true = grind (arith, nat_tests) in rw (f, g, tol)
 
-      manifest_wait : (c.manifest == 0) ≡ false → waited c (record { image = i; stage = InManifest taken 0 }) c.manifest Pass Works ≡ record { device = record { image = taken; stage = InManifestSyncComplete }; heard = Waited }
+      manifest_wait : (c.manifest == 0) ≡ false → waited c (record { image = i; stage = InManifest taken 0 }) c.manifest Pass Works
+          ≡ record { device = record { image = taken; stage = InManifestSyncComplete }; heard = Waited }
       manifest_wait f = ap (λ q. record { device = (outcome i q Works).after; heard = Waited }) (manifest_plan f)
 
-  -- a block that fits
-  block_fits : (before : List ℕ) (expected : ℕ) (body : List ℕ) → length body ≤ c.transfer → length before + length body ≤ c.capacity → block_plan c before expected expected body ≡ Sure Ack (InDownloadSync before body (next_number expected))
+  -- A block that fits.
+  block_fits : (before : List ℕ) (expected : ℕ) (body : List ℕ) → length body ≤ c.transfer → length before + length body ≤ c.capacity
+      → block_plan c before expected expected body ≡ Sure Ack (InDownloadSync before body (next_number expected))
   block_fits before expected body h k =
       let e : nat_lt c.transfer (length body) ≡ false = grind (arith, nat_tests) in
       let f : (expected == expected) ≡ true = grind (arith, nat_tests) in
       let g : nat_lt c.capacity (length before + length body) ≡ false = grind (arith, nat_tests) in
       rw (e, f, g)
 
-  -- where n blocks are taken
+  -- Where n blocks are taken.
   abbrev pub Taken : ℕ → Stage
   Taken zero = InDfuIdle
   Taken (suc n) = InDownloadIdle (first p c.transfer (suc n)) (suc n % 65536)
@@ -79,11 +93,15 @@ module _ (c : Profile) (p : List ℕ) (again : ℕ) where
   next_mod : (n : ℕ) → next_number (n % 65536) ≡ suc n % 65536
   next_mod n = omega arith
 
-  acked : (i : List ℕ) (stage : Stage) (q : Plan) → q ≡ Sure Ack stage → ◌≡◌ {A = Passed} (let o = outcome i q Works in record { device = o.after; heard = heard_as o.reply }) (record { device = record { image = i; stage = stage }; heard = Acked })
+  acked : (i : List ℕ) (stage : Stage) (q : Plan) → q ≡ Sure Ack stage
+      → ◌≡◌ {A = Passed} (let o = outcome i q Works in record { device = o.after; heard = heard_as o.reply })
+      (record { device = record { image = i; stage = stage }; heard = Acked })
   acked i stage q e = ap (λ (x : Plan). let o = outcome i x Works in record { device = o.after; heard = heard_as o.reply }) e
 
-  pub close : (i taken : List ℕ) (number : ℕ) → c.least ≤ length taken → Goes i (InDownloadIdle taken number) Close 1 i (InManifestSync taken) Manifest
-  close i taken number h = one_by c p again Acked Manifest (λ k. acked i (InManifestSync taken) _ (let e : nat_le c.least (length taken) ≡ true = grind (arith, nat_tests) in close_plan e)) (λ l room. refl) refl tt
+  -- The host closes the download.
+  pub close : (i taken : List ℕ) (number : ℕ) → c.least ≤ length taken → GoesWell i (InDownloadIdle taken number) Close 1 i (InManifestSync taken) Manifest
+  close i taken number h = one_by c p again Acked Manifest (λ k. acked i (InManifestSync taken) _
+      (let e : nat_le c.least (length taken) ≡ true = grind (arith, nat_tests) in close_plan e)) (λ l room. refl) refl tt
     where
       close_plan : nat_le c.least (length taken) ≡ true → further_plan c taken number (b % 65536) [] ≡ Sure Ack (InManifestSync taken)
       close_plan e = rw e
@@ -91,19 +109,22 @@ module _ (c : Profile) (p : List ℕ) (again : ℕ) where
   abbrev body_of : ℕ → List ℕ
   body_of n = slice_index_or (blocks p c.transfer) n []
 
+  -- Block n has at least one byte, at most the transfer size, and fits in the room.
   pub record BlockFits (n : ℕ) : Type 0 where
     pub full : is_empty (body_of n) ≡ false
     pub small : length (body_of n) ≤ c.transfer
     pub room : length (first p c.transfer n) + length (body_of n) ≤ c.capacity
 
-  block : (i : List ℕ) (n : ℕ) → c.can_download ≡ true → BlockFits n → Goes i (Taken n) (Block n) 1 i (InDownloadSync (first p c.transfer n) (body_of n) (suc n % 65536)) (Poll n)
+  block : (i : List ℕ) (n : ℕ) → c.can_download ≡ true → BlockFits n
+      → GoesWell i (Taken n) (Block n) 1 i (InDownloadSync (first p c.transfer n) (body_of n) (suc n % 65536)) (Poll n)
   block i zero can f = one_by c p again Acked (Poll zero) (λ k. acked i _ _ first_fits) (λ l room. refl) refl tt
     where
       first_fits : first_plan c 0 (body_of 0) ≡ Sure Ack (InDownloadSync [] (body_of 0) 1)
       first_fits = let e = f.full in rw (can, e) (block_fits [] 0 (body_of 0) f.small f.room)
   block i (suc n) can f = one_by c p again Acked (Poll (suc n)) (λ k. acked i _ _ further_fits) (λ l room. refl) refl tt
     where
-      further_fits : further_plan c (first p c.transfer (suc n)) (suc n % 65536) (suc n % 65536) (body_of (suc n)) ≡ Sure Ack (InDownloadSync (first p c.transfer (suc n)) (body_of (suc n)) (suc (suc n) % 65536))
+      further_fits : further_plan c (first p c.transfer (suc n)) (suc n % 65536) (suc n % 65536) (body_of (suc n))
+          ≡ Sure Ack (InDownloadSync (first p c.transfer (suc n)) (body_of (suc n)) (suc (suc n) % 65536))
       further_fits =
           let e = f.full in
           rw e (block_fits (first p c.transfer (suc n)) (suc n % 65536) (body_of (suc n)) f.small f.room
@@ -113,40 +134,48 @@ module _ (c : Profile) (p : List ℕ) (again : ℕ) where
   on_next n true = tt
   on_next n false = tt
 
-  -- one block, taken and written
-  turn : (i : List ℕ) (n : ℕ) → c.can_download ≡ true → n < b → BlockFits n → Goes i (Taken n) (Block n) (1 + cond (c.busy == 0) 1 3) i (Taken (suc n)) (cond (suc n == b) Close (Block (suc n)))
+  -- One block, taken and written.
+  turn : (i : List ℕ) (n : ℕ) → c.can_download ≡ true → n < b → BlockFits n
+      → GoesWell i (Taken n) (Block n) (1 + cond (c.busy == 0) 1 3) i (Taken (suc n)) (cond (suc n == b) Close (Block (suc n)))
   turn i n can l f =
       let body = body_of n in
       let next = cond (suc n == b) Close (Block (suc n)) in
-      let q : Goes i (InDownloadSync (first p c.transfer n) body (suc n % 65536)) (Poll n) (cond (c.busy == 0) 1 3) i (InDownloadIdle (first p c.transfer n ++ body) (suc n % 65536)) next = sync i (first p c.transfer n) body (suc n % 65536) n next refl (on_next n (suc n == b)) in
+      let q : GoesWell i (InDownloadSync (first p c.transfer n) body (suc n % 65536)) (Poll n) (cond (c.busy == 0) 1 3) i
+      (InDownloadIdle (first p c.transfer n ++ body) (suc n % 65536)) next =
+      sync i (first p c.transfer n) body (suc n % 65536) n next refl (on_next n (suc n == b)) in
       leads_on c p again (block i n can f)
-      (subst (λ z. Goes i (InDownloadSync (first p c.transfer n) body (suc n % 65536)) (Poll n) (cond (c.busy == 0) 1 3) i (InDownloadIdle z (suc n % 65536)) next) (sym (first_suc p c.transfer n l)) q)
+      (subst (λ z. GoesWell i (InDownloadSync (first p c.transfer n) body (suc n % 65536)) (Poll n) (cond (c.busy == 0) 1 3) i
+      (InDownloadIdle z (suc n % 65536)) next) (sym (first_suc p c.transfer n l)) q)
 
   module _ (can : c.can_download ≡ true) (fits : (n : ℕ) → n < b → BlockFits n) where
     abbrev each : ℕ
     each = 1 + cond (c.busy == 0) 1 3
 
-    turns : (i : List ℕ) (n : ℕ) → n < b → Goes i InDfuIdle (Block 0) (n * each) i (Taken n) (Block n)
-    turns i zero l = let f : 0 ≡ 0 * each = omega arith in subst (λ z. Goes i InDfuIdle (Block 0) z i InDfuIdle (Block 0)) f (none c p again)
+    turns : (i : List ℕ) (n : ℕ) → n < b → GoesWell i InDfuIdle (Block 0) (n * each) i (Taken n) (Block n)
+    turns i zero l = let f : 0 ≡ 0 * each = omega arith in subst (λ z. GoesWell i InDfuIdle (Block 0) z i InDfuIdle (Block 0)) f (none c p again)
     turns i (suc n) l =
         let m : n < b = omega arith in
         let e : (suc n == b) ≡ false = grind (arith, nat_tests) in
         let f : n * each + each ≡ suc n * each = omega arith in
-        let q : Goes i (Taken n) (Block n) each i (Taken (suc n)) (Block (suc n)) = subst (λ t. Goes i (Taken n) (Block n) each i (Taken (suc n)) (cond t Close (Block (suc n)))) e (turn i n can m (fits n m)) in
-        subst (λ z. Goes i InDfuIdle (Block 0) z i (Taken (suc n)) (Block (suc n))) f (leads_on c p again (turns i n m) q)
+        let q : GoesWell i (Taken n) (Block n) each i (Taken (suc n)) (Block (suc n)) = subst
+        (λ t. GoesWell i (Taken n) (Block n) each i (Taken (suc n)) (cond t Close (Block (suc n)))) e (turn i n can m (fits n m)) in
+        subst (λ z. GoesWell i InDfuIdle (Block 0) z i (Taken (suc n)) (Block (suc n))) f (leads_on c p again (turns i n m) q)
 
-    -- all blocks
-    pub all_turns : (i : List ℕ) (n : ℕ) → suc n ≡ b → Goes i InDfuIdle (Block 0) (suc n * each) i (Taken (suc n)) Close
+    -- All blocks.
+    pub all_turns : (i : List ℕ) (n : ℕ) → suc n ≡ b → GoesWell i InDfuIdle (Block 0) (suc n * each) i (Taken (suc n)) Close
     all_turns i n e =
         let m : n < b = omega arith in
         let t : (suc n == b) ≡ true = grind (arith, nat_tests) in
         let f : n * each + each ≡ suc n * each = omega arith in
-        let q : Goes i (Taken n) (Block n) each i (Taken (suc n)) Close = subst (λ t. Goes i (Taken n) (Block n) each i (Taken (suc n)) (cond t Close (Block (suc n)))) t (turn i n can m (fits n m)) in
-        subst (λ z. Goes i InDfuIdle (Block 0) z i (Taken (suc n)) Close) f (leads_on c p again (turns i n m) q)
+        let q : GoesWell i (Taken n) (Block n) each i (Taken (suc n)) Close = subst
+        (λ t. GoesWell i (Taken n) (Block n) each i (Taken (suc n)) (cond t Close (Block (suc n)))) t (turn i n can m (fits n m)) in
+        subst (λ z. GoesWell i InDfuIdle (Block 0) z i (Taken (suc n)) Close) f (leads_on c p again (turns i n m) q)
 
-    -- from appIDLE to the last phase
+    -- From appIDLE to the last phase.
     pub whole_run : (i : List ℕ) (n : ℕ) → suc n ≡ b → c.tolerant ≡ true → c.least ≤ length (first p c.transfer (suc n))
-        → Goes i InAppIdle Find (1 + (1 + (1 + (1 + (suc n * each + (1 + cond (c.manifest == 0) 1 3)))))) (first p c.transfer (suc n)) InDfuIdle (Last Installed)
+        → GoesWell i InAppIdle Find (1 + (1 + (1 + (1 + (suc n * each + (1 + cond (c.manifest == 0) 1 3)))))) (first p c.transfer (suc n)) InDfuIdle
+        (Last Installed)
     whole_run i n e tol least =
-        leads_on c p again (find_app i) (leads_on c p again (detach i) (leads_on c p again (enter i _) (leads_on c p again (find_idle i) (leads_on c p again (all_turns i n e)
+        leads_on c p again (find_app i) (leads_on c p again (detach i)
+        (leads_on c p again (enter i _) (leads_on c p again (find_idle i) (leads_on c p again (all_turns i n e)
         (leads_on c p again (close i (first p c.transfer (suc n)) (suc n % 65536) least) (manifest i (first p c.transfer (suc n)) tol))))))

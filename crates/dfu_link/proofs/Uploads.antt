@@ -14,13 +14,16 @@ use Rattle.dfu_host.specs.Table.{ToFetch}
 use Rattle.dfu_link.specs.declared.fault.LinkFault.{LinkFault}
 use Rattle.dfu_link.specs.declared.fault.LinkFault.TheVariants as fault
 use Rattle.dfu_link.specs.declared.fault.OfferFault.TheVariants as offer_fault
-use Rattle.dfu_link.specs.Play.{UploadIt, AbortIt, Session, Hosted, silent, aborted}
-use Rattle.dfu_link.specs.Comes.{CanGive, Uploads, Aborts, Comes, refuses, happens, HasCome, HasComeAlone}
+use Rattle.dfu_link.specs.Play.{UploadIt, AbortIt, silent, aborted}
+use Rattle.dfu_link.specs.Bench.{Session, Hosted}
+use Rattle.dfu_link.specs.Happening.{Uploads, Aborts}
+use Rattle.dfu_link.specs.Refusing.{CanGive}
+use Rattle.dfu_link.specs.Comes.{Comes, refuses, happens, HasCome, HasComeAlone}
 use Rattle.dfu_link.specs.Standing.{session_of, bench_of, link_state}
 use Rattle.dfu_link.specs.Acting.{abort_told}
 use Rattle.dfu_link.proofs.Events.{not_first, none_of}
 
--- a device that gives its image has blocks of some bytes
+-- A device that gives its image has blocks of some bytes.
 pub gives_transfer : (s : Setting) → CanGive s → 0 < s.functional.transfer
 gives_transfer s gives =
     let a = not_first (not s.functional.can_upload) _ _ gives in
@@ -28,25 +31,31 @@ gives_transfer s gives =
     let e : (s.functional.transfer == 0) ≡ false = z.0 in
     grind (arith, nat_tests)
 
--- an upload while a session is live
-pub upload_busy : (limits : Limits) (w : Shown) (host : Option HostState) → is_some host ≡ true → HasComeAlone (bench_of w host) (Uploads limits) (bench_of w host) (Err fault.HostBusy)
+-- An upload while a session is live.
+pub upload_busy : (limits : Limits) (w : Shown) (host : Option HostState) → is_some host ≡ true
+    → HasComeAlone (bench_of w host) (Uploads limits) (bench_of w host) (Err fault.HostBusy)
 upload_busy limits w (Some h) e up = record { answer = Err fault.HostBusy; comes = refuses tt; whole = tt; up_is = refl; told = refl }
 upload_busy limits w None e up = absurd cc
 
--- an upload from a device that gives no image
-pub upload_refused : (limits : Limits) (w : Shown) (host : Option HostState) (f : Functional) (why : HostFault) → is_some host ≡ false → f ≡ w.config.functional → first_upload_fault f ≡ Some why
+-- An upload from a device that gives no image.
+pub upload_refused : (limits : Limits) (w : Shown) (host : Option HostState) (f : Functional) (why : HostFault) → is_some host ≡ false
+    → f ≡ w.config.functional → first_upload_fault f ≡ Some why
     → HasComeAlone (bench_of w host) (Uploads limits) (bench_of w host) (Err (fault.BadOffer (offer_fault.Host why)))
 upload_refused limits w None f why n e bad up =
-    let first : first_upload_fault w.config.functional ≡ Some why = subst (λ (x : Functional). first_upload_fault x ≡ Some why) e bad in
+    let first : first_upload_fault w.config.functional ≡ Some why = subst (λ (x : Functional). first_upload_fault x ≡ Some why) e
+    bad in
     record { answer = Err (fault.BadOffer (offer_fault.Host why)); comes = refuses (refl, first); whole = tt; up_is = refl; told = refl }
 upload_refused limits w (Some h) f why n e bad up = absurd cc
 
--- an upload that begins
-pub upload_comes : (limits : Limits) (w : Shown) (host : Option HostState) (h : HostState) (f : Functional) → is_some host ≡ false → w.slots.medium.fuse ≡ Whole → f ≡ w.config.functional
-    → ((why : HostFault) → (◌≡◌ {A = Result HostState HostFault} (Ok h) (Err why)) ↔ (first_upload_fault f ≡ Some why)) → h ≡ started f ToFetch limits
+-- An upload that begins.
+pub upload_comes : (limits : Limits) (w : Shown) (host : Option HostState) (h : HostState) (f : Functional) → is_some host ≡ false
+    → w.slots.medium.fuse ≡ Whole → f ≡ w.config.functional
+    → ((why : HostFault) → (◌≡◌ {A = Result HostState HostFault} (Ok h) (Err why)) ↔ (first_upload_fault f ≡ Some why))
+    → h ≡ started f ToFetch limits
     → HasComeAlone (bench_of w host) (Uploads limits) (bench_of w (Some h)) (Ok None)
 upload_comes limits w None h f n e k none is up =
-    let gives : CanGive w.config = subst (λ (x : Functional). first_upload_fault x ≡ None) k (none_of (first_upload_fault f) h none) in
+    let gives : CanGive w.config = subst (λ (x : Functional). first_upload_fault x ≡ None) k
+    (none_of (first_upload_fault f) h none) in
     let begun : h ≡ started w.config.functional ToFetch limits = is ∙ ap (λ (x : Functional). started x ToFetch limits) k in
     record {
       answer = Ok silent;
@@ -61,20 +70,26 @@ upload_comes limits w None h f n e k none is up =
     }
 upload_comes limits w (Some h) k f n e same none is up = absurd cc
 
--- an abort
-pub abort_comes : (w : Shown) (host host' gave : Option HostState) (result : Result (Option Report) LinkFault) → w.slots.medium.fuse ≡ Whole → session_of host' ≡ aborted (session_of host) → result ≡ abort_told (session_of host)
+-- An abort.
+pub abort_comes : (w : Shown) (host host' gave : Option HostState) (result : Result (Option Report) LinkFault) → w.slots.medium.fuse ≡ Whole
+    → session_of host' ≡ aborted (session_of host) → result ≡ abort_told (session_of host)
     → HasCome (link_state w host gave) Aborts (link_state w host' gave) result
 abort_comes w None host' gave result e session says = record {
   answer = Err fault.NoHost;
   whole = tt;
   up_is = refl;
-  comes = subst (λ (s : Session). Comes (bench_of w None) Aborts (record { device = w; session = s }) (Err fault.NoHost)) (sym session) (refuses refl);
+  comes = subst (λ (s : Session). Comes (bench_of w None) Aborts (record { device = w; session = s }) (Err fault.NoHost)) (sym session)
+      (refuses refl);
   told = says;
 }
 abort_comes w (Some h) host' gave result e session says = record {
   answer = Ok silent;
   whole = tt;
   up_is = refl;
-  comes = happens {event = AbortIt} tt (record { allowed = tt; unarmed = e; happens = ((λ i. record { device = w; session = session i }), refl) });
+  comes = happens {event = AbortIt} tt (record {
+    allowed = tt;
+    unarmed = e;
+    happens = ((λ i. record { device = w; session = session i }), refl);
+  });
   told = says;
 }

@@ -8,9 +8,8 @@ use Rattle.std.proofs.lemmas.Bool.{not-false, not_from_true, ltb-false, le-leb, 
 use Rattle.std.specs.Char.{is_ascii_digit}
 use Rattle.std.proofs.lemmas.List.{drop_all, get_or-drop}
 use Rattle.std.proofs.lemmas.List.Elements.{All-from_get_or}
-use Rattle.std.specs.List.{slice_split, position, position_or_len}
+use Rattle.std.specs.List.{slice_split, position, position_or_len, AllPass}
 use Rattle.std.specs.Prelude.{codes, IsTrue, ◌↔◌, is_some, Result, Ok, Err, ◌%◌}
-use Rattle.std.specs.List.{AllPass}
 use Rattle.std.specs.Str.{bytes_eq}
 use Rattle.hex.specs.Hex.{decode_of, is_hex_digit}
 use Rattle.hex.specs.declared.error.FromHexError.{FromHexError}
@@ -30,22 +29,24 @@ skips xs zero le h = refl
 skips [] (suc i) le h = refl
 skips (b ∷ bs) (suc i) le h = words_of-space b bs (h 0 (omega arith)) ∙ skips bs i (omega (arith, le)) (λ k l. h (suc k) (omega (arith, l)))
 
--- none passes
+-- None passes.
 pub none_passes : (p : ℕ → Bool) (xs : List ℕ) → position p xs ≡ None → (k : ℕ) → k < length xs → p (get_or xs k 0) ≡ false
 none_passes p xs h k l =
-    let past = ltb-false (position_or_len p xs) (length xs) (cond_none (nat_lt (position_or_len p xs) (length xs)) (position_or_len p xs) h) in
+    let past = ltb-false (position_or_len p xs) (length xs) (cond_none (nat_lt (position_or_len p xs) (length xs)) (position_or_len p xs)
+    h) in
     fails_before_first p xs k 0 (omega (arith, past, l))
 
 words_of-all : (xs : List ℕ) → words_of (drop (length xs) xs) ≡ []
 unfolding words_of
 words_of-all xs = ap (λ (ys : List ℕ). filter is_word (slice_split is_space ys)) (drop_all (length xs) xs (omega arith))
 
--- where each byte is a space there is no word
+-- Where each byte is a space there is no word.
 pub no_word : (xs : List ℕ) → position is_no_space xs ≡ None → first (words_of xs) ≡ None
 no_word xs h = ap first (skips xs (length xs) (omega arith) (none_passes is_no_space xs h) ∙ words_of-all xs)
 
--- a word up to the space at n
-word_cut : (b : ℕ) (bs : List ℕ) (n : ℕ) → position_or_len is_space (b ∷ bs) ≡ n → n < length (b ∷ bs) → is_no_space b ≡ true → words_of (b ∷ bs) ≡ take n (b ∷ bs) ∷ words_of (drop (n + 1) (b ∷ bs))
+-- A word up to the space at n.
+word_cut : (b : ℕ) (bs : List ℕ) (n : ℕ) → position_or_len is_space (b ∷ bs) ≡ n → n < length (b ∷ bs) → is_no_space b ≡ true
+    → words_of (b ∷ bs) ≡ take n (b ∷ bs) ∷ words_of (drop (n + 1) (b ∷ bs))
 unfolding words_of
 word_cut b bs zero e lt start =
     let lt' : position_or_len is_space (b ∷ bs) < length (b ∷ bs) = omega (arith, e, lt) in
@@ -54,25 +55,31 @@ word_cut b bs zero e lt start =
     absurd (grind (arith, here, start))
 word_cut b bs (suc m) e lt start =
     let lt' : position_or_len is_space (b ∷ bs) < length (b ∷ bs) = omega (arith, e, lt) in
-    let cut : slice_split is_space (b ∷ bs) ≡ take (suc m) (b ∷ bs) ∷ slice_split is_space (drop (suc m + 1) (b ∷ bs)) = slice_split_first is_space (b ∷ bs) 0 lt' ∙ ap (λ (i : ℕ). take i (b ∷ bs) ∷ slice_split is_space (drop (i + 1) (b ∷ bs))) e in
+    let cut : slice_split is_space (b ∷ bs) ≡ take (suc m) (b ∷ bs) ∷ slice_split is_space (drop (suc m + 1) (b ∷ bs)) = slice_split_first
+    is_space (b ∷ bs) 0 lt' ∙ ap (λ (i : ℕ). take i (b ∷ bs) ∷ slice_split is_space (drop (i + 1) (b ∷ bs))) e in
     ap (filter is_word) cut
 
-word_first : (xs : List ℕ) (end : ℕ) → 0 < length xs → is_no_space (get_or xs 0 0) ≡ true → position is_space xs ≡ Some end → words_of xs ≡ take end xs ∷ words_of (drop end xs)
+word_first : (xs : List ℕ) (end : ℕ) → 0 < length xs → is_no_space (get_or xs 0 0) ≡ true → position is_space xs ≡ Some end
+    → words_of xs ≡ take end xs ∷ words_of (drop end xs)
 word_first [] end some start h = absurd (omega (arith, some))
 word_first (b ∷ bs) end some start h =
     let at = position-Some is_space (b ∷ bs) end 0 h in
     let lt : end < length (b ∷ bs) = at.0 in
     let is = cond_some (nat_lt (position_or_len is_space (b ∷ bs)) (length (b ∷ bs))) (position_or_len is_space (b ∷ bs)) end h in
-    let tail : words_of (drop end (b ∷ bs)) ≡ words_of (drop (end + 1) (b ∷ bs)) = ap words_of (drop-cons (b ∷ bs) end 0 lt ∙ ap (λ (i : ℕ). get_or (b ∷ bs) end 0 ∷ drop i (b ∷ bs)) (sym (add-one end))) ∙ words_of-space (get_or (b ∷ bs) end 0) (drop (end + 1) (b ∷ bs)) (not_from_true (is_space (get_or (b ∷ bs) end 0)) at.1) in
+    let tail : words_of (drop end (b ∷ bs)) ≡ words_of (drop (end + 1) (b ∷ bs)) = ap words_of
+    (drop-cons (b ∷ bs) end 0 lt ∙ ap (λ (i : ℕ). get_or (b ∷ bs) end 0 ∷ drop i (b ∷ bs)) (sym (add-one end)))
+    ∙ words_of-space (get_or (b ∷ bs) end 0) (drop (end + 1) (b ∷ bs)) (not_from_true (is_space (get_or (b ∷ bs) end 0)) at.1) in
     word_cut b bs end is.1 lt start ∙ ap (λ (ws : List (List ℕ)). take end (b ∷ bs) ∷ ws) (sym tail)
 
 word_last : (xs : List ℕ) → 0 < length xs → position is_space xs ≡ None → words_of xs ≡ xs ∷ words_of []
 unfolding words_of
 word_last [] some h = absurd (omega (arith, some))
-word_last (b ∷ bs) some h = ap (filter is_word) (slice_split_none is_space (b ∷ bs) (All-from_get_or (λ (x : ℕ). is_space x ≡ false) (b ∷ bs) 0 (none_passes is_space (b ∷ bs) h)))
+word_last (b ∷ bs) some h = ap (filter is_word) (slice_split_none is_space (b ∷ bs)
+    (All-from_get_or (λ (x : ℕ). is_space x ≡ false) (b ∷ bs) 0 (none_passes is_space (b ∷ bs) h)))
 
--- where a word begins
-begins : (xs : List ℕ) (start : ℕ) → position is_no_space xs ≡ Some start → (words_of xs ≡ words_of (drop start xs)) × (0 < length (drop start xs)) × (is_no_space (get_or (drop start xs) 0 0) ≡ true)
+-- Where a word begins.
+begins : (xs : List ℕ) (start : ℕ) → position is_no_space xs ≡ Some start
+    → (words_of xs ≡ words_of (drop start xs)) × (0 < length (drop start xs)) × (is_no_space (get_or (drop start xs) 0 0) ≡ true)
 begins xs start h =
     let at = position-Some is_no_space xs start 0 h in
     let lt : start < length xs = at.0 in (
@@ -81,42 +88,59 @@ begins xs start h =
       ap is_no_space (get_or-drop start xs 0 0) ∙ ap (λ (i : ℕ). is_no_space (get_or xs i 0)) (add-zero start) ∙ at.1,
     )
 
-pub word_then : (xs : List ℕ) (start end : ℕ) → position is_no_space xs ≡ Some start → position is_space (drop start xs) ≡ Some end → first (words_of xs) ≡ Some (take end (drop start xs), words_of (drop end (drop start xs)))
+-- A text has this first word, and more after it.
+pub word_then : (xs : List ℕ) (start end : ℕ) → position is_no_space xs ≡ Some start → position is_space (drop start xs) ≡ Some end
+    → first (words_of xs) ≡ Some (take end (drop start xs), words_of (drop end (drop start xs)))
 word_then xs start end h k =
     let b = begins xs start h in
     ap first (b.0 ∙ word_first (drop start xs) end b.1 b.2 k)
 
-pub word_alone : (xs : List ℕ) (start : ℕ) → position is_no_space xs ≡ Some start → position is_space (drop start xs) ≡ None → first (words_of xs) ≡ Some (drop start xs, words_of [])
+-- A text has this word alone.
+pub word_alone : (xs : List ℕ) (start : ℕ) → position is_no_space xs ≡ Some start → position is_space (drop start xs) ≡ None
+    → first (words_of xs) ≡ Some (drop start xs, words_of [])
 word_alone xs start h k =
     let b = begins xs start h in
     ap first (b.0 ∙ word_last (drop start xs) b.1 k)
 
+-- A word with a letter that is no digit is no number.
 pub number_none : (w : List ℕ) → digits_value 0 w ≡ None → number_of w ≡ None
 unfolding number_of
-number_none w h = elim (nat_le 1 (length w) && nat_le (length w) 10) as (λ t. cond t (digits_value 0 w >>= λ n. guard (nat_le n 4294967295) n) None ≡ None) [ true ↦ ap (λ (o : Option ℕ). o >>= λ n. guard (nat_le n 4294967295) n) h | false ↦ refl ]
+number_none w h = elim (nat_le 1 (length w) && nat_le (length w) 10) as
+    (λ t. cond t (digits_value 0 w >>= λ n. guard (nat_le n 4294967295) n) None ≡ None)
+    [ true ↦ ap (λ (o : Option ℕ). o >>= λ n. guard (nat_le n 4294967295) n) h | false ↦ refl ]
 
+-- A word of no letters is no number.
 pub number_short : (w : List ℕ) → length w ≡ 0 → number_of w ≡ None
 unfolding number_of
 number_short w h = rw h refl
 
+-- A word of over ten letters is no number.
 pub number_long : (w : List ℕ) → 10 < length w → number_of w ≡ None
 unfolding number_of
 number_long w h = rw (le-leb 1 (length w) (omega (arith, h))) (rw (lt-leb (length w) 10 h) refl)
 
-pub number_is : (w : List ℕ) (n : ℕ) → 1 ≤ length w → length w ≤ 10 → digits_value 0 w ≡ Some n → number_of w ≡ guard (nat_le n 4294967295) n
+-- A word of one to ten digits is a number where its value is at most 4,294,967,295.
+pub number_is : (w : List ℕ) (n : ℕ) → 1 ≤ length w → length w ≤ 10 → digits_value 0 w ≡ Some n
+    → number_of w ≡ guard (nat_le n 4294967295) n
 unfolding number_of
-number_is w n h k e = rw (le-leb 1 (length w) h) (rw (le-leb (length w) 10 k) (ap (λ (o : Option ℕ). o >>= λ m. guard (nat_le m 4294967295) m) e))
+number_is w n h k e = rw (le-leb 1 (length w) h) (rw (le-leb (length w) 10 k)
+    (ap (λ (o : Option ℕ). o >>= λ m. guard (nat_le m 4294967295) m) e))
 
+-- So a word with a small value is that number.
 pub number_small : (w : List ℕ) (n : ℕ) → 1 ≤ length w → length w ≤ 10 → digits_value 0 w ≡ Some n → n < 4294967296 → number_of w ≡ Some n
 number_small w n h k e lt = number_is w n h k e ∙ ap (λ (t : Bool). guard t n) (le-leb n 4294967295 (omega (arith, lt)))
 
+-- A word with a larger value is no number.
 pub number_large : (w : List ℕ) (n : ℕ) → 1 ≤ length w → length w ≤ 10 → digits_value 0 w ≡ Some n → 4294967296 ≤ n → number_of w ≡ None
 number_large w n h k e le = number_is w n h k e ∙ ap (λ (t : Bool). guard t n) (lt-leb n 4294967295 (omega (arith, le)))
 
+-- Digits that hold another letter have no value.
 pub digit_bad : (n i : ℕ) (w : List ℕ) → i < length w → is_ascii_digit (get_or w i 0) ≡ false → digits_value n (drop i w) ≡ None
-digit_bad n i w lt bad = ap (digits_value n) (drop-cons w i 0 lt) ∙ ap (λ (t : Bool). cond t (digits_value (n * 10 + (get_or w i 0 - 48)) (drop (suc i) w)) None) bad
+digit_bad n i w lt bad = ap (digits_value n) (drop-cons w i 0 lt)
+    ∙ ap (λ (t : Bool). cond t (digits_value (n * 10 + (get_or w i 0 - 48)) (drop (suc i) w)) None) bad
 
-hex_by : (w : List ℕ) (r : Bool) (d : Result (List ℕ) FromHexError) → length w % 2 ≡ 0 → IsTrue r ↔ AllPass is_hex_digit w → decode_of w ≡ d → r ≡ is_some (ok_of d)
+hex_by : (w : List ℕ) (r : Bool) (d : Result (List ℕ) FromHexError) → length w % 2 ≡ 0 → IsTrue r ↔ AllPass is_hex_digit w → decode_of w ≡ d
+    → r ≡ is_some (ok_of d)
 hex_by w true (Ok bytes) even h e = refl
 hex_by w true (Err f) even h e =
     let ok = decode_of-digits w even (h.0 refl) in
@@ -124,5 +148,8 @@ hex_by w true (Err f) even h e =
 hex_by w false (Ok bytes) even h e = h.1 ((decode_of-ok w bytes e).1)
 hex_by w false (Err f) even h e = refl
 
-pub hex_same : (w : List ℕ) (r : Bool) → length w % 2 ≡ 0 → bytes_eq w (codes "-") ≡ false → IsTrue r ↔ AllPass is_hex_digit w → r ≡ is_some (bytes_of w)
-hex_same w r even off h = hex_by w r (decode_of w) even h refl ∙ ap (λ (t : Bool). is_some (cond t (Some []) (ok_of (decode_of w)))) (sym off)
+-- A word of an even length that is not - stands for bytes exactly where all of its letters are hexadecimal digits.
+pub hex_same : (w : List ℕ) (r : Bool) → length w % 2 ≡ 0 → bytes_eq w (codes "-") ≡ false → IsTrue r ↔ AllPass is_hex_digit w
+    → r ≡ is_some (bytes_of w)
+hex_same w r even off h = hex_by w r (decode_of w) even h refl
+    ∙ ap (λ (t : Bool). is_some (cond t (Some []) (ok_of (decode_of w)))) (sym off)

@@ -2,57 +2,80 @@
 use Rattle.std.proofs.Common.{◌<◌, ℕ, List, [], ◌++◌, length, length-append, Option, Some, None, sym, ap, ◌∙◌, arith}
 use Rattle.std.proofs.lemmas.List.{append_assoc, append-nil}
 use Rattle.std.specs.Io.KnownBytes.{Appends, Keeps}
-use Rattle.std.specs.Prelude.{Result, Ok, Err, OnErr, OnOk, IfOk}
+use Rattle.std.specs.Prelude.{Result, Ok, Err, OnErr, OnOk}
 use Rattle.dfu_suffix.proofs.Progress.{Progress}
 use Rattle.dfu_link.specs.Writing.{Broke}
 
+-- Nothing is out.
 pub appends_none : (old : Option (List ℕ)) → Appends old old []
 appends_none None = tt
 appends_none (Some xs) = sym (append-nil xs)
 
+-- One text is out, and then another.
 pub appends_more : (old mid new : Option (List ℕ)) (xs ys : List ℕ) → Appends old mid xs → Appends mid new ys → Appends old new (xs ++ ys)
 appends_more None mid new xs ys h k = tt
 appends_more (Some a) None new xs ys h k = absurd h
 appends_more (Some a) (Some b) None xs ys h k = absurd k
 appends_more (Some a) (Some b) (Some c) xs ys h k = k ∙ (ap (λ (zs : List ℕ). zs ++ ys) h ∙ append_assoc a xs ys)
 
+-- What is out stays out.
 pub appends_kept : (old mid new : Option (List ℕ)) (xs : List ℕ) → Appends old mid xs → Keeps mid new → Appends old new xs
 appends_kept None mid new xs h k = tt
 appends_kept (Some a) None new xs h k = absurd h
 appends_kept (Some a) (Some b) None xs h k = absurd k
 appends_kept (Some a) (Some b) (Some c) xs h k = k ∙ h
 
--- the writer failed, or took nothing, when something was left
-pub progress_fault : (old mid new : Option (List ℕ)) (text rest : List ℕ) → Progress old mid text rest → 0 < length rest → Keeps mid new → Broke old new text
-progress_fault old mid new text rest p some k = record { front = p.0; rest = rest; whole = p.1; left = some; told = appends_kept old mid new p.0 p.2 k }
+-- The writer failed, or took nothing, when something was left.
+pub progress_fault : (old mid new : Option (List ℕ)) (text rest : List ℕ) → Progress old mid text rest → 0 < length rest → Keeps mid new
+    → Broke old new text
+progress_fault old mid new text rest p some k = record {
+  front = p.0;
+  rest = rest;
+  whole = p.1;
+  left = some;
+  told = appends_kept old mid new p.0 p.2 k;
+}
 
+-- Where nothing more is out, all is as it was.
 pub keeps_none : (mid new : Option (List ℕ)) → Appends mid new [] → Keeps mid new
 keeps_none None new k = tt
 keeps_none (Some a) None k = k
 keeps_none (Some a) (Some b) k = k ∙ append-nil a
 
--- a text that broke, and would have gone on
+-- A text that broke, and would have gone on.
 pub broke_before : (old new : Option (List ℕ)) (xs ys : List ℕ) → Broke old new xs → Broke old new (xs ++ ys)
 broke_before old new xs ys b =
-    record { front = b.front; rest = b.rest ++ ys; left = omega (arith, b.left, length-append b.rest ys); whole = ap (λ (zs : List ℕ). zs ++ ys) b.whole ∙ append_assoc b.front b.rest ys; told = b.told }
+    record {
+      front = b.front;
+      rest = b.rest ++ ys;
+      left = omega (arith, b.left, length-append b.rest ys);
+      whole = ap (λ (zs : List ℕ). zs ++ ys) b.whole ∙ append_assoc b.front b.rest ys;
+      told = b.told;
+    }
 
--- a text that broke after another was out
+-- A text that broke after another was out.
 pub broke_after : (old mid new : Option (List ℕ)) (xs ys : List ℕ) → Appends old mid xs → Broke mid new ys → Broke old new (xs ++ ys)
 broke_after old mid new xs ys h b =
-    record { front = xs ++ b.front; rest = b.rest; left = b.left; whole = ap (λ (zs : List ℕ). xs ++ zs) b.whole ∙ sym (append_assoc xs b.front b.rest); told = appends_more old mid new xs b.front h b.told }
+    record {
+      front = xs ++ b.front;
+      rest = b.rest;
+      left = b.left;
+      whole = ap (λ (zs : List ℕ). xs ++ zs) b.whole ∙ sym (append_assoc xs b.front b.rest);
+      told =
+          appends_more old mid new xs b.front h b.told;
+    }
 
+-- What holds at all holds of an error.
 pub on_err : {A E : Type 0} (r : Result A E) (P : Type 0) → P → OnErr r P
 on_err (Ok x) P h = tt
 on_err (Err e) P h = h
 
+-- What holds of an error may be weakened.
 pub on_err_map : {A E : Type 0} (r : Result A E) (P Q : Type 0) → (P → Q) → OnErr r P → OnErr r Q
 on_err_map (Ok x) P Q f h = tt
 on_err_map (Err e) P Q f h = f h
 
+-- What holds of success may be weakened.
 pub on_ok_map : {A E : Type 0} (r : Result A E) (P Q : Type 0) → (P → Q) → OnOk r P → OnOk r Q
 on_ok_map (Ok x) P Q f h = f h
 on_ok_map (Err e) P Q f h = tt
-
-pub if_ok_map : {A E : Type 0} (r : Result A E) (P Q : A → Type 0) → ((x : A) → P x → Q x) → IfOk r P → IfOk r Q
-if_ok_map (Ok x) P Q f h = f x h
-if_ok_map (Err e) P Q f h = tt

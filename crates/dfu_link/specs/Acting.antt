@@ -15,9 +15,11 @@ use Rattle.dfu_link.specs.declared.back.Back.{Back}
 use Rattle.dfu_link.specs.declared.back.Back.TheVariants as back
 use Rattle.dfu_link.specs.declared.fault.LinkFault.{LinkFault}
 use Rattle.dfu_link.specs.declared.fault.LinkFault.TheVariants.{NoHost}
-use Rattle.dfu_link.specs.Play.{Fate, Session, Nobody, Hosted, silent, Took, settled}
-use Rattle.dfu_link.specs.Bytes.{Harm, fuse_of, armed, HearsAnswer, Sends, Waits, Resets, Acts, after_fate}
-use Rattle.dfu_link.specs.Comes.{IsOffered}
+use Rattle.dfu_link.specs.Happening.{Fate, Harm}
+use Rattle.dfu_link.specs.Bench.{Session, Nobody, Hosted}
+use Rattle.dfu_link.specs.Play.{silent, Took, settled}
+use Rattle.dfu_link.specs.Bytes.{fuse_of, armed, HearsAnswer, Sends, Waits, Resets, Acts, after_fate}
+use Rattle.dfu_link.specs.Refusing.{IsOffered}
 
 -- What is heard of what comes back of a request.
 abbrev pub HearsBack : Deed → Back → List ℕ → Heard → Type 0

@@ -4,7 +4,6 @@ use Rattle.dfu_wire.specs.declared.requests.Request.{Request as Asked}
 use Rattle.dfu_slots.specs.Medium.{Fuse}
 use Rattle.dfu_slots.specs.Medium.Fuse.{Whole, Armed}
 use Rattle.dfu_slots.specs.Seen.{fused, restarted}
-use Rattle.dfu_slots.specs.Image.{Active}
 use Rattle.dfu_device.specs.declared.answer.Answer.{Answer}
 use Rattle.dfu_device.specs.declared.answer.Answer.TheVariants as answer
 use Rattle.dfu_device.specs.Stage.{InAppIdle}
@@ -14,18 +13,20 @@ use Rattle.dfu_device.specs.Rows.{Handles, Elapses}
 use Rattle.dfu_host.specs.Table.{ToLoad, ToFetch, Deed, Send, Wait, Reset, Done, deed, Heard, Acked, Stalled, Nothing, Waited, WasReset, Restarted}
 use Rattle.dfu_host.specs.Host.{HostState}
 use Rattle.dfu_host.specs.Wire.{IsAsked, HearsBytes}
-use Rattle.dfu_link.specs.Play.{Fate, Pass, LostOut, LostBack, Twice, TwiceLostBack, Slip, CutIn, Fail, Event, Offer, UploadIt, AbortIt, Go, Time, ResetBus, Cut, Session, Hosted, Link, Answered, silent, opened, took, told, aborted, IsAllowed}
-
--- How a write is harmed by a cut or a failure: after so many writes that work one leaves the front of these bytes.
-pub record Harm : Type 0 where
-  pub writes : ℕ
-  pub tear : List ℕ
+use Rattle.dfu_link.specs.Happening.{Fate, Pass, LostOut, LostBack, Twice, TwiceLostBack, Slip, CutIn, Fail, Harm}
+use Rattle.dfu_link.specs.Bench.{Bench, Session, Hosted}
+use Rattle.dfu_link.specs.Play.{Event, Offer, UploadIt, AbortIt, Go, Time, ResetBus, Cut, Link, Answered, silent, opened, took, told, aborted, IsAllowed}
 
 -- The fuse of the medium in an action: a cut stops all writes after the harmed one, a failure only that one.
 abbrev pub fuse_of : Fate → Harm → Fuse
+fuse_of Pass harm = Whole
+fuse_of LostOut harm = Whole
+fuse_of LostBack harm = Whole
+fuse_of Twice harm = Whole
+fuse_of TwiceLostBack harm = Whole
+fuse_of (Slip ms) harm = Whole
 fuse_of CutIn harm = Armed harm.writes harm.tear true
 fuse_of Fail harm = Armed harm.writes harm.tear false
-fuse_of fate harm = Whole
 
 -- A device with this fuse in its medium.
 abbrev pub armed : Shown → Fuse → Shown
@@ -47,14 +48,19 @@ HearsAnswer d answer.Bytes out heard = HearsBytes d out heard
 
 -- A request goes to the device by its fate: which rows of the device it makes, and what the host hears.
 pub data Sends (q : Asked) (setup body : List ℕ) : Fate → Shown → Shown → Heard → Type 0 where
-  passes : {w w' : Shown} {a : Answer} {out : List ℕ} {heard : Heard} → Handles setup body w a out w' → HearsAnswer (Send q body) a out heard → Sends q setup body Pass w w' heard
+  passes : {w w' : Shown} {a : Answer} {out : List ℕ} {heard : Heard} → Handles setup body w a out w'
+      → HearsAnswer (Send q body) a out heard → Sends q setup body Pass w w' heard
   goes_lost : {w : Shown} → Sends q setup body LostOut w w Nothing
   comes_lost : {w w' : Shown} {a : Answer} {out : List ℕ} → Handles setup body w a out w' → Sends q setup body LostBack w w' Nothing
-  repeats : {w mid w' : Shown} {a b : Answer} {out last : List ℕ} {heard : Heard} → Handles setup body w a out mid → Handles setup body mid b last w' → HearsAnswer (Send q body) b last heard → Sends q setup body Twice w w' heard
-  repeats_lost : {w mid w' : Shown} {a b : Answer} {out last : List ℕ} → Handles setup body w a out mid → Handles setup body mid b last w' → Sends q setup body TwiceLostBack w w' Nothing
-  slips : {w mid w' : Shown} {a : Answer} {out : List ℕ} {heard : Heard} {ms : ℕ} → Handles setup body w a out mid → HearsAnswer (Send q body) a out heard → Elapses ms mid w' → Sends q setup body (Slip ms) w w' heard
+  repeats : {w mid w' : Shown} {a b : Answer} {out last : List ℕ} {heard : Heard} → Handles setup body w a out mid
+      → Handles setup body mid b last w' → HearsAnswer (Send q body) b last heard → Sends q setup body Twice w w' heard
+  repeats_lost : {w mid w' : Shown} {a b : Answer} {out last : List ℕ} → Handles setup body w a out mid → Handles setup body mid b last w'
+      → Sends q setup body TwiceLostBack w w' Nothing
+  slips : {w mid w' : Shown} {a : Answer} {out : List ℕ} {heard : Heard} {ms : ℕ} → Handles setup body w a out mid
+      → HearsAnswer (Send q body) a out heard → Elapses ms mid w' → Sends q setup body (Slip ms) w w' heard
   cuts : {w w' : Shown} {a : Answer} {out : List ℕ} → Handles setup body w a out w' → Sends q setup body CutIn w w' Restarted
-  fails : {w w' : Shown} {a : Answer} {out : List ℕ} {heard : Heard} → Handles setup body w a out w' → HearsAnswer (Send q body) a out heard → Sends q setup body Fail w w' heard
+  fails : {w w' : Shown} {a : Answer} {out : List ℕ} {heard : Heard} → Handles setup body w a out w' → HearsAnswer (Send q body) a out heard
+      → Sends q setup body Fail w w' heard
 
 -- A wait, by its fate.
 abbrev pub Waits : ℕ → Fate → Shown → Shown → Heard → Type 0
@@ -80,21 +86,12 @@ abbrev pub after_fate : Fate → Shown → Shown
 after_fate CutIn w = powered_up w
 after_fate fate w = armed w Whole
 
--- A device on its medium, and the session that is live.
-pub record Bench : Type 0 where
-  pub device : Shown
-  pub session : Session
-
 -- The link that a bench shows: the image is read from the medium's bytes.
 abbrev pub link_of : Bench → Link
 link_of b = record { device = situation b.device; session = b.session }
 
--- The image that a bench shows is the active image of its medium's bytes.
-abbrev pub ShowsActive : Bench → Type 0
-ShowsActive b = Active b.device.slots.medium (link_of b).device.image
-
 -- The host's next action on a bench.
-pub record Goes (h : Session) (fate : Fate) (harm : Harm) (b b' : Bench) (answer : Answered) : Type 0 where
+pub record NextAction (h : Session) (fate : Fate) (harm : Harm) (b b' : Bench) (answer : Answered) : Type 0 where
   pub host : HostState
   pub live : h ≡ Hosted host
   pub last : Shown
@@ -106,13 +103,17 @@ pub record Goes (h : Session) (fate : Fate) (harm : Harm) (b b' : Bench) (answer
 
 -- Each event on a bench.
 abbrev pub Happens : Event → Harm → Bench → Bench → Answered → Type 0
-Happens (Offer payload actions restarts) harm b b' answer = (b' ≡ record { device = b.device; session = opened (profile b.device) (ToLoad payload) actions restarts }) × (answer ≡ silent)
-Happens (UploadIt actions restarts) harm b b' answer = (b' ≡ record { device = b.device; session = opened (profile b.device) ToFetch actions restarts }) × (answer ≡ silent)
+Happens (Offer payload actions restarts) harm b b' answer =
+    (b' ≡ record { device = b.device; session = opened (profile b.device) (ToLoad payload) actions restarts }) × (answer ≡ silent)
+Happens (UploadIt actions restarts) harm b b' answer =
+    (b' ≡ record { device = b.device; session = opened (profile b.device) ToFetch actions restarts }) × (answer ≡ silent)
 Happens AbortIt harm b b' answer = (b' ≡ record { device = b.device; session = aborted b.session }) × (answer ≡ silent)
-Happens (Go fate) harm b b' answer = Goes b.session fate harm b b' answer
+Happens (Go fate) harm b b' answer = NextAction b.session fate harm b b' answer
 Happens (Time ms) harm b b' answer = Elapses ms b.device b'.device × (b'.session ≡ b.session) × (answer ≡ silent)
-Happens ResetBus harm b b' answer = let t = told b.session in (b' ≡ record { device = bus_was_reset b.device; session = t.session }) × (answer ≡ t.answer)
-Happens Cut harm b b' answer = let t = told b.session in (b' ≡ record { device = powered_up b.device; session = t.session }) × (answer ≡ t.answer)
+Happens ResetBus harm b b' answer = let t = told b.session in
+    (b' ≡ record { device = bus_was_reset b.device; session = t.session }) × (answer ≡ t.answer)
+Happens Cut harm b b' answer = let t = told b.session in
+    (b' ≡ record { device = powered_up b.device; session = t.session }) × (answer ≡ t.answer)
 
 -- A play with its bytes: an event that is not refused, on a bench whose medium is not armed.
 pub record BytePlay (b : Bench) (event : Event) (harm : Harm) (b' : Bench) (answer : Answered) : Type 0 where

@@ -12,16 +12,18 @@ use Rattle.dfu_host.specs.Blocks.{blocks}
 use Rattle.dfu_host.specs.Clean.{clean}
 use Rattle.dfu_link.specs.declared.fault.LinkFault.TheVariants.{NoMemory}
 use Rattle.dfu_link.specs.declared.running.Stop.{Stop}
-use Rattle.dfu_link.specs.Play.{Pass, Nobody}
-use Rattle.dfu_link.specs.Bytes.{Bench, link_of}
+use Rattle.dfu_link.specs.Happening.{Pass, Happening, Offers, Goes, unharmed}
+use Rattle.dfu_link.specs.Bench.{Nobody, Bench}
+use Rattle.dfu_link.specs.Bytes.{link_of}
 use Rattle.dfu_link.specs.CleanRun.{resting}
-use Rattle.dfu_link.specs.Comes.{Happening, Offers, Goes, unharmed, IsOffered}
+use Rattle.dfu_link.specs.Refusing.{IsOffered}
 
 -- How many passes install a payload on a device of these settings.
 abbrev pub clean_passes : Setting → List ℕ → ℕ
 clean_passes s payload = clean (length (blocks payload s.functional.transfer)) s.busy_ms s.manifest_ms
 
--- A file can be installed cleanly: a tolerant device rests in appIDLE with no session, takes the file, has room for its payload, and the actions suffice.
+-- A file can be installed cleanly: a tolerant device rests in appIDLE with no session, takes the file, has room for its payload, and the
+-- actions suffice.
 pub record CanInstall (b : Bench) (file : List ℕ) (limits : Limits) (payload : List ℕ) : Type 0 where
   pub free : b.session ≡ Nobody
   pub rests : b.device.stage ≡ InAppIdle
@@ -35,8 +37,8 @@ pub record CanInstall (b : Bench) (file : List ℕ) (limits : Limits) (payload :
 abbrev pub offer_and_passes : List ℕ → Limits → ℕ → List Happening
 offer_and_passes file limits count = Offers file limits ∷ replicate count (Goes Pass unharmed)
 
--- With fewer passes than a clean run has nothing is reported; with exactly as many Installed is, in the last, and the payload is the active image of a
--- device in appIDLE.
+-- With fewer passes than a clean run has nothing is reported; with exactly as many Installed is, in the last, and the payload is the active
+-- image of a device in appIDLE.
 pub record InstallsCleanly (b : Bench) (payload : List ℕ) (count : ℕ) (reports : List Report) (b' : Bench) : Type 0 where
   pub early : count < clean_passes b.device.config payload → reports ≡ []
   pub reported : count ≡ clean_passes b.device.config payload → reports ≡ Installed ∷ []
@@ -49,5 +51,6 @@ EndsCleanly b payload count b' (Err stop) = (stop.fault ≡ NoMemory) × (stop.r
 
 -- Each run that is an offer and at most the passes of a clean run.
 abbrev pub RunsCleanly : Bench → List Happening → Bench → Result (Vec Report Global) Stop → Type 0
-RunsCleanly b hs b' result = (file : List ℕ) (limits : Limits) (payload : List ℕ) (count : ℕ) → CanInstall b file limits payload → hs ≡ offer_and_passes file limits count
+RunsCleanly b hs b' result = (file : List ℕ) (limits : Limits) (payload : List ℕ) (count : ℕ) → CanInstall b file limits payload
+    → hs ≡ offer_and_passes file limits count
     → count ≤ clean_passes b.device.config payload → EndsCleanly b payload count b' result

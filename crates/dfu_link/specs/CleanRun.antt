@@ -5,7 +5,9 @@ use Rattle.dfu_host.specs.Blocks.{blocks}
 use Rattle.dfu_host.specs.Clean.{clean}
 use Rattle.dfu_device.specs.Stage.{Profile, InAppIdle}
 use Rattle.dfu_device.specs.Outcome.{Luck, Works}
-use Rattle.dfu_link.specs.Play.{Pass, Offer, Go, Nobody, Link, Answered, silent, played}
+use Rattle.dfu_link.specs.Happening.{Pass}
+use Rattle.dfu_link.specs.Play.{Offer, Go, Link, Answered, silent, played}
+use Rattle.dfu_link.specs.Bench.{Nobody}
 
 -- A pass over a medium that works leads from one link to another with this answer, whatever the medium's second luck and the memory are.
 abbrev pub PassesTo : Profile → Link → Link → Answered → Type 0
@@ -26,9 +28,11 @@ pub record InstalledAfter (c : Profile) (w : Link) (count : ℕ) (payload : List
   pub quiet : Quietly c w (count - 1) before
   pub last : PassesTo c before (resting payload) (record { report = Some Installed; gave = None })
 
--- A tolerant device that can download, in appIDLE; a payload with at least the fewest bytes and at most the room; actions for a clean run at least: after the
--- offer, exactly as many passes as a clean run has end in Installed.
+-- A tolerant device that can download, in appIDLE; a payload with at least the fewest bytes and at most the room; actions for a clean run
+-- at least: after the offer, exactly as many passes as a clean run has end in Installed.
 abbrev pub CleanRun : Type 0
 CleanRun = (c : Profile) (image payload : List ℕ) (actions restarts : ℕ) → c.tolerant ≡ true → c.can_download ≡ true → 0 < c.transfer
-    → 0 < length payload → c.least ≤ length payload → length payload ≤ c.capacity → clean (length (blocks payload c.transfer)) c.busy c.manifest ≤ actions
-    → (other : Luck) (room : Bool) → InstalledAfter c (played c (resting image) (Offer payload actions restarts) Works other room).link (clean (length (blocks payload c.transfer)) c.busy c.manifest) payload
+    → 0 < length payload → c.least ≤ length payload → length payload ≤ c.capacity
+    → clean (length (blocks payload c.transfer)) c.busy c.manifest ≤ actions
+    → (other : Luck) (room : Bool) → InstalledAfter c (played c (resting image) (Offer payload actions restarts) Works other room).link
+    (clean (length (blocks payload c.transfer)) c.busy c.manifest) payload

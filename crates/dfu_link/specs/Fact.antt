@@ -5,10 +5,10 @@ use Rattle.dfu_host.specs.declared.report.Report.TheVariants.{Installed}
 use Rattle.dfu_host.specs.Blocks.{blocks, first}
 use Rattle.dfu_device.specs.Stage.{Profile, Stage, InAppIdle, InDfuIdle, InDownloadSync, InDownloadSyncWritten, InDownloadBusy, InDownloadIdle, InManifestSync, InManifestSyncComplete, InManifest, InManifestWaitReset, InUploadIdle, InError}
 use Rattle.dfu_device.specs.Outcome.{Situation}
-use Rattle.dfu_host.specs.Table.{Goal, ToLoad, ToFetch, Task, Phase, Block, Ask, Poll, WaitPoll, Close, AskLast, Manifest, WaitManifest, WaitLast, Fetch, LastUploaded, Last, Over, OverUploaded}
+use Rattle.dfu_host.specs.Table.{Goal, ToLoad, ToFetch, Task, Phase, Find, FindAgain, Detach, Enter, Clear, Quit, WaitFind, ResetFind, Trouble, GiveUp, Block, Ask, Poll, WaitPoll, Close, AskLast, Manifest, WaitManifest, WaitLast, Fetch, LastUploaded, Last, Over, OverUploaded}
 use Rattle.dfu_host.specs.Host.{HostState, IsOn}
-use Rattle.dfu_link.specs.Session.{IsPlain}
-use Rattle.dfu_link.specs.Play.{Session, Nobody, Hosted}
+use Rattle.dfu_link.specs.Session.{PromisesNothing}
+use Rattle.dfu_link.specs.Bench.{Session, Nobody, Hosted}
 
 -- The states of a phase.
 
@@ -37,18 +37,18 @@ Asking p t n (InError code) = Unit {0}
 Asking p t n stage = ⊥
 
 -- Poll: these bytes are taken, or there was a fault.
-abbrev pub Holds : List ℕ → Stage → Type 0
-Holds x (InDownloadSync before block number) = before ++ block ≡ x
-Holds x (InDownloadSyncWritten taken number) = taken ≡ x
-Holds x (InDownloadBusy before block number passed) = before ++ block ≡ x
-Holds x (InDownloadIdle taken number) = taken ≡ x
-Holds x (InError code) = Unit {0}
-Holds x stage = ⊥
+abbrev pub BlockIn : List ℕ → Stage → Type 0
+BlockIn x (InDownloadSync before block number) = before ++ block ≡ x
+BlockIn x (InDownloadSyncWritten taken number) = taken ≡ x
+BlockIn x (InDownloadBusy before block number passed) = before ++ block ≡ x
+BlockIn x (InDownloadIdle taken number) = taken ≡ x
+BlockIn x (InError code) = Unit {0}
+BlockIn x stage = ⊥
 
 -- Close: the whole payload is taken, and the device waits for more.
-abbrev pub Whole : List ℕ → Stage → Type 0
-Whole p (InDownloadIdle taken number) = taken ≡ p
-Whole p stage = ⊥
+abbrev pub AllTaken : List ℕ → Stage → Type 0
+AllTaken p (InDownloadIdle taken number) = taken ≡ p
+AllTaken p stage = ⊥
 
 -- Ask last: so it is, or it is closed, or there was a fault.
 abbrev pub AskingLast : List ℕ → Stage → Type 0
@@ -67,10 +67,11 @@ Managing p image InManifestWaitReset = image ≡ p
 Managing p image (InError code) = Unit {0}
 Managing p image stage = ⊥
 
--- Where a session ends with Installed the device is tolerant, the payload is active and the state is this one; no download ends with Uploaded.
+-- Where a session ends with Installed the device is tolerant, the payload is active and the state is this one; a download's other reports
+-- promise nothing.
 abbrev pub EndsAs : Profile → List ℕ → Situation → (Stage → Type 0) → Report → Type 0
 EndsAs c p s P Installed = IsTrue c.tolerant × (s.image ≡ p) × P s.stage
-EndsAs c p s P report = IsPlain report
+EndsAs c p s P report = PromisesNothing report
 
 -- Fetch k: what was kept is the active image as far as the device's place, and the number that is expected is k.
 abbrev pub Fetches : (k : ℕ) → (kept image : List ℕ) → Stage → Type 0
@@ -80,40 +81,43 @@ Fetches k kept image stage = ⊥
 
 -- The fact.
 
--- In a download's phases. Those of an upload do not occur; in the others, any state may be.
+-- The phases of which nothing is known of the device, whatever a session is for: those that look for its state and bring it to dfuIDLE or
+-- to appIDLE, and the last of a session that is given up.
+abbrev pub IsAnywhere : Phase → Type 0
+IsAnywhere Find = Unit {0}
+IsAnywhere FindAgain = Unit {0}
+IsAnywhere Detach = Unit {0}
+IsAnywhere Enter = Unit {0}
+IsAnywhere Clear = Unit {0}
+IsAnywhere Quit = Unit {0}
+IsAnywhere (WaitFind poll) = Unit {0}
+IsAnywhere ResetFind = Unit {0}
+IsAnywhere Trouble = Unit {0}
+IsAnywhere GiveUp = Unit {0}
+IsAnywhere phase = ⊥
+
+-- In a download's phases. Those of an upload do not occur.
 abbrev pub Fact : Profile → List ℕ → Phase → Situation → Type 0
-Fact c p (Fetch k kept) s = ⊥
-Fact c p (LastUploaded kept) s = ⊥
-Fact c p (OverUploaded kept) s = ⊥
 Fact c p (Block n) s = (n < length (blocks p c.transfer)) × Begun p c.transfer n s.stage
 Fact c p (Ask n) s = (n < length (blocks p c.transfer)) × Asking p c.transfer n s.stage
-Fact c p (Poll n) s = (n < length (blocks p c.transfer)) × Holds (first p c.transfer (suc n)) s.stage
-Fact c p (WaitPoll n poll) s = (n < length (blocks p c.transfer)) × Holds (first p c.transfer (suc n)) s.stage
-Fact c p Close s = Whole p s.stage
+Fact c p (Poll n) s = (n < length (blocks p c.transfer)) × BlockIn (first p c.transfer (suc n)) s.stage
+Fact c p (WaitPoll n poll) s = (n < length (blocks p c.transfer)) × BlockIn (first p c.transfer (suc n)) s.stage
+Fact c p Close s = AllTaken p s.stage
 Fact c p AskLast s = AskingLast p s.stage
 Fact c p Manifest s = Managing p s.image s.stage
 Fact c p (WaitManifest poll) s = Managing p s.image s.stage
+Fact c p (WaitLast poll) s = Unit {0}
 Fact c p (Last report) s = EndsAs c p s IsIdle report
 Fact c p (Over report) s = EndsAs c p s IsInApp report
-Fact c p phase s = Unit {0}
+Fact c p phase s = IsAnywhere phase
 
 -- In an upload's phases. Those of a download do not occur.
 abbrev pub FetchFact : Phase → Situation → Type 0
 FetchFact (Fetch k kept) s = (k < 65535) × Fetches k kept s.image s.stage
 FetchFact (LastUploaded kept) s = (kept ≡ s.image) × IsIdle s.stage
 FetchFact (OverUploaded kept) s = kept ≡ s.image
-FetchFact (Over report) s = IsPlain report
-FetchFact (Block n) s = ⊥
-FetchFact (Ask n) s = ⊥
-FetchFact (Poll n) s = ⊥
-FetchFact (WaitPoll n poll) s = ⊥
-FetchFact Close s = ⊥
-FetchFact AskLast s = ⊥
-FetchFact Manifest s = ⊥
-FetchFact (WaitManifest poll) s = ⊥
-FetchFact (WaitLast poll) s = ⊥
-FetchFact (Last report) s = ⊥
-FetchFact phase s = Unit {0}
+FetchFact (Over report) s = PromisesNothing report
+FetchFact phase s = IsAnywhere phase
 
 -- By what the session is for.
 abbrev pub GoalFact : Profile → Goal → Phase → Situation → Type 0
@@ -132,7 +136,8 @@ pub record GoesBy (c : Profile) (task : Task) : Type 0 where
   pub will_detach : task.will_detach ≡ c.will_detach
   pub detach_ms : task.detach_ms ≡ c.detach_ms
 
--- The fact of a live host: its task goes by the device's descriptor, it is not done, a download has a block at least, and what holds of the device fits its phase.
+-- The fact of a live host: its task goes by the device's descriptor, it is not done, a download has a block at least, and what holds of the
+-- device fits its phase.
 pub record HostFact (c : Profile) (s : Situation) (h : HostState) : Type 0 where
   pub task_is : GoesBy c h.task
   pub on : IsOn h.phase

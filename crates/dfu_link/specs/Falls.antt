@@ -5,15 +5,14 @@ use Rattle.dfu_slots.specs.Units.{IsMultiple}
 use Rattle.dfu_device.specs.declared.fault.ConfigFault.{ConfigFault}
 use Rattle.dfu_device.specs.Setting.{FirstFault}
 use Rattle.dfu_device.specs.Shown.{Shown}
-use Rattle.dfu_link.specs.Play.{Nobody}
-use Rattle.dfu_link.specs.Bytes.{Bench}
-use Rattle.dfu_link.specs.Comes.{Happening}
+use Rattle.dfu_link.specs.Bench.{Nobody, Bench}
+use Rattle.dfu_link.specs.Happening.{Happening}
 use Rattle.dfu_link.specs.Writing.{Broke}
 use Rattle.dfu_link.specs.Texts.{image_line, show_line}
 use Rattle.dfu_link.specs.Words.{lines_of}
-use Rattle.dfu_link.specs.Said.{Setting, Deed, Offer, HasTear, Sets, Does, Show}
+use Rattle.dfu_link.specs.Said.{ConfigLine, EventLine, Offer, HasTear, Sets, Does, Show}
 use Rattle.dfu_link.specs.Lines.{line_of}
-use Rattle.dfu_link.specs.ScriptRun.{Stand, beginning, Prepares, Starts, at_rest, AllCome, Point, point, events_of, LinesRun, SetsUp}
+use Rattle.dfu_link.specs.ScriptRun.{Settings, beginning, Prepares, Starts, at_rest, AllCome, Point, point, events_of, LinesRun, SetsUp}
 use Rattle.dfu_link.specs.declared.scripting.fault.ScriptFault.{ScriptFault}
 use Rattle.dfu_link.specs.declared.scripting.fault.ScriptFault.TheVariants.{BadLine, LateConfig, BadConfig, TooLarge, NoMemory, Read, Write}
 
@@ -29,12 +28,13 @@ pub record HasBroken (b : Bench) (events : List Happening) (old new : Option (Li
 
 -- The writer failed in a line: among its events, or in the line of `show`.
 pub data BreaksIn (p : Point) (line : List ℕ) (old new : Option (List ℕ)) : Type 0 where
-  in_events : {deed : Deed} → line_of line ≡ Some (Does deed) → HasBroken p.at (events_of p.limits deed) old new → BreaksIn p line old new
+  in_events : {events : EventLine} → line_of line ≡ Some (Does events) → HasBroken p.at (events_of p.limits events) old new
+      → BreaksIn p line old new
   in_show : line_of line ≡ Some Show → Broke old new (show_line p.at.device) → BreaksIn p line old new
 
 -- A line sets something about the device.
 pub record IsSetting (line : List ℕ) : Type 0 where
-  pub setting : Setting
+  pub setting : ConfigLine
   pub says : line_of line ≡ Some (Sets setting)
 
 -- A line offers a file.
@@ -45,10 +45,10 @@ pub record IsOffer (line : List ℕ) : Type 0 where
 -- A line needs memory: for the file that it offers while no session is live, or for the tear that it brings.
 pub data NeedsMemory (p : Point) (line : List ℕ) : Type 0 where
   for_file : IsOffer line → p.at.session ≡ Nobody → NeedsMemory p line
-  for_tear : {deed : Deed} → line_of line ≡ Some (Does deed) → HasTear deed → NeedsMemory p line
+  for_tear : {events : EventLine} → line_of line ≡ Some (Does events) → HasTear events → NeedsMemory p line
 
--- How line k falls once the device is started: it is none of the language, or a configuration line, or finds no memory that it needs, and then nothing of it
--- is out; or the writer fails in it.
+-- How line k falls once the device is started: it is none of the language, or a configuration line, or finds no memory that it needs, and
+-- then nothing of it is out; or the writer fails in it.
 abbrev pub LineFalls : Point → ℕ → List ℕ → Option (List ℕ) → Option (List ℕ) → ScriptFault → Type 0
 LineFalls p k line old new (BadLine n) = (n ≡ k) × (line_of line ≡ None) × (new ≡ old)
 LineFalls p k line old new (LateConfig n) = (n ≡ k) × IsSetting line × (new ≡ old)
@@ -56,7 +56,8 @@ LineFalls p k line old new NoMemory = NeedsMemory p line × (new ≡ old)
 LineFalls p k line old new Write = BreaksIn p line old new
 LineFalls p k line old new fault = ⊥
 
--- What falls where these lines are left, the first of them line k: that line, or where none is left the line of the image, when the writer fails.
+-- What falls where these lines are left, the first of them line k: that line, or where none is left the line of the image, when the writer
+-- fails.
 abbrev pub NextFalls : Point → ℕ → List (List ℕ) → Option (List ℕ) → Option (List ℕ) → ScriptFault → Type 0
 NextFalls p k [] old new fault = (fault ≡ Write) × Broke old new (image_line p.at.device)
 NextFalls p k (line ∷ lines) old new fault = LineFalls p k line old new fault
@@ -74,35 +75,39 @@ pub record RunFalls (p : Point) (k : ℕ) (lines : List (List ℕ)) (old new : O
   pub falls : NextFalls end (k + length done) rest mid new fault
 
 -- Lines that set fall, the first of them line k: some set, and the next is none of the language.
-pub record SettingFalls (s : Stand) (k : ℕ) (lines : List (List ℕ)) (fault : ScriptFault) : Type 0 where
+pub record SettingFalls (s : Settings) (k : ℕ) (lines : List (List ℕ)) (fault : ScriptFault) : Type 0 where
   pub done : List (List ℕ)
   pub line : List ℕ
   pub rest : List (List ℕ)
   pub split : lines ≡ done ++ line ∷ rest
-  pub stand : Stand
-  pub prepares : Prepares s done stand
+  pub settings : Settings
+  pub prepares : Prepares s done settings
   pub none : line_of line ≡ None
   pub fault_is : fault ≡ BadLine (k + length done)
 
 -- No device can be set up like this, or the room has no whole units, or the image has more bytes than there is room for.
-pub data CannotStart (s : Stand) : Type 0 where
+pub data CannotStart (s : Settings) : Type 0 where
   refused : (fault : ConfigFault) → FirstFault fault s.device → CannotStart s
   not_whole : ¬ IsMultiple s.unit s.capacity → CannotStart s
   too_large : s.capacity < length s.image → CannotStart s
 
 -- Why a device does not start: BadConfig where it cannot, or there is no memory.
-abbrev pub StartFalls : Stand → ScriptFault → Type 0
+abbrev pub StartFalls : Settings → ScriptFault → Type 0
 StartFalls s BadConfig = CannotStart s
 StartFalls s NoMemory = Unit {0}
 StartFalls s fault = ⊥
 
--- A script ends with a fault. The text is over 16,777,216 bytes, the reader failed, or there was no memory for the text or the device, and nothing is out;
--- a line that sets is none of the language, or no device can be set up like this, and nothing is out; or the device starts, and of the lines after it one falls.
+-- A script ends with a fault. The text is over 16,777,216 bytes, the reader failed, or there was no memory for the text or the device, and
+-- nothing is out; a line that sets is none of the language, or no device can be set up like this, and nothing is out; or the device starts,
+-- and of the lines after it one falls.
 pub data Falls (text : List ℕ) (old new : Option (List ℕ)) : ScriptFault → Type 0 where
   too_long : 16777216 < length text → new ≡ old → Falls text old new TooLarge
   unread : new ≡ old → Falls text old new Read
   no_memory : new ≡ old → Falls text old new NoMemory
-  in_setting : {fault : ScriptFault} → length text ≤ 16777216 → SettingFalls beginning 1 (lines_of text) fault → new ≡ old → Falls text old new fault
-  at_start : {stand : Stand} {after : List (List ℕ)} → SetsUp text stand after → CannotStart stand → new ≡ old → Falls text old new BadConfig
-  in_run : {stand : Stand} {after : List (List ℕ)} {first : Shown} {fault : ScriptFault} (sets_up : SetsUp text stand after) → Starts stand first
-      → RunFalls (point stand.limits (at_rest first)) (1 + length sets_up.before) after old new fault → Falls text old new fault
+  in_setting : {fault : ScriptFault} → length text ≤ 16777216 → SettingFalls beginning 1 (lines_of text) fault → new ≡ old
+      → Falls text old new fault
+  at_start : {settings : Settings} {after : List (List ℕ)} → SetsUp text settings after → CannotStart settings → new ≡ old
+      → Falls text old new BadConfig
+  in_run : {settings : Settings} {after : List (List ℕ)} {first : Shown} {fault : ScriptFault} (sets_up : SetsUp text settings after)
+      → Starts settings first
+      → RunFalls (point settings.limits (at_rest first)) (1 + length sets_up.before) after old new fault → Falls text old new fault

@@ -1,25 +1,43 @@
 -- That an event of a link is a step of the session machine.
-use Rattle.std.specs.Prelude.{◌≡◌, Option, Some, Result, Ok, Err}
-use Rattle.dfu_wire.specs.declared.states.State.TheVariants.{AppIdle}
-use Rattle.dfu_device.specs.Stage.{state_of}
-use Rattle.dfu_device.specs.Shown.{profile}
+use Rattle.std.specs.Prelude.{◌≡◌, ℕ, List, Option, Some, Result, Ok, Err}
+use Rattle.dfu_wire.specs.declared.ids.Ids.{Ids}
+use Rattle.dfu_suffix.specs.Grammar.{IsFile}
+use Rattle.dfu_device.specs.Stage.{InAppIdle}
 use Rattle.dfu_host.specs.declared.report.Report.{Report}
 use Rattle.dfu_host.specs.declared.report.Report.TheVariants.{Installed}
 use Rattle.dfu_link.specs.declared.fault.LinkFault.{LinkFault}
-use Rattle.dfu_link.specs.Session.{Machine, Loading, Step}
-use Rattle.dfu_link.specs.Play.{Event, kind_of}
+use Rattle.dfu_link.specs.Session.{Machine, Loading, Kind, AnOffer, AnUpload, AnAbort, ATime, ARestart, AGo, Step}
 use Rattle.dfu_link.specs.Agreement.{AgreesOn}
-use Rattle.dfu_link.specs.Comes.{Happening, Means, LinkState}
+use Rattle.dfu_link.specs.Happening.{Happening, Offers, Uploads, Aborts, Goes, Passes, Resets, Cuts}
+use Rattle.dfu_link.specs.Bench.{LinkState}
 
--- The session machine follows what happened: it makes one legal step with the report, and agrees again, so that its active image is that of the medium's
--- bytes; and where Installed is reported, the device is in appIDLE and the payload of the session that was live is that image.
+-- The bytes are a file of the grammar with this payload.
+pub record HasPayload (file payload : List ℕ) : Type 0 where
+  pub ids : Ids
+  pub dfu : ℕ
+  pub extra : List ℕ
+  pub reads : IsFile payload ids dfu extra file
+
+-- What happens is of this kind for the session machine: a file that is offered is an offer of its payload.
+abbrev pub IsOfKind : Happening → Kind → Type 0
+IsOfKind (Offers file limits) (AnOffer payload) = HasPayload file payload
+IsOfKind (Uploads limits) AnUpload = Unit {0}
+IsOfKind Aborts AnAbort = Unit {0}
+IsOfKind (Goes fate harm) AGo = Unit {0}
+IsOfKind (Passes ms) ATime = Unit {0}
+IsOfKind Resets ARestart = Unit {0}
+IsOfKind Cuts ARestart = Unit {0}
+IsOfKind h kind = ⊥
+
+-- The session machine follows what happened: it makes one legal step with the report, and agrees again, so that its active image is that of
+-- the medium's bytes; and where Installed is reported, the device is in appIDLE and the payload of the session that was live is that image.
 pub record IsFollowed (w : LinkState) (h : Happening) (w' : LinkState) (report : Option Report) (m : Machine) : Type 0 where
-  pub event : Event
-  pub means : Means w.bench.device.config h event
+  pub kind : Kind
+  pub is : IsOfKind h kind
   pub after : Machine
-  pub step : Step (profile w.bench.device).tolerant (profile w.bench.device).transfer (kind_of event) m report after
+  pub step : Step w.bench.device.config.functional.tolerant w.bench.device.config.functional.transfer kind m report after
   pub agrees : AgreesOn w'.bench w'.up after
-  pub installed : report ≡ Some Installed → (state_of w'.bench.device.stage ≡ AppIdle) × (m.live ≡ Loading after.cur)
+  pub installed : report ≡ Some Installed → (w'.bench.device.stage ≡ InAppIdle) × (m.live ≡ Loading after.cur)
 
 -- Each session machine that agrees with the bench and with what it last gave follows what happened; what was refused changed nothing.
 abbrev pub AllFollow : LinkState → Happening → LinkState → Result (Option Report) LinkFault → Type 0

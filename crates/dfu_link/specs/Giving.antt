@@ -5,9 +5,11 @@ use Rattle.dfu_device.specs.Shown.{Shown}
 use Rattle.dfu_host.specs.declared.report.Report.{Report}
 use Rattle.dfu_host.specs.declared.report.Report.TheVariants.{Uploaded}
 use Rattle.dfu_link.specs.declared.fault.LinkFault.{LinkFault}
-use Rattle.dfu_link.specs.Play.{Nobody, Answered}
-use Rattle.dfu_link.specs.Bytes.{Bench, link_of}
-use Rattle.dfu_link.specs.Comes.{Happening, Comes, LinkState}
+use Rattle.dfu_link.specs.Bench.{Nobody, Bench, LinkState}
+use Rattle.dfu_link.specs.Play.{Answered}
+use Rattle.dfu_link.specs.Bytes.{link_of}
+use Rattle.dfu_link.specs.Happening.{Happening}
+use Rattle.dfu_link.specs.Comes.{Comes}
 use Rattle.dfu_link.specs.Standing.{IsSteady}
 
 -- What was uploaded is the active image of the device, and that has fewer bytes than 65,535 blocks.

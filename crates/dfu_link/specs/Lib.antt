@@ -1,12 +1,16 @@
 pub mod Session
+pub mod Happening
+pub mod Bench
 pub mod Play
 pub mod Agreement
+pub mod LinkAgreement
 pub mod Fact
 pub mod Headline
 pub mod CleanRun
 pub mod Bytes
 pub mod Understood
 pub mod Power
+pub mod Refusing
 pub mod Comes
 pub mod Giving
 pub mod Running
@@ -25,7 +29,7 @@ pub mod Writing
 pub mod Texts
 pub mod Gathering
 pub mod ScriptRun
-pub mod Stands
+pub mod SetupView
 pub mod Falls
 pub mod Moving
 pub mod Forming

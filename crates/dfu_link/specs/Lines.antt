@@ -3,8 +3,7 @@ use Rattle.std.specs.Prelude.{ℕ, Bool, false, length, ◌==◌, List, [], ◌�
 use Rattle.dfu_slots.specs.declared.unit.Unit.{Unit as WriteUnit}
 use Rattle.dfu_slots.specs.declared.unit.Unit.TheVariants.{Byte, U16, U64, U256}
 use Rattle.dfu_link.specs.Words.{◌>>=◌, guard, bytes_of, number_of, quad_of, pair_of, first, ends, words_of}
-use Rattle.dfu_link.specs.Play.{Fate, Pass, LostOut, LostBack, Twice, TwiceLostBack, Slip, CutIn, Fail}
-use Rattle.dfu_link.specs.Comes.{unharmed, harmed}
+use Rattle.dfu_link.specs.Happening.{Fate, Pass, LostOut, LostBack, Twice, TwiceLostBack, Slip, CutIn, Fail, unharmed, harmed}
 use Rattle.dfu_link.specs.Said.{Said, Blank, Sets, LimitsTo, Does, Show, TheIds, TheDevice, TheUnit, TheCapacity, TheImage, Offer, Upload, Abort, Go, Time, Reset, Cut, functional_of}
 use Rattle.dfu_link.specs.Keywords.{keyword_of, fate_keyword_of}
 use Rattle.dfu_link.specs.declared.scripting.keywords.Keyword.{Keyword}

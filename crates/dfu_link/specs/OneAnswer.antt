@@ -3,8 +3,10 @@ use Rattle.std.specs.Prelude.{◌≡◌}
 use Rattle.dfu_device.specs.Setting.{Setting}
 use Rattle.dfu_link.specs.declared.fault.LinkFault.{LinkFault}
 use Rattle.dfu_link.specs.Play.{Event, IsAllowed}
-use Rattle.dfu_link.specs.Bytes.{Bench}
-use Rattle.dfu_link.specs.Comes.{Happening, Means, IsRefused}
+use Rattle.dfu_link.specs.Bench.{Bench}
+use Rattle.dfu_link.specs.Happening.{Happening}
+use Rattle.dfu_link.specs.Refusing.{IsRefused}
+use Rattle.dfu_link.specs.Comes.{Means}
 
 -- An event that is refused is refused as one fault.
 abbrev pub OneRefusal : Type 0
@@ -12,7 +14,8 @@ OneRefusal = (b : Bench) (h : Happening) (fault other : LinkFault) → IsRefused
 
 -- And it is no play.
 abbrev pub RefusedIsNoPlay : Type 0
-RefusedIsNoPlay = (b : Bench) (h : Happening) (fault : LinkFault) (event : Event) → IsRefused b h fault → Means b.device.config h event → IsAllowed b.session event → ⊥
+RefusedIsNoPlay = (b : Bench) (h : Happening) (fault : LinkFault) (event : Event) → IsRefused b h fault → Means b.device.config h event
+    → IsAllowed b.session event → ⊥
 
 -- What happens means one event; so a file that is offered has one payload.
 abbrev pub OneEvent : Type 0

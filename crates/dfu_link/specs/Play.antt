@@ -9,23 +9,13 @@ use Rattle.dfu_device.specs.Rows.{meant}
 use Rattle.dfu_host.specs.Table.{Goal, ToLoad, ToFetch, Task, Phase, Over, OverUploaded, Deed, Send, Wait, Reset, Done, deed, Heard, Acked, Status, StateIs, Part, NoRoom, Stalled, Nothing, Waited, WasReset, Restarted}
 use Rattle.dfu_host.specs.Host.{HostState, begun, after, aborted as host_aborted}
 use Rattle.dfu_link.specs.Session.{Kind, AnOffer, AnUpload, AnAbort, ATime, ARestart, AGo}
+use Rattle.dfu_link.specs.Happening.{Fate, Pass, LostOut, LostBack, Twice, TwiceLostBack, Slip, CutIn, Fail}
+use Rattle.dfu_link.specs.Bench.{Session, Nobody, Hosted}
 
 -- The events.
 
--- What becomes of one action of the host: it passes; its request or its answer is lost; it is handled twice, and then perhaps its answer is lost;
--- time passes after it; the power is cut in it, at any write of the medium; or a write of the medium fails in it.
-pub data Fate : Type 0 where
-  Pass : Fate
-  LostOut : Fate
-  LostBack : Fate
-  Twice : Fate
-  TwiceLostBack : Fate
-  Slip : (ms : ℕ) → Fate
-  CutIn : Fate
-  Fail : Fate
-
--- What happens to the link: a payload is offered, an upload begins, the session is aborted, the host takes its next action, time passes, the bus is reset,
--- or the power is cut.
+-- What happens to the link: a payload is offered, an upload begins, the session is aborted, the host takes its next action, time passes,
+-- the bus is reset, or the power is cut.
 pub data Event : Type 0 where
   Offer : (payload : List ℕ) (actions restarts : ℕ) → Event
   UploadIt : (actions restarts : ℕ) → Event
@@ -46,11 +36,6 @@ kind_of ResetBus = ARestart
 kind_of Cut = ARestart
 
 -- The link.
-
--- The session that is live: none, or one with its host.
-pub data Session : Type 0 where
-  Nobody : Session
-  Hosted : HostState → Session
 
 -- The link: a device in its situation, and the session that is live. What was uploaded goes with the answer.
 pub record Link : Type 0 where
@@ -131,7 +116,8 @@ pub record Passed : Type 0 where
   pub device : Situation
   pub heard : Heard
 
--- A request that the table answers by this plan, by its fate. The medium's luck is said for the first and for the second thing that the device does.
+-- A request that the table answers by this plan, by its fate. The medium's luck is said for the first and for the second thing that the
+-- device does.
 abbrev pub sent_by : Profile → Situation → Request → Plan → Fate → (first second : Luck) → Passed
 sent_by c s r p Pass l k = let o = outcome s.image p l in record { device = o.after; heard = heard_as o.reply }
 sent_by c s r p LostOut l k = record { device = s; heard = Nothing }
@@ -181,23 +167,33 @@ restarted_to s session = let t = told session in record { link = record { device
 
 -- Each event. Between actions the medium is not armed, so that it works while time passes.
 abbrev pub played : Profile → Link → Event → (first second : Luck) → (room : Bool) → Played
-played c w (Offer payload actions restarts) l k room = record { link = record { device = w.device; session = opened c (ToLoad payload) actions restarts }; answer = silent }
-played c w (UploadIt actions restarts) l k room = record { link = record { device = w.device; session = opened c ToFetch actions restarts }; answer = silent }
+played c w (Offer payload actions restarts) l k room =
+    record { link = record { device = w.device; session = opened c (ToLoad payload) actions restarts }; answer = silent }
+played c w (UploadIt actions restarts) l k room =
+    record { link = record { device = w.device; session = opened c ToFetch actions restarts }; answer = silent }
 played c w AbortIt l k room = record { link = record { device = w.device; session = aborted w.session }; answer = silent }
 played c w (Go fate) l k room = gone c w w.session fate l k room
 played c w (Time ms) l k room = record { link = record { device = elapsed c w.device ms Works; session = w.session }; answer = silent }
 played c w ResetBus l k room = restarted_to (was_reset w.device) w.session
 played c w Cut l k room = restarted_to (powered w.device) w.session
 
--- An event that is not refused: a session begins only where none is live, and no offer is empty; an abort and an action need a live session.
+-- An event that is not refused: a session begins only where none is live, and no offer is empty; an abort and an action need a live
+-- session.
 abbrev pub IsAllowed : Session → Event → Type 0
+IsAllowed Nobody (Offer payload actions restarts) = 0 < length payload
+IsAllowed Nobody (UploadIt actions restarts) = Unit {0}
 IsAllowed Nobody AbortIt = ⊥
 IsAllowed Nobody (Go fate) = ⊥
-IsAllowed Nobody (Offer payload actions restarts) = 0 < length payload
-IsAllowed Nobody event = Unit {0}
+IsAllowed Nobody (Time ms) = Unit {0}
+IsAllowed Nobody ResetBus = Unit {0}
+IsAllowed Nobody Cut = Unit {0}
 IsAllowed (Hosted h) (Offer payload actions restarts) = ⊥
 IsAllowed (Hosted h) (UploadIt actions restarts) = ⊥
-IsAllowed (Hosted h) event = Unit {0}
+IsAllowed (Hosted h) AbortIt = Unit {0}
+IsAllowed (Hosted h) (Go fate) = Unit {0}
+IsAllowed (Hosted h) (Time ms) = Unit {0}
+IsAllowed (Hosted h) ResetBus = Unit {0}
+IsAllowed (Hosted h) Cut = Unit {0}
 
 -- A play: an event that is not refused, at some luck of the medium and with or without memory for a part of an upload.
 pub record Play (c : Profile) (w : Link) (event : Event) (w' : Link) (answer : Answered) : Type 0 where

@@ -8,11 +8,14 @@ use Rattle.dfu_link.specs.declared.fault.LinkFault.{LinkFault}
 use Rattle.dfu_link.specs.declared.fault.LinkFault.TheVariants.{NoMemory}
 use Rattle.dfu_link.specs.declared.running.Stop.{Stop}
 use Rattle.dfu_link.specs.Session.{said}
-use Rattle.dfu_link.specs.Bytes.{Bench}
-use Rattle.dfu_link.specs.Comes.{Happening, happening, HasCome, IsRefused, LinkState}
+use Rattle.dfu_link.specs.Bench.{Bench, LinkState}
+use Rattle.dfu_link.specs.Happening.{Happening, happening}
+use Rattle.dfu_link.specs.Refusing.{IsRefused}
+use Rattle.dfu_link.specs.Comes.{HasCome}
 use Rattle.dfu_link.specs.Giving.{Gives}
 
--- What happens comes to a link one after the other, none of it is refused, these are the reports in their order, and with Uploaded the active image is given.
+-- What happens comes to a link one after the other, none of it is refused, these are the reports in their order, and with Uploaded the
+-- active image is given.
 pub data Runs : LinkState → List Happening → List Report → LinkState → Type 0 where
   rests : {w : LinkState} → Runs w [] [] w
   comes : {w mid w' : LinkState} {h : Happening} {hs : List Happening} {report : Option Report} {reports : List Report}
@@ -28,7 +31,8 @@ IsStop b next NoMemory = Unit {0}
 IsStop b next fault = IsRefused b next fault
 
 -- A run stopped at this place: what happens before it came, and what is next did not.
-pub record StopsAt (w : LinkState) (hs : List Happening) (fault : LinkFault) (at : ℕ) (reports : List Report) (w' : LinkState) : Type 0 where
+pub record StopsAt (w : LinkState) (hs : List Happening) (fault : LinkFault) (at : ℕ) (reports : List Report)
+    (w' : LinkState) : Type 0 where
   pub next : Happening
   pub more : List Happening
   pub here : drop at hs ≡ next ∷ more

@@ -9,30 +9,37 @@ use Rattle.dfu_slots.specs.Medium.{MediumState, AllWrites}
 use Rattle.dfu_slots.specs.Medium.Fuse.{Whole}
 use Rattle.dfu_slots.specs.Seen.{image_of, format_series}
 use Rattle.dfu_device.specs.Stage.{InAppIdle}
-use Rattle.dfu_device.specs.Setting.{IsAllowed, of_this_version}
-use Rattle.dfu_device.specs.Setting.{Setting as DeviceSetting}
+use Rattle.dfu_device.specs.Setting.{Setting, IsAllowed, of_this_version}
 use Rattle.dfu_device.specs.Shown.{Shown}
-use Rattle.dfu_link.specs.Play.{Nobody, Answered}
-use Rattle.dfu_link.specs.Bytes.{Bench}
-use Rattle.dfu_link.specs.Comes.{Happening, Offers, Uploads, Aborts, Goes, Passes, Resets, Cuts, Comes}
+use Rattle.dfu_link.specs.Bench.{Nobody, Bench}
+use Rattle.dfu_link.specs.Play.{Answered}
+use Rattle.dfu_link.specs.Happening.{Happening, Offers, Uploads, Aborts, Goes, Passes, Resets, Cuts}
+use Rattle.dfu_link.specs.Comes.{Comes}
 use Rattle.dfu_link.specs.declared.fault.LinkFault.{LinkFault}
 use Rattle.dfu_link.specs.Texts.{answer_line, image_line, show_line}
 use Rattle.dfu_link.specs.Words.{lines_of}
-use Rattle.dfu_link.specs.Said.{Setting, TheIds, TheDevice, TheUnit, TheCapacity, TheImage, Deed, Offer, Upload, Abort, Go, Time, Reset, Cut, Said, Blank, Sets, LimitsTo, Does, Show, functional_of}
+use Rattle.dfu_link.specs.Said.{ConfigLine, TheIds, TheDevice, TheUnit, TheCapacity, TheImage, EventLine, Offer, Upload, Abort, Go, Time, Reset, Cut, Said, Blank, Sets, LimitsTo, Does, Show, functional_of}
 use Rattle.dfu_link.specs.Lines.{line_of}
 
--- What is set before the first event line or `show`: the device, the unit in which its medium is written, how many bytes an image may have, the image at first, and the limits of sessions.
-pub record Stand : Type 0 where
-  pub device : DeviceSetting
+-- What is set before the first event line or `show`: the device, the unit in which its medium is written, how many bytes an image may have,
+-- the image at first, and the limits of sessions.
+pub record Settings : Type 0 where
+  pub device : Setting
   pub unit : WriteUnit
   pub capacity : ℕ
   pub image : List ℕ
   pub limits : Limits
 
 -- What holds where no line sets anything else.
-abbrev pub beginning : Stand
+abbrev pub beginning : Settings
 beginning = record {
-  device = record { ids = record { device = 0x0100; product = 0x0001; vendor = 0x1209 }; functional = functional_of 7 255 8; least = 1; busy_ms = 5; manifest_ms = 10 };
+  device = record {
+    ids = record { device = 0x0100; product = 0x0001; vendor = 0x1209 };
+    functional = functional_of 7 255 8;
+    least = 1;
+    busy_ms = 5;
+    manifest_ms = 10;
+  };
   unit = Byte;
   capacity = 64;
   image = 0 ∷ [];
@@ -40,29 +47,30 @@ beginning = record {
 }
 
 -- What a configuration line sets takes the place of what stood there.
-abbrev pub set : Stand → Setting → Stand
+abbrev pub set : Settings → ConfigLine → Settings
 set s (TheIds ids) = record s { device = record s.device { ids = ids } }
-set s (TheDevice functional least busy manifest) = record s { device = record s.device { functional = functional; least = least; busy_ms = busy; manifest_ms = manifest } }
+set s (TheDevice functional least busy manifest) =
+    record s { device = record s.device { functional = functional; least = least; busy_ms = busy; manifest_ms = manifest } }
 set s (TheUnit unit) = record s { unit = unit }
 set s (TheCapacity n) = record s { capacity = n }
 set s (TheImage bytes) = record s { image = bytes }
 
 -- What a line before the first event line or `show` sets.
-abbrev pub prepared : Stand → Said → Option Stand
+abbrev pub prepared : Settings → Said → Option Settings
 prepared s Blank = Some s
 prepared s (Sets x) = Some (set s x)
 prepared s (LimitsTo actions restarts) = Some (record s { limits = record { actions = actions; restarts = restarts } })
 prepared s said = None
 
 -- Lines that set, one after the other.
-pub data Prepares : Stand → List (List ℕ) → Stand → Type 0 where
-  nothing : {s : Stand} → Prepares s [] s
-  then_prepares : {s t t' : Stand} {lines : List (List ℕ)} (line : List ℕ) {said : Said} →
+pub data Prepares : Settings → List (List ℕ) → Settings → Type 0 where
+  nothing : {s : Settings} → Prepares s [] s
+  then_prepares : {s t t' : Settings} {lines : List (List ℕ)} (line : List ℕ) {said : Said} →
       Prepares s lines t → line_of line ≡ Some said → prepared t said ≡ Some t' → Prepares s (lines ++ line ∷ []) t'
 
 -- An event line or `show` is read.
 abbrev pub HasToAct : Option Said → Type 0
-HasToAct (Some (Does deed)) = Unit {0}
+HasToAct (Some (Does events)) = Unit {0}
 HasToAct (Some Show) = Unit {0}
 HasToAct said = ⊥
 
@@ -75,8 +83,9 @@ IsReady (line ∷ lines) = HasToAct (line_of line)
 abbrev pub blank : WriteUnit → ℕ → MediumState
 blank unit capacity = record { bytes = replicate (2 * (2 * gate_size unit + capacity)) 255; failures = 0; fuse = Whole; unit = unit }
 
--- The device starts: it is allowed, the room has whole units, the image fits, and it stands in appIDLE on a blank medium that was formatted with the image.
-pub record Starts (s : Stand) (d : Shown) : Type 0 where
+-- The device starts: it is allowed, the room has whole units, the image fits, and it stands in appIDLE on a blank medium that was formatted
+-- with the image.
+pub record Starts (s : Settings) (d : Shown) : Type 0 where
   pub config : d.config ≡ record s.device { functional = of_this_version s.device.functional }
   pub allowed : IsAllowed d.config
   pub whole : IsMultiple s.unit s.capacity
@@ -105,7 +114,7 @@ abbrev pub point : Limits → Bench → Point
 point limits at = record { limits = limits; at = at }
 
 -- The events of an event line.
-abbrev pub events_of : Limits → Deed → List Happening
+abbrev pub events_of : Limits → EventLine → List Happening
 events_of limits (Offer file) = Offers file limits ∷ []
 events_of limits Upload = Uploads limits ∷ []
 events_of limits Abort = Aborts ∷ []
@@ -115,36 +124,39 @@ events_of limits Reset = Resets ∷ []
 events_of limits Cut = Cuts ∷ []
 
 -- What a line does once the device is started, and what it prints. A configuration line has no place there.
-pub data Acts : Point → Said → List ℕ → Point → Type 0 where
-  skips : {p : Point} → Acts p Blank [] p
-  limits_to : {p : Point} {actions restarts : ℕ} → Acts p (LimitsTo actions restarts) [] (record p { limits = record { actions = actions; restarts = restarts } })
-  plays : {p : Point} {deed : Deed} {b : Bench} {out : List ℕ} → AllCome p.at (events_of p.limits deed) out b → Acts p (Does deed) out (record p { at = b })
-  shows : {p : Point} → Acts p Show (show_line p.at.device) p
+pub data LineActs : Point → Said → List ℕ → Point → Type 0 where
+  skips : {p : Point} → LineActs p Blank [] p
+  limits_to : {p : Point} {actions restarts : ℕ} → LineActs p (LimitsTo actions restarts) []
+      (record p { limits = record { actions = actions; restarts = restarts } })
+  plays : {p : Point} {events : EventLine} {b : Bench} {out : List ℕ} → AllCome p.at (events_of p.limits events) out b
+      → LineActs p (Does events) out (record p { at = b })
+  shows : {p : Point} → LineActs p Show (show_line p.at.device) p
 
 -- Lines one after the other, with what they print.
 pub data LinesRun : Point → List (List ℕ) → List ℕ → Point → Type 0 where
   stays : {p : Point} → LinesRun p [] [] p
   then_runs : {p q q' : Point} {lines : List (List ℕ)} (line : List ℕ) {said : Said} {out more : List ℕ} →
-      LinesRun p lines out q → line_of line ≡ Some said → Acts q said more q' → LinesRun p (lines ++ line ∷ []) (out ++ more) q'
+      LinesRun p lines out q → line_of line ≡ Some said → LineActs q said more q' → LinesRun p (lines ++ line ∷ []) (out ++ more) q'
 
--- The text is set up like this, and these lines are left: it has at most 16,777,216 bytes, the lines before set, and now the device has to start.
-pub record SetsUp (text : List ℕ) (stand : Stand) (after : List (List ℕ)) : Type 0 where
+-- The text is set up like this, and these lines are left: it has at most 16,777,216 bytes, the lines before set, and now the device has to
+-- start.
+pub record SetsUp (text : List ℕ) (settings : Settings) (after : List (List ℕ)) : Type 0 where
   pub small : length text ≤ 16777216
   pub before : List (List ℕ)
   pub split : lines_of text ≡ before ++ after
-  pub prepares : Prepares beginning before stand
+  pub prepares : Prepares beginning before settings
   pub ready : IsReady after
 
 -- A whole script: lines that set, the device started, lines that act, and last the line of the image.
 pub record IsRun (text out : List ℕ) : Type 0 where
-  pub stand : Stand
+  pub settings : Settings
   pub after : List (List ℕ)
-  pub sets_up : SetsUp text stand after
+  pub sets_up : SetsUp text settings after
   pub first : Shown
-  pub starts : Starts stand first
+  pub starts : Starts settings first
   pub shown : List ℕ
   pub end : Point
-  pub runs : LinesRun (point stand.limits (at_rest first)) after shown end
+  pub runs : LinesRun (point settings.limits (at_rest first)) after shown end
   pub out_is : out ≡ shown ++ image_line end.at.device
 
 -- A run of the text was written.

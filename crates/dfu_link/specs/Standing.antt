@@ -8,17 +8,23 @@ use Rattle.dfu_device.specs.Shown.{Shown, profile, situation}
 use Rattle.dfu_host.specs.Host.{HostState, IsOn}
 use Rattle.dfu_host.specs.Counting.{IsCounted}
 use Rattle.dfu_host.specs.Uploading.{kept_in}
-use Rattle.dfu_link.specs.Play.{Session, Nobody, Hosted}
+use Rattle.dfu_link.specs.Bench.{Session, Nobody, Hosted, Bench, ShowsActive, LinkState}
 use Rattle.dfu_link.specs.Fact.{SessionFact}
-use Rattle.dfu_link.specs.Bytes.{Bench, ShowsActive}
-use Rattle.dfu_link.specs.Comes.{LinkState}
 
 -- What stands for a device that is off its port, as it is only while its power goes and comes back.
 abbrev pub off_port : Shown
 off_port = record {
   config = record {
     ids = record { device = 0; product = 0; vendor = 0 };
-    functional = record { can_download = false; can_upload = false; tolerant = false; will_detach = false; detach_ms = 0; transfer = 0; version = 0 };
+    functional = record {
+      can_download = false;
+      can_upload = false;
+      tolerant = false;
+      will_detach = false;
+      detach_ms = 0;
+      transfer = 0;
+      version = 0;
+    };
     least = 0;
     busy_ms = 0;
     manifest_ms = 0;
@@ -60,15 +66,15 @@ IsCountedIn Nobody = Unit {0}
 IsCountedIn (Hosted h) = IsCounted h.task h.phase
 
 -- A live session sends blocks of at least one byte.
-abbrev pub IsSized : Session → Type 0
-IsSized Nobody = Unit {0}
-IsSized (Hosted h) = 0 < h.task.transfer
+abbrev pub SendsBytes : Session → Type 0
+SendsBytes Nobody = Unit {0}
+SendsBytes (Hosted h) = 0 < h.task.transfer
 
 -- What holds of a link between events: the phase fact, a medium that is not armed, blocks of at least one byte, and parts that are counted.
 pub record IsSteady (b : Bench) : Type 0 where
   pub fact : SessionFact (profile b.device) (situation b.device) b.session
   pub unarmed : b.device.slots.medium.fuse ≡ Whole
-  pub sized : IsSized b.session
+  pub sized : SendsBytes b.session
   pub counted : IsCountedIn b.session
 
 -- What holds of a world between events: its bench is steady, and shows the active image of its medium's bytes.

@@ -5,20 +5,37 @@ use Rattle.dfu_device.specs.Outcome.{Works}
 use Rattle.dfu_device.specs.Shown.{Shown, profile}
 use Rattle.dfu_host.specs.declared.report.Report.{Report}
 use Rattle.dfu_link.specs.declared.fault.LinkFault.{LinkFault}
-use Rattle.dfu_link.specs.Play.{CutIn, Fail, Event, Go, Answered, played}
-use Rattle.dfu_link.specs.Bytes.{Bench, link_of}
-use Rattle.dfu_link.specs.Comes.{Happening, Means}
+use Rattle.dfu_link.specs.Happening.{Fate, Pass, LostOut, LostBack, Twice, TwiceLostBack, Slip, CutIn, Fail, Happening}
+use Rattle.dfu_link.specs.Play.{Event, Offer, UploadIt, AbortIt, Go, Time, ResetBus, Cut, Answered, played}
+use Rattle.dfu_link.specs.Bench.{Bench}
+use Rattle.dfu_link.specs.Bytes.{link_of}
+use Rattle.dfu_link.specs.Comes.{Means}
 
 -- A device that stays what it is set up as, with the same room for images.
 pub record IsSame (w w' : Shown) : Type 0 where
   pub config : w'.config ≡ w.config
   pub room : room_of w'.slots ≡ room_of w.slots
 
--- The event is no action of the host in which the power is cut or a write fails.
+-- No write is harmed in an action of this fate: the power is not cut, and no write fails.
+abbrev pub HarmsNothing : Fate → Type 0
+HarmsNothing Pass = Unit {0}
+HarmsNothing LostOut = Unit {0}
+HarmsNothing LostBack = Unit {0}
+HarmsNothing Twice = Unit {0}
+HarmsNothing TwiceLostBack = Unit {0}
+HarmsNothing (Slip ms) = Unit {0}
+HarmsNothing CutIn = ⊥
+HarmsNothing Fail = ⊥
+
+-- The event is no action of the host in which a write is harmed.
 abbrev pub IsHarmless : Event → Type 0
-IsHarmless (Go CutIn) = ⊥
-IsHarmless (Go Fail) = ⊥
-IsHarmless event = Unit {0}
+IsHarmless (Go fate) = HarmsNothing fate
+IsHarmless (Offer payload actions restarts) = Unit {0}
+IsHarmless (UploadIt actions restarts) = Unit {0}
+IsHarmless AbortIt = Unit {0}
+IsHarmless (Time ms) = Unit {0}
+IsHarmless ResetBus = Unit {0}
+IsHarmless Cut = Unit {0}
 
 -- The link is the one that the table of fates gives where the medium works, and so is the report.
 pub record IsAsPlayed (b : Bench) (event : Event) (b' : Bench) (report : Option Report) : Type 0 where
@@ -27,7 +44,8 @@ pub record IsAsPlayed (b : Bench) (event : Event) (b' : Bench) (report : Option 
   pub same : played (profile b.device) (link_of b) event Works Works room ≡ record { link = link_of b'; answer = answer }
   pub told : report ≡ answer.report
 
--- What happened is an event of the device, which stays what it is set up as; where the event does no harm, all goes as the table of fates says of a medium that works.
+-- What happened is an event of the device, which stays what it is set up as; where the event does no harm, all goes as the table of fates
+-- says of a medium that works.
 pub record IsSure (b : Bench) (h : Happening) (b' : Bench) (report : Option Report) : Type 0 where
   pub event : Event
   pub means : Means b.device.config h event

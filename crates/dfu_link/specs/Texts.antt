@@ -66,7 +66,8 @@ image_line device = codes "image " ++ (hex_text (image_of device.slots) ++ 10 �
 
 -- What `show` prints before the image: the device's state and its status code.
 abbrev pub state_text : Shown → List ℕ
-state_text device = (codes "state " ++ state_name (state_of device.stage) ++ codes " status ") ++ (code_name (code_of device.stage) ++ codes " ")
+state_text device = (codes "state " ++ state_name (state_of device.stage) ++ codes " status ")
+    ++ (code_name (code_of device.stage) ++ codes " ")
 
 -- The line of `show`.
 abbrev pub show_line : Shown → List ℕ

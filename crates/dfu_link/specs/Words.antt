@@ -65,7 +65,8 @@ digits_value n (digit ∷ digits) = if is_ascii_digit digit then digits_value (n
 
 -- A number: 1 to 10 decimal digits, at most 4,294,967,295.
 unfoldable pub number_of : List ℕ → Option ℕ
-number_of word = if nat_le 1 (length word) && nat_le (length word) 10 then (digits_value 0 word >>= λ n. guard (nat_le n 4294967295) n) else None
+number_of word = if nat_le 1 (length word) && nat_le (length word) 10 then (digits_value 0 word >>= λ n. guard (nat_le n 4294967295) n) else
+    None
 
 -- What there is without an error.
 abbrev pub ok_of : {A E : Type 0} → Result A E → Option A

@@ -4,12 +4,12 @@ ghost use Rattle.std.specs.Prelude.{◌≡◌};
 ghost use Rattle.dfu_host.specs.Host.{IsOn};
 ghost use Rattle.dfu_slots.specs.Medium.Fuse.{Whole};
 ghost use Rattle.dfu_link.specs.Bytes.{fuse_of, armed, after_fate};
-ghost use Rattle.dfu_link.specs.Comes.{fate_of, harm_in};
+ghost use Rattle.dfu_link.specs.Happening.{fate_of, harm_in};
 ghost use Rattle.dfu_link.specs.Acting.{HasGone};
 
+use crate::acting::act;
 use crate::fate::Fate;
 use crate::port::Port;
-use crate::sending::act;
 use dfu_host::Host;
 use dfu_slots::Faulty;
 

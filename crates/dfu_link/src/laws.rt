@@ -1,6 +1,6 @@
 //! Laws of plays: each function does nothing, and its contract is the law.
 
-ghost use Rattle.dfu_link.specs.Agreement.{SomeAgrees, FreshAgrees, LinkAgreesOn};
+ghost use Rattle.dfu_link.specs.LinkAgreement.{SomeAgrees, FreshAgrees, LinkAgreesOn};
 ghost use Rattle.dfu_link.specs.CleanRun.{CleanRun};
 ghost use Rattle.dfu_link.specs.Giving.{UploadsGive, RestIsSteady};
 ghost use Rattle.dfu_link.specs.Headline.{Headline, OnlyOffered, Simulation};

@@ -5,6 +5,7 @@
 //! the parts of an upload, by `run` for its reports too, and by `script`.
 #![tactic(auto)]
 
+mod acting;
 mod back;
 mod event;
 mod fate;
@@ -16,7 +17,6 @@ mod play;
 mod port;
 mod running;
 mod scripting;
-mod sending;
 mod uploading;
 mod world;
 

@@ -2,7 +2,7 @@
 
 ghost use Rattle.std.specs.Prelude.{IfOk, IfErr};
 ghost use Rattle.dfu_link.specs.Acting.{HasBegun};
-ghost use Rattle.dfu_link.specs.Comes.{IsBadOffer};
+ghost use Rattle.dfu_link.specs.Refusing.{IsBadOffer};
 
 use crate::fault::OfferFault;
 use dfu_device::Device;

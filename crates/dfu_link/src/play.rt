@@ -2,8 +2,9 @@
 
 ghost use Rattle.std.specs.Prelude.{◌≡◌};
 ghost use Rattle.dfu_link.specs.Play.{given, told, aborted};
-ghost use Rattle.dfu_link.specs.Standing.{session_of, given_by, bench_of, link_state, IsOnIn, IsSized, IsCountedIn, IsSteady};
-ghost use Rattle.dfu_link.specs.Comes.{Offers, Goes, fate_of, harm_in, happening, HasCome, HasComeAlone};
+ghost use Rattle.dfu_link.specs.Standing.{session_of, given_by, bench_of, link_state, IsOnIn, SendsBytes, IsCountedIn, IsSteady};
+ghost use Rattle.dfu_link.specs.Happening.{Offers, Goes, fate_of, harm_in, happening};
+ghost use Rattle.dfu_link.specs.Comes.{HasCome, HasComeAlone};
 ghost use Rattle.dfu_link.specs.Acting.{report_of, ended, abort_told};
 
 use crate::event::Event;
@@ -49,7 +50,7 @@ fn end<'f>(host: &mut Option<Host<'f>>, gave: &mut Option<Host<'f>>) -> Option<R
 
 /// Tells a live host that the device was restarted.
 fn restart<'f>(host: &mut Option<Host<'f>>, gave: &mut Option<Host<'f>>) -> Option<Report>
-    requires sized { IsSized (session_of host.old) }
+    requires sized { SendsBytes (session_of host.old) }
     requires counted { IsCountedIn (session_of host.old) }
     ensures session { session_of host.new ≡ (told (session_of host.old)).session }
     ensures given { given_by gave.new ≡ given (told (session_of host.old)).answer.gave (given_by gave.old) }

@@ -1,10 +1,10 @@
 //! Scripts: a text of lines that sets up a device, lets events come to the link of that device and a
 //! host, and writes what comes of them.
 
+mod after_start;
 mod digits;
 mod fault;
 mod fields;
-mod following;
 mod gather;
 mod hex_text;
 mod keywords;

@@ -1,7 +1,8 @@
 //! The begin of an upload.
 
 ghost use Rattle.dfu_link.specs.Standing.{bench_of, IsSteady};
-ghost use Rattle.dfu_link.specs.Comes.{Uploads, HasComeAlone};
+ghost use Rattle.dfu_link.specs.Happening.{Uploads};
+ghost use Rattle.dfu_link.specs.Comes.{HasComeAlone};
 
 use crate::fault::{LinkFault, OfferFault};
 use dfu_device::Device;

@@ -2,15 +2,19 @@
 
 ghost use Rattle.std.specs.Prelude.{◌≡◌, [], IfOk, IfErr};
 ghost use Rattle.dfu_slots.specs.Medium.Fuse.{Whole};
-ghost use Rattle.dfu_link.specs.Play.{Nobody};
-ghost use Rattle.dfu_link.specs.Bytes.{armed, ShowsActive};
-ghost use Rattle.dfu_link.specs.Comes.{happening, HasCome, IsLive};
+ghost use Rattle.dfu_link.specs.Bench.{Nobody};
+ghost use Rattle.dfu_link.specs.Bytes.{armed};
+ghost use Rattle.dfu_link.specs.Bench.{ShowsActive};
+ghost use Rattle.dfu_link.specs.Happening.{happening};
+ghost use Rattle.dfu_link.specs.Refusing.{IsLive};
+ghost use Rattle.dfu_link.specs.Comes.{HasCome};
 ghost use Rattle.dfu_link.specs.Following.{AllFollow};
 ghost use Rattle.dfu_link.specs.Sure.{AllSure};
 ghost use Rattle.dfu_link.specs.Giving.{Gives};
 
 use crate::event::Event;
 use crate::fault::LinkFault;
+use crate::laws::image_shown;
 use crate::play::play;
 use crate::port::Port;
 use dfu_device::Device;
@@ -32,7 +36,7 @@ pub struct World<'f, M: Faulty> {
 }
 
 impl<'f, M: Faulty> Model for World<'f, M> {
-    ghost use Rattle.dfu_link.specs.Comes.{LinkState};
+    ghost use Rattle.dfu_link.specs.Bench.{LinkState};
     ghost use Rattle.dfu_link.specs.Standing.{bench_of, link_state, Holds};
 
     ghost Value = { LinkState };
@@ -51,7 +55,7 @@ impl<'f, M: Faulty> World<'f, M> {
     {
         let mut device = device;
         device.disarm();
-        // The store says that its medium has an active image.
+        // Called for its clause `image`, which `active` needs; what it answers isn't used.
         let _ = device.slots().capacity();
         World {
             alloc,
@@ -87,7 +91,9 @@ impl<'f, M: Faulty> World<'f, M> {
             &mut self.gave,
             event,
         );
-        // The store says that its medium has an active image.
+        // Called for its law, which `legal` needs: no image but the one that is shown is active.
+        image_shown();
+        // Called for its clause `image`, which `active` needs; what it answers isn't used.
         let _ = self.port.device().slots().capacity();
         told
     }

@@ -5,7 +5,8 @@ ghost use Rattle.std.specs.Prelude.{◌≤◌};
 use crate::fate::Fate;
 use crate::scripting::hex_text::HexText;
 use dfu_slots::Unit;
-use dfu_wire::{Functional, Ids};
+use dfu_wire::Ids;
+use dfu_wire::Functional;
 
 /// How many bytes an image may have.
 #[derive(Clone, Copy)]
@@ -17,7 +18,7 @@ pub(crate) struct Room {
 
 /// What a configuration line sets.
 #[derive(Clone, Copy)]
-pub(crate) enum Setting<'l> {
+pub(crate) enum ConfigLine<'l> {
     /// Who the device is.
     Ids(Ids),
     /// What its functional descriptor says, and what `Config::new` takes beside it.
@@ -37,14 +38,14 @@ pub(crate) enum Setting<'l> {
 
 /// What harms a write in an action of the host: the power is cut in it, or the write fails.
 #[derive(Clone, Copy)]
-pub(crate) enum Harm {
+pub(crate) enum HarmKind {
     Cut,
     Fail,
 }
 
 /// The events of a line.
 #[derive(Clone, Copy)]
-pub(crate) enum Deed<'l> {
+pub(crate) enum EventLine<'l> {
     /// A file is offered.
     Offer(HexText<'l>),
     /// An upload begins.
@@ -59,7 +60,7 @@ pub(crate) enum Deed<'l> {
     /// The host takes its next action: after so many writes that work one is harmed, and leaves the
     /// front of this tear.
     GoHarmed {
-        harm: Harm,
+        harm: HarmKind,
         writes: u32,
         tear: HexText<'l>,
     },
@@ -77,11 +78,11 @@ pub(crate) enum Line<'l> {
     /// Nothing: it has no words, or is a comment.
     Blank,
     /// A configuration line.
-    Set(Setting<'l>),
+    Set(ConfigLine<'l>),
     /// The limits of later sessions.
     Limits { actions: u32, restarts: u16 },
     /// An event line.
-    Do(Deed<'l>),
+    Do(EventLine<'l>),
     /// `show`.
     Show,
 }

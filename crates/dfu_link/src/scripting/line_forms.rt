@@ -2,7 +2,7 @@
 
 ghost use Rattle.std.specs.Prelude.{◌≡◌, None};
 ghost use Rattle.dfu_link.specs.Words.{Reads, words_of, ends};
-ghost use Rattle.dfu_link.specs.Comes.{fate_of, harm_in};
+ghost use Rattle.dfu_link.specs.Happening.{fate_of, harm_in};
 ghost use Rattle.dfu_link.specs.Said.{said_of, Go, Does, functional_of, harm_fate};
 ghost use Rattle.dfu_link.specs.Lines.{small_at, ids_of, device_of, unit_named, unit_of, capacity_of, image_of, limits_of, offer_of, time_of, pass_of, slip_of, harmed_of, by_fate, go_of};
 
@@ -11,10 +11,11 @@ use crate::scripting::fields::{
     attributes_at, ended, hex_at, number_at, quad_at, short_at, small_at,
 };
 use crate::scripting::keywords::{FateKeyword, read_fate};
-use crate::scripting::line::{Deed, Harm, Line, Room, Setting};
+use crate::scripting::line::{ConfigLine, EventLine, HarmKind, Line, Room};
 use crate::scripting::words::word_at;
 use dfu_slots::Unit;
-use dfu_wire::{Functional, Ids};
+use dfu_wire::Ids;
+use dfu_wire::Functional;
 
 /// `ids VVVV PPPP DDDD`.
 #[tactic(auto, unfolding(crate::specs::Lines::ids_of))]
@@ -29,7 +30,7 @@ pub(crate) fn ids(line: &[u8]) -> Option<Line<'_>>
         product,
         vendor,
     };
-    ended(Line::Set(Setting::Ids(ids)), rest)
+    ended(Line::Set(ConfigLine::Ids(ids)), rest)
 }
 
 /// The functional descriptor with these attributes (USB DFU 1.1, section 4.1.3).
@@ -59,7 +60,7 @@ pub(crate) fn device(line: &[u8]) -> Option<Line<'_>>
     let (busy_ms, rest) = number_at(rest)?;
     let (manifest_ms, rest) = number_at(rest)?;
     let functional = functional(attributes, detach_ms, transfer);
-    let said = Line::Set(Setting::Device {
+    let said = Line::Set(ConfigLine::Device {
         functional,
         least,
         busy_ms,
@@ -88,7 +89,7 @@ pub(crate) fn unit(line: &[u8]) -> Option<Line<'_>>
 {
     let (n, rest) = number_at(line)?;
     let unit = unit_named(n)?;
-    ended(Line::Set(Setting::Unit(unit)), rest)
+    ended(Line::Set(ConfigLine::Unit(unit)), rest)
 }
 
 /// `capacity N`.
@@ -98,7 +99,7 @@ pub(crate) fn capacity(line: &[u8]) -> Option<Line<'_>>
 {
     let (n, rest) = small_at(line, 1_048_576)?;
     if n >= 1 {
-        ended(Line::Set(Setting::Capacity(Room { bytes: n })), rest)
+        ended(Line::Set(ConfigLine::Capacity(Room { bytes: n })), rest)
     } else {
         None
     }
@@ -110,7 +111,7 @@ pub(crate) fn image(line: &[u8]) -> Option<Line<'_>>
     ensures { Reads said_of result (image_of (words_of line.now)) }
 {
     let (image, rest) = hex_at(line)?;
-    ended(Line::Set(Setting::Image(image)), rest)
+    ended(Line::Set(ConfigLine::Image(image)), rest)
 }
 
 /// `limits A R`.
@@ -129,7 +130,7 @@ pub(crate) fn offer(line: &[u8]) -> Option<Line<'_>>
     ensures { Reads said_of result (offer_of (words_of line.now)) }
 {
     let (file, rest) = hex_at(line)?;
-    ended(Line::Do(Deed::Offer(file)), rest)
+    ended(Line::Do(EventLine::Offer(file)), rest)
 }
 
 /// `time MS`.
@@ -138,7 +139,7 @@ pub(crate) fn time(line: &[u8]) -> Option<Line<'_>>
     ensures { Reads said_of result (time_of (words_of line.now)) }
 {
     let (ms, rest) = number_at(line)?;
-    ended(Line::Do(Deed::Time(ms)), rest)
+    ended(Line::Do(EventLine::Time(ms)), rest)
 }
 
 /// `go pass N`.
@@ -149,7 +150,7 @@ fn pass(line: &[u8]) -> Option<Line<'_>>
     let (times, rest) = small_at(line, 1_000_000)?;
     if times >= 1 {
         let fate = Fate::Pass;
-        ended(Line::Do(Deed::Go { fate, times }), rest)
+        ended(Line::Do(EventLine::Go { fate, times }), rest)
     } else {
         None
     }
@@ -159,7 +160,7 @@ fn pass(line: &[u8]) -> Option<Line<'_>>
 fn once<'l>(fate: Fate<'l>, rest: &[u8]) -> Option<Line<'l>>
     ensures { Reads said_of result (ends (Does (Go (fate_of fate.entry) (harm_in fate.entry) 1)) (words_of rest.now)) }
 {
-    ended(Line::Do(Deed::Go { fate, times: 1 }), rest)
+    ended(Line::Do(EventLine::Go { fate, times: 1 }), rest)
 }
 
 /// `go slip MS`.
@@ -173,13 +174,13 @@ fn slip(line: &[u8]) -> Option<Line<'_>>
 
 /// `go cut W HEX` and `go fail W HEX`.
 #[tactic(auto, unfolding(crate::specs::Lines::harmed_of))]
-fn harmed(harm: Harm, line: &[u8]) -> Option<Line<'_>>
+fn harmed(harm: HarmKind, line: &[u8]) -> Option<Line<'_>>
     ensures { Reads said_of result (harmed_of (harm_fate harm) (words_of line.now)) }
 {
     let (writes, rest) = number_at(line)?;
     let (tear, rest) = hex_at(rest)?;
-    let deed = Deed::GoHarmed { harm, writes, tear };
-    ended(Line::Do(deed), rest)
+    let events = EventLine::GoHarmed { harm, writes, tear };
+    ended(Line::Do(events), rest)
 }
 
 /// The fate of an action, by its word.
@@ -193,8 +194,8 @@ fn by_fate(keyword: FateKeyword, rest: &[u8]) -> Option<Line<'_>>
         FateKeyword::Twice => once(Fate::Twice, rest),
         FateKeyword::TwiceLostBack => once(Fate::TwiceLostBack, rest),
         FateKeyword::Slip => slip(rest),
-        FateKeyword::Cut => harmed(Harm::Cut, rest),
-        FateKeyword::Fail => harmed(Harm::Fail, rest),
+        FateKeyword::Cut => harmed(HarmKind::Cut, rest),
+        FateKeyword::Fail => harmed(HarmKind::Fail, rest),
     }
 }
 

@@ -1,8 +1,9 @@
 //! The events of an event line, played.
 
 ghost use Rattle.std.specs.Prelude.{◌≡◌, OnOk, OnErr, IfOk, IfErr, replicate};
-ghost use Rattle.dfu_link.specs.Comes.{harmed, fate_of, harm_in, happening, IsLive};
-ghost use Rattle.dfu_link.specs.Said.{Deed, harm_fate, deed_of, tear_bytes};
+ghost use Rattle.dfu_link.specs.Happening.{harmed, fate_of, harm_in, happening};
+ghost use Rattle.dfu_link.specs.Refusing.{IsLive};
+ghost use Rattle.dfu_link.specs.Said.{EventLine, harm_fate, event_line_of, tear_bytes};
 ghost use Rattle.dfu_link.specs.ScriptRun.{events_of};
 ghost use Rattle.dfu_link.specs.Falls.{HasBroken};
 ghost use Rattle.dfu_link.specs.Moving.{HasPlayed, file_bytes, FindsNoRoom, FindsNoTear};
@@ -11,7 +12,7 @@ use crate::event::Event;
 use crate::fate::Fate;
 use crate::fault::LinkFault;
 use crate::scripting::fault::ScriptFault;
-use crate::scripting::line::{Deed, Harm};
+use crate::scripting::line::{EventLine, HarmKind};
 use crate::scripting::saying::say;
 use crate::scripting::starting::bytes_of;
 use crate::world::World;
@@ -39,83 +40,83 @@ fn play<'f, M: Faulty, W: Write>(
 }
 
 /// The file that is offered. Other events have none.
-pub(crate) fn file_of(alloc: Global, deed: Deed<'_>) -> Result<Vec<u8>, ScriptFault>
-    ensures ok { IfOk result (λ v. v.items ≡ file_bytes (deed_of deed.entry)) }
-    ensures fault { IfErr result (λ f. FindsNoRoom (deed_of deed.entry) f) }
+pub(crate) fn file_of(alloc: Global, events: EventLine<'_>) -> Result<Vec<u8>, ScriptFault>
+    ensures ok { IfOk result (λ v. v.items ≡ file_bytes (event_line_of events.entry)) }
+    ensures fault { IfErr result (λ f. FindsNoRoom (event_line_of events.entry) f) }
 {
-    match deed {
-        Deed::Offer(text) => bytes_of(alloc, text),
+    match events {
+        EventLine::Offer(text) => bytes_of(alloc, text),
         _ => Ok(Vec::new(alloc)),
     }
 }
 
 /// The tear of a write that is harmed. Other events have none.
-pub(crate) fn tear_of(alloc: Global, deed: Deed<'_>) -> Result<Vec<u8>, ScriptFault>
-    ensures ok { IfOk result (λ v. v.items ≡ tear_bytes deed.entry) }
-    ensures fault { IfErr result (λ f. FindsNoTear (deed_of deed.entry) f) }
+pub(crate) fn tear_of(alloc: Global, events: EventLine<'_>) -> Result<Vec<u8>, ScriptFault>
+    ensures ok { IfOk result (λ v. v.items ≡ tear_bytes events.entry) }
+    ensures fault { IfErr result (λ f. FindsNoTear (event_line_of events.entry) f) }
 {
-    match deed {
-        Deed::GoHarmed { tear, .. } => bytes_of(alloc, tear),
+    match events {
+        EventLine::GoHarmed { tear, .. } => bytes_of(alloc, tear),
         _ => Ok(Vec::new(alloc)),
     }
 }
 
 /// The fate of an action in which a write is harmed.
-fn harmed(harm: Harm, writes: u32, tear: &[u8]) -> Fate<'_>
+fn harmed(harm: HarmKind, writes: u32, tear: &[u8]) -> Fate<'_>
     ensures fate { fate_of result ≡ harm_fate harm }
     ensures harm { harm_in result ≡ harmed writes tear.now }
 {
     match harm {
-        Harm::Cut => Fate::Cut { writes, tear },
-        Harm::Fail => Fate::Fail { writes, tear },
+        HarmKind::Cut => Fate::Cut { writes, tear },
+        HarmKind::Fail => Fate::Fail { writes, tear },
     }
 }
 
 /// Plays the events of a line, and writes what is printed of them.
-pub(crate) fn play_deed<'f, M: Faulty, W: Write>(
+pub(crate) fn play_events<'f, M: Faulty, W: Write>(
     world: &mut World<'f, M>,
-    deed: Deed<'_>,
+    events: EventLine<'_>,
     file: &'f [u8],
     torn: &[u8],
     limits: Limits,
     writer: &mut W,
 ) -> Result<(), ScriptFault>
-    requires file { file.now ≡ file_bytes (deed_of deed) }
-    requires tear { torn.now ≡ tear_bytes deed }
-    ensures ok { OnOk result (HasPlayed world.old.bench (events_of limits (deed_of deed.entry)) (W.contents writer.old) world.new.bench (W.contents writer.new)) }
-    ensures err { OnErr result (HasBroken world.old.bench (events_of limits (deed_of deed.entry)) (W.contents writer.old) (W.contents writer.new)) }
+    requires file { file.now ≡ file_bytes (event_line_of events) }
+    requires tear { torn.now ≡ tear_bytes events }
+    ensures ok { OnOk result (HasPlayed world.old.bench (events_of limits (event_line_of events.entry)) (W.contents writer.old) world.new.bench (W.contents writer.new)) }
+    ensures err { OnErr result (HasBroken world.old.bench (events_of limits (event_line_of events.entry)) (W.contents writer.old) (W.contents writer.new)) }
     ensures fault { IfErr result (λ f. f ≡ ScriptFault.Write) }
 {
-    match deed {
-        Deed::Offer(_) => play(world, Event::Offer { file, limits }, 1, writer),
-        Deed::Upload => play(world, Event::Upload { limits }, 1, writer),
-        Deed::Abort => play(world, Event::Abort, 1, writer),
-        Deed::Go { fate, times } => play(world, Event::Go(fate), times, writer),
-        Deed::GoHarmed { harm, writes, .. } => {
+    match events {
+        EventLine::Offer(_) => play(world, Event::Offer { file, limits }, 1, writer),
+        EventLine::Upload => play(world, Event::Upload { limits }, 1, writer),
+        EventLine::Abort => play(world, Event::Abort, 1, writer),
+        EventLine::Go { fate, times } => play(world, Event::Go(fate), times, writer),
+        EventLine::GoHarmed { harm, writes, .. } => {
             play(world, Event::Go(harmed(harm, writes, torn)), 1, writer)
         }
-        Deed::Time(ms) => play(world, Event::Time(ms), 1, writer),
-        Deed::Reset => play(world, Event::Reset, 1, writer),
-        Deed::Cut => play(world, Event::Cut, 1, writer),
+        EventLine::Time(ms) => play(world, Event::Time(ms), 1, writer),
+        EventLine::Reset => play(world, Event::Reset, 1, writer),
+        EventLine::Cut => play(world, Event::Cut, 1, writer),
     }
 }
 
 /// The same while a session is live: an offer is refused whatever its file is.
 pub(crate) fn play_live<'f, M: Faulty, W: Write>(
     world: &mut World<'f, M>,
-    deed: Deed<'_>,
+    events: EventLine<'_>,
     torn: &[u8],
     limits: Limits,
     writer: &mut W,
 ) -> Result<(), ScriptFault>
     requires live { IsLive world.old.bench.session }
-    requires tear { torn.now ≡ tear_bytes deed }
-    ensures ok { OnOk result (HasPlayed world.old.bench (events_of limits (deed_of deed.entry)) (W.contents writer.old) world.new.bench (W.contents writer.new)) }
-    ensures err { OnErr result (HasBroken world.old.bench (events_of limits (deed_of deed.entry)) (W.contents writer.old) (W.contents writer.new)) }
+    requires tear { torn.now ≡ tear_bytes events }
+    ensures ok { OnOk result (HasPlayed world.old.bench (events_of limits (event_line_of events.entry)) (W.contents writer.old) world.new.bench (W.contents writer.new)) }
+    ensures err { OnErr result (HasBroken world.old.bench (events_of limits (event_line_of events.entry)) (W.contents writer.old) (W.contents writer.new)) }
     ensures fault { IfErr result (λ f. f ≡ ScriptFault.Write) }
 {
-    match deed {
-        Deed::Offer(_) => say(writer, Err(LinkFault::HostBusy), &[]),
-        _ => play_deed(world, deed, &[], torn, limits, writer),
+    match events {
+        EventLine::Offer(_) => say(writer, Err(LinkFault::HostBusy), &[]),
+        _ => play_events(world, events, &[], torn, limits, writer),
     }
 }

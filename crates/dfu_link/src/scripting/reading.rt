@@ -7,7 +7,7 @@ ghost use Rattle.dfu_link.specs.Lines.{is_comment, says, by_keyword, line_of};
 
 use crate::scripting::fields::ended;
 use crate::scripting::keywords::{Keyword, read_keyword};
-use crate::scripting::line::{Deed, Line};
+use crate::scripting::line::{EventLine, Line};
 use crate::scripting::line_forms::{capacity, device, go, ids, image, limits, offer, time, unit};
 use crate::scripting::words::word_at;
 
@@ -25,12 +25,12 @@ fn by_keyword(keyword: Keyword, rest: &[u8]) -> Option<Line<'_>>
         Keyword::Image => image(rest),
         Keyword::Limits => limits(rest),
         Keyword::Offer => offer(rest),
-        Keyword::Upload => ended(Line::Do(Deed::Upload), rest),
-        Keyword::Abort => ended(Line::Do(Deed::Abort), rest),
+        Keyword::Upload => ended(Line::Do(EventLine::Upload), rest),
+        Keyword::Abort => ended(Line::Do(EventLine::Abort), rest),
         Keyword::Go => go(rest),
         Keyword::Time => time(rest),
-        Keyword::Reset => ended(Line::Do(Deed::Reset), rest),
-        Keyword::Cut => ended(Line::Do(Deed::Cut), rest),
+        Keyword::Reset => ended(Line::Do(EventLine::Reset), rest),
+        Keyword::Cut => ended(Line::Do(EventLine::Cut), rest),
         Keyword::Show => ended(Line::Show, rest),
     }
 }

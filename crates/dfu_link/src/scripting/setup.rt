@@ -1,18 +1,19 @@
 //! What is set before the first event line or `show`.
 
 ghost use Rattle.std.specs.Prelude.{◌≡◌};
-ghost use Rattle.dfu_link.specs.Said.{setting_of};
+ghost use Rattle.dfu_link.specs.Said.{config_line_of};
 ghost use Rattle.dfu_link.specs.ScriptRun.{set, beginning};
-ghost use Rattle.dfu_link.specs.Stands.{stand_of};
+ghost use Rattle.dfu_link.specs.SetupView.{settings_of};
 
 use crate::scripting::hex_text::HexText;
-use crate::scripting::line::{Room, Setting};
+use crate::scripting::line::{ConfigLine, Room};
 use dfu_host::Limits;
 use dfu_slots::Unit;
-use dfu_wire::{Functional, Ids};
+use dfu_wire::Ids;
+use dfu_wire::Functional;
 
-/// What is set: what `Config::new` takes, the unit in which the medium is written, how many bytes an image may have, the image at first (the
-/// byte 00 where there is none), and the limits of sessions.
+/// What is set: what `Config::new` takes, the unit in which the medium is written, how many bytes an
+/// image may have, the image at first (the byte 00 where there is none), and the limits of sessions.
 #[derive(Clone, Copy)]
 pub(crate) struct Setup<'t> {
     pub ids: Ids,
@@ -28,7 +29,7 @@ pub(crate) struct Setup<'t> {
 
 /// What holds where no line sets anything else.
 pub(crate) fn beginning<'t>() -> Setup<'t>
-    ensures { stand_of result ≡ beginning }
+    ensures { settings_of result ≡ beginning }
 {
     Setup {
         ids: Ids {
@@ -59,12 +60,12 @@ pub(crate) fn beginning<'t>() -> Setup<'t>
 }
 
 /// Does what a configuration line says.
-pub(crate) fn set<'t>(setup: &mut Setup<'t>, setting: Setting<'t>)
-    ensures { stand_of setup.new ≡ set (stand_of setup.old) (setting_of setting.entry) }
+pub(crate) fn set<'t>(setup: &mut Setup<'t>, setting: ConfigLine<'t>)
+    ensures { settings_of setup.new ≡ set (settings_of setup.old) (config_line_of setting.entry) }
 {
     match setting {
-        Setting::Ids(ids) => setup.ids = ids,
-        Setting::Device {
+        ConfigLine::Ids(ids) => setup.ids = ids,
+        ConfigLine::Device {
             functional,
             least,
             busy_ms,
@@ -78,15 +79,15 @@ pub(crate) fn set<'t>(setup: &mut Setup<'t>, setting: Setting<'t>)
                 ..*setup
             };
         }
-        Setting::Unit(unit) => setup.unit = unit,
-        Setting::Capacity(room) => setup.room = room,
-        Setting::Image(text) => setup.image = Some(text),
+        ConfigLine::Unit(unit) => setup.unit = unit,
+        ConfigLine::Capacity(room) => setup.room = room,
+        ConfigLine::Image(text) => setup.image = Some(text),
     }
 }
 
 /// Sets the limits of sessions.
 pub(crate) fn set_limits(setup: &mut Setup<'_>, limits: Limits)
-    ensures { stand_of setup.new ≡ record (stand_of setup.old) { limits = limits } }
+    ensures { settings_of setup.new ≡ record (settings_of setup.old) { limits = limits } }
 {
     setup.limits = limits;
 }

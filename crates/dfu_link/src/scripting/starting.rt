@@ -6,7 +6,7 @@ ghost use Rattle.dfu_link.specs.Said.{hex_bytes};
 ghost use Rattle.dfu_link.specs.ScriptRun.{Starts};
 ghost use Rattle.dfu_link.specs.Falls.{StartFalls};
 ghost use Rattle.dfu_link.specs.Moving.{IsUnarmed};
-ghost use Rattle.dfu_link.specs.Stands.{stand_of, image_bytes};
+ghost use Rattle.dfu_link.specs.SetupView.{settings_of, image_bytes};
 ghost use Rattle.dfu_link.specs.Forming.{Formed, FormFalls};
 
 use crate::scripting::fault::ScriptFault;
@@ -81,9 +81,9 @@ fn form(
 
 /// Starts the device, in appIDLE on a formatted medium in memory.
 pub(crate) fn start(alloc: Global, setup: &Setup<'_>) -> Result<Device<SimMedium>, ScriptFault>
-    ensures ok { IfOk result (λ d. Starts (stand_of setup.now) d) }
+    ensures ok { IfOk result (λ d. Starts (settings_of setup.now) d) }
     ensures unarmed { IfOk result (λ d. IsUnarmed d) }
-    ensures fault { IfErr result (λ f. StartFalls (stand_of setup.now) f) }
+    ensures fault { IfErr result (λ f. StartFalls (settings_of setup.now) f) }
 {
     let config = Config::new(
         setup.ids,

@@ -5,10 +5,10 @@ ghost use Rattle.dfu_link.specs.Words.{lines_of};
 ghost use Rattle.dfu_link.specs.ScriptRun.{IsReady, WroteRun};
 ghost use Rattle.dfu_link.specs.Falls.{SettingFalls, Falls};
 ghost use Rattle.dfu_link.specs.Moving.{Prepared, with_first, number_of_first};
-ghost use Rattle.dfu_link.specs.Stands.{stand_of};
+ghost use Rattle.dfu_link.specs.SetupView.{settings_of};
 
+use crate::scripting::after_start::run_on;
 use crate::scripting::fault::ScriptFault;
-use crate::scripting::following::run_on;
 use crate::scripting::gather::gather;
 use crate::scripting::line::Line;
 use crate::scripting::lines::{Lines, next_line};
@@ -19,14 +19,15 @@ use dfu_host::Limits;
 use std::alloc::Global;
 use std::io::{Read, Write};
 
-/// Does the lines up to the first event line or `show`, which is given.
+/// Does the lines up to the first event line or `show`, which is given as it stands: what comes after
+/// speaks of lines as bytes, and reads it again.
 fn configure<'t>(
     setup: &mut Setup<'t>,
     lines: &mut Lines<'t>,
 ) -> Result<Option<&'t [u8]>, ScriptFault>
-    ensures ok { IfOk result (λ first. Prepared (stand_of setup.old) (lines.old.number + 1) (lines_of lines.old.rest.now) (stand_of setup.new) (number_of_first first lines.new.number) (with_first first (lines_of lines.new.rest.now))) }
+    ensures ok { IfOk result (λ first. Prepared (settings_of setup.old) (lines.old.number + 1) (lines_of lines.old.rest.now) (settings_of setup.new) (number_of_first first lines.new.number) (with_first first (lines_of lines.new.rest.now))) }
     ensures ready { IfOk result (λ first. IsReady (with_first first (lines_of lines.new.rest.now))) }
-    ensures fault { IfErr result (λ f. SettingFalls (stand_of setup.old) (lines.old.number + 1) (lines_of lines.old.rest.now) f) }
+    ensures fault { IfErr result (λ f. SettingFalls (settings_of setup.old) (lines.old.number + 1) (lines_of lines.old.rest.now) f) }
 {
     'settings: while let Some(line) = next_line(lines) {
         match parse(line) {

@@ -1,10 +1,11 @@
 //! Links to a device on a medium in memory, and the turns that are played on them.
 
-use crate::{Event, Fate, World};
+use crate::{Event, Fate, LinkFault, World};
 use dfu_device::{Config, Device};
 use dfu_host::{Limits, Report};
 use dfu_slots::{SimMedium, Slots};
-use dfu_wire::{Code, Functional, Ids, State};
+use dfu_wire::Ids;
+use dfu_wire::{Code, Functional, State};
 use std::alloc::Global;
 use std::process::Abort;
 use std::test::Fail;
@@ -20,6 +21,9 @@ pub(crate) const FOR_ZERO: [u8; 20] = [
     0xff, 0xff, 0xff, 0xff, 0x00, 0x00, 0x00, 0x00, 0x00, 0x00, 0x00, 0x01, 0x55, 0x46, 0x44, 0x10,
     0x37, 0xbd, 0x06, 0x3c,
 ];
+
+/// An image of eight bytes.
+pub(crate) const EIGHT: [u8; 8] = [0, 1, 2, 3, 4, 5, 6, 7];
 
 /// Actions enough, and no restart.
 pub(crate) const AMPLE: Limits = Limits {
@@ -163,6 +167,19 @@ pub(crate) fn play<'f>(
                 Err(fault) => panic!(rt; "turn {number} is refused: {fault}"),
             }
         }
+    }
+}
+
+/// The event is refused as this fault.
+pub(crate) fn refused(
+    rt: &impl Abort,
+    world: &mut World<'static, SimMedium>,
+    event: Event<'static, 'static>,
+    fault: LinkFault,
+) {
+    match world.step(event) {
+        Ok(_) => panic!(rt; "it is not refused: {fault}"),
+        Err(found) => assert_eq!(rt; found, fault),
     }
 }
 

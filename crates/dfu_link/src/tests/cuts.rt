@@ -1,6 +1,6 @@
 //! Power cuts and failed writes.
 
-use super::bench::{AMPLE, Turn, USUAL, W, go, offer, pass, play, stands, world};
+use super::bench::{AMPLE, Turn, USUAL, W, go, offer, pass, play, refused, stands, world};
 use crate::{Event, Fate, LinkFault, World};
 use dfu_host::{Limits, Report};
 use dfu_slots::SimMedium;
@@ -176,7 +176,7 @@ fn a_cut_between_actions_is_told_to_the_host(rt: HostRuntime) -> Result<(), Fail
         writes: 0,
         tear: &[],
     };
-    assert_eq!(rt; world.step(Event::Go(nowhere)), Err(LinkFault::NoHost));
+    refused(&rt, &mut world, Event::Go(nowhere), LinkFault::NoHost);
     Ok(())
 }
 

@@ -1,25 +1,10 @@
 //! Which events are refused, and as what.
 
-use super::bench::{AMPLE, FOR_ZERO, USUAL, W, offer, pass, play, world};
-use crate::{Event, Fate, LinkFault, OfferFault, World};
+use super::bench::{AMPLE, FOR_ZERO, USUAL, W, offer, pass, play, refused, world};
+use crate::{Event, Fate, LinkFault, OfferFault};
 use dfu_host::{HostFault, Report};
-use dfu_slots::SimMedium;
 use dfu_suffix::SuffixFault;
-use std::process::Abort;
 use std::test::Fail;
-
-/// The event is refused as this fault.
-fn refused(
-    rt: &impl Abort,
-    world: &mut World<'static, SimMedium>,
-    event: Event<'static, 'static>,
-    fault: LinkFault,
-) {
-    match world.step(event) {
-        Ok(_) => panic!(rt; "it is not refused: {fault}"),
-        Err(found) => assert_eq!(rt; found, fault),
-    }
-}
 
 fn offered(file: &'static [u8]) -> Event<'static, 'static> {
     Event::Offer {

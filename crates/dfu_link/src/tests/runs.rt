@@ -8,9 +8,9 @@ ghost use Rattle.dfu_link.specs.Running.{happenings};
 ghost use Rattle.dfu_link.specs.CleanInstall.{CanInstall, clean_passes, offer_and_passes};
 
 use super::bench::{
-    AMPLE, Setup, UPLOAD, USUAL, W, medium_len, offer, pass, play, world, world_on,
+    EIGHT, Setup, UPLOAD, USUAL, W, medium_len, offer, pass, play, world, world_of, world_on,
 };
-use crate::{Event, Fate, LinkFault, World, run};
+use crate::{Event, Fate, LinkFault, Stop, World, run};
 use dfu_host::Report;
 use dfu_slots::{Faulty, NoMemory, SimMedium};
 use dfu_suffix::Crc;
@@ -37,28 +37,45 @@ fn installs<'f, M: Faulty>(
 
 const PASS: Event<'static, 'static> = Event::Go(Fate::Pass);
 
-#[test]
-fn a_run_stops_at_the_first_refusal(rt: HostRuntime) -> Result<(), Fail> {
-    let mut world = world(rt.alloc(), USUAL)?;
-    let mut events = vec![in rt.alloc(); PASS; 15]?;
-    events[0] = Event::Offer {
-        file: &W,
-        limits: AMPLE,
-    };
-    match run(&mut world, rt.alloc(), &events) {
-        Ok(_) => panic!(rt; "the fifteenth event is refused"),
+/// All events came, and one session ended, with this report.
+fn reported(rt: &impl Abort, answer: Result<Vec<Report>, Stop>, report: Report) {
+    match answer {
+        Ok(reports) => assert_eq!(rt; reports.as_slice(), [report].as_slice()),
+        Err(stop) => panic!(rt; "stopped at {}", stop.at),
+    }
+}
+
+/// The events up to this one came, and this one found no host.
+fn found_no_host(rt: &impl Abort, answer: Result<Vec<Report>, Stop>, at: usize) {
+    match answer {
+        Ok(_) => panic!(rt; "event {at} is refused"),
         Err(stop) => {
             assert_eq!(rt; stop.fault, LinkFault::NoHost);
-            assert_eq!(rt; stop.at, 14);
+            assert_eq!(rt; stop.at, at);
             assert_eq!(rt; stop.reports.as_slice(), [Report::Installed].as_slice());
         }
     }
-    events.truncate(14);
-    match run(&mut world, rt.alloc(), &events) {
-        Ok(reports) => assert_eq!(rt; reports.as_slice(), [Report::Installed].as_slice()),
-        Err(stop) => panic!(rt; "stopped at {}", stop.at),
-    }
-    assert!(rt; installs(&mut world, rt.alloc(), &events));
+}
+
+#[test]
+fn a_run_stops_at_the_first_refusal(rt: HostRuntime) -> Result<(), Fail> {
+    let mut world = world(rt.alloc(), USUAL)?;
+    let mut events = [PASS; 15];
+    events[0] = offer(&W).event;
+    found_no_host(&rt, run(&mut world, rt.alloc(), &events), 14);
+    let events = &events[..14];
+    reported(&rt, run(&mut world, rt.alloc(), events), Report::Installed);
+    assert!(rt; installs(&mut world, rt.alloc(), events));
+    Ok(())
+}
+
+#[test]
+fn a_run_uploads(rt: HostRuntime) -> Result<(), Fail> {
+    let mut world = world_of(rt.alloc(), USUAL, &EIGHT)?;
+    let mut events = [PASS; 8];
+    events[0] = UPLOAD.event;
+    reported(&rt, run(&mut world, rt.alloc(), &events), Report::Uploaded);
+    assert_eq!(rt; world.uploaded(), EIGHT.as_slice());
     Ok(())
 }
 

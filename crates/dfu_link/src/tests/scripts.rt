@@ -4,8 +4,8 @@ mod limits;
 mod rows;
 mod streams;
 
-use crate::{ScriptFault, script};
-use rows::text_of;
+use crate::ScriptFault;
+use rows::ends;
 use std::test::Fail;
 
 const INSTALLED: &str = "report installed\nimage ffffffff\n";
@@ -27,10 +27,7 @@ fn scripts_install(rt: HostRuntime) -> Result<(), Fail> {
         ("limits 9 0 / offer W / go pass 9 / limits 100 0 / offer N / go pass 3 / show / go pass 13", "report gave-up\nstate dfuIDLE status OK image ffffffff\nreport installed\nimage 313233343536373839\n"),
     ];
     for (row, out) in rows {
-        let text = text_of(rt.alloc(), row)?;
-        let mut seen = Vec::new(rt.alloc());
-        assert_eq!(rt; script(rt.alloc(), text.as_slice(), &mut seen), Ok(()), "of {row}");
-        assert_eq!(rt; seen.as_slice(), out.as_bytes(), "of {row}");
+        ends(&rt, rt.alloc(), row, Ok(()), out)?;
     }
     Ok(())
 }
@@ -53,10 +50,7 @@ fn scripts_go_on_after_losses(rt: HostRuntime) -> Result<(), Fail> {
         ("device 07 65535 8 1 5 10 / offer W / go pass 2 / time 65534 / show / time 4294967295 / show", "state appDETACH status OK image 00\nstate appIDLE status OK image 00\nimage 00\n"),
     ];
     for (row, out) in rows {
-        let text = text_of(rt.alloc(), row)?;
-        let mut seen = Vec::new(rt.alloc());
-        assert_eq!(rt; script(rt.alloc(), text.as_slice(), &mut seen), Ok(()), "of {row}");
-        assert_eq!(rt; seen.as_slice(), out.as_bytes(), "of {row}");
+        ends(&rt, rt.alloc(), row, Ok(()), out)?;
     }
     Ok(())
 }
@@ -76,10 +70,7 @@ fn scripts_write_whole_units(rt: HostRuntime) -> Result<(), Fail> {
         ("unit 16 / offer N / go pass 14 / go fail 0 aa / go pass 1", "report refused errPROG\nimage 00\n"),
     ];
     for (row, out) in rows {
-        let text = text_of(rt.alloc(), row)?;
-        let mut seen = Vec::new(rt.alloc());
-        assert_eq!(rt; script(rt.alloc(), text.as_slice(), &mut seen), Ok(()), "of {row}");
-        assert_eq!(rt; seen.as_slice(), out.as_bytes(), "of {row}");
+        ends(&rt, rt.alloc(), row, Ok(()), out)?;
     }
     Ok(())
 }
@@ -103,10 +94,7 @@ fn scripts_lose_their_power(rt: HostRuntime) -> Result<(), Fail> {
         ("cut / show / go cut 0 a5 / offer W / go pass 12 / cut / cut", "state appIDLE status OK image 00\nrefused NoHost\nreport restarts-spent\nimage ffffffff\n"),
     ];
     for (row, out) in rows {
-        let text = text_of(rt.alloc(), row)?;
-        let mut seen = Vec::new(rt.alloc());
-        assert_eq!(rt; script(rt.alloc(), text.as_slice(), &mut seen), Ok(()), "of {row}");
-        assert_eq!(rt; seen.as_slice(), out.as_bytes(), "of {row}");
+        ends(&rt, rt.alloc(), row, Ok(()), out)?;
     }
     Ok(())
 }
@@ -125,10 +113,7 @@ fn scripts_go_on_after_failed_writes(rt: HostRuntime) -> Result<(), Fail> {
         ("go fail 0 -", "refused NoHost\nimage 00\n"),
     ];
     for (row, out) in rows {
-        let text = text_of(rt.alloc(), row)?;
-        let mut seen = Vec::new(rt.alloc());
-        assert_eq!(rt; script(rt.alloc(), text.as_slice(), &mut seen), Ok(()), "of {row}");
-        assert_eq!(rt; seen.as_slice(), out.as_bytes(), "of {row}");
+        ends(&rt, rt.alloc(), row, Ok(()), out)?;
     }
     Ok(())
 }
@@ -150,10 +135,7 @@ fn scripts_upload_and_give_up(rt: HostRuntime) -> Result<(), Fail> {
         ("abort / upload / upload / offer W / abort / go lostout", "refused NoHost\nrefused HostBusy\nrefused HostBusy\nreport aborted\nimage 00\n"),
     ];
     for (row, out) in rows {
-        let text = text_of(rt.alloc(), row)?;
-        let mut seen = Vec::new(rt.alloc());
-        assert_eq!(rt; script(rt.alloc(), text.as_slice(), &mut seen), Ok(()), "of {row}");
-        assert_eq!(rt; seen.as_slice(), out.as_bytes(), "of {row}");
+        ends(&rt, rt.alloc(), row, Ok(()), out)?;
     }
     Ok(())
 }
@@ -172,10 +154,7 @@ fn scripts_go_on_after_refusals(rt: HostRuntime) -> Result<(), Fail> {
         ("time 7 / reset", "image 00\n"),
     ];
     for (row, out) in rows {
-        let text = text_of(rt.alloc(), row)?;
-        let mut seen = Vec::new(rt.alloc());
-        assert_eq!(rt; script(rt.alloc(), text.as_slice(), &mut seen), Ok(()), "of {row}");
-        assert_eq!(rt; seen.as_slice(), out.as_bytes(), "of {row}");
+        ends(&rt, rt.alloc(), row, Ok(()), out)?;
     }
     Ok(())
 }
@@ -200,10 +179,7 @@ fn scripts_fall_at_a_line(rt: HostRuntime) -> Result<(), Fail> {
         ("capacity 1 / image 0001 / image - / bogus", "", ScriptFault::BadLine(4)),
     ];
     for (row, out, fault) in rows {
-        let text = text_of(rt.alloc(), row)?;
-        let mut seen = Vec::new(rt.alloc());
-        assert_eq!(rt; script(rt.alloc(), text.as_slice(), &mut seen), Err(fault), "of {row}");
-        assert_eq!(rt; seen.as_slice(), out.as_bytes(), "of {row}");
+        ends(&rt, rt.alloc(), row, Err(fault), out)?;
     }
     Ok(())
 }

@@ -1,12 +1,12 @@
 //! Uploads of the active image, and sessions that are given up.
 
-use super::bench::{Setup, Turn, UPLOAD, USUAL, W, go, offer, pass, play, stands, world, world_of};
-use crate::{Event, Fate, LinkFault, OfferFault, run};
+use super::bench::{
+    EIGHT, Setup, Turn, UPLOAD, USUAL, W, go, offer, pass, play, refused, stands, world, world_of,
+};
+use crate::{Event, Fate, LinkFault, OfferFault};
 use dfu_host::{HostFault, Report};
 use dfu_wire::{Code, State};
 use std::test::Fail;
-
-const EIGHT: [u8; 8] = [0, 1, 2, 3, 4, 5, 6, 7];
 
 const ABORT: Turn<'static, 'static> = Turn {
     event: Event::Abort,
@@ -73,28 +73,31 @@ fn an_upload_takes_65_534_full_parts(rt: HostRuntime) -> Result<(), Fail> {
 }
 
 #[test]
-fn some_uploads_are_refused(rt: HostRuntime) -> Result<(), Fail> {
-    let mut silent = world(
-        rt.alloc(),
-        Setup {
-            attributes: 0x05,
-            ..USUAL
-        },
-    )?;
+fn an_upload_needs_a_device_that_can_upload(rt: HostRuntime) -> Result<(), Fail> {
+    let silent = Setup {
+        attributes: 0x05,
+        ..USUAL
+    };
+    let mut world = world(rt.alloc(), silent)?;
     let cannot = LinkFault::BadOffer(OfferFault::Host(HostFault::CannotUpload));
-    assert_eq!(rt; silent.step(UPLOAD.event), Err(cannot));
-    let mut busy = world(rt.alloc(), USUAL)?;
-    play(&rt, &mut busy, &[UPLOAD, pass(2)], None);
-    assert_eq!(rt; busy.step(UPLOAD.event), Err(LinkFault::HostBusy));
-    assert_eq!(rt; busy.step(offer(&W).event), Err(LinkFault::HostBusy));
-    play(&rt, &mut busy, &[pass(4)], Some(Report::Uploaded));
+    refused(&rt, &mut world, UPLOAD.event, cannot);
+    Ok(())
+}
+
+#[test]
+fn a_session_is_the_only_one(rt: HostRuntime) -> Result<(), Fail> {
+    let mut world = world(rt.alloc(), USUAL)?;
+    play(&rt, &mut world, &[UPLOAD, pass(2)], None);
+    refused(&rt, &mut world, UPLOAD.event, LinkFault::HostBusy);
+    refused(&rt, &mut world, offer(&W).event, LinkFault::HostBusy);
+    play(&rt, &mut world, &[pass(4)], Some(Report::Uploaded));
     Ok(())
 }
 
 #[test]
 fn a_session_is_given_up(rt: HostRuntime) -> Result<(), Fail> {
     let mut world = world(rt.alloc(), USUAL)?;
-    assert_eq!(rt; world.step(Event::Abort), Err(LinkFault::NoHost));
+    refused(&rt, &mut world, Event::Abort, LinkFault::NoHost);
     play(&rt, &mut world, &[offer(&W), pass(8), ABORT], None);
     play(&rt, &mut world, &[pass(1)], Some(Report::Aborted));
     stands(&rt, &world, State::DfuIdle, Code::Ok, &[0]);
@@ -105,19 +108,6 @@ fn a_session_is_given_up(rt: HostRuntime) -> Result<(), Fail> {
         Some(Report::Aborted),
     );
     assert!(rt; world.uploaded().is_empty());
-    assert_eq!(rt; world.step(Event::Abort), Err(LinkFault::NoHost));
-    Ok(())
-}
-
-#[test]
-fn a_run_uploads(rt: HostRuntime) -> Result<(), Fail> {
-    let mut world = world_of(rt.alloc(), USUAL, &EIGHT)?;
-    let mut events = vec![in rt.alloc(); Event::Go(Fate::Pass); 8]?;
-    events[0] = UPLOAD.event;
-    match run(&mut world, rt.alloc(), &events) {
-        Ok(reports) => assert_eq!(rt; reports.as_slice(), [Report::Uploaded].as_slice()),
-        Err(stop) => panic!(rt; "stopped at {}", stop.at),
-    }
-    assert_eq!(rt; world.uploaded(), EIGHT.as_slice());
+    refused(&rt, &mut world, Event::Abort, LinkFault::NoHost);
     Ok(())
 }

@@ -1,6 +1,6 @@
 use Rattle.std.proofs.Common.{subst}
 use Rattle.dfu_device.specs.Shown.{Shown}
-use Rattle.dfu_link.specs.Comes.{fate_of}
+use Rattle.dfu_link.specs.Happening.{fate_of}
 use Rattle.dfu_link.specs.Acting.{HasActed}
 use Rattle.dfu_link.proofs.going.carry_out.Goals as goal
 

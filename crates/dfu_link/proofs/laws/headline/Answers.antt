@@ -1,4 +1,4 @@
-use Rattle.dfu_link.proofs.Whole.{follows_all}
+use Rattle.dfu_link.proofs.EachEvent.{follows_all}
 use Rattle.dfu_link.proofs.laws.headline.Goals as goal
 
 pub returns : goal.returns

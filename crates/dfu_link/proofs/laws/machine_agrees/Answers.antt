@@ -1,4 +1,4 @@
-use Rattle.dfu_link.proofs.Steady.{some_agrees, fresh_agrees, agrees_on}
+use Rattle.dfu_link.proofs.Agreeing.{some_agrees, fresh_agrees, agrees_on}
 use Rattle.dfu_link.proofs.laws.machine_agrees.Goals as goal
 
 pub returns : goal.returns

@@ -1,4 +1,4 @@
-use Rattle.dfu_link.proofs.Whole.{follows}
+use Rattle.dfu_link.proofs.EachEvent.{follows}
 use Rattle.dfu_link.proofs.laws.simulation.Goals as goal
 
 pub returns : goal.returns

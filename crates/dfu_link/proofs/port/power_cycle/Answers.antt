@@ -7,7 +7,8 @@ use Rattle.dfu_device.specs.Stage.{InAppIdle}
 use Rattle.dfu_link.proofs.port.power_cycle.Goals as goal
 
 pub unreachable-requires : goal.unreachable-requires
-unreachable-requires g c = c.in-Err.ensures.refused (subst HasImage (sym c.disarm.ensures) (has_image_fused _ Whole c.into_medium-medium.ensures.has_image))
+unreachable-requires g c = c.in-Err.ensures.refused (subst HasImage (sym c.disarm.ensures)
+    (has_image_fused _ Whole c.into_medium-medium.ensures.has_image))
 
 pub returns : goal.returns
 returns g c =

@@ -7,8 +7,10 @@ returns-then-is_some g c = upload_busy _ _ _ (sym c.is_some.ensures ∙ c.if-is_
 
 pub returns-in-Ok : goal.returns-in-Ok
 returns-in-Ok g c =
-    upload_comes c.args.limits _ _ c.in-Ok.begun c.functional.result (sym c.is_some.ensures ∙ c.if-is_some.false) c.requires.unarmed c.functional.ensures c.in-Ok.ensures.refused c.in-Ok.ensures.started
+    upload_comes c.args.limits _ _ c.in-Ok.begun c.functional.result (sym c.is_some.ensures ∙ c.if-is_some.false) c.requires.unarmed
+    c.functional.ensures c.in-Ok.ensures.refused c.in-Ok.ensures.started
 
 pub returns-in-Err : goal.returns-in-Err
 returns-in-Err g c =
-    upload_refused c.args.limits _ _ c.functional.result c.in-Err.fault (sym c.is_some.ensures ∙ c.if-is_some.false) c.functional.ensures ((c.in-Err.ensures.refused c.in-Err.fault).0 refl)
+    upload_refused c.args.limits _ _ c.functional.result c.in-Err.fault (sym c.is_some.ensures ∙ c.if-is_some.false) c.functional.ensures
+    ((c.in-Err.ensures.refused c.in-Err.fault).0 refl)

@@ -1,13 +1,14 @@
 //! Words, numbers and lines at the ends of their ranges.
 
-use crate::{ScriptFault, script};
-use std::alloc::Global;
+use super::rows::text_ends;
+use crate::ScriptFault;
+use std::alloc::{AllocError, Global};
 use std::process::Abort;
 use std::test::Fail;
 
 /// Lines that are understood, alone in a script.
 #[test]
-fn lines_of_the_language(rt: HostRuntime) -> Result<(), Fail> {
+fn lines_of_the_language(rt: HostRuntime) {
     let lines = [
         "",
         "   ",
@@ -32,26 +33,19 @@ fn lines_of_the_language(rt: HostRuntime) -> Result<(), Fail> {
         "  cut  ",
     ];
     for line in lines {
-        let mut seen = Vec::new(rt.alloc());
-        assert_eq!(rt;
-            script(rt.alloc(), line.as_bytes(), &mut seen),
-            Ok(()),
-            "of {line}"
-        );
-        assert_eq!(rt; seen.as_slice(), &b"image 00\n"[..], "of {line}");
+        text_ends(&rt, rt.alloc(), line.as_bytes(), Ok(()), b"image 00\n");
     }
-    Ok(())
 }
 
 /// A line that is none of the language stops the script, and nothing is out.
 fn is_bad(rt: &impl Abort, alloc: Global, line: &str) {
-    let mut seen = Vec::new(alloc);
-    assert_eq!(rt;
-        script(alloc, line.as_bytes(), &mut seen),
+    text_ends(
+        rt,
+        alloc,
+        line.as_bytes(),
         Err(ScriptFault::BadLine(1)),
-        "of {line}"
+        b"",
     );
-    assert_eq!(rt; seen.as_slice(), &b""[..], "of {line}");
 }
 
 #[test]
@@ -136,46 +130,60 @@ fn long_lines(rt: HostRuntime) -> Result<(), Fail> {
         text.push(first)?;
         text.resize(65_536, b' ')?;
         text.push(b'\n')?;
-        let mut seen = Vec::new(rt.alloc());
-        assert_eq!(rt; script(rt.alloc(), text.as_slice(), &mut seen), Ok(()));
-        assert_eq!(rt; seen.as_slice(), &b"image 00\n"[..]);
-
+        text_ends(&rt, rt.alloc(), text.as_slice(), Ok(()), b"image 00\n");
         text.push(first)?;
         text.resize(131_074, b' ')?;
-        let mut seen = Vec::new(rt.alloc());
-        assert_eq!(rt;
-            script(rt.alloc(), text.as_slice(), &mut seen),
-            Err(ScriptFault::BadLine(2))
+        text_ends(
+            &rt,
+            rt.alloc(),
+            text.as_slice(),
+            Err(ScriptFault::BadLine(2)),
+            b"",
         );
-        assert_eq!(rt; seen.as_slice(), &b""[..]);
     }
     Ok(())
+}
+
+/// The digits of so many bytes.
+fn digits_of(alloc: Global, bytes: usize) -> Result<Vec<u8>, AllocError> {
+    let mut digits = Vec::new(alloc);
+    for place in 0..bytes {
+        digits.extend_from_slice(if place % 2 == 0 { b"a5" } else { b"1f" })?;
+    }
+    if bytes == 0 {
+        digits.push(b'-')?;
+    }
+    Ok(digits)
+}
+
+/// A script that uploads the image of these digits.
+fn uploads(alloc: Global, digits: &[u8]) -> Result<Vec<u8>, AllocError> {
+    let mut text = Vec::new(alloc);
+    text.extend_from_slice(b"device 07 255 4096 1 5 10\ncapacity 700\nimage ")?;
+    text.extend_from_slice(digits)?;
+    text.extend_from_slice(b"\nupload\ngo pass 6\n")?;
+    Ok(text)
+}
+
+/// What it prints.
+fn uploaded(alloc: Global, digits: &[u8]) -> Result<Vec<u8>, AllocError> {
+    let mut out = Vec::new(alloc);
+    out.extend_from_slice(b"report uploaded ")?;
+    out.extend_from_slice(digits)?;
+    out.extend_from_slice(b"\nimage ")?;
+    out.extend_from_slice(digits)?;
+    out.push(b'\n')?;
+    Ok(out)
 }
 
 /// An image is printed whole, whatever its length, and so is what was uploaded.
 #[test]
 fn images_of_each_length(rt: HostRuntime) -> Result<(), Fail> {
     for bytes in [0usize, 1, 255, 256, 257, 512, 700] {
-        let mut digits = Vec::new(rt.alloc());
-        for place in 0..bytes {
-            digits.extend_from_slice(if place % 2 == 0 { b"a5" } else { b"1f" })?;
-        }
-        if bytes == 0 {
-            digits.push(b'-')?;
-        }
-        let mut text = Vec::new(rt.alloc());
-        text.extend_from_slice(b"device 07 255 4096 1 5 10\ncapacity 700\nimage ")?;
-        text.extend_from_slice(&digits)?;
-        text.extend_from_slice(b"\nupload\ngo pass 6\n")?;
-        let mut out = Vec::new(rt.alloc());
-        for line in ["report uploaded ", "image "] {
-            out.extend_from_slice(line.as_bytes())?;
-            out.extend_from_slice(&digits)?;
-            out.push(b'\n')?;
-        }
-        let mut seen = Vec::new(rt.alloc());
-        assert_eq!(rt; script(rt.alloc(), text.as_slice(), &mut seen), Ok(()));
-        assert_eq!(rt; seen.as_slice(), out.as_slice(), "{bytes} bytes");
+        let digits = digits_of(rt.alloc(), bytes)?;
+        let text = uploads(rt.alloc(), &digits)?;
+        let out = uploaded(rt.alloc(), &digits)?;
+        text_ends(&rt, rt.alloc(), &text, Ok(()), &out);
     }
     Ok(())
 }

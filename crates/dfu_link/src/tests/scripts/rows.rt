@@ -1,6 +1,8 @@
-//! The text of a row.
+//! The text of a row, and what it has to print.
 
+use crate::{ScriptFault, script};
 use std::alloc::{AllocError, Global};
+use std::process::Abort;
 
 /// Payload FFFFFFFFh, identifiers FFFFh.
 const FOUR_ONES: &[u8] = b"ffffffffffffffffffff00015546441071c8510c";
@@ -28,4 +30,30 @@ pub fn text_of(alloc: Global, row: &str) -> Result<Vec<u8>, AllocError> {
         }
     }
     Ok(text)
+}
+
+/// A script ends like this, and this is out.
+pub fn text_ends(
+    rt: &impl Abort,
+    alloc: Global,
+    text: &[u8],
+    end: Result<(), ScriptFault>,
+    out: &[u8],
+) {
+    let mut seen = Vec::new(alloc);
+    assert_eq!(rt; script(alloc, text, &mut seen), end);
+    assert_eq!(rt; seen.as_slice(), out);
+}
+
+/// The script of a row ends like this, and this is out.
+pub fn ends(
+    rt: &impl Abort,
+    alloc: Global,
+    row: &str,
+    end: Result<(), ScriptFault>,
+    out: &str,
+) -> Result<(), AllocError> {
+    let text = text_of(alloc, row)?;
+    text_ends(rt, alloc, text.as_slice(), end, out.as_bytes());
+    Ok(())
 }

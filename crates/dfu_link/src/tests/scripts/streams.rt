@@ -2,7 +2,9 @@
 
 use super::rows::text_of;
 use crate::{ScriptFault, script};
+use std::alloc::Global;
 use std::io::{self, ErrorKind, Read, Write};
+use std::process::Abort;
 use std::test::Fail;
 
 /// Gives so many line ends, and then fails or is at its end.
@@ -70,17 +72,14 @@ impl Write for Fixed {
     }
 }
 
-/// Where memory is ample the whole text is out. Where an allocation is refused, it is NoMemory: of
-/// the text, the image or the medium with nothing out, of an offered file with the lines before.
-#[test]
-fn refused_allocation_in_a_script(rt: HostRuntime) {
-    let text = b"show\noffer ffffffffffffffffffff00015546441071c8510c\ngo pass 13\n";
-    let whole = b"state appIDLE status OK image 00\nreport installed\nimage ffffffff\n";
+/// Where memory is ample the whole text is out. Where an allocation is refused, it is NoMemory, with
+/// nothing out or with the first line.
+fn ends_or_finds_no_memory(rt: &impl Abort, alloc: Global, text: &[u8], whole: &[u8]) {
     let mut fixed = Fixed {
         bytes: [0; 128],
         len: 0,
     };
-    let result = script(rt.alloc(), text.as_slice(), &mut fixed);
+    let result = script(alloc, text, &mut fixed);
     let out = fixed.bytes.get(..fixed.len);
     match result {
         Ok(()) => assert_eq!(rt; out, whole.get(..)),
@@ -91,23 +90,19 @@ fn refused_allocation_in_a_script(rt: HostRuntime) {
     }
 }
 
+/// Of the text, the image or the medium nothing is out, of an offered file the lines before.
+#[test]
+fn refused_allocation_in_a_script(rt: HostRuntime) {
+    let text = b"show\noffer ffffffffffffffffffff00015546441071c8510c\ngo pass 13\n";
+    let whole = b"state appIDLE status OK image 00\nreport installed\nimage ffffffff\n";
+    ends_or_finds_no_memory(&rt, rt.alloc(), text, whole);
+}
+
 /// Where a tear finds no memory, the script falls at its line, also where no session is live.
 #[test]
 fn refused_allocation_of_a_tear(rt: HostRuntime) {
     let whole = b"state appIDLE status OK image 00\nrefused NoHost\nimage 00\n";
-    let mut fixed = Fixed {
-        bytes: [0; 128],
-        len: 0,
-    };
-    let result = script(rt.alloc(), b"show\ngo cut 0 a5\n".as_slice(), &mut fixed);
-    let out = fixed.bytes.get(..fixed.len);
-    match result {
-        Ok(()) => assert_eq!(rt; out, whole.get(..)),
-        Err(fault) => {
-            assert_eq!(rt; fault, ScriptFault::NoMemory);
-            assert!(rt; fixed.len == 0 || out == whole.get(..33));
-        }
-    }
+    ends_or_finds_no_memory(&rt, rt.alloc(), b"show\ngo cut 0 a5\n", whole);
 }
 
 /// Where a part of an upload finds no memory, the session ends, and the script goes on.

@@ -14,7 +14,8 @@ returns-in_err-write_digits-clause-err g c =
     let mid = g.W.Write.contents c.loop-at.writer in
     let new = g.W.Write.contents c.write_digits.new.writer in
     let bytes = c.args.bytes.now in
-    on_err c.from_residual.result (Broke old new (encode_lower bytes)) (pieces_broke bytes c.loop-at.at c.min-len.result old mid new c.loop-at.invariant.told c.in_err-write_digits.ensures.err)
+    on_err c.from_residual.result (Broke old new (encode_lower bytes))
+    (pieces_broke bytes c.loop-at.at c.min-len.result old mid new c.loop-at.invariant.told c.in_err-write_digits.ensures.err)
 
 pub loop-at-preserved : goal.loop-at-preserved
 loop-at-preserved g c =
@@ -22,4 +23,8 @@ loop-at-preserved g c =
     let mid = g.W.Write.contents c.loop-at.writer in
     let new = g.W.Write.contents c.write_digits.new.writer in
     let bytes = c.args.bytes.now in
-    record { within = omega arith; told = pieces_more bytes c.loop-at.at c.min-len.result old mid new c.loop-at.invariant.told c.in_ok-write_digits.ensures.ok }
+    record {
+      within = omega arith;
+      told = pieces_more bytes c.loop-at.at c.min-len.result old mid new c.loop-at.invariant.told
+          c.in_ok-write_digits.ensures.ok;
+    }

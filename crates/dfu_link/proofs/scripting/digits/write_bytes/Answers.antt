@@ -14,4 +14,5 @@ returns-in_err-write_all_digits-clause-err g c =
     let bytes = c.args.bytes.now in
     let filled : (length bytes == 0) ≡ false = sym c.is_empty.ensures ∙ c.if-is_empty.false in
     let some : hex_text bytes ≡ encode_lower bytes = text_some bytes (λ none. absurd (grind (arith, nat_tests))) in
-    on_err c.from_residual.result (Broke old new (hex_text bytes ++ 10 ∷ [])) (rw some (broke_before old new (encode_lower bytes) (10 ∷ []) c.in_err-write_all_digits.ensures.err))
+    on_err c.from_residual.result (Broke old new (hex_text bytes ++ 10 ∷ []))
+    (rw some (broke_before old new (encode_lower bytes) (10 ∷ []) c.in_err-write_all_digits.ensures.err))

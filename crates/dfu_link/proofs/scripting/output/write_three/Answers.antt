@@ -18,4 +18,6 @@ returns-clause-err g c =
     let new = g.W.Write.contents c.write_out.new.writer in
     let first = c.args.first.now ++ c.args.middle.now in
     let last = c.args.last.now in
-    on_err_map c.write_out.result (Broke mid new c.as_bytes.result.now) (Broke old new (first ++ last)) (λ h. broke_after old mid new first last c.in_ok-write_two.ensures.ok (subst (λ (xs : List ℕ). Broke mid new xs) c.as_bytes.ensures.value h)) c.write_out.ensures.err
+    on_err_map c.write_out.result (Broke mid new c.as_bytes.result.now) (Broke old new (first ++ last))
+    (λ h. broke_after old mid new first last c.in_ok-write_two.ensures.ok
+    (subst (λ (xs : List ℕ). Broke mid new xs) c.as_bytes.ensures.value h)) c.write_out.ensures.err

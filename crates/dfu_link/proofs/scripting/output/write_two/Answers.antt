@@ -21,4 +21,6 @@ returns-clause-err g c =
     let first = c.args.first.now in
     let last = c.args.last.now in
     let a : Appends old mid first = subst (λ (xs : List ℕ). Appends old mid xs) c.as_bytes.ensures.value c.in_ok-write_out.ensures.ok in
-    on_err_map c.write_out-2.result (Broke mid new c.as_bytes-2.result.now) (Broke old new (first ++ last)) (λ h. broke_after old mid new first last a (subst (λ (xs : List ℕ). Broke mid new xs) c.as_bytes-2.ensures.value h)) c.write_out-2.ensures.err
+    on_err_map c.write_out-2.result (Broke mid new c.as_bytes-2.result.now) (Broke old new (first ++ last))
+    (λ h. broke_after old mid new first last a (subst (λ (xs : List ℕ). Broke mid new xs) c.as_bytes-2.ensures.value h))
+    c.write_out-2.ensures.err

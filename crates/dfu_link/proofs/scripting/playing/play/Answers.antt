@@ -1,6 +1,6 @@
 use Rattle.std.proofs.Common.{◌++◌, ◌∷◌, [], List, sym, subst}
 use Rattle.std.specs.Prelude.{replicate}
-use Rattle.dfu_link.specs.Comes.{happening, Happening}
+use Rattle.dfu_link.specs.Happening.{happening, Happening}
 use Rattle.dfu_link.specs.Texts.{told_line}
 use Rattle.dfu_link.specs.ScriptRun.{none_comes}
 use Rattle.dfu_link.specs.Falls.{HasBroken}
@@ -22,10 +22,12 @@ loop-turn-preserved g c =
     let text = told_line c.step-answer.result c.step-answer.new.self.up in
     let more : HasPlayed c.args.world.now.bench (replicate c.loop-turn.turn e ++ e ∷ []) old c.step-answer.new.self.bench new = record {
       out = before.out ++ text;
-      plays = plays_one c.args.world.now.bench c.loop-turn.world c.step-answer.new.self (replicate c.loop-turn.turn e) e before.out c.step-answer.result before.plays c.step-answer.ensures.play;
+      plays = plays_one c.args.world.now.bench c.loop-turn.world c.step-answer.new.self (replicate c.loop-turn.turn e) e before.out
+          c.step-answer.result before.plays c.step-answer.ensures.play;
       told = appends_more old mid new before.out text before.told (rw c.uploaded.ensures at c.in_ok-say.ensures.ok);
     } in
-    subst (λ (es : List Happening). HasPlayed c.args.world.now.bench es old c.step-answer.new.self.bench new) (sym (replicate_more c.loop-turn.turn e)) more
+    subst (λ (es : List Happening). HasPlayed c.args.world.now.bench es old c.step-answer.new.self.bench new)
+    (sym (replicate_more c.loop-turn.turn e)) more
 
 pub returns-in_err-say-clause-err : goal.returns-in_err-say-clause-err
 returns-in_err-say-clause-err g c =
@@ -34,4 +36,5 @@ returns-in_err-say-clause-err g c =
     let mid = g.W.Write.contents c.loop-turn.writer in
     let new = g.W.Write.contents c.say.new.writer in
     on_err c.from_residual.result (HasBroken c.args.world.now.bench (replicate c.args.times e) old new)
-    (broken c.args.world.now.bench c.loop-turn.world c.step-answer.new.self e c.loop-turn.turn c.args.times c.step-answer.result old mid new c.loop-turn.invariant c.loop-turn-test.true c.step-answer.ensures.play (rw c.uploaded.ensures at c.in_err-say.ensures.err))
+    (broken c.args.world.now.bench c.loop-turn.world c.step-answer.new.self e c.loop-turn.turn c.args.times c.step-answer.result old mid new
+    c.loop-turn.invariant c.loop-turn-test.true c.step-answer.ensures.play (rw c.uploaded.ensures at c.in_err-say.ensures.err))

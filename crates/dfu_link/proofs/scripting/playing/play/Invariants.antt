@@ -1,7 +1,8 @@
 use Rattle.std.specs.Prelude.{replicate}
-use Rattle.dfu_link.specs.Comes.{happening}
+use Rattle.dfu_link.specs.Happening.{happening}
 use Rattle.dfu_link.specs.Moving.{HasPlayed}
 use Rattle.dfu_link.proofs.scripting.playing.play.Given as goal
 
 abbrev pub invariant-loop-turn : goal.invariant-loop-turn
-invariant-loop-turn g l = HasPlayed l.fn.world.bench (replicate l.turn (happening l.event)) (g.W.Write.contents l.fn.writer) l.world.bench (g.W.Write.contents l.writer)
+invariant-loop-turn g l = HasPlayed l.fn.world.bench (replicate l.turn (happening l.event)) (g.W.Write.contents l.fn.writer) l.world.bench
+    (g.W.Write.contents l.writer)

@@ -1,12 +1,12 @@
 use Rattle.std.proofs.Common.{sym, subst, Err}
 use Rattle.std.specs.Io.KnownBytes.{Appends}
-use Rattle.dfu_link.specs.Said.{hex_bytes, deed_of}
+use Rattle.dfu_link.specs.Said.{hex_bytes, event_line_of}
 use Rattle.dfu_link.specs.Writing.{Broke}
 use Rattle.dfu_link.specs.Texts.{answer_line}
 use Rattle.dfu_link.specs.ScriptRun.{events_of}
 use Rattle.dfu_link.specs.Falls.{HasBroken}
 use Rattle.dfu_link.specs.Moving.{HasPlayed}
-use Rattle.dfu_link.specs.declared.scripting.line.Deed.{Deed}
+use Rattle.dfu_link.specs.declared.scripting.line.EventLine.{EventLine}
 use Rattle.dfu_link.specs.declared.fault.LinkFault.TheVariants.{HostBusy}
 use Rattle.dfu_link.proofs.WriteLaws.{on_ok_map, on_err_map}
 use Rattle.dfu_link.proofs.MoveLaws.{busy_plays, busy_broken}
@@ -17,8 +17,10 @@ returns-in-Offer-clause-ok g c =
     let old = g.W.Write.contents c.args.writer.now in
     let new = g.W.Write.contents c.say.new.writer in
     let b = c.args.world.now.bench in
-    on_ok_map c.say.result (Appends old new (answer_line (Err HostBusy))) (HasPlayed b (events_of c.args.limits (deed_of c.args.deed)) old b new)
-    (λ told. subst (λ (d : Deed). HasPlayed b (events_of c.args.limits (deed_of d)) old b new) (sym c.in-Offer.is) (busy_plays b (hex_bytes c.in-Offer.field-0) c.args.limits old new c.requires.live told))
+    on_ok_map c.say.result (Appends old new (answer_line (Err HostBusy)))
+    (HasPlayed b (events_of c.args.limits (event_line_of c.args.events)) old b new)
+    (λ told. subst (λ (d : EventLine). HasPlayed b (events_of c.args.limits (event_line_of d)) old b new) (sym c.in-Offer.is)
+    (busy_plays b (hex_bytes c.in-Offer.field-0) c.args.limits old new c.requires.live told))
     c.say.ensures.ok
 
 pub returns-in-Offer-clause-err : goal.returns-in-Offer-clause-err
@@ -26,6 +28,8 @@ returns-in-Offer-clause-err g c =
     let old = g.W.Write.contents c.args.writer.now in
     let new = g.W.Write.contents c.say.new.writer in
     let b = c.args.world.now.bench in
-    on_err_map c.say.result (Broke old new (answer_line (Err HostBusy))) (HasBroken b (events_of c.args.limits (deed_of c.args.deed)) old new)
-    (λ broke. subst (λ (d : Deed). HasBroken b (events_of c.args.limits (deed_of d)) old new) (sym c.in-Offer.is) (busy_broken b (hex_bytes c.in-Offer.field-0) c.args.limits old new c.requires.live broke))
+    on_err_map c.say.result (Broke old new (answer_line (Err HostBusy)))
+    (HasBroken b (events_of c.args.limits (event_line_of c.args.events)) old new)
+    (λ broke. subst (λ (d : EventLine). HasBroken b (events_of c.args.limits (event_line_of d)) old new) (sym c.in-Offer.is)
+    (busy_broken b (hex_bytes c.in-Offer.field-0) c.args.limits old new c.requires.live broke))
     c.say.ensures.err

@@ -10,7 +10,8 @@ returns-in_err-write_out-clause-err g c =
     let old = g.W.Write.contents c.args.writer.now in
     let new = g.W.Write.contents c.write_out.new.writer in
     let last = hex_text c.args.bytes.now ++ 10 ∷ [] in
-    on_err c.from_residual.result (Broke old new (uploaded_line c.args.bytes.now)) (broke_before old new (codes "report uploaded ") last c.in_err-write_out.ensures.err)
+    on_err c.from_residual.result (Broke old new (uploaded_line c.args.bytes.now))
+    (broke_before old new (codes "report uploaded ") last c.in_err-write_out.ensures.err)
 
 pub returns-clause-err : goal.returns-clause-err
 returns-clause-err g c =
@@ -18,4 +19,5 @@ returns-clause-err g c =
     let mid = g.W.Write.contents c.write_out.new.writer in
     let new = g.W.Write.contents c.write_bytes.new.writer in
     let last = hex_text c.args.bytes.now ++ 10 ∷ [] in
-    on_err_map c.write_bytes.result (Broke mid new last) (Broke old new (uploaded_line c.args.bytes.now)) (λ h. broke_after old mid new (codes "report uploaded ") last c.in_ok-write_out.ensures.ok h) c.write_bytes.ensures.err
+    on_err_map c.write_bytes.result (Broke mid new last) (Broke old new (uploaded_line c.args.bytes.now))
+    (λ h. broke_after old mid new (codes "report uploaded ") last c.in_ok-write_out.ensures.ok h) c.write_bytes.ensures.err

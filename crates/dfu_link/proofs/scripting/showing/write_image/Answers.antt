@@ -11,7 +11,8 @@ returns-in_err-write_out-clause-err g c =
     let old = g.W.Write.contents c.args.writer.now in
     let new = g.W.Write.contents c.write_out.new.writer in
     let last = hex_text (image_of c.args.device.now.slots) ++ 10 ∷ [] in
-    on_err c.from_residual.result (Broke old new (image_line c.args.device.now)) (broke_before old new (codes "image ") last c.in_err-write_out.ensures.err)
+    on_err c.from_residual.result (Broke old new (image_line c.args.device.now))
+    (broke_before old new (codes "image ") last c.in_err-write_out.ensures.err)
 
 pub returns-clause-err : goal.returns-clause-err
 returns-clause-err g c =
@@ -19,5 +20,7 @@ returns-clause-err g c =
     let mid = g.W.Write.contents c.write_out.new.writer in
     let new = g.W.Write.contents c.write_hex.new.writer in
     let last = hex_text (image_of c.args.device.now.slots) ++ 10 ∷ [] in
-    on_err_map c.write_hex.result (Broke mid new (hex_text (image_of c.slots.result.now) ++ 10 ∷ [])) (Broke old new (image_line c.args.device.now))
-    (λ h. broke_after old mid new (codes "image ") last c.in_ok-write_out.ensures.ok (rw c.slots.ensures.slots at h)) c.write_hex.ensures.err
+    on_err_map c.write_hex.result (Broke mid new (hex_text (image_of c.slots.result.now) ++ 10 ∷ []))
+    (Broke old new (image_line c.args.device.now))
+    (λ h. broke_after old mid new (codes "image ") last c.in_ok-write_out.ensures.ok (rw c.slots.ensures.slots at h))
+    c.write_hex.ensures.err

@@ -15,7 +15,8 @@ returns-in_err-write_piece-clause-err g c =
     let mid = g.W.Write.contents c.loop-at.writer in
     let new = g.W.Write.contents c.write_piece.new.writer in
     let image = image_of c.args.slots.now in
-    on_err c.from_residual.result (Broke old new (encode_lower image)) (pieces_broke image c.loop-at.at c.min-len.result old mid new c.loop-at.invariant.told c.in_err-write_piece.ensures.err)
+    on_err c.from_residual.result (Broke old new (encode_lower image))
+    (pieces_broke image c.loop-at.at c.min-len.result old mid new c.loop-at.invariant.told c.in_err-write_piece.ensures.err)
 
 pub loop-at-preserved : goal.loop-at-preserved
 loop-at-preserved g c =
@@ -23,4 +24,8 @@ loop-at-preserved g c =
     let mid = g.W.Write.contents c.loop-at.writer in
     let new = g.W.Write.contents c.write_piece.new.writer in
     let image = image_of c.args.slots.now in
-    record { within = omega arith; told = pieces_more image c.loop-at.at c.min-len.result old mid new c.loop-at.invariant.told c.in_ok-write_piece.ensures.ok }
+    record {
+      within = omega arith;
+      told = pieces_more image c.loop-at.at c.min-len.result old mid new c.loop-at.invariant.told
+          c.in_ok-write_piece.ensures.ok;
+    }

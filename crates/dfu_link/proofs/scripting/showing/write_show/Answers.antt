@@ -8,7 +8,8 @@ returns-in_err-write_state-clause-err g c =
     let old = g.W.Write.contents c.args.writer.now in
     let new = g.W.Write.contents c.write_state.new.writer in
     let d = c.args.device.now in
-    on_err c.from_residual.result (Broke old new (show_line d)) (broke_before old new (state_text d) (image_line d) c.in_err-write_state.ensures.err)
+    on_err c.from_residual.result (Broke old new (show_line d))
+    (broke_before old new (state_text d) (image_line d) c.in_err-write_state.ensures.err)
 
 pub returns-clause-err : goal.returns-clause-err
 returns-clause-err g c =
@@ -16,4 +17,5 @@ returns-clause-err g c =
     let mid = g.W.Write.contents c.write_state.new.writer in
     let new = g.W.Write.contents c.write_image.new.writer in
     let d = c.args.device.now in
-    on_err_map c.write_image.result (Broke mid new (image_line d)) (Broke old new (show_line d)) (λ h. broke_after old mid new (state_text d) (image_line d) c.in_ok-write_state.ensures.ok h) c.write_image.ensures.err
+    on_err_map c.write_image.result (Broke mid new (image_line d)) (Broke old new (show_line d))
+    (λ h. broke_after old mid new (state_text d) (image_line d) c.in_ok-write_state.ensures.ok h) c.write_image.ensures.err

@@ -16,7 +16,8 @@ returns-in_err-write_three-clause-err g c =
     let first = codes "state " ++ state_name (state_of stage) ++ codes " status " in
     let last = code_name (code_of stage) ++ codes " " in
     let name : c.name.result.now ≡ state_name (state_of stage) = c.name.ensures ∙ ap state_name c.state-state.ensures in
-    let b : Broke old new first = subst (λ (xs : List ℕ). Broke old new (codes "state " ++ xs ++ codes " status ")) name c.in_err-write_three.ensures.err in
+    let b : Broke old new first = subst (λ (xs : List ℕ). Broke old new (codes "state " ++ xs ++ codes " status ")) name
+    c.in_err-write_three.ensures.err in
     on_err c.from_residual.result (Broke old new (first ++ last)) (broke_before old new first last b)
 
 pub returns-clause-err : goal.returns-clause-err
@@ -29,5 +30,8 @@ returns-clause-err g c =
     let last = code_name (code_of stage) ++ codes " " in
     let state : c.name.result.now ≡ state_name (state_of stage) = c.name.ensures ∙ ap state_name c.state-state.ensures in
     let code : c.name-2.result.now ≡ code_name (code_of stage) = c.name-2.ensures ∙ ap code_name c.code-code.ensures in
-    let a : Appends old mid first = subst (λ (xs : List ℕ). Appends old mid (codes "state " ++ xs ++ codes " status ")) state c.in_ok-write_three.ensures.ok in
-    on_err_map c.write_two.result (Broke mid new (c.name-2.result.now ++ codes " ")) (Broke old new (first ++ last)) (λ h. broke_after old mid new first last a (subst (λ (xs : List ℕ). Broke mid new (xs ++ codes " ")) code h)) c.write_two.ensures.err
+    let a : Appends old mid first = subst (λ (xs : List ℕ). Appends old mid (codes "state " ++ xs ++ codes " status ")) state
+    c.in_ok-write_three.ensures.ok in
+    on_err_map c.write_two.result (Broke mid new (c.name-2.result.now ++ codes " ")) (Broke old new (first ++ last))
+    (λ h. broke_after old mid new first last a (subst (λ (xs : List ℕ). Broke mid new (xs ++ codes " ")) code h))
+    c.write_two.ensures.err

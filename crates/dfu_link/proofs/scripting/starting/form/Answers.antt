@@ -14,8 +14,10 @@ pub unreachable-requires : goal.unreachable-requires
 unreachable-requires c =
     let n = c.args.room.bytes in
     let whole : IsMultiple c.args.unit n = subst (λ (k : ℕ). n % k ≡ 0) c.size.ensures.value c.if-room-size-ne0.false in
-    let same : c.in-Ok.medium ≡ blank c.args.unit n = c.in-Ok.ensures ∙ made_blank c.args.unit n c.medium_len.result c.medium_len.ensures.value in
-    (subst (λ f. IsFormatFault f c.in-Ok.medium c.args.image.now) c.in-WrongSize.is c.in-Err.ensures.fault) (subst IsSized (sym same) (blank_sized c.args.unit n c.args.room.some c.args.room.most whole))
+    let same : c.in-Ok.medium ≡ blank c.args.unit n = c.in-Ok.ensures
+    ∙ made_blank c.args.unit n c.medium_len.result c.medium_len.ensures.value in
+    (subst (λ f. IsFormatFault f c.in-Ok.medium c.args.image.now) c.in-WrongSize.is c.in-Err.ensures.fault)
+    (subst IsSized (sym same) (blank_sized c.args.unit n c.args.room.some c.args.room.most whole))
 
 pub unreachable-requires-in-Failed : goal.unreachable-requires-in-Failed
 unreachable-requires-in-Failed c =
@@ -30,7 +32,8 @@ returns-in-Ok-format-clause-ok c =
     let image = c.args.image.now in
     let s = c.in-Ok-format.slots in
     let same : c.in-Ok.medium ≡ b = c.in-Ok.ensures ∙ made_blank c.args.unit n c.medium_len.result c.medium_len.ensures.value in
-    let writes : AllWrites b (format_series b image) s.medium = subst (λ (x : MediumState). AllWrites x (format_series x image) s.medium) same c.in-Ok-format.ensures.writes in
+    let writes : AllWrites b (format_series b image) s.medium = subst (λ (x : MediumState). AllWrites x (format_series x image) s.medium)
+    same c.in-Ok-format.ensures.writes in
     let can : CanFormat b image = subst (λ (x : MediumState). CanFormat x image) same c.in-Ok-format.ensures.formats in
     record {
       whole = subst (λ (k : ℕ). n % k ≡ 0) c.size.ensures.value c.if-room-size-ne0.false;

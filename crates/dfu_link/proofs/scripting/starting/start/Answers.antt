@@ -1,7 +1,7 @@
 use Rattle.std.proofs.Common.{◌≡◌, ◌∙◌, List, ℕ, subst, refl}
 use Rattle.dfu_link.specs.Falls.{refused}
 use Rattle.dfu_link.specs.Forming.{Formed}
-use Rattle.dfu_link.specs.Stands.{image_bytes}
+use Rattle.dfu_link.specs.SetupView.{image_bytes}
 use Rattle.dfu_link.proofs.scripting.starting.start.Goals as goal
 
 pub returns-in_default-clause-fault : goal.returns-in_default-clause-fault
@@ -11,7 +11,8 @@ pub returns-clause-ok : goal.returns-clause-ok
 returns-clause-ok c =
     let setup = c.args.setup.now in
     let image : c.deref.result.now ≡ image_bytes setup.image = c.deref.ensures.value ∙ c.in_ok-image.ensures.ok in
-    let formed : Formed setup.unit setup.room.bytes (image_bytes setup.image) c.in_ok-slots.slots = subst (λ (bytes : List ℕ). Formed setup.unit setup.room.bytes bytes c.in_ok-slots.slots) image c.in_ok-slots.ensures.ok in
+    let formed : Formed setup.unit setup.room.bytes (image_bytes setup.image) c.in_ok-slots.slots = subst
+    (λ (bytes : List ℕ). Formed setup.unit setup.room.bytes bytes c.in_ok-slots.slots) image c.in_ok-slots.ensures.ok in
     rw c.start.ensures (record {
       config = c.in-Ok.ensures.ok;
       allowed = c.in-Ok.ensures.allowed;

@@ -6,5 +6,6 @@ use Rattle.dfu_link.proofs.scripting.words.is_hex_text.Goals as goal
 
 pub returns-then-word-eq0 : goal.returns-then-word-eq0
 returns-then-word-eq0 c =
-    let off : bytes_eq c.args.word.now (codes "-") ≡ false = ap (λ (xs : List ℕ). bytes_eq c.args.word.now xs) (sym c.as_slice.ensures) ∙ sym c.if-eq.ensures in
+    let off : bytes_eq c.args.word.now (codes "-") ≡ false = ap (λ (xs : List ℕ). bytes_eq c.args.word.now xs) (sym c.as_slice.ensures)
+    ∙ sym c.if-eq.ensures in
     hex_same c.args.word.now c.are_digits.result c.if-word-eq0.true off c.are_digits.ensures

@@ -13,12 +13,15 @@ pub returns-in-Some : goal.returns-in-Some
 returns-in-Some c =
     let start : position is_no_space c.args.line.now ≡ Some c.in_ok-start.start = sym c.start_at.ensures ∙ c.in_ok-start.was in
     let back : c.split_at.result.1.now ≡ drop c.in_ok-start.start c.args.line.now = c.split_at.ensures.back in
-    let end : position is_space (drop c.in_ok-start.start c.args.line.now) ≡ Some c.in-Some.end = ap (position is_space) (sym back) ∙ (sym c.space_at.ensures ∙ c.in-Some.is) in
-    rw (c.split_at-in-Some.ensures.front, c.split_at-in-Some.ensures.back, back) (word_then c.args.line.now c.in_ok-start.start c.in-Some.end start end)
+    let end : position is_space (drop c.in_ok-start.start c.args.line.now) ≡ Some c.in-Some.end = ap (position is_space) (sym back)
+    ∙ (sym c.space_at.ensures ∙ c.in-Some.is) in
+    rw (c.split_at-in-Some.ensures.front, c.split_at-in-Some.ensures.back, back)
+    (word_then c.args.line.now c.in_ok-start.start c.in-Some.end start end)
 
 pub returns-in-None : goal.returns-in-None
 returns-in-None c =
     let start : position is_no_space c.args.line.now ≡ Some c.in_ok-start.start = sym c.start_at.ensures ∙ c.in_ok-start.was in
     let back : c.split_at.result.1.now ≡ drop c.in_ok-start.start c.args.line.now = c.split_at.ensures.back in
-    let none : position is_space (drop c.in_ok-start.start c.args.line.now) ≡ None = ap (position is_space) (sym back) ∙ (sym c.space_at.ensures ∙ c.in-None.is) in
+    let none : position is_space (drop c.in_ok-start.start c.args.line.now) ≡ None = ap (position is_space) (sym back)
+    ∙ (sym c.space_at.ensures ∙ c.in-None.is) in
     rw back (word_alone c.args.line.now c.in_ok-start.start start none)

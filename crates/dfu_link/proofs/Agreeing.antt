@@ -1,0 +1,103 @@
+-- That some session machine agrees with each link, and when a bench agrees.
+use Rattle.std.proofs.Common.{ℕ, List, [], ◌∷◌, refl, sym, ap, subst, inl, inr}
+use Rattle.dfu_slots.specs.Image.{Active}
+use Rattle.dfu_device.specs.Stage.{Stage, InManifestSync, InManifest}
+use Rattle.dfu_host.specs.Table.{Goal, ToLoad, ToFetch}
+use Rattle.dfu_link.specs.Session.{Machine}
+use Rattle.dfu_link.specs.Play.{Link}
+use Rattle.dfu_link.specs.Bench.{Session, Nobody, Hosted, Bench}
+use Rattle.dfu_link.specs.LinkAgreement.{pending_of, IsSound, Agrees, NothingClosed, SomeAgrees, FreshAgrees, LinkAgreesOn}
+use Rattle.dfu_link.specs.Agreement.{live_goal, live_of, IsLiveOffer, AgreesOn}
+use Rattle.dfu_link.specs.Bytes.{link_of}
+use Rattle.dfu_link.specs.Understood.{ImageShown}
+
+-- Some machine agrees with each link.
+
+abbrev closed_in : Stage → List ℕ
+closed_in (InManifestSync taken) = taken
+closed_in (InManifest taken passed) = taken
+closed_in stage = []
+
+abbrev goal_bytes : Goal → List ℕ
+goal_bytes (ToLoad payload) = payload
+goal_bytes ToFetch = []
+
+abbrev payload_in : Session → List ℕ
+payload_in Nobody = []
+payload_in (Hosted h) = goal_bytes h.task.goal
+
+closed_sound : (stage : Stage) (rest : List (List ℕ)) → IsSound (closed_in stage ∷ rest) stage
+closed_sound (InManifestSync taken) rest = inl refl
+closed_sound (InManifest taken passed) rest = inl refl
+closed_sound stage rest = tt
+
+goal_offered : (goal : Goal) (x : List ℕ) → IsLiveOffer (x ∷ goal_bytes goal ∷ []) (live_goal goal)
+goal_offered (ToLoad payload) x = inr (inl refl)
+goal_offered ToFetch x = tt
+
+live_offered : (session : Session) (x : List ℕ) → IsLiveOffer (x ∷ payload_in session ∷ []) (live_of session)
+live_offered Nobody x = tt
+live_offered (Hosted h) x = goal_offered h.task.goal x
+
+abbrev pub machine_of : Link → List ℕ → Machine
+machine_of w up = record {
+  cur = w.device.image;
+  offers = closed_in w.device.stage ∷ payload_in w.session ∷ [];
+  pending = pending_of w.device.stage;
+  live = live_of w.session;
+  up = up;
+}
+
+pub machine_agrees : (w : Link) (up : List ℕ) → Agrees w up (machine_of w up)
+machine_agrees w up = record {
+  cur = refl;
+  pending = refl;
+  live = refl;
+  up_is = refl;
+  sound = closed_sound w.device.stage (payload_in w.session ∷ []);
+  offered = live_offered w.session (closed_in w.device.stage);
+}
+
+-- Some session machine agrees with each link.
+pub some_agrees : SomeAgrees
+some_agrees w up = (machine_of w up, machine_agrees w up)
+
+open_sound : (stage : Stage) → NothingClosed stage → IsSound [] stage
+open_sound (InManifestSync taken) h = elim h [ ]
+open_sound (InManifest taken passed) h = elim h [ ]
+open_sound stage h = tt
+
+-- One with no offers agrees where no session is live and nothing is closed.
+pub fresh_agrees : FreshAgrees
+fresh_agrees w none still = record {
+  cur = refl;
+  pending = refl;
+  live = ap (λ (s : Session). live_of s) (sym none);
+  up_is = refl;
+  sound = open_sound w.device.stage still;
+  offered = subst (λ (s : Session). IsLiveOffer [] (live_of s)) (sym none) tt;
+}
+
+-- The machine's active image is that of the medium's bytes.
+
+-- A bench that shows the active image agrees with each machine that its link agrees with.
+pub agrees_on : LinkAgreesOn
+agrees_on b up m shows agrees = record {
+  active = subst (λ (image : List ℕ). Active b.device.slots.medium image) (sym agrees.cur) shows;
+  pending = agrees.pending;
+  live = agrees.live;
+  up_is = agrees.up_is;
+  sound = agrees.sound;
+  offered = agrees.offered;
+}
+
+-- Where a bench agrees, its link does: no image but the one that is shown is active.
+pub link_agrees : ImageShown → (b : Bench) (up : List ℕ) (m : Machine) → AgreesOn b up m → Agrees (link_of b) up m
+link_agrees shown b up m agrees = record {
+  cur = (shown b).1 m.cur agrees.active;
+  pending = agrees.pending;
+  live = agrees.live;
+  up_is = agrees.up_is;
+  sound = agrees.sound;
+  offered = agrees.offered;
+}

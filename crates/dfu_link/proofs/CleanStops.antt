@@ -1,0 +1,97 @@
+-- A clean run stops only where there is no memory for a report.
+use Rattle.std.proofs.Common.{◌≡◌, ℕ, zero, suc, ◌-◌, ◌<◌, ◌≤◌, true, List, [], ◌∷◌, ◌++◌, take, drop, replicate, Option, Some, None, refl, sym, ap, ◌∙◌, subst, arith}
+use Rattle.std.proofs.lemmas.List.{take-replicate}
+use Rattle.dfu_device.specs.Stage.{Profile}
+use Rattle.dfu_device.specs.Outcome.{Works}
+use Rattle.dfu_device.specs.Shown.{profile}
+use Rattle.dfu_host.specs.declared.limits.Limits.{Limits}
+use Rattle.dfu_host.specs.declared.report.Report.{Report}
+use Rattle.dfu_host.specs.declared.report.Report.TheVariants.{Installed}
+use Rattle.dfu_link.specs.Session.{said}
+use Rattle.dfu_link.specs.Happening.{Pass, Happening, Offers}
+use Rattle.dfu_link.specs.Play.{Link, Played, gone}
+use Rattle.dfu_link.specs.Bench.{Session, Nobody, Bench, LinkState}
+use Rattle.dfu_link.specs.CleanRun.{PassesTo, Quietly, here, there, resting}
+use Rattle.dfu_link.specs.Refusing.{IsLive}
+use Rattle.dfu_link.specs.CleanInstall.{clean_passes, CanInstall, offer_and_passes}
+use Rattle.dfu_link.specs.declared.fault.LinkFault.{LinkFault}
+use Rattle.dfu_link.specs.declared.fault.LinkFault.TheVariants as fault
+use Rattle.dfu_link.specs.Running.{IsStop}
+use Rattle.dfu_link.proofs.Refusals.{offered_not_bad}
+use Rattle.dfu_link.proofs.Chains.{Stopped}
+use Rattle.dfu_link.proofs.CleanRuns.{SureChain, none_sure, one_sure, sure_chain, pass, quiet_passes, has_begun}
+
+-- With no session passes lead nowhere.
+nobody_stays : {c : Profile} {w end : Link} {n : ℕ} → Quietly c w n end → w.session ≡ Nobody → end.session ≡ Nobody
+nobody_stays here e = e
+nobody_stays {c = c} {w = w} (there {mid = mid} p q) e =
+    let none : (gone c w w.session Pass Works Works true).link.session
+    ≡ Nobody = subst (λ (s : Session). (gone c w s Pass Works Works true).link.session ≡ Nobody) (sym e) e in
+    nobody_stays q (sym (ap (λ (x : Played). x.link.session) (p Works true)) ∙ none)
+
+nobody_installs : (c : Profile) (w end : Link) → PassesTo c w end (record { report = Some Installed; gave = None }) → w.session ≡ Nobody → ⊥
+nobody_installs c w end p e =
+    let none : (gone c w w.session Pass Works Works true).answer.report
+    ≡ None = subst (λ (s : Session). (gone c w s Pass Works Works true).answer.report ≡ None) (sym e) refl in
+    let some : (gone c w w.session Pass Works Works true).answer.report
+    ≡ Some Installed = ap (λ (x : Played). x.answer.report) (p Works true) in
+    absurd cc
+
+-- The offer is not refused.
+offer_stands : (b : Bench) (file : List ℕ) (limits : Limits) (payload : List ℕ) → CanInstall b file limits payload → (why : LinkFault)
+    → IsStop b (Offers file limits) why → why ≡ fault.NoMemory
+offer_stands b file limits payload can fault.NoMemory h = refl
+offer_stands b file limits payload can fault.HostBusy h = absurd (subst IsLive can.free h)
+offer_stands b file limits payload can fault.NoHost h = elim h [ ]
+offer_stands b file limits payload can (fault.BadOffer f) h = absurd (offered_not_bad b.device.config file payload f can.offered h.1)
+
+-- Nor is a pass, while a session is live.
+pass_stands : (b : Bench) → (b.session ≡ Nobody → ⊥) → (why : LinkFault) → IsStop b pass why → why ≡ fault.NoMemory
+pass_stands b live fault.NoMemory h = refl
+pass_stands b live fault.NoHost h = absurd (live h)
+pass_stands b live why h = elim h [ ]
+
+-- Each of so many passes is one.
+next_pass : (count k : ℕ) {next : Happening} {more : List Happening} → drop k (replicate count pass) ≡ next ∷ more
+    → (k < count) × (next ≡ pass)
+next_pass zero zero e = absurd cc
+next_pass zero (suc k) e = absurd cc
+next_pass (suc count) zero e = (omega arith, cc)
+next_pass (suc count) (suc k) e = let x = next_pass count k e in (omega (arith, x.0), x.1)
+
+record StopsCleanly (why : LinkFault) (reports : List Report) : Type 0 where
+  pub fault : why ≡ fault.NoMemory
+  pub none : reports ≡ []
+
+clean_stop : {b b' : Bench} {next : Happening} {more : List Happening} {why : LinkFault} {reports : List Report} (file : List ℕ)
+    (limits : Limits) (payload : List ℕ) (count at : ℕ) → CanInstall b file limits payload
+    → count ≤ clean_passes b.device.config payload → drop at (offer_and_passes file limits count) ≡ next ∷ more
+    → SureChain b (take at (offer_and_passes file limits count)) reports b' → IsStop b' next why → StopsCleanly why reports
+clean_stop {b = b} {next = next} {why = why} file limits payload count zero can most next_is none_sure stop =
+    let same : next ≡ Offers file limits = cc in
+    record { fault = offer_stands b file limits payload can why (subst (λ (h : Happening). IsStop b h why) same stop); none = refl }
+clean_stop {b = b} {b' = b'} {why = why} file limits payload count (suc k) can most next_is
+    (one_sure {mid = mid} {report = report} {reports = later} s more) stop =
+    let n : ℕ = clean_passes b.device.config payload in
+    let y = next_pass count k next_is in
+    let x = has_begun b mid report file limits payload can s in
+    let cut : take k (replicate count pass) ≡ replicate k pass = take-replicate k count pass (omega (arith, y.0)) in
+    let q = quiet_passes k (n - 1) (omega (arith, y.0, most)) (subst (λ (hs : List Happening). SureChain mid hs later b') cut more) x.fixed
+    x.quiet in
+    record {
+      fault = pass_stands b' (λ e. nobody_installs (profile b.device) x.before (resting payload) x.last (nobody_stays q.rest e)) why
+          (subst (λ (h : Happening). IsStop b' h why) y.1 stop);
+      none = ap (λ (r : Option Report). said r ++ later) x.told ∙ q.none;
+    }
+
+-- A run that stops before the end of a clean run had no memory, and reported nothing.
+pub stopped_clean : {w w' : LinkState} {hs : List Happening} {why : LinkFault} {at : ℕ} {reports : List Report} (file : List ℕ)
+    (limits : Limits) (payload : List ℕ) (count : ℕ) → Stopped w hs why at reports w'
+    → CanInstall w.bench file limits payload → hs ≡ offer_and_passes file limits count → count ≤ clean_passes w.bench.device.config payload
+    → (why ≡ fault.NoMemory) × (reports ≡ [])
+stopped_clean {w = w} {w' = w'} {at = at} {reports = reports} file limits payload count s can is most =
+    let x =
+    clean_stop file limits payload count at can most (subst (λ (hs : List Happening). drop at hs ≡ s.runs.next ∷ s.runs.more) is
+    s.runs.here)
+    (subst (λ (hs : List Happening). SureChain w.bench (take at hs) reports w'.bench) is (sure_chain s.chain)) s.runs.why in
+    (x.fault, x.none)

@@ -1,0 +1,246 @@
+-- Each event of the link is a step of the session machine, and a list of events is a legal run.
+use Rattle.std.proofs.Common.{◌≡◌, ℕ, ◌+◌, ◌<◌, ◌==◌, nat_le, max, Bool, List, ◌∷◌, ◌++◌, length, Some, None, refl, sym, subst, arith, inl, inr}
+use Rattle.dfu_device.specs.Stage.{Ack, Profile, Stage, InAppIdle, InAppDetach, InDfuIdle, InDownloadBusy, InManifestSync, InManifestSyncComplete, InManifest, InManifestWaitReset, InUploadIdle}
+use Rattle.dfu_device.specs.Table.{Plan, Commits, time_plan, reset_stage}
+use Rattle.dfu_device.specs.Outcome.{Situation, Luck, Works, outcome, elapsed}
+use Rattle.dfu_device.specs.Cases.{either_way}
+use Rattle.dfu_host.specs.declared.report.Report.{Report}
+use Rattle.dfu_host.specs.Blocks.{blocks}
+use Rattle.dfu_host.specs.BlockLaws.{block_counts}
+use Rattle.dfu_host.specs.Table.{Goal, ToLoad, ToFetch, Phase, Fetch, LastUploaded, GiveUp, Over, OverUploaded, Restarted}
+use Rattle.dfu_host.specs.Host.{HostState, IsOn, aborted_in}
+use Rattle.dfu_link.specs.Session.{Machine, Live, NoOne, Says, says_not, ATime, ARestart, Step, offered, uploads, aborts, passes, passes_installed, restarts, stops, and_then}
+use Rattle.dfu_link.specs.Play.{Event, Offer, UploadIt, AbortIt, Go, Time, ResetBus, Cut, kind_of, Link, Answered, silent, given, Played, took, restarted_to, played, IsAllowed, Play}
+use Rattle.dfu_link.specs.Bench.{Session, Nobody, Hosted}
+use Rattle.dfu_link.specs.LinkAgreement.{pending_of, IsSound, Agrees}
+use Rattle.dfu_link.specs.Agreement.{live_goal, live_of, IsLiveOffer}
+use Rattle.dfu_link.specs.Fact.{IsIdle, Fetches, FetchFact, GoalFact, SessionFact}
+use Rattle.dfu_link.specs.Headline.{Follows, Plays, ends, plays, FollowsAll}
+use Rattle.dfu_link.proofs.Kept.{fact_time}
+use Rattle.dfu_link.proofs.Taking.{shown, restart_taken, restart_plain, stop_fact, goes_by}
+use Rattle.dfu_link.proofs.Saying.{step_live}
+use Rattle.dfu_link.proofs.ActionSteps.{Simulated, go_simulated}
+
+module _ (c : Profile) (offers : List (List ℕ)) where
+  -- Time alone.
+  time_steps : (i : List ℕ) (ms : ℕ) (stage : Stage) (live : Live) (up : List ℕ) → IsSound offers stage →
+      let s = (outcome i (time_plan c stage ms) Works).after in
+      Step c.tolerant c.transfer ATime (shown offers i (pending_of stage) live up) None (shown offers s.image (pending_of s.stage) live up)
+      × IsSound offers s.stage
+  time_steps i ms (InAppDetach timer passed) live up h =
+      let P : Plan → Type 0 = λ p. let s = (outcome i p Works).after in
+      Step c.tolerant c.transfer ATime (shown offers i None live up) None (shown offers s.image (pending_of s.stage) live up)
+      × IsSound offers s.stage in
+      either_way P (ms == 0) _ _ (passes, tt)
+      (either_way P c.will_detach _ _ (passes, tt)
+      (either_way P (nat_le (max 1 timer) (passed + ms)) _ _ (passes, tt) (passes, tt)))
+  time_steps i ms (InDownloadBusy before block number passed) live up h =
+      let P : Plan → Type 0 = λ p. let s = (outcome i p Works).after in
+      Step c.tolerant c.transfer ATime (shown offers i (Some (before ++ block)) live up) None
+      (shown offers s.image (pending_of s.stage) live up) × IsSound offers s.stage in
+      either_way P (ms == 0) _ _ (passes, tt) (either_way P (nat_le c.busy (passed + ms)) _ _ (passes, tt) (passes, tt))
+  time_steps i ms (InManifest taken passed) live up h =
+      let P : Plan → Type 0 = λ p. let s = (outcome i p Works).after in
+      Step c.tolerant c.transfer ATime (shown offers i (Some taken) live up) None (shown offers s.image (pending_of s.stage) live up)
+      × IsSound offers s.stage in
+      either_way P (ms == 0) _ _ (passes, h)
+      (either_way P (nat_le c.manifest (passed + ms)) _ _
+      (either_way (λ st. P (Commits taken Ack st Ack)) c.tolerant InManifestSyncComplete InManifestWaitReset (passes_installed refl h, tt)
+      (passes_installed refl h, tt))
+      (passes, h))
+  time_steps i ms stage live up h = (passes, h)
+
+  fetches_time : (n : ℕ) (kept image : List ℕ) (ms : ℕ) (stage : Stage) → Fetches n kept image stage
+      → Fetches n kept (outcome image (time_plan c stage ms) Works).after.image (outcome image (time_plan c stage ms) Works).after.stage
+  fetches_time n kept image ms InDfuIdle f = f
+  fetches_time n kept image ms (InUploadIdle place number) f = f
+  fetches_time n kept image ms stage f = elim f [ ]
+
+  idle_time : (kept image : List ℕ) (ms : ℕ) (stage : Stage) → (kept ≡ image) × IsIdle stage
+      → let d = (outcome image (time_plan c stage ms) Works).after in (kept ≡ d.image) × IsIdle d.stage
+  idle_time kept image ms InDfuIdle f = f
+  idle_time kept image ms stage f = elim f.1 [ ]
+
+  fetch_time : (s : Situation) (ms : ℕ) (phase : Phase) → IsOn phase → FetchFact phase s → FetchFact phase (elapsed c s ms Works)
+  fetch_time s ms (Fetch n kept) on f = (f.0, fetches_time n kept s.image ms s.stage f.1)
+  fetch_time s ms (LastUploaded kept) on f = idle_time kept s.image ms s.stage f
+  fetch_time s ms (OverUploaded kept) on f = elim on [ ]
+  fetch_time s ms (Over report) on f = elim on [ ]
+  fetch_time s ms phase on f = f
+
+  goal_time : (s : Situation) (ms : ℕ) (g : Goal) (phase : Phase) → IsOn phase → GoalFact c g phase s
+      → GoalFact c g phase (elapsed c s ms Works)
+  goal_time s ms (ToLoad p) phase on f = fact_time c s.image p phase ms s.stage f Works
+  goal_time s ms ToFetch phase on f = fetch_time s ms phase on f
+
+  time_fact : (s : Situation) (ms : ℕ) (session : Session) → SessionFact c s session → SessionFact c (elapsed c s ms Works) session
+  time_fact s ms Nobody f = tt
+  time_fact s ms (Hosted h) f = record {
+    task_is = f.task_is;
+    on = f.on;
+    some = f.some;
+    fact = goal_time s ms h.task.goal h.phase f.on f.fact;
+  }
+
+  nothing_pends : (stage : Stage) → pending_of (reset_stage stage) ≡ None
+  nothing_pends (InAppDetach timer passed) = refl
+  nothing_pends stage = refl
+
+  nothing_closed : (stage : Stage) → IsSound offers (reset_stage stage)
+  nothing_closed (InAppDetach timer passed) = tt
+  nothing_closed stage = tt
+
+  -- A restart that comes from outside.
+  restart_simulated : (s : Situation) (next : Stage) (session : Session) (up : List ℕ) → pending_of next ≡ None → IsSound offers next
+      → IsLiveOffer offers (live_of session) → SessionFact c s session
+      → Simulated c offers (record { device = s; session = session }) up ARestart
+      (restarted_to (record { image = s.image; stage = next }) session) offers
+  restart_simulated s next Nobody up n q o f =
+      record {
+        step = restarts (subst (λ r. Says c.tolerant (shown offers s.image None NoOne up) None (shown offers s.image r NoOne up))
+            (sym n) says_not) tt;
+        sound = q;
+        offer = tt;
+        fact = tt;
+        done = λ x. cc;
+      }
+  restart_simulated s next (Hosted h) up n q o f =
+      let taken = took h Restarted in
+      let t = restart_taken c offers (record { image = s.image; stage = next }) h up f.on f.task_is o f.some in
+      record {
+        step = restarts (subst (λ r. Says c.tolerant (shown offers s.image r (live_goal h.task.goal) up) taken.answer.report
+            (shown offers s.image (pending_of next) (live_of taken.session) (given taken.answer.gave up))) n t.says)
+            (restart_plain c offers h f.on);
+        sound = q;
+        offer = t.offer;
+        fact = t.fact;
+        done = t.done;
+      }
+
+  more_sound : (p : List ℕ) (stage : Stage) → IsSound offers stage → IsSound (p ∷ offers) stage
+  more_sound p (InManifestSync taken) h = inr h
+  more_sound p (InManifest taken passed) h = inr h
+  more_sound p stage h = tt
+
+-- The offers after an event.
+abbrev offers_by : Event → List (List ℕ) → List (List ℕ)
+offers_by (Offer payload actions again) offers = payload ∷ offers
+offers_by event offers = offers
+
+-- What an event has to know of the transfer size: an offer, and an action of the host.
+abbrev pub Sizes : Profile → Session → Event → Type 0
+Sizes c Nobody (Offer payload actions again) = 0 < c.transfer
+Sizes c (Hosted h) (Go fate) = 0 < c.transfer
+Sizes c session event = Unit {0}
+
+-- Where the transfer size is known, each event knows it.
+pub all_sized : (c : Profile) (session : Session) (event : Event) → 0 < c.transfer → Sizes c session event
+all_sized c Nobody (Offer payload actions again) h = h
+all_sized c (Hosted host) (Go fate) h = h
+all_sized c session event h = tt
+
+-- A live host that its caller gives up is in Give up.
+gives_up : (h : HostState) (phase : Phase) → IsOn phase → aborted_in h phase ≡ record h { phase = GiveUp }
+gives_up h (Over r) on = elim on [ ]
+gives_up h (OverUploaded kept) on = elim on [ ]
+gives_up h phase on = refl
+
+module _ (c : Profile) where
+  some_blocks : (p : List ℕ) → 0 < c.transfer → 0 < length p → 0 < length (blocks p c.transfer)
+  some_blocks p sized h = block_counts p c.transfer 0 sized (omega (arith, h))
+
+  simulated : (offers : List (List ℕ)) (s : Situation) (session : Session) (up : List ℕ) (event : Event) (l k : Luck) (room : Bool)
+      → Sizes c session event → IsAllowed session event → IsSound offers s.stage → IsLiveOffer offers (live_of session) → SessionFact c s session
+      → let w : Link = record { device = s; session = session } in
+      Simulated c offers w up (kind_of event) (played c w event l k room) (offers_by event offers)
+  simulated offers s Nobody up (Offer payload actions again) l k room z a q o f =
+      record {
+        step = offered refl;
+        sound = more_sound c offers payload s.stage q;
+        offer = inl refl;
+        fact = record { task_is = goes_by c (ToLoad payload); on = tt; some = some_blocks payload z a; fact = tt };
+        done = λ e. cc;
+      }
+  simulated offers s (Hosted h) up (Offer payload actions again) l k room z a q o f = elim a [ ]
+  simulated offers s Nobody up (UploadIt actions again) l k room z a q o f =
+      record {
+        step = uploads refl;
+        sound = q;
+        offer = tt;
+        fact = record { task_is = goes_by c ToFetch; on = tt; some = tt; fact = tt };
+        done = λ e. cc;
+      }
+  simulated offers s (Hosted h) up (UploadIt actions again) l k room z a q o f = elim a [ ]
+  simulated offers s Nobody up AbortIt l k room z a q o f = elim a [ ]
+  simulated offers s (Hosted h) up AbortIt l k room z a q o f =
+      subst (λ (x : HostState). Simulated c offers (record { device = s; session = Hosted h }) up (kind_of AbortIt)
+      (record { link = record { device = s; session = Hosted x }; answer = silent }) offers) (sym (gives_up h h.phase f.on))
+      (record {
+        step = aborts;
+        sound = q;
+        offer = o;
+        fact = record {
+          task_is = f.task_is;
+          on = tt;
+          some = f.some;
+          fact = stop_fact c offers h.task.goal s;
+        };
+        done = λ e. cc;
+      })
+  simulated offers s Nobody up (Go fate) l k room z a q o f = elim a [ ]
+  simulated offers s (Hosted h) up (Go fate) l k room z a q o f = go_simulated c z offers s h up fate l k room q o f
+  simulated offers s session up (Time ms) l k room z a q o f =
+      let t = time_steps c offers s.image ms s.stage (live_of session) up q in
+      record { step = t.0; sound = t.1; offer = o; fact = time_fact c offers s ms session f; done = λ e. cc }
+  simulated offers s session up ResetBus l k room z a q o f =
+      restart_simulated c offers s (reset_stage s.stage) session up (nothing_pends c offers s.stage) (nothing_closed c offers s.stage) o f
+  simulated offers s session up Cut l k room z a q o f = restart_simulated c offers s InAppIdle session up refl tt o f
+
+  -- A machine that agrees is the one that is shown.
+  is_shown : (w : Link) (up : List ℕ) (m : Machine) → Agrees w up m
+      → shown m.offers w.device.image (pending_of w.device.stage) (live_of w.session) up ≡ m
+  is_shown w up m a = λ i. record {
+    cur = sym a.cur i;
+    offers = m.offers;
+    pending = sym a.pending i;
+    live = sym a.live i;
+    up = sym a.up_is i;
+  }
+
+  shown_follows : (w : Link) (up : List ℕ) (offers offers' : List (List ℕ)) (event : Event) (r : Played)
+      → Simulated c offers w up (kind_of event) r offers' → Follows c
+      (shown offers w.device.image (pending_of w.device.stage) (live_of w.session) up) event r.link (given r.answer.gave up) r.answer.report
+  shown_follows w up offers offers' event r s =
+      record {
+        after = shown offers' r.link.device.image (pending_of r.link.device.stage) (live_of r.link.session) (given r.answer.gave up);
+        step = s.step;
+        agrees = record { cur = refl; pending = refl; live = refl; up_is = refl; sound = s.sound; offered = s.offer };
+        fact = s.fact;
+        installed = λ e. (s.done e, step_live s.step e);
+      }
+
+  -- The session machine follows a play that knows the transfer size.
+  pub follows_sized : (w w' : Link) (up : List ℕ) (m : Machine) (event : Event) (answer : Answered) → Sizes c w.session event
+      → SessionFact c w.device w.session → Agrees w up m → Play c w event w' answer
+      → Follows c m event w' (given answer.gave up) answer.report
+  follows_sized w w' up m event answer z f a p =
+      let r : Played = played c w event p.first p.second p.room in
+      let s = simulated m.offers w.device w.session up event p.first p.second p.room z p.allowed a.sound a.offered f in
+      let e = shown_follows w up m.offers (offers_by event m.offers) event r s in
+      subst (λ (q : Played). Follows c m event q.link (given q.answer.gave up) q.answer.report) p.same
+      (subst (λ (n : Machine). Follows c n event r.link (given r.answer.gave up) r.answer.report) (is_shown w up m a) e)
+
+module _ (c : Profile) (sized : 0 < c.transfer) where
+  -- The session machine follows each play of a device with a transfer size.
+  pub follows : (w w' : Link) (up : List ℕ) (m : Machine) (event : Event) (answer : Answered) → SessionFact c w.device w.session
+      → Agrees w up m → Play c w event w' answer → Follows c m event w' (given answer.gave up) answer.report
+  follows w w' up m event answer f a p = follows_sized c w w' up m event answer (all_sized c w.session event sized) f a p
+
+  -- It follows plays one after the other.
+  pub follows_all : {w w' : Link} {up up' : List ℕ} {events : List Event} {reports : List Report} (m : Machine)
+      → SessionFact c w.device w.session → Agrees w up m → Plays c w up events reports w' up' → FollowsAll c m events reports w' up'
+  follows_all m f a ends = record { after = m; legal = stops; agrees = a; fact = f }
+  follows_all {w = w} {up = up} m f a (plays {mid = mid} {event = event} {answer = answer} p r) =
+      let one = follows w mid up m event answer f a p in
+      let rest = follows_all one.after one.fact one.agrees r in
+      record { after = rest.after; legal = and_then one.step rest.legal; agrees = rest.agrees; fact = rest.fact }
