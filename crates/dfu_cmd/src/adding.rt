@@ -38,7 +38,8 @@ pub fn add_text<R: Read + Drop, F: Write, W: Write>(
     file: &mut F,
     out: &mut W,
 ) -> Exit
-    ensures { WritesAdd (R.remaining reader) ids (F.contents file.old) (F.contents file.new) (W.contents out.old) (W.contents out.new) result }
+    ensures { WritesAdd (R.remaining reader) ids (F.contents file.old) (F.contents file.new) (W.contents out.old)
+        (W.contents out.new) result }
 {
     match add(alloc, reader, ids, file) {
         Ok(count) => match wrote_line(alloc, count) {

@@ -5,15 +5,13 @@ use Rattle.dfu_wire.specs.declared.ids.Ids.{Ids}
 use Rattle.dfu_device.specs.declared.fault.ConfigFault.{ConfigFault}
 use Rattle.dfu_device.specs.declared.fault.ConfigFault.TheVariants as fault
 
--- What a device is set up with: who it is, its functional descriptor, the fewest bytes of an image, and two times in milliseconds.
+-- What a device is set up with: who it is, its functional descriptor, the fewest bytes of an image, and how many milliseconds it takes to
+-- write a block and to put an image in place.
 pub record Setting : Type 0 where
   pub ids : Ids
   pub functional : Functional
-  -- The fewest bytes of an image.
   pub least : ℕ
-  -- How long it takes to write a block.
   pub busy_ms : ℕ
-  -- How long it takes to put an image in place.
   pub manifest_ms : ℕ
 
 -- Blocks have 1 to 4,096 bytes.

@@ -48,34 +48,22 @@ pub record Profile : Type 0 where
   -- The most bytes of an image.
   pub capacity : ℕ
 
--- A state with what it keeps, and nothing else: so what a state does not keep is forgotten on entering it.
+-- A state with what it keeps, and nothing else: so what a state does not keep is forgotten on entering it. `number` is that of the next
+-- block, `passed` how many milliseconds passed in the state.
 pub data Stage : Type 0 where
-  -- appIDLE: the application runs.
-  InAppIdle : Stage
-  -- appDETACH: it got DETACH; its timer, and the time that passed.
-  InAppDetach : (timer passed : ℕ) → Stage
-  -- dfuIDLE: nothing is taken.
-  InDfuIdle : Stage
-  -- dfuDNLOAD-SYNC, block not written: the bytes taken before the block, the block, and the number of the next one.
-  InDownloadSync : (before block : List ℕ) (number : ℕ) → Stage
-  -- dfuDNLOAD-SYNC, block written: the bytes taken, all put in the slot store, and the number of the next block.
-  InDownloadSyncWritten : (taken : List ℕ) (number : ℕ) → Stage
-  -- dfuDNBUSY: the block is being written for this long.
-  InDownloadBusy : (before block : List ℕ) (number passed : ℕ) → Stage
-  -- dfuDNLOAD-IDLE: ready for the block of this number.
-  InDownloadIdle : (taken : List ℕ) (number : ℕ) → Stage
-  -- dfuMANIFEST-SYNC, not complete: the host closed the download.
-  InManifestSync : (taken : List ℕ) → Stage
-  -- dfuMANIFEST-SYNC, complete: the bytes taken are the active image.
-  InManifestSyncComplete : Stage
-  -- dfuMANIFEST: they are being put in place for this long.
-  InManifest : (taken : List ℕ) (passed : ℕ) → Stage
-  -- dfuMANIFEST-WAIT-RESET.
-  InManifestWaitReset : Stage
-  -- dfuUPLOAD-IDLE: how many bytes of the image were sent, and the number of the next block.
-  InUploadIdle : (place number : ℕ) → Stage
-  -- dfuERROR, with its code.
-  InError : Code → Stage
+  InAppIdle : Stage  -- appIDLE: the application runs
+  InAppDetach : (timer passed : ℕ) → Stage  -- appDETACH: it got DETACH; its timer
+  InDfuIdle : Stage  -- dfuIDLE: nothing is taken
+  InDownloadSync : (before block : List ℕ) (number : ℕ) → Stage  -- dfuDNLOAD-SYNC: a block that is not written, behind these bytes
+  InDownloadSyncWritten : (taken : List ℕ) (number : ℕ) → Stage  -- dfuDNLOAD-SYNC: all bytes taken are put in the slot store
+  InDownloadBusy : (before block : List ℕ) (number passed : ℕ) → Stage  -- dfuDNBUSY: the block is being written
+  InDownloadIdle : (taken : List ℕ) (number : ℕ) → Stage  -- dfuDNLOAD-IDLE: ready for the next block
+  InManifestSync : (taken : List ℕ) → Stage  -- dfuMANIFEST-SYNC, not complete: the host closed the download
+  InManifestSyncComplete : Stage  -- dfuMANIFEST-SYNC, complete: the bytes taken are the active image
+  InManifest : (taken : List ℕ) (passed : ℕ) → Stage  -- dfuMANIFEST: they are being put in place
+  InManifestWaitReset : Stage  -- dfuMANIFEST-WAIT-RESET
+  InUploadIdle : (place number : ℕ) → Stage  -- dfuUPLOAD-IDLE: so many bytes of the image were sent
+  InError : Code → Stage  -- dfuERROR, with its code
 
 -- The state of the standard that a stage is.
 abbrev pub state_of : Stage → State

@@ -31,7 +31,7 @@ impl<M: Medium> Machine<M> {
     }
 
     /// Answers with the first `len` bytes of the status, at most six.
-    pub fn report(&self, len: u16, out: &mut ArrayVec<u8, 4096>) -> Answer
+    pub(crate) fn report(&self, len: u16, out: &mut ArrayVec<u8, 4096>) -> Answer
         requires { out.old.items ≡ [] }
         ensures { Answers len (status_of (profile (shown self.now)) (shown self.now).stage) result out.new.items }
     {
@@ -45,7 +45,7 @@ impl<M: Medium> Machine<M> {
     }
 
     /// Answers with the state, where at least one byte is asked for.
-    pub fn tell(&self, len: u16, out: &mut ArrayVec<u8, 4096>) -> Answer
+    pub(crate) fn tell(&self, len: u16, out: &mut ArrayVec<u8, 4096>) -> Answer
         requires { out.old.items ≡ [] }
         ensures { Answers len (StateOf (state_of (shown self.now).stage)) result out.new.items }
     {
@@ -56,7 +56,7 @@ impl<M: Medium> Machine<M> {
     }
 
     /// Stalls, and goes to dfuERROR with a code.
-    pub fn error(&mut self, code: Code) -> Answer
+    pub(crate) fn error(&mut self, code: Code) -> Answer
         ensures answer { result ≡ Answer.Stall }
         ensures now { shown self.new ≡ record (shown self.old) { stage = InError code } }
     {
@@ -65,7 +65,13 @@ impl<M: Medium> Machine<M> {
     }
 
     /// Takes a block of a download behind the bytes written, if its length and its number are right.
-    pub fn take_block(&mut self, written: u32, expected: u16, number: u16, body: &[u8]) -> Answer
+    pub(crate) fn take_block(
+        &mut self,
+        written: u32,
+        expected: u16,
+        number: u16,
+        body: &[u8],
+    ) -> Answer
         requires fits { (written ≡ 0) ⊎ ((0 < written) × (written ≤ room_of self.old.slots) × (is_put written self.old.slots ≡ true)) }
         requires some { 0 < length body.now }
         ensures row { Done (block_plan (profile (shown self.old)) (take written (spare_of self.old.slots)) expected number body.now) 0
@@ -91,7 +97,7 @@ impl<M: Medium> Machine<M> {
 
     /// Writes the block. It answers whether the medium worked; `late` is said where time passed, so
     /// that the host has to ask for the status once more.
-    pub fn write_block(&mut self, written: u32, number: u16, late: bool) -> bool
+    pub(crate) fn write_block(&mut self, written: u32, number: u16, late: bool) -> bool
         requires { ((passed : ℕ) × (self.old.mode ≡ Mode.DownloadBusy written number passed))
             ⊎ (self.old.mode ≡ Mode.DownloadSync written number) }
         ensures done { let before = take written (spare_of self.old.slots) in
@@ -120,7 +126,7 @@ impl<M: Medium> Machine<M> {
 
     /// Makes the bytes taken the active image, and goes on to the next state. It answers whether the
     /// medium worked.
-    pub fn commit_taken(&mut self, written: u32, next: Mode) -> bool
+    pub(crate) fn commit_taken(&mut self, written: u32, next: Mode) -> bool
         requires mode { ((passed : ℕ) × (self.old.mode ≡ Mode.Manifest written passed)) ⊎ (self.old.mode ≡ Mode.ManifestSync written) }
         requires next { (next ≡ Mode.DfuIdle) ⊎ (next ≡ Mode.ManifestSyncComplete) ⊎ (next ≡ Mode.ManifestWaitReset) }
         ensures done { result ≡ true → Committed (take written (spare_of self.old.slots)) self.old.config self.old.slots

@@ -29,7 +29,7 @@ impl<M: Medium> Machine<M> {
     ghost use Rattle.dfu_device.specs.inside.View.{shown};
 
     /// A machine in appIDLE.
-    pub fn start(config: Config, slots: Slots<M>) -> Machine<M>
+    pub(crate) fn start(config: Config, slots: Slots<M>) -> Machine<M>
         ensures { shown result ≡ record { config = config; slots = slots; stage = InAppIdle } }
     {
         // Called for its clauses, which say that the store is shaped, as the machine is to keep it.
@@ -43,7 +43,7 @@ impl<M: Medium> Machine<M> {
     }
 
     /// The state of the standard.
-    pub fn state(&self) -> State
+    pub(crate) fn state(&self) -> State
         ensures { result ≡ state_of (shown self.now).stage }
     {
         match self.mode {
@@ -62,7 +62,7 @@ impl<M: Medium> Machine<M> {
     }
 
     /// The status code: that of dfuERROR, and OK in every other state.
-    pub fn code(&self) -> Code
+    pub(crate) fn code(&self) -> Code
         ensures { result ≡ code_of (shown self.now).stage }
     {
         match self.mode {
@@ -72,7 +72,12 @@ impl<M: Medium> Machine<M> {
     }
 
     /// Answers a setup with its body: the three rules before the table, then the table.
-    pub fn handle(&mut self, setup: &[u8; 8], body: &[u8], out: &mut ArrayVec<u8, 4096>) -> Answer
+    pub(crate) fn handle(
+        &mut self,
+        setup: &[u8; 8],
+        body: &[u8],
+        out: &mut ArrayVec<u8, 4096>,
+    ) -> Answer
         ensures row { Handles setup.now body.now (shown self.old) result out.new.items (shown self.new) }
     {
         out.clear();
@@ -114,7 +119,7 @@ impl<M: Medium> Machine<M> {
     }
 
     /// The bus is reset.
-    pub fn usb_reset(&mut self)
+    pub(crate) fn usb_reset(&mut self)
         ensures { shown self.new ≡ record (shown self.old) { stage = reset_stage (shown self.old).stage } }
     {
         self.mode = match self.mode {

@@ -16,7 +16,7 @@ use dfu_wire::{Code, Request};
 
 impl<M: Medium> Machine<M> {
     /// appIDLE
-    pub fn in_app_idle(&mut self, request: Request, out: &mut ArrayVec<u8, 4096>) -> Answer
+    pub(crate) fn in_app_idle(&mut self, request: Request, out: &mut ArrayVec<u8, 4096>) -> Answer
         requires mode { self.old.mode ≡ Mode.AppIdle }
         requires out { out.old.items ≡ [] }
         ensures row { (body : List ℕ) →
@@ -35,7 +35,7 @@ impl<M: Medium> Machine<M> {
     }
 
     /// appDETACH
-    pub fn in_app_detach(
+    pub(crate) fn in_app_detach(
         &mut self,
         timer: u32,
         passed: u32,
@@ -58,7 +58,7 @@ impl<M: Medium> Machine<M> {
     }
 
     /// dfuIDLE
-    pub fn in_dfu_idle(
+    pub(crate) fn in_dfu_idle(
         &mut self,
         request: Request,
         body: &[u8],
@@ -85,7 +85,7 @@ impl<M: Medium> Machine<M> {
     }
 
     /// dfuDNLOAD-SYNC, block not written
-    pub fn in_download_sync(
+    pub(crate) fn in_download_sync(
         &mut self,
         written: u32,
         number: u16,
@@ -119,7 +119,7 @@ impl<M: Medium> Machine<M> {
     }
 
     /// dfuDNLOAD-SYNC, block written
-    pub fn in_download_sync_written(
+    pub(crate) fn in_download_sync_written(
         &mut self,
         written: u32,
         number: u16,
@@ -143,7 +143,7 @@ impl<M: Medium> Machine<M> {
     }
 
     /// dfuDNBUSY
-    pub fn in_download_busy(&mut self) -> Answer
+    pub(crate) fn in_download_busy(&mut self) -> Answer
         ensures answer { result ≡ Answer.Stall }
         ensures now { shown self.new ≡ record (shown self.old) { stage = InError Code.StalledPkt } }
     {
@@ -151,7 +151,7 @@ impl<M: Medium> Machine<M> {
     }
 
     /// dfuDNLOAD-IDLE
-    pub fn in_download_idle(
+    pub(crate) fn in_download_idle(
         &mut self,
         written: u32,
         number: u16,
@@ -186,7 +186,7 @@ impl<M: Medium> Machine<M> {
     }
 
     /// dfuMANIFEST-SYNC, not complete
-    pub fn in_manifest_sync(
+    pub(crate) fn in_manifest_sync(
         &mut self,
         written: u32,
         request: Request,
@@ -213,7 +213,7 @@ impl<M: Medium> Machine<M> {
     }
 
     /// dfuMANIFEST-SYNC, complete
-    pub fn in_manifest_sync_complete(
+    pub(crate) fn in_manifest_sync_complete(
         &mut self,
         request: Request,
         out: &mut ArrayVec<u8, 4096>,
@@ -234,7 +234,7 @@ impl<M: Medium> Machine<M> {
     }
 
     /// dfuMANIFEST
-    pub fn in_manifest(&mut self) -> Answer
+    pub(crate) fn in_manifest(&mut self) -> Answer
         ensures answer { result ≡ Answer.Stall }
         ensures now { shown self.new ≡ record (shown self.old) { stage = InError Code.StalledPkt } }
     {
@@ -242,14 +242,19 @@ impl<M: Medium> Machine<M> {
     }
 
     /// dfuMANIFEST-WAIT-RESET
-    pub fn in_manifest_wait_reset(&self) -> Answer
+    pub(crate) fn in_manifest_wait_reset(&self) -> Answer
         ensures { result ≡ Answer.Stall }
     {
         Answer::Stall
     }
 
     /// dfuERROR
-    pub fn in_error(&mut self, code: Code, request: Request, out: &mut ArrayVec<u8, 4096>) -> Answer
+    pub(crate) fn in_error(
+        &mut self,
+        code: Code,
+        request: Request,
+        out: &mut ArrayVec<u8, 4096>,
+    ) -> Answer
         requires mode { self.old.mode ≡ Mode.Error code }
         requires out { out.old.items ≡ [] }
         ensures row { (body : List ℕ) →

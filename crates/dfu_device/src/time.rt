@@ -12,7 +12,7 @@ use dfu_slots::Medium;
 
 impl<M: Medium> Machine<M> {
     /// So many milliseconds pass.
-    pub fn elapse(&mut self, ms: u32)
+    pub(crate) fn elapse(&mut self, ms: u32)
         ensures row { Elapses ms (shown self.old) (shown self.new) }
     {
         match self.mode {

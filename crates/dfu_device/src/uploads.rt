@@ -17,7 +17,7 @@ use dfu_wire::{Code, Request};
 
 impl<M: Medium> Machine<M> {
     /// dfuUPLOAD-IDLE
-    pub fn in_upload_idle(
+    pub(crate) fn in_upload_idle(
         &mut self,
         place: u32,
         number: u16,
@@ -44,7 +44,7 @@ impl<M: Medium> Machine<M> {
     /// Answers with the next `len` bytes of the image, from `place` on. Where fewer are left they are the
     /// last ones, and the upload is over. The errors, in their order: errSTALLEDPKT where `len` is 0 or
     /// over the transfer size, errADDRESS where the number is not the expected one.
-    pub fn send(
+    pub(crate) fn send(
         &mut self,
         place: u32,
         expected: u16,

@@ -50,7 +50,8 @@ module _ (c : Profile) (offers : List (List ℕ)) (p : List ℕ) where
 
   block_taken : (n num : ℕ) (before body : List ℕ) (number : ℕ) (s : Situation) → n < length (blocks p c.transfer) → Fact c p (Ask n) s
       → IsSound offers s.stage → IsFirst p c.transfer n (pending_of s.stage) → before ++ body ≡ first p c.transfer (suc n)
-      → (fate : Fate) (l k : Luck) → GoesWell (Block n) s (sent_by c s (Dnload num body) (Sure Ack (InDownloadSync before body number)) fate l k)
+      → (fate : Fate) (l k : Luck) → GoesWell (Block n) s
+      (sent_by c s (Dnload num body) (Sure Ack (InDownloadSync before body number)) fate l k)
   block_taken n num before body number s b a h f e Pass l k = record { moves = takes_block n _ b f e; sound = tt; next = (b, e) }
   block_taken n num before body number s b a h f e LostOut l k = record { moves = quietly stays; sound = h; next = a }
   block_taken n num before body number s b a h f e LostBack l k = record { moves = takes_block n _ b f e; sound = tt; next = (b, e) }

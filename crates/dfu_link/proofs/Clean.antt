@@ -60,7 +60,8 @@ begun_run c p i again left tol can sized some least room budget =
     let total : k + suc l ≡ left = omega (arith, budget, clean_is b c.busy c.manifest) in
     let r : Leads c p again i InAppIdle Find k (first p c.transfer (suc (b - 1))) InDfuIdle (Last Installed) = subst
     (λ z. Leads c p again i InAppIdle Find z (first p c.transfer (suc (b - 1))) InDfuIdle (Last Installed)) count run in
-    let s : Leads c p again i InAppIdle Find k p InDfuIdle (Last Installed) = subst (λ z. Leads c p again i InAppIdle Find k z InDfuIdle (Last Installed))
+    let s : Leads c p again i InAppIdle Find k p InDfuIdle (Last Installed) =
+    subst (λ z. Leads c p again i InAppIdle Find k z InDfuIdle (Last Installed))
     whole r in
     record {
       before = at c p again p InDfuIdle (Last Installed) (suc l);

@@ -129,7 +129,8 @@ pub record HasBegun (b : Bench) (payload : List ℕ) (mid : Bench) (report : Opt
   pub fixed : profile mid.device ≡ profile b.device
   pub told : report ≡ None
 
-pub has_begun : (b mid : Bench) (report : Option Report) (file : List ℕ) (limits : Limits) (payload : List ℕ) → CanInstall b file limits payload
+pub has_begun : (b mid : Bench) (report : Option Report) (file : List ℕ) (limits : Limits) (payload : List ℕ)
+    → CanInstall b file limits payload
     → IsSure b (Offers file limits) mid report → HasBegun b payload mid report
 has_begun b mid report file limits payload can s =
     let c : Profile = profile b.device in

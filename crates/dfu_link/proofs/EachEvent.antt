@@ -150,7 +150,8 @@ module _ (c : Profile) where
   some_blocks p sized h = block_counts p c.transfer 0 sized (omega (arith, h))
 
   simulated : (offers : List (List ℕ)) (s : Situation) (session : Session) (up : List ℕ) (event : Event) (l k : Luck) (room : Bool)
-      → Sizes c session event → IsAllowed session event → IsSound offers s.stage → IsLiveOffer offers (live_of session) → SessionFact c s session
+      → Sizes c session event → IsAllowed session event → IsSound offers s.stage → IsLiveOffer offers (live_of session)
+      → SessionFact c s session
       → let w : Link = record { device = s; session = session } in
       Simulated c offers w up (kind_of event) (played c w event l k room) (offers_by event offers)
   simulated offers s Nobody up (Offer payload actions again) l k room z a q o f =

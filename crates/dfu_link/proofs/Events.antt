@@ -197,7 +197,8 @@ pub offer_bad : (s : Setting) (file : List ℕ) (content : Content) (f : Functio
 offer_bad s file content f ids why e k found h = (
   content,
   record { extra = found.0; reads = found.1; suffix = found.2 },
-  subst (λ (x : Functional). first_download_fault content x s.ids ≡ Some why) e (subst (λ (y : Ids). first_download_fault content f y ≡ Some why) k h),
+  subst (λ (x : Functional). first_download_fault content x s.ids ≡ Some why) e
+      (subst (λ (y : Ids). first_download_fault content f y ≡ Some why) k h),
 )
 
 -- Where a session begins, the download has no fault.

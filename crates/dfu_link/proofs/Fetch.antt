@@ -86,7 +86,8 @@ module _ (c : Profile) (offers : List (List ℕ)) (k : ℕ) (kept : List ℕ) wh
           omega (arith, length-take c.transfer (drop place image)))
 
       by_number : (t : Bool) → (number == expected) ≡ t → P (cond (not t) (error ErrAddress)
-          (cond (nat_lt (length (take c.transfer (drop place image))) c.transfer) (Sure (Data (take c.transfer (drop place image))) InDfuIdle)
+          (cond (nat_lt (length (take c.transfer (drop place image))) c.transfer)
+          (Sure (Data (take c.transfer (drop place image))) InDfuIdle)
           (Sure (Data (take c.transfer (drop place image))) (InUploadIdle (place + c.transfer) (next_number expected)))))
       by_number true e = by_short (nat_lt (length (take c.transfer (drop place image))) c.transfer) refl (grind (arith, nat_tests))
       by_number false e = pf ErrAddress

@@ -33,7 +33,6 @@ pub mod WordLaws
 pub mod LineLaws
 pub mod WriteLaws
 pub mod HexLaws
-pub mod GatherLaws
 pub mod MoveLaws
 pub mod FallLaws
 pub mod WholeLaws

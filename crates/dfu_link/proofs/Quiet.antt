@@ -71,7 +71,8 @@ module _ (c : Profile) (offers : List (List ℕ)) (i : List ℕ) where
   quiet_status InDfuIdle h luck = record { moves = stays; sound = tt }
   quiet_status (InDownloadSync before block number) h luck =
       either_way (λ p. IsQuiet offers (At (InDownloadSync before block number)) (outcome i p luck).after) (c.busy == 0) _ _
-      (quiet_writing (InDownloadSync before block number) before block _ _ number (InDownloadIdle (before ++ block) number) refl refl tt luck)
+      (quiet_writing (InDownloadSync before block number) before block _ _ number
+      (InDownloadIdle (before ++ block) number) refl refl tt luck)
       (record { moves = stays; sound = tt })
   quiet_status (InDownloadSyncWritten taken number) h luck = record { moves = stays; sound = tt }
   quiet_status (InDownloadBusy before block number passed) h luck = record { moves = forgets; sound = tt }
@@ -125,7 +126,8 @@ module _ (c : Profile) (offers : List (List ℕ)) (i : List ℕ) where
       let P : Plan → Type 0 = λ p. IsQuiet offers (At s) (outcome i p luck).after in
       either_way P (ms == 0) _ _ (record { moves = stays; sound = h })
       (either_way P (nat_le c.manifest (passed + ms)) _ _
-      (either_way (λ st. IsQuiet offers (At s) (outcome i (Commits taken Ack st Ack) luck).after) c.tolerant InManifestSyncComplete InManifestWaitReset
+      (either_way (λ st. IsQuiet offers (At s) (outcome i (Commits taken Ack st Ack) luck).after) c.tolerant InManifestSyncComplete
+      InManifestWaitReset
       (quiet_commit s taken Ack Ack InManifestSyncComplete refl h refl tt luck)
       (quiet_commit s taken Ack Ack InManifestWaitReset refl h refl tt luck))
       (record { moves = stays; sound = h }))

@@ -62,7 +62,8 @@ upload_fits c i place expected number size =
     let P : Plan → Type 0 = FitsPlan (Upload number size) in
     let part = take size (drop place i) in
     either_way P (size == 0) _ _ tt (either_way P (nat_lt c.transfer size) _ _ tt (either_way P (not (number == expected)) _ _ tt
-    (either_way P (nat_lt (length part) size) (Sure (Data part) InDfuIdle) (Sure (Data part) (InUploadIdle (place + size) (next_number expected))) tt
+    (either_way P (nat_lt (length part) size) (Sure (Data part) InDfuIdle)
+    (Sure (Data part) (InUploadIdle (place + size) (next_number expected))) tt
     tt)))
 
 -- Each row by state and request.
@@ -75,7 +76,8 @@ fits_plan c i (InAppDetach timer passed) r = tt
 fits_plan c i InDfuIdle (Dnload number body) =
     let P : Plan → Type 0 = FitsPlan (Dnload number body) in
     either_way P (not c.can_download) _ _ tt (either_way P (is_empty body) _ _ tt (block_fits c [] 0 number body))
-fits_plan c i InDfuIdle (Upload number size) = either_way (FitsPlan (Upload number size)) c.can_upload _ _ (upload_fits c i 0 0 number size) tt
+fits_plan c i InDfuIdle (Upload number size) = either_way (FitsPlan (Upload number size)) c.can_upload _ _
+    (upload_fits c i 0 0 number size) tt
 fits_plan c i InDfuIdle r = tt
 fits_plan c i (InDownloadSync before block number) GetStatus = either_way (FitsPlan GetStatus) (c.busy == 0) _ _ (tt, tt) tt
 fits_plan c i (InDownloadSync before block number) r = tt

@@ -33,7 +33,7 @@ use Rattle.dfu_link.proofs.Agreeing.{machine_of, machine_agrees, agrees_on, link
 -- What happens is of the kind that its event is of.
 kind_is : (s : Setting) (h : Happening) (event : Event) → Means s h event → IsOfKind h (kind_of event)
 kind_is s (Offers file limits) (Offer payload actions restarts) m =
-    record { ids = m.0.ids; dfu = m.0.dfu; extra = m.0.extra; reads = m.0.reads }
+    (m.0.ids, m.0.dfu, m.0.extra, m.0.reads)
 kind_is s (Uploads limits) (UploadIt actions restarts) m = tt
 kind_is s Aborts AbortIt m = tt
 kind_is s (Goes f harm) (Go g) m = tt

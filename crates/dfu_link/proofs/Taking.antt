@@ -138,7 +138,8 @@ module _ (c : Profile) (offers : List (List ℕ)) where
   restarted_well s h up phase (suc again) v = budget_well s h.task up Find (pred h.actions) again v tt (find_fact h.task.goal s)
 
   -- A restart of the device, told to a live host.
-  pub restart_taken : (s : Situation) (h : HostState) (up : List ℕ) → IsOn h.phase → GoesBy c h.task → IsLiveOffer offers (live_goal h.task.goal)
+  pub restart_taken : (s : Situation) (h : HostState) (up : List ℕ) → IsOn h.phase → GoesBy c h.task
+      → IsLiveOffer offers (live_goal h.task.goal)
       → HasBlocks c h.task.goal → TookWell s h.task.goal up (took h Restarted)
   restart_taken s h up on e o some =
       subst (λ (q : HostState). TookWell s h.task.goal up (settled q q.phase)) (sym (after_on h h.phase Restarted on))

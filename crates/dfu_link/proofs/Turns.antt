@@ -59,7 +59,8 @@ module _ (c : Profile) (p : List ℕ) (again : ℕ) where
       busy_wait f = ap (λ q. record { device = (outcome i q Works).after; heard = Waited }) (busy_plan f)
 
   -- The end of a download, by a tolerant device.
-  pub manifest : (i taken : List ℕ) → c.tolerant ≡ true → GoesWell i (InManifestSync taken) Manifest (cond (c.manifest == 0) 1 3) taken InDfuIdle
+  pub manifest : (i taken : List ℕ) → c.tolerant ≡ true
+      → GoesWell i (InManifestSync taken) Manifest (cond (c.manifest == 0) 1 3) taken InDfuIdle
       (Last Installed)
   manifest i taken tol = split (c.manifest == 0)
       (λ f. rw f (one_by c p again (Status NoFault 0 DfuIdle) _ (λ k. rw f) (λ l room. refl) (rw tol) tt))
@@ -99,7 +100,8 @@ module _ (c : Profile) (p : List ℕ) (again : ℕ) where
   acked i stage q e = ap (λ (x : Plan). let o = outcome i x Works in record { device = o.after; heard = heard_as o.reply }) e
 
   -- The host closes the download.
-  pub close : (i taken : List ℕ) (number : ℕ) → c.least ≤ length taken → GoesWell i (InDownloadIdle taken number) Close 1 i (InManifestSync taken) Manifest
+  pub close : (i taken : List ℕ) (number : ℕ) → c.least ≤ length taken
+      → GoesWell i (InDownloadIdle taken number) Close 1 i (InManifestSync taken) Manifest
   close i taken number h = one_by c p again Acked Manifest (λ k. acked i (InManifestSync taken) _
       (let e : nat_le c.least (length taken) ≡ true = grind (arith, nat_tests) in close_plan e)) (λ l room. refl) refl tt
     where
@@ -152,7 +154,8 @@ module _ (c : Profile) (p : List ℕ) (again : ℕ) where
     each = 1 + cond (c.busy == 0) 1 3
 
     turns : (i : List ℕ) (n : ℕ) → n < b → GoesWell i InDfuIdle (Block 0) (n * each) i (Taken n) (Block n)
-    turns i zero l = let f : 0 ≡ 0 * each = omega arith in subst (λ z. GoesWell i InDfuIdle (Block 0) z i InDfuIdle (Block 0)) f (none c p again)
+    turns i zero l = let f : 0 ≡ 0 * each = omega arith in
+        subst (λ z. GoesWell i InDfuIdle (Block 0) z i InDfuIdle (Block 0)) f (none c p again)
     turns i (suc n) l =
         let m : n < b = omega arith in
         let e : (suc n == b) ≡ false = grind (arith, nat_tests) in
@@ -173,7 +176,8 @@ module _ (c : Profile) (p : List ℕ) (again : ℕ) where
 
     -- From appIDLE to the last phase.
     pub whole_run : (i : List ℕ) (n : ℕ) → suc n ≡ b → c.tolerant ≡ true → c.least ≤ length (first p c.transfer (suc n))
-        → GoesWell i InAppIdle Find (1 + (1 + (1 + (1 + (suc n * each + (1 + cond (c.manifest == 0) 1 3)))))) (first p c.transfer (suc n)) InDfuIdle
+        → GoesWell i InAppIdle Find (1 + (1 + (1 + (1 + (suc n * each + (1 + cond (c.manifest == 0) 1 3))))))
+        (first p c.transfer (suc n)) InDfuIdle
         (Last Installed)
     whole_run i n e tol least =
         leads_on c p again (find_app i) (leads_on c p again (detach i)

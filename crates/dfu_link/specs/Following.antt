@@ -11,16 +11,9 @@ use Rattle.dfu_link.specs.Agreement.{AgreesOn}
 use Rattle.dfu_link.specs.Happening.{Happening, Offers, Uploads, Aborts, Goes, Passes, Resets, Cuts}
 use Rattle.dfu_link.specs.Bench.{LinkState}
 
--- The bytes are a file of the grammar with this payload.
-pub record HasPayload (file payload : List ℕ) : Type 0 where
-  pub ids : Ids
-  pub dfu : ℕ
-  pub extra : List ℕ
-  pub reads : IsFile payload ids dfu extra file
-
 -- What happens is of this kind for the session machine: a file that is offered is an offer of its payload.
 abbrev pub IsOfKind : Happening → Kind → Type 0
-IsOfKind (Offers file limits) (AnOffer payload) = HasPayload file payload
+IsOfKind (Offers file limits) (AnOffer payload) = (ids : Ids) × (dfu : ℕ) × (extra : List ℕ) × IsFile payload ids dfu extra file
 IsOfKind (Uploads limits) AnUpload = Unit {0}
 IsOfKind Aborts AnAbort = Unit {0}
 IsOfKind (Goes fate harm) AGo = Unit {0}

@@ -18,7 +18,8 @@ pub record IsOffered (s : Setting) (file payload : List ℕ) : Type 0 where
   pub dfu : ℕ
   pub extra : List ℕ
   pub reads : IsFile payload ids dfu extra file
-  pub taken : first_download_fault (record { payload = payload; ids = ids; dfu = dfu; suffix = 16 + length extra }) s.functional s.ids ≡ None
+  pub taken : first_download_fault (record { payload = payload; ids = ids; dfu = dfu; suffix = 16 + length extra }) s.functional
+      s.ids ≡ None
 
 -- What the bytes say, as a file of the grammar with these contents.
 pub record SaysContent (file : List ℕ) (content : Content) : Type 0 where

@@ -12,16 +12,11 @@ pub data Live : Type 0 where
 
 -- The session machine.
 pub record Machine : Type 0 where
-  -- the active image
-  pub cur : List ℕ
-  -- the payloads that were offered so far
-  pub offers : List (List ℕ)
-  -- the bytes taken of an image, or none
-  pub pending : Option (List ℕ)
-  -- the session that is live
-  pub live : Live
-  -- what the last reported upload gave
-  pub up : List ℕ
+  pub cur : List ℕ  -- the active image
+  pub offers : List (List ℕ)  -- the payloads that were offered so far
+  pub pending : Option (List ℕ)  -- the bytes taken of an image, or none
+  pub live : Live  -- the session that is live
+  pub up : List ℕ  -- what the last reported upload gave
 
 -- These bytes are one of those.
 abbrev pub IsOneOf : List ℕ → List (List ℕ) → Type 0

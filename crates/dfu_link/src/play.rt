@@ -107,7 +107,8 @@ fn go<'f, M: Faulty>(
     fate: Fate<'_>,
 ) -> Result<Option<Report>, LinkFault>
     requires { IsSteady (bench_of port.old host.old) }
-    ensures { HasCome (link_state port.old host.old gave.old) (Goes (fate_of fate.entry) (harm_in fate.entry)) (link_state port.new host.new gave.new) result }
+    ensures { HasCome (link_state port.old host.old gave.old) (Goes (fate_of fate.entry) (harm_in fate.entry))
+        (link_state port.new host.new gave.new) result }
 {
     match host {
         None => return Err(LinkFault::NoHost),

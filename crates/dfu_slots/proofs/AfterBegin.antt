@@ -28,21 +28,29 @@ stays_after s now has ends =
       size = (begin_outside g wide s.medium now.medium a.at a.spare has.image (standing a) ends).size;
     }
 
-begin_stays : {T : Type 0} (s now : SlotsState) (has : HasImage s.medium) (result : Result T PutFault) → Changes s Begin result now → Stays s now has
-begin_stays s now has result changes = ⊎_elim (λ ends. stays_after s now has ends) (λ same. stays_same s now has same) (changes_ends s now Begin result changes)
+begin_stays : {T : Type 0} (s now : SlotsState) (has : HasImage s.medium) (result : Result T PutFault) → Changes s Begin result now
+    → Stays s now has
+begin_stays s now has result changes = ⊎_elim (λ ends. stays_after s now has ends) (λ same. stays_same s now has same)
+    (changes_ends s now Begin result changes)
 
-begin_store : {T : Type 0} (s now : SlotsState) (has : HasImage s.medium) (result : Result T PutFault) → OnErr result (IsErrOf result Failed) → Changes s Begin result now → IsStore now
+begin_store : {T : Type 0} (s now : SlotsState) (has : HasImage s.medium) (result : Result T PutFault)
+    → OnErr result (IsErrOf result Failed) → Changes s Begin result now → IsStore now
 begin_store s now has result fault changes =
-    subst IsStore (sym (begin_fresh s now result fault changes)) (fresh_store now.medium (stays_has s now has (begin_stays s now has result changes)))
+    subst IsStore (sym (begin_fresh s now result fault changes))
+    (fresh_store now.medium (stays_has s now has (begin_stays s now has result changes)))
 
-begin_shut : {T : Type 0} (s now : SlotsState) → HasImage s.medium → (result : Result T PutFault) → Changes s Begin result now → OnOk result (is_begun now ≡ true)
+begin_shut : {T : Type 0} (s now : SlotsState) → HasImage s.medium → (result : Result T PutFault) → Changes s Begin result now
+    → OnOk result (is_begun now ≡ true)
 begin_shut s now has (Err e) changes = tt
 begin_shut s now has (Ok x) worked =
     let a = has.active in
-    let shut = begin_shuts (gate_of s.medium) (gate_wide s.medium.unit) s.medium now.medium a.at a.spare has.image (standing a) worked.writes in
-    closed_begun now (subst (λ (p : Slot). ¬ IsOpen p) (sym (spare_there s.medium now.medium (stays_after s now has (inl worked.writes)).unit)) shut)
+    let shut = begin_shuts (gate_of s.medium) (gate_wide s.medium.unit) s.medium now.medium a.at a.spare has.image
+    (standing a) worked.writes in
+    closed_begun now (subst (λ (p : Slot). ¬ IsOpen p)
+    (sym (spare_there s.medium now.medium (stays_after s now has (inl worked.writes)).unit)) shut)
 
-begin_spare : {T : Type 0} (s now : SlotsState) → HasImage s.medium → (result : Result T PutFault) → OnErr result (IsErrOf result Failed) → Changes s Begin result now → OnOk result (spare_of now ≡ (spare_slot s).data_bytes)
+begin_spare : {T : Type 0} (s now : SlotsState) → HasImage s.medium → (result : Result T PutFault) → OnErr result (IsErrOf result Failed)
+    → Changes s Begin result now → OnOk result (spare_of now ≡ (spare_slot s).data_bytes)
 begin_spare s now has (Err e) fault changes = tt
 begin_spare {T} s now has (Ok x) fault worked =
     let a = has.active in
@@ -68,7 +76,8 @@ pub record BeginLeaves {T : Type 0} (v now : SlotsState) (result : Result T PutF
   pub store : IsStore now
 
 -- What the private `begin` did to the inside of a store is what `begin` does to the store.
-pub begin_leaves : {T : Type 0} {s v : SlotsState} → s ≡ v → IsStore s → (now : SlotsState) (result : Result T PutFault) → OnErr result (IsErrOf result Failed) → Changes s Begin result now → BeginLeaves v now result
+pub begin_leaves : {T : Type 0} {s v : SlotsState} → s ≡ v → IsStore s → (now : SlotsState) (result : Result T PutFault)
+    → OnErr result (IsErrOf result Failed) → Changes s Begin result now → BeginLeaves v now result
 begin_leaves {T} {s} {v} view store now result fault changes =
     let has = store.has_image in
     let stays : Stays s now has = begin_stays s now has result changes in

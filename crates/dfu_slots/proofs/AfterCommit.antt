@@ -39,19 +39,24 @@ module _ (s now : SlotsState) (store : IsStore s) (len : ℕ) (le : len ≤ s.pu
   size_after : Ends s.medium (writes_of s (Commit len)) now.medium → length now.medium.bytes ≡ length s.medium.bytes
   size_after ends =
       let a = has.active in
-      (ends_keep a.spare (a.spare + slot_size s.medium.bytes) (writes_of s (Commit len)) s.medium now.medium (place_end g s.medium.bytes a.at a.spare (standing a).sized (standing a).places).1
-      (commit_inside g (gate_wide s.medium.unit) s.medium a.at a.spare has.image (standing a) off s.medium.unit (held_at s) s.held room len within) ends).size
+      (ends_keep a.spare (a.spare + slot_size s.medium.bytes) (writes_of s (Commit len)) s.medium now.medium
+      (place_end g s.medium.bytes a.at a.spare (standing a).sized (standing a).places).1
+      (commit_inside g (gate_wide s.medium.unit) s.medium a.at a.spare has.image (standing a) off s.medium.unit
+      (held_at s) s.held room len within) ends).size
 
   -- An image that stands on the medium now is its active one.
-  active_now : Ends s.medium (writes_of s (Commit len)) now.medium → (at spare : ℕ) (image : List ℕ) → ActiveAt g now.medium.bytes at spare image → Active now.medium image
-  active_now ends at spare image stands = active_on s.medium now.medium at spare image (ends_unit (writes_of s (Commit len)) s.medium now.medium ends) (size_after ends) has.active.sized.whole stands
+  active_now : Ends s.medium (writes_of s (Commit len)) now.medium → (at spare : ℕ) (image : List ℕ)
+      → ActiveAt g now.medium.bytes at spare image → Active now.medium image
+  active_now ends at spare image stands = active_on s.medium now.medium at spare image
+      (ends_unit (writes_of s (Commit len)) s.medium now.medium ends) (size_after ends) has.active.sized.whole stands
 
   commit_new : CallWorked s (Commit len) now → Active now.medium (take len (spare_of s))
   commit_new worked =
       let a = has.active in
       subst (λ (l : List ℕ). Active now.medium (take len l)) (sym (spare_is s))
       (active_now (inl worked.writes) a.spare a.at _
-      (committed g (gate_wide s.medium.unit) s.medium a.at a.spare has.image (standing a) off s.medium.unit (held_at s) s.held room len within now.medium worked.writes))
+      (committed g (gate_wide s.medium.unit) s.medium a.at a.spare has.image (standing a) off s.medium.unit
+      (held_at s) s.held room len within now.medium worked.writes))
 
   commit_either : CallFailed s (Commit len) now → Active now.medium has.image ⊎ Active now.medium (take len (spare_of s))
   commit_either failed =
@@ -60,7 +65,8 @@ module _ (s now : SlotsState) (store : IsStore s) (len : ℕ) (le : len ≤ s.pu
       (⊎_elim
       (λ old. inl (active_now (inr failed.writes) a.at a.spare has.image old))
       (λ new. inr (active_now (inr failed.writes) a.spare a.at _ new))
-      (committed_either g (gate_wide s.medium.unit) s.medium a.at a.spare has.image (standing a) off s.medium.unit (held_at s) s.held room len within now.medium failed.writes))
+      (committed_either g (gate_wide s.medium.unit) s.medium a.at a.spare has.image (standing a) off s.medium.unit
+      (held_at s) s.held room len within now.medium failed.writes))
 
   room_after : Ends s.medium (writes_of s (Commit len)) now.medium → room_of now ≡ room_of s
   room_after ends = room_from s now (ends_unit (writes_of s (Commit len)) s.medium now.medium ends) (size_after ends)
@@ -71,8 +77,10 @@ record CommitStands {T : Type 0} (s now : SlotsState) (has : HasImage s.medium) 
   pub room : room_of now ≡ room_of s
   pub store : IsStore now
 
-either_has : (s now : SlotsState) (has : HasImage s.medium) (new : List ℕ) → Active now.medium has.image ⊎ Active now.medium new → HasImage now.medium
-either_has s now has new either = ⊎_elim (λ old. record { image = has.image; active = old }) (λ next. record { image = new; active = next }) either
+either_has : (s now : SlotsState) (has : HasImage s.medium) (new : List ℕ) → Active now.medium has.image ⊎ Active now.medium new
+    → HasImage now.medium
+either_has s now has new either = ⊎_elim (λ old. record { image = has.image; active = old })
+    (λ next. record { image = new; active = next }) either
 
 -- An answer other than NotBegun tells that the spare was closed.
 ok_shut : {T : Type 0} (s : SlotsState) (x : T) → (IsErrOf {T = T} (Ok x) NotBegun ↔ IsOpen (spare_slot s)) → ¬ IsOpen (spare_slot s)
@@ -88,14 +96,16 @@ failed_shut {T} s n is_open = failed_begun (n.1 is_open)
     failed_begun q = cc
 
 commit_stands : {T : Type 0} (s now : SlotsState) (store : IsStore s) (len : ℕ) → len ≤ s.put_end → (result : Result T PutFault)
-    → (IsErrOf result NotBegun ↔ IsOpen (spare_slot s)) → ¬ IsErrOf result TooLarge → Changes s (Commit len) result now → CommitStands s now store.has_image len result
+    → (IsErrOf result NotBegun ↔ IsOpen (spare_slot s)) → ¬ IsErrOf result TooLarge → Changes s (Commit len) result now
+    → CommitStands s now store.has_image len result
 commit_stands {T} s now store len le (Ok x) n never worked =
     let shut : ¬ IsOpen (spare_slot s) = ok_shut {T = T} s x n in
     let new = commit_new s now store len le shut worked in
     record {
       image = inr new;
       room = room_after s now store len le shut (inl worked.writes);
-      store = subst IsStore (sym (fresh_is now.medium now.held now.put_end worked.held_is worked.end_is)) (fresh_store now.medium (record { image = take len (spare_of s); active = new }));
+      store = subst IsStore (sym (fresh_is now.medium now.held now.put_end worked.held_is worked.end_is))
+          (fresh_store now.medium (record { image = take len (spare_of s); active = new }));
     }
 commit_stands {T} s now store len le (Err Failed) n never failed =
     let shut : ¬ IsOpen (spare_slot s) = failed_shut {T = T} s n in
@@ -103,7 +113,8 @@ commit_stands {T} s now store len le (Err Failed) n never failed =
     record {
       image = ⊎_elim (λ old. inl (old, tt)) (λ new. inr new) either;
       room = room_after s now store len le shut (inr failed.writes);
-      store = subst IsStore (sym (failed_fresh {T = T} s now (Commit len) (Err Failed) failed refl)) (fresh_store now.medium (either_has s now store.has_image (take len (spare_of s)) either));
+      store = subst IsStore (sym (failed_fresh {T = T} s now (Commit len) (Err Failed) failed refl))
+          (fresh_store now.medium (either_has s now store.has_image (take len (spare_of s)) either));
     }
 commit_stands s now store len le (Err TooLarge) n never same = absurd (never refl)
 commit_stands s now store len le (Err NotBegun) n never same = record {
@@ -112,18 +123,22 @@ commit_stands s now store len le (Err NotBegun) n never same = record {
   store = subst IsStore (sym same) store;
 }
 
-commit_image : {T : Type 0} (s now : SlotsState) (has : HasImage s.medium) (len : ℕ) (result : Result T PutFault) → CommitStands s now has len result → OnOk result (image_of now ≡ take len (spare_of s))
+commit_image : {T : Type 0} (s now : SlotsState) (has : HasImage s.medium) (len : ℕ) (result : Result T PutFault)
+    → CommitStands s now has len result → OnOk result (image_of now ≡ take len (spare_of s))
 commit_image s now _ len (Err e) leaves = tt
 commit_image s now _ len (Ok x) leaves = ⊎_elim (λ old. absurd old.1) (λ new. sym (image_is now (take len (spare_of s)) new)) leaves.image
 
-commit_kept : {T : Type 0} (s now : SlotsState) (has : HasImage s.medium) (len : ℕ) (result : Result T PutFault) → CommitStands s now has len result
+commit_kept : {T : Type 0} (s now : SlotsState) (has : HasImage s.medium) (len : ℕ) (result : Result T PutFault)
+    → CommitStands s now has len result
     → OnErr result ((image_of now ≡ image_of s) ⊎ (image_of now ≡ take len (spare_of s)))
 commit_kept s now _ len (Ok x) leaves = tt
 commit_kept s now was len (Err e) leaves =
-    ⊎_elim (λ old. inl (sym (image_is now was.image old.0) ∙ image_is s was.image was.active)) (λ new. inr (sym (image_is now (take len (spare_of s)) new))) leaves.image
+    ⊎_elim (λ old. inl (sym (image_is now was.image old.0) ∙ image_is s was.image was.active))
+    (λ new. inr (sym (image_is now (take len (spare_of s)) new))) leaves.image
 
 -- After a `commit` that is Ok nothing is held, and the puts end at 0.
-commit_done : {T : Type 0} (s now : SlotsState) (len : ℕ) (result : Result T PutFault) → Changes s (Commit len) result now → OnOk result (now ≡ store_on now.medium)
+commit_done : {T : Type 0} (s now : SlotsState) (len : ℕ) (result : Result T PutFault) → Changes s (Commit len) result now
+    → OnOk result (now ≡ store_on now.medium)
 commit_done s now len (Err e) changes = tt
 commit_done s now len (Ok x) worked = fresh_is now.medium now.held now.put_end worked.held_is worked.end_is
 
@@ -145,8 +160,10 @@ pub record CommitLeaves {T : Type 0} (v now : SlotsState) (len : ℕ) (result : 
   pub store : IsStore now
 
 -- What the private `commit` did to the inside of a store is what `commit` does to the store.
-pub commit_leaves : {T : Type 0} {s v : SlotsState} → s ≡ v → IsStore s → (now : SlotsState) (len : ℕ) → len ≤ v.put_end → (result : Result T PutFault)
-    → (IsErrOf result NotBegun ↔ IsOpen (spare_slot s)) → ¬ IsErrOf result TooLarge → Changes s (Commit len) result now → CommitLeaves v now len result
+pub commit_leaves : {T : Type 0} {s v : SlotsState} → s ≡ v → IsStore s → (now : SlotsState) (len : ℕ) → len ≤ v.put_end
+    → (result : Result T PutFault)
+    → (IsErrOf result NotBegun ↔ IsOpen (spare_slot s)) → ¬ IsErrOf result TooLarge → Changes s (Commit len) result now
+    → CommitLeaves v now len result
 commit_leaves {T} {s} {v} view store now len asked result not_begun never changes =
     let le : len ≤ s.put_end = subst (λ (x : SlotsState). len ≤ x.put_end) (sym view) asked in
     let stands : CommitStands s now store.has_image len result = commit_stands s now store len le result not_begun never changes in

@@ -33,15 +33,19 @@ module _ (s now : SlotsState) (store : IsStore s) (at : ℕ) (new : List ℕ) (h
   whole = whole_part s.medium.unit (length all)
 
   place : store.has_image.active.spare ≡ spare_at g s.medium.bytes
-  place = (places_are g s.medium.bytes store.has_image.active.at store.has_image.active.spare store.has_image.image (standing store.has_image.active)).1
+  place = (places_are g s.medium.bytes store.has_image.active.at store.has_image.active.spare store.has_image.image
+      (standing store.has_image.active)).1
 
   all_length : length all ≡ length s.held + length new
   all_length = length-append s.held new
 
   -- The bytes lie in the spare's data.
-  inside : at + length new ≤ capacity_of s.medium → AllInside (store.has_image.active.spare + 2 * g) (store.has_image.active.spare + slot_size s.medium.bytes) (writes_of s (Put at new))
+  inside : at + length new ≤ capacity_of s.medium
+      → AllInside (store.has_image.active.spare + 2 * g) (store.has_image.active.spare + slot_size s.medium.bytes)
+      (writes_of s (Put at new))
   inside fits =
-      put_inside s.medium.unit s.held new (store.has_image.active.spare + 2 * g) (store.has_image.active.spare + slot_size s.medium.bytes) (data_place s (at - length s.held))
+      put_inside s.medium.unit s.held new (store.has_image.active.spare + 2 * g) (store.has_image.active.spare + slot_size s.medium.bytes)
+      (data_place s (at - length s.held))
       (omega (arith, place)) (omega (arith, place, fits, here, all_length, held_end s store.puts, store.has_image.active.sized.room))
 
   module _ (fits : at + length new ≤ capacity_of s.medium) (ends : Ends s.medium (writes_of s (Put at new)) now.medium) where
@@ -52,16 +56,19 @@ module _ (s now : SlotsState) (store : IsStore s) (at : ℕ) (new : List ℕ) (h
     stays_after =
         let a = store.has_image.active in
         record {
-          stands = data_keeps g (gate_wide s.medium.unit) s.medium now.medium a.at a.spare store.has_image.image (standing a) (writes_of s (Put at new)) (inside fits) ends;
+          stands = data_keeps g (gate_wide s.medium.unit) s.medium now.medium a.at a.spare store.has_image.image (standing a)
+              (writes_of s (Put at new)) (inside fits) ends;
           unit = unit_is;
-          size = (data_kept g (gate_wide s.medium.unit) s.medium now.medium a.at a.spare store.has_image.image (standing a) (writes_of s (Put at new)) (inside fits) ends).size;
+          size = (data_kept g (gate_wide s.medium.unit) s.medium now.medium a.at a.spare store.has_image.image (standing a)
+              (writes_of s (Put at new)) (inside fits) ends).size;
         }
 
     gate_after : (spare_slot now).gate ≡ (spare_slot s).gate
     gate_after =
         let a = store.has_image.active in
         ap (λ (p : Slot). p.gate) (spare_there s.medium now.medium unit_is)
-        ∙ data_gate g (gate_wide s.medium.unit) s.medium now.medium a.at a.spare store.has_image.image (standing a) (writes_of s (Put at new)) (inside fits) ends
+        ∙ data_gate g (gate_wide s.medium.unit) s.medium now.medium a.at a.spare store.has_image.image (standing a)
+        (writes_of s (Put at new)) (inside fits) ends
 
   -- After a `put` that is Ok.
   module _ (fits : at + length new ≤ capacity_of s.medium) (worked : CallWorked s (Put at new) now) where
@@ -85,7 +92,16 @@ module _ (s now : SlotsState) (store : IsStore s) (at : ℕ) (new : List ℕ) (h
 
     -- Where the bytes held now belong.
     held_now : held_at now ≡ held_at s + whole
-    held_now = omega (arith, here, worked.end_is, ap length worked.held_is, rest_length s.medium.unit s.held new, all_length, whole_le s.medium.unit s.held new, held_end s store.puts)
+    held_now = omega (
+      arith,
+      here,
+      worked.end_is,
+      ap length worked.held_is,
+      rest_length s.medium.unit s.held new,
+      all_length,
+      whole_le s.medium.unit s.held new,
+      held_end s store.puts,
+    )
 
     data_size : length (spare_slot s).data_bytes ≡ capacity_of s.medium
     data_size =
@@ -99,12 +115,14 @@ module _ (s now : SlotsState) (store : IsStore s) (at : ℕ) (new : List ℕ) (h
     data_now =
         let a = store.has_image.active in
         let ends = inl worked.writes in
-        let kept = data_spare g (gate_wide s.medium.unit) s.medium now.medium a.at a.spare store.has_image.image (standing a) (writes_of s (Put at new)) (inside fits) ends in
+        let kept = data_spare g (gate_wide s.medium.unit) s.medium now.medium a.at a.spare store.has_image.image (standing a)
+        (writes_of s (Put at new)) (inside fits) ends in
         let end = (place_end g s.medium.bytes a.at a.spare (standing a).sized (standing a).places).1 in
         ap (λ (p : Slot). p.data_bytes) (spare_there s.medium now.medium (unit_is fits ends))
         ∙ data_written g s.medium.bytes now.medium.bytes a.at a.spare store.has_image.image (standing a) kept (held_at s) (take whole all)
         (omega (arith, room, data_size, length-take-le whole all (whole_le s.medium.unit s.held new), whole_le s.medium.unit s.held new))
-        (put_written s.medium.unit s.held new s.medium now.medium (data_place s (at - length s.held)) (omega (arith, place, here, end, room, data_size, a.sized.room)) worked.writes
+        (put_written s.medium.unit s.held new s.medium now.medium (data_place s (at - length s.held))
+        (omega (arith, place, here, end, room, data_size, a.sized.room)) worked.writes
         ∙ ap (λ (n : ℕ). written s.medium.bytes (data_place s (n - length s.held)) (take whole all)) here)
 
     spare_after : spare_of now ≡ written (spare_of s) at new
@@ -134,26 +152,31 @@ module _ {T : Type 0} (s now : SlotsState) (store : IsStore s) (at : ℕ) (new :
 
 -- After any answer it is a store.
 put_store : {T : Type 0} (s now : SlotsState) (store : IsStore s) (at : ℕ) (new : List ℕ) → at ≡ s.put_end → (result : Result T PutFault)
-    → (IsErrOf result NotBegun ↔ IsOpen (spare_slot s)) → (IsErrOf result TooLarge ↔ ((¬ IsOpen (spare_slot s)) × (capacity_of s.medium < at + length new)))
+    → (IsErrOf result NotBegun ↔ IsOpen (spare_slot s))
+    → (IsErrOf result TooLarge ↔ ((¬ IsOpen (spare_slot s)) × (capacity_of s.medium < at + length new)))
     → Changes s (Put at new) result now → IsStore now
 put_store {T} s now store at new here (Ok x) a b worked = record {
   has_image = stays_has s now store.has_image (put_stays {T = T} s now store at new here (Ok x) a b worked);
   puts = puts_after s now store at new here (was_small {T = T} s (at + length new) (Ok x) a b (λ e. cc) (λ e. cc)) worked;
 }
 put_store {T} s now store at new here (Err Failed) a b failed =
-    subst IsStore (sym (failed_fresh {T = T} s now (Put at new) (Err Failed) failed refl)) (fresh_store now.medium (stays_has s now store.has_image (put_stays {T = T} s now store at new here (Err Failed) a b failed)))
+    subst IsStore (sym (failed_fresh {T = T} s now (Put at new) (Err Failed) failed refl))
+    (fresh_store now.medium (stays_has s now store.has_image (put_stays {T = T} s now store at new here (Err Failed) a b failed)))
 put_store s now store at new here (Err TooLarge) a b same = subst IsStore (sym same) store
 put_store s now store at new here (Err NotBegun) a b same = subst IsStore (sym same) store
 
 -- After Ok the bytes stand behind those that were put before.
 put_spare : {T : Type 0} (s now : SlotsState) → IsStore s → (at : ℕ) (new : List ℕ) → at ≡ s.put_end → (result : Result T PutFault)
-    → (IsErrOf result NotBegun ↔ IsOpen (spare_slot s)) → (IsErrOf result TooLarge ↔ ((¬ IsOpen (spare_slot s)) × (capacity_of s.medium < at + length new)))
+    → (IsErrOf result NotBegun ↔ IsOpen (spare_slot s))
+    → (IsErrOf result TooLarge ↔ ((¬ IsOpen (spare_slot s)) × (capacity_of s.medium < at + length new)))
     → Changes s (Put at new) result now → OnOk result (spare_of now ≡ written (spare_of s) at new)
 put_spare s now store at new here (Err e) a b changes = tt
-put_spare {T} s now store at new here (Ok x) a b worked = spare_after s now store at new here (was_small {T = T} s (at + length new) (Ok x) a b (λ e. cc) (λ e. cc)) worked
+put_spare {T} s now store at new here (Ok x) a b worked = spare_after s now store at new here
+    (was_small {T = T} s (at + length new) (Ok x) a b (λ e. cc) (λ e. cc)) worked
 
 -- And the puts end behind them.
-put_ends : {T : Type 0} (s now : SlotsState) (at : ℕ) (new : List ℕ) (result : Result T PutFault) → Changes s (Put at new) result now → OnOk result (now.put_end ≡ at + length new)
+put_ends : {T : Type 0} (s now : SlotsState) (at : ℕ) (new : List ℕ) (result : Result T PutFault) → Changes s (Put at new) result now
+    → OnOk result (now.put_end ≡ at + length new)
 put_ends s now at new (Err e) changes = tt
 put_ends s now at new (Ok x) worked = worked.end_is
 
@@ -177,8 +200,10 @@ pub record PutLeaves {T : Type 0} (v now : SlotsState) (at : ℕ) (new : List �
   pub store : IsStore now
 
 -- What the private `put` did to the inside of a store is what `put` does to the store.
-pub put_leaves : {T : Type 0} {s v : SlotsState} → s ≡ v → IsStore s → (now : SlotsState) (at : ℕ) (new : List ℕ) → at ≡ v.put_end → (result : Result T PutFault)
-    → (IsErrOf result NotBegun ↔ IsOpen (spare_slot s)) → (IsErrOf result TooLarge ↔ ((¬ IsOpen (spare_slot s)) × (capacity_of s.medium < at + length new)))
+pub put_leaves : {T : Type 0} {s v : SlotsState} → s ≡ v → IsStore s → (now : SlotsState) (at : ℕ) (new : List ℕ) → at ≡ v.put_end
+    → (result : Result T PutFault)
+    → (IsErrOf result NotBegun ↔ IsOpen (spare_slot s))
+    → (IsErrOf result TooLarge ↔ ((¬ IsOpen (spare_slot s)) × (capacity_of s.medium < at + length new)))
     → Changes s (Put at new) result now → PutLeaves v now at new result
 put_leaves {T} {s} {v} view store now at new place result not_begun too_large changes =
     let here : at ≡ s.put_end = place ∙ sym (ap (λ (x : SlotsState). x.put_end) view) in

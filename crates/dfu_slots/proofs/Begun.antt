@@ -13,11 +13,13 @@ use Rattle.dfu_slots.proofs.Kept.{gate_change}
 use Rattle.dfu_slots.proofs.Series.{AllInside, Ends, ends_keep, ends_if, all_if, inside_if}
 
 -- Where the active slot stays, the spare does.
-pub same_spare : (g : ℕ) (old now : List ℕ) (mine other : ℕ) (image : List ℕ) → ActiveAt g old mine other image → ActiveAt g now mine other image → spare_at g now ≡ spare_at g old
+pub same_spare : (g : ℕ) (old now : List ℕ) (mine other : ℕ) (image : List ℕ) → ActiveAt g old mine other image
+    → ActiveAt g now mine other image → spare_at g now ≡ spare_at g old
 same_spare g old now mine other image a b = sym (places_are g now mine other image b).1 ∙ (places_are g old mine other image a).1
 
 -- A gate unit that was written decides whether the slot is open.
-pub gate_written : (g : ℕ) → 16 ≤ g → (old : List ℕ) (p gate : ℕ) → p + g ≤ length old → slice_index (written old p (gate_unit g gate)) p ≡ gate
+pub gate_written : (g : ℕ) → 16 ≤ g → (old : List ℕ) (p gate : ℕ) → p + g ≤ length old
+    → slice_index (written old p (gate_unit g gate)) p ≡ gate
 gate_written g wide old p gate fits =
     let size = length-gate_unit g gate wide in
     first_of_range (written old p (gate_unit g gate)) p (p + length (gate_unit g gate)) gate (replicate (g - 1) 0) (omega (arith, size))
@@ -37,7 +39,8 @@ module _ (g : ℕ) (wide : 16 ≤ g) (s now : MediumState) (mine other : ℕ) (i
   closing = record { at = spare_at g old; bytes = gate_unit g 0 } ∷ []
 
   inside : AllInside other (other + g) (begin_writes g old)
-  inside = inside_if other (other + g) ((spare g old).gate == OPEN) closing [] (omega (arith, place), omega (arith, place, length-gate_unit g 0 wide), tt) tt
+  inside = inside_if other (other + g) ((spare g old).gate == OPEN) closing []
+      (omega (arith, place), omega (arith, place, length-gate_unit g 0 wide), tt) tt
 
   -- Whether its write worked or failed.
   module _ (ends : Ends s (begin_writes g old) now) where
@@ -71,7 +74,8 @@ module _ (g : ℕ) (wide : 16 ≤ g) (s now : MediumState) (mine other : ℕ) (i
       let kept = same (inl came) in
       ⊎_elim
       (λ one.
-      let bytes_are : now.bytes ≡ written old (spare_at g old) (gate_unit g 0) = ap (λ (m : MediumState). m.bytes) one.1.2 ∙ one.1.1.bytes in
+      let bytes_are : now.bytes ≡ written old (spare_at g old) (gate_unit g 0) = ap (λ (m : MediumState). m.bytes) one.1.2
+      ∙ one.1.1.bytes in
       let gate : (spare g now.bytes).gate ≡ 0 =
       ap (λ (q : ℕ). slice_index now.bytes q) kept ∙ ap (λ (l : List ℕ). slice_index l (spare_at g old)) bytes_are
       ∙ gate_written g wide old (spare_at g old) 0 (omega (arith, place, end, a.sized.room)) in

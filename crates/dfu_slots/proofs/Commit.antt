@@ -15,7 +15,8 @@ use Rattle.dfu_slots.proofs.Series.{AllInside, all_keep, broken_keep, all_parts,
 use Rattle.dfu_slots.proofs.Begun.{gate_written}
 
 -- A header unit that was written begins with the header.
-pub header_written : (g : ℕ) → 16 ≤ g → (old : List ℕ) (p gen len : ℕ) → p + g ≤ length old → slice_range (written old p (header_unit g gen len)) p (p + 16) ≡ header gen len
+pub header_written : (g : ℕ) → 16 ≤ g → (old : List ℕ) (p gen len : ℕ) → p + g ≤ length old
+    → slice_range (written old p (header_unit g gen len)) p (p + 16) ≡ header gen len
 header_written g wide old p gen len fits =
     let unit = header_unit g gen len in
     let size = length-header_unit g gen len wide in
@@ -23,18 +24,23 @@ header_written g wide old p gen len fits =
     let d = slice_range (written old p unit) p (p + length unit) in
     front old p unit 16 (omega (arith, size)) (omega (arith, size)) ∙ take_at (header gen len) (replicate (g - 16) 0) 16 (omega arith)
   where
-    front : (l : List ℕ) (q : ℕ) (new : List ℕ) (n : ℕ) → n ≤ length new → q + length new ≤ length l → slice_range (written l q new) q (q + n) ≡ take n new
+    front : (l : List ℕ) (q : ℕ) (new : List ℕ) (n : ℕ) → n ≤ length new → q + length new ≤ length l
+        → slice_range (written l q new) q (q + n) ≡ take n new
     front l q new n le room =
         let e : q + n - q ≡ n = omega arith in
         let f : q + length new - q ≡ length new = omega arith in
         let d = Rattle.std.proofs.Common.drop q (written l q new) in
-        ap (λ (k : ℕ). take k d) e ∙ sym (take-take n (length new) d le) ∙ ap (λ (x : List ℕ). take n x) (ap (λ (k : ℕ). take k d) (sym f) ∙ written_range l q new room)
+        ap (λ (k : ℕ). take k d) e ∙ sym (take-take n (length new) d le)
+        ∙ ap (λ (x : List ℕ). take n x) (ap (λ (k : ℕ). take k d) (sym f) ∙ written_range l q new room)
 
 -- The gate of a slot whose header and data are a new image's.
 
-module _ (g : ℕ) (wide : 16 ≤ g) (old mid left : List ℕ) (mine other : ℕ) (image : List ℕ) (a : ActiveAt g old mine other image) (off : ¬ Counts (slot g old other))
-    (len : ℕ) (whole : List ℕ) (fits : len ≤ length whole) (keeps : KeepsOutside (other + g) (other + slot_size old) old mid) (torn : KeepsOutside other (other + g) mid left)
-    (head : (slot g mid other).header ≡ header (next_generation (generation (slot g old mine))) len) (data_is : (slot g mid other).data_bytes ≡ whole) where
+module _ (g : ℕ) (wide : 16 ≤ g) (old mid left : List ℕ) (mine other : ℕ) (image : List ℕ) (a : ActiveAt g old mine other image)
+    (off : ¬ Counts (slot g old other))
+    (len : ℕ) (whole : List ℕ) (fits : len ≤ length whole) (keeps : KeepsOutside (other + g) (other + slot_size old) old mid)
+    (torn : KeepsOutside other (other + g) mid left)
+    (head : (slot g mid other).header ≡ header (next_generation (generation (slot g old mine))) len)
+    (data_is : (slot g mid other).data_bytes ≡ whole) where
   abbrev gen : ℕ
   gen = next_generation (generation (slot g old mine))
 
@@ -82,14 +88,16 @@ module _ (g : ℕ) (wide : 16 ≤ g) (old mid left : List ℕ) (mine other : ℕ
 
   -- Closed, it does not count, and the old image stays.
   pub closed : ¬ Counts (slot g left other) → ActiveAt g left mine other image
-  closed shut = active_kept g wide old left mine other image other (other + slot_size old) a left_keeps (omega arith) (omega arith) (inl shut)
+  closed shut = active_kept g wide old left mine other image other (other + slot_size old) a left_keeps (omega arith) (omega arith)
+      (inl shut)
 
   either_way : ActiveAt g left mine other image ⊎ ActiveAt g left other mine next_image
   either_way = elim (cases_eq (slot g left other).gate OPEN) [ inl is_open ↦ inr (opened is_open) | inr shut ↦ inl (closed shut) ]
 
 -- The writes of a commit.
 
-module _ (g : ℕ) (wide : 16 ≤ g) (s : MediumState) (mine other : ℕ) (image : List ℕ) (a : ActiveAt g s.bytes mine other image) (off : ¬ Counts (slot g s.bytes other))
+module _ (g : ℕ) (wide : 16 ≤ g) (s : MediumState) (mine other : ℕ) (image : List ℕ) (a : ActiveAt g s.bytes mine other image)
+    (off : ¬ Counts (slot g s.bytes other))
     (len : ℕ) (fits : len ≤ capacity g s.bytes) where
   abbrev was : List ℕ
   was = s.bytes
@@ -110,7 +118,12 @@ module _ (g : ℕ) (wide : 16 ≤ g) (s : MediumState) (mine other : ℕ) (image
   gate_write = record { at = spare_at g was; bytes = gate_unit g OPEN } ∷ []
 
   inside : AllInside (other + g) (other + slot_size was) before_gate
-  inside = (omega (arith, places_of.1), omega (arith, places_of.1, a.sized.room, length-header_unit g (next_generation (generation (slot g was (active_at g was)))) len wide), tt)
+  inside = (
+    omega (arith, places_of.1),
+    omega
+        (arith, places_of.1, a.sized.room, length-header_unit g (next_generation (generation (slot g was (active_at g was)))) len wide),
+    tt,
+  )
 
   gate_inside : AllInside other (other + g) gate_write
   gate_inside = (omega (arith, places_of.1), omega (arith, places_of.1, length-gate_unit g OPEN wide), tt)
@@ -130,13 +143,18 @@ module _ (g : ℕ) (wide : 16 ≤ g) (s : MediumState) (mine other : ℕ) (image
     mid_head =
         ap (λ (q : ℕ). slice_range mid.bytes (q + g) (q + g + 16)) places_of.1
         ∙ ap (λ (l : List ℕ). slice_range l (spare_at g was + g) (spare_at g was + g + 16)) mid_bytes
-        ∙ header_written g wide was (spare_at g was + g) (next_generation (generation (slot g was (active_at g was)))) len (omega (arith, places_of.1, end, a.sized.room))
+        ∙ header_written g wide was (spare_at g was + g) (next_generation (generation (slot g was (active_at g was)))) len
+        (omega (arith, places_of.1, end, a.sized.room))
         ∙ sym (ap (λ (q : ℕ). header (next_generation (generation (slot g was q))) len) places_of.0)
 
     mid_data : (slot g mid.bytes other).data_bytes ≡ (slot g was other).data_bytes
     mid_data =
         data_outside g (other + g) (other + 2 * g) was mid.bytes other
-        (all_keep (other + g) (other + 2 * g) before_gate s mid (omega (arith, end, a.sized.room)) (inside.0, omega (arith, places_of.1, length-header_unit g (next_generation (generation (slot g was (active_at g was)))) len wide), tt) first)
+        (all_keep (other + g) (other + 2 * g) before_gate s mid (omega (arith, end, a.sized.room)) (
+          inside.0,
+          omega (arith, places_of.1, length-header_unit g (next_generation (generation (slot g was (active_at g was)))) len wide),
+          tt,
+        ) first)
         (inr (omega arith))
 
   abbrev new_image : List ℕ
@@ -150,23 +168,29 @@ module _ (g : ℕ) (wide : 16 ≤ g) (s : MediumState) (mine other : ℕ) (image
       let first = parts.1.first in
       let size = (mid_keeps mid first).size in
       let torn = all_keep other (other + g) gate_write mid now (omega (arith, size, end, a.sized.room)) gate_inside parts.1.second in
-      let bytes_are : now.bytes ≡ written mid.bytes (spare_at g was) (gate_unit g OPEN) = ap (λ (m : MediumState). m.bytes) parts.1.second.2 ∙ parts.1.second.1.bytes in
+      let bytes_are : now.bytes ≡ written mid.bytes (spare_at g was) (gate_unit g OPEN) = ap (λ (m : MediumState). m.bytes) parts.1.second.2
+      ∙ parts.1.second.1.bytes in
       let is_open : IsOpen (slot g now.bytes other) =
       ap (λ (q : ℕ). slice_index now.bytes q) places_of.1 ∙ ap (λ (l : List ℕ). slice_index l (spare_at g was)) bytes_are
       ∙ gate_written g wide mid.bytes (spare_at g was) OPEN (omega (arith, size, end, places_of.1, a.sized.room)) in
       subst (λ (q : ℕ). ActiveAt g now.bytes other mine (take len (slot g was q).data_bytes)) places_of.1
-      (opened g wide was mid.bytes now.bytes mine other image a off len (slot g was other).data_bytes (omega (arith, whole_length)) (mid_keeps mid first) torn (mid_head mid first) (mid_data mid first) is_open)
+      (opened g wide was mid.bytes now.bytes mine other image a off len (slot g was other).data_bytes (omega (arith, whole_length))
+      (mid_keeps mid first) torn (mid_head mid first) (mid_data mid first) is_open)
 
   -- Those up to one that failed.
-  pub commit_broken : (now : MediumState) → BrokenWrites s (commit_writes g was len) now → ActiveAt g now.bytes mine other image ⊎ ActiveAt g now.bytes other mine new_image
+  pub commit_broken : (now : MediumState) → BrokenWrites s (commit_writes g was len) now → ActiveAt g now.bytes mine other image
+      ⊎ ActiveAt g now.bytes other mine new_image
   commit_broken now broken = elim (broken_parts before_gate gate_write s now broken) [
     | inl early ↦
-        inl (closed_change g wide was now.bytes mine other image (other + g) (other + slot_size was) a (broken_keep (other + g) (other + slot_size was) before_gate s now end inside early) off (omega arith) (omega arith))
+        inl (closed_change g wide was now.bytes mine other image (other + g) (other + slot_size was) a
+        (broken_keep (other + g) (other + slot_size was) before_gate s now end inside early) off (omega arith) (omega arith))
     | inr late ↦
         let mid = late.0 in
         let first = late.1.first in
         let size = (mid_keeps mid first).size in
         let torn = broken_keep other (other + g) gate_write mid now (omega (arith, size, end, a.sized.room)) gate_inside late.1.second in
-        subst (λ (q : ℕ). ActiveAt g now.bytes mine other image ⊎ ActiveAt g now.bytes other mine (take len (slot g was q).data_bytes)) places_of.1
-        (either_way g wide was mid.bytes now.bytes mine other image a off len (slot g was other).data_bytes (omega (arith, whole_length)) (mid_keeps mid first) torn (mid_head mid first) (mid_data mid first))
+        subst (λ (q : ℕ). ActiveAt g now.bytes mine other image
+        ⊎ ActiveAt g now.bytes other mine (take len (slot g was q).data_bytes)) places_of.1
+        (either_way g wide was mid.bytes now.bytes mine other image a off len (slot g was other).data_bytes (omega (arith, whole_length))
+        (mid_keeps mid first) torn (mid_head mid first) (mid_data mid first))
   ]

@@ -15,7 +15,8 @@ use Rattle.dfu_slots.proofs.SpareData.{data_kept, data_keeps, data_spare, data_g
 use Rattle.dfu_slots.proofs.Commit.{commit_done, commit_broken}
 
 -- What stands behind written bytes does not show in front of their end.
-front_of_written : (d : List ℕ) (k : ℕ) (xs zs : List ℕ) (len : ℕ) → k ≤ length d → len ≤ k + length xs → take len (written d k (xs ++ zs)) ≡ take len (written d k xs)
+front_of_written : (d : List ℕ) (k : ℕ) (xs zs : List ℕ) (len : ℕ) → k ≤ length d → len ≤ k + length xs
+    → take len (written d k (xs ++ zs)) ≡ take len (written d k xs)
 front_of_written d k xs zs len fits le =
     let a = take k d ++ xs in
     let room : len ≤ length a = omega (arith, le, length-append (take k d) xs, length-take-le k d fits) in
@@ -24,8 +25,10 @@ front_of_written d k xs zs len fits le =
     ∙ take-append-le len a (zs ++ past) room
     ∙ sym (take-append-le len a (drop (k + length xs) d) room)
 
-module _ (g : ℕ) (wide : 16 ≤ g) (s : MediumState) (mine other : ℕ) (image : List ℕ) (a : ActiveAt g s.bytes mine other image) (off : ¬ Counts (slot g s.bytes other))
-    (u : WriteUnit) (k : ℕ) (held : List ℕ) (room : k + length (filled u held) ≤ capacity g s.bytes) (len : ℕ) (le : len ≤ k + length held) where
+module _ (g : ℕ) (wide : 16 ≤ g) (s : MediumState) (mine other : ℕ) (image : List ℕ) (a : ActiveAt g s.bytes mine other image)
+    (off : ¬ Counts (slot g s.bytes other))
+    (u : WriteUnit) (k : ℕ) (held : List ℕ) (room : k + length (filled u held) ≤ capacity g s.bytes) (len : ℕ)
+    (le : len ≤ k + length held) where
   abbrev part : List Write
   part = part_writes u (spare_at g s.bytes + 2 * g + k) held
 
@@ -33,7 +36,8 @@ module _ (g : ℕ) (wide : 16 ≤ g) (s : MediumState) (mine other : ℕ) (image
   place = (places_are g s.bytes mine other image a).1
 
   inside : AllInside (other + 2 * g) (other + slot_size s.bytes) part
-  inside = inside_some (other + 2 * g) (other + slot_size s.bytes) (spare_at g s.bytes + 2 * g + k) (filled u held) (omega (arith, place)) (omega (arith, place, room, a.sized.room))
+  inside = inside_some (other + 2 * g) (other + slot_size s.bytes) (spare_at g s.bytes + 2 * g + k) (filled u held) (omega (arith, place))
+      (omega (arith, place, room, a.sized.room))
 
   abbrev new_image : List ℕ
   new_image = take len (written (spare g s.bytes).data_bytes k held)
@@ -42,8 +46,17 @@ module _ (g : ℕ) (wide : 16 ≤ g) (s : MediumState) (mine other : ℕ) (image
   pub commit_inside : AllInside other (other + slot_size s.bytes) (part ++ commit_writes g s.bytes len)
   commit_inside =
       inside_append other (other + slot_size s.bytes) part (commit_writes g s.bytes len)
-      (inside_some other (other + slot_size s.bytes) (spare_at g s.bytes + 2 * g + k) (filled u held) (omega (arith, place)) (omega (arith, place, room, a.sized.room)))
-      (omega (arith, place), omega (arith, place, a.sized.room, length-header_unit g (next_generation (generation (slot g s.bytes (active_at g s.bytes)))) len wide), (omega (arith, place), omega (arith, place, a.sized.room, length-gate_unit g 165 wide), tt))
+      (inside_some other (other + slot_size s.bytes) (spare_at g s.bytes + 2 * g + k) (filled u held) (omega (arith, place))
+      (omega (arith, place, room, a.sized.room))) (
+        omega (arith, place),
+        omega (
+          arith,
+          place,
+          a.sized.room,
+          length-header_unit g (next_generation (generation (slot g s.bytes (active_at g s.bytes)))) len wide,
+        ),
+        (omega (arith, place), omega (arith, place, a.sized.room, length-gate_unit g 165 wide), tt),
+      )
 
   -- After the held bytes are written.
   module _ (mid : MediumState) (first : AllWrites s part mid) where
@@ -57,11 +70,13 @@ module _ (g : ℕ) (wide : 16 ≤ g) (s : MediumState) (mine other : ℕ) (image
     same_spare = data_spare g wide s mid mine other image a part inside (inl first)
 
     size : slot_size mid.bytes ≡ slot_size s.bytes
-    size = size_kept (other + 2 * g) (other + slot_size s.bytes) s.bytes mid.bytes (data_kept g wide s mid mine other image a part inside (inl first))
+    size = size_kept (other + 2 * g) (other + slot_size s.bytes) s.bytes mid.bytes
+        (data_kept g wide s mid mine other image a part inside (inl first))
 
     mine_is : slot g mid.bytes mine ≡ slot g s.bytes mine
     mine_is =
-        slot_outside g (other + 2 * g) (other + slot_size s.bytes) s.bytes mid.bytes mine (data_kept g wide s mid mine other image a part inside (inl first)) wide (omega (arith, a.sized.room))
+        slot_outside g (other + 2 * g) (other + slot_size s.bytes) s.bytes mid.bytes mine
+        (data_kept g wide s mid mine other image a part inside (inl first)) wide (omega (arith, a.sized.room))
         (⊎_elim (λ p. inl (omega (arith, p.0, p.1))) (λ p. inr (omega (arith, p.0, p.1))) a.places)
 
     same_generation : generation (slot g mid.bytes (active_at g mid.bytes)) ≡ generation (slot g s.bytes (active_at g s.bytes))
@@ -78,13 +93,19 @@ module _ (g : ℕ) (wide : 16 ≤ g) (s : MediumState) (mine other : ℕ) (image
     fits = omega (arith, le, room, size, length-append held (replicate (fill_size u (length held)) 0))
 
     data_is : (spare g mid.bytes).data_bytes ≡ written (spare g s.bytes).data_bytes k (filled u held)
-    data_is = data_written g s.bytes mid.bytes mine other image a same_spare k (filled u held) room (some_written s mid (spare_at g s.bytes + 2 * g + k) (filled u held) first)
+    data_is = data_written g s.bytes mid.bytes mine other image a same_spare k (filled u held) room
+        (some_written s mid (spare_at g s.bytes + 2 * g + k) (filled u held) first)
 
     image_is : take len (spare g mid.bytes).data_bytes ≡ new_image
     image_is =
         ap (λ (l : List ℕ). take len l) data_is
         ∙ front_of_written (spare g s.bytes).data_bytes k held (replicate (fill_size u (length held)) 0) len
-        (omega (arith, room, data_length g s.bytes (spare_at g s.bytes) (omega (arith, place, (place_end g s.bytes mine other a.sized a.places).1)) (omega (arith, a.sized.room)))) le
+        (omega (
+          arith,
+          room,
+          data_length g s.bytes (spare_at g s.bytes)
+              (omega (arith, place, (place_end g s.bytes mine other a.sized a.places).1)) (omega (arith, a.sized.room)),
+        )) le
 
   -- All writes came.
   pub committed : (now : MediumState) → AllWrites s (part ++ commit_writes g s.bytes len) now → ActiveAt g now.bytes other mine new_image
@@ -93,15 +114,18 @@ module _ (g : ℕ) (wide : 16 ≤ g) (s : MediumState) (mine other : ℕ) (image
       let mid = parts.0 in
       let first = parts.1.first in
       let second = subst (λ (ws : List Write). AllWrites mid ws now) (same_writes mid first) parts.1.second in
-      subst (λ (l : List ℕ). ActiveAt g now.bytes other mine l) (image_is mid first) (commit_done g wide mid mine other image (keeps mid first) (shut mid first) len (fits mid first) now second)
+      subst (λ (l : List ℕ). ActiveAt g now.bytes other mine l) (image_is mid first)
+      (commit_done g wide mid mine other image (keeps mid first) (shut mid first) len (fits mid first) now second)
 
   -- They came up to one that failed.
-  pub committed_either : (now : MediumState) → BrokenWrites s (part ++ commit_writes g s.bytes len) now → ActiveAt g now.bytes mine other image ⊎ ActiveAt g now.bytes other mine new_image
+  pub committed_either : (now : MediumState) → BrokenWrites s (part ++ commit_writes g s.bytes len) now
+      → ActiveAt g now.bytes mine other image ⊎ ActiveAt g now.bytes other mine new_image
   committed_either now broken = elim (broken_parts part (commit_writes g s.bytes len) s now broken) [
     | inl early ↦ inl (data_keeps g wide s now mine other image a part inside (inr early))
     | inr late ↦
         let mid = late.0 in
         let first = late.1.first in
         let second = subst (λ (ws : List Write). BrokenWrites mid ws now) (same_writes mid first) late.1.second in
-        subst (λ (l : List ℕ). ActiveAt g now.bytes mine other image ⊎ ActiveAt g now.bytes other mine l) (image_is mid first) (commit_broken g wide mid mine other image (keeps mid first) (shut mid first) len (fits mid first) now second)
+        subst (λ (l : List ℕ). ActiveAt g now.bytes mine other image ⊎ ActiveAt g now.bytes other mine l) (image_is mid first)
+        (commit_broken g wide mid mine other image (keeps mid first) (shut mid first) len (fits mid first) now second)
   ]

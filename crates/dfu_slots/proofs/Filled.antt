@@ -11,23 +11,28 @@ use Rattle.dfu_slots.proofs.Multiples.{length-filled}
 use Rattle.dfu_slots.proofs.Pieces.{filled_short}
 
 -- What was copied to the front of a buffer of zeros.
-pub buffer_is : (bytes copied : List ℕ) (most : ℕ) → copied ≡ bytes → copied ++ drop (length bytes) (replicate most 0) ≡ bytes ++ replicate (most - length bytes) 0
+pub buffer_is : (bytes copied : List ℕ) (most : ℕ) → copied ≡ bytes
+    → copied ++ drop (length bytes) (replicate most 0) ≡ bytes ++ replicate (most - length bytes) 0
 buffer_is bytes copied most is = λ i. is i ++ drop-replicate (length bytes) most 0 i
 
 -- The front of such a buffer.
-pub buffer_front : (bytes : List ℕ) (size most : ℕ) → length bytes ≤ size → size ≤ most → take size (bytes ++ replicate (most - length bytes) 0) ≡ bytes ++ replicate (size - length bytes) 0
+pub buffer_front : (bytes : List ℕ) (size most : ℕ) → length bytes ≤ size → size ≤ most
+    → take size (bytes ++ replicate (most - length bytes) 0) ≡ bytes ++ replicate (size - length bytes) 0
 buffer_front bytes size most fits le =
     take_past bytes (replicate (most - length bytes) 0) size fits
     ∙ ap (λ (l : List ℕ). bytes ++ l) (take-replicate (size - length bytes) (most - length bytes) 0 (omega (arith, le)))
 
 -- The bytes and their zeros stand at the front of a buffer of 4096 zeros, and a write of that front is one of the filled bytes.
-pub filled_series : {T E : Type 0} (m now : MediumState) (v : WriteUnit) → v ≡ m.unit → (at : ℕ) (bytes copied : List ℕ) (zeros : ℕ) → zeros ≡ fill_size v (length bytes) → length bytes ≤ 4096 → copied ≡ bytes
-    → (r : Result T E) → Series m (write_some at (take (length bytes + zeros) (copied ++ drop (length bytes) (replicate 4096 0)))) r now → Series m (write_some at (filled m.unit bytes)) r now
+pub filled_series : {T E : Type 0} (m now : MediumState) (v : WriteUnit) → v ≡ m.unit → (at : ℕ) (bytes copied : List ℕ) (zeros : ℕ)
+    → zeros ≡ fill_size v (length bytes) → length bytes ≤ 4096 → copied ≡ bytes
+    → (r : Result T E) → Series m (write_some at (take (length bytes + zeros) (copied ++ drop (length bytes) (replicate 4096 0)))) r now
+    → Series m (write_some at (filled m.unit bytes)) r now
 filled_series m now v unit at bytes copied zeros zeros_are short is r series =
     let size = length bytes + zeros in
     let count : zeros ≡ fill_size m.unit (length bytes) = zeros_are ∙ ap (λ (u : WriteUnit). fill_size u (length bytes)) unit in
     let behind : size - length bytes ≡ fill_size m.unit (length bytes) = omega (arith, count) in
     let fits : size ≤ 4096 = omega (arith, filled_short m.unit bytes short, length-filled m.unit bytes, count) in
     subst (λ (l : List ℕ). Series m (write_some at l) r now)
-    (ap (λ (l : List ℕ). take size l) (buffer_is bytes copied 4096 is) ∙ buffer_front bytes size 4096 (omega arith) fits ∙ ap (λ (n : ℕ). bytes ++ replicate n 0) behind)
+    (ap (λ (l : List ℕ). take size l) (buffer_is bytes copied 4096 is) ∙ buffer_front bytes size 4096 (omega arith) fits
+    ∙ ap (λ (n : ℕ). bytes ++ replicate n 0) behind)
     series

@@ -18,7 +18,8 @@ use Rattle.dfu_slots.proofs.Begun.{gate_written}
 use Rattle.dfu_slots.proofs.Commit.{header_written}
 
 -- The pieces together are one write.
-pieces_written : (n at : ℕ) (bytes : List ℕ) (s now : MediumState) → length bytes ≤ n → at + length bytes ≤ length s.bytes → AllWrites s (piece_writes n at bytes) now → now.bytes ≡ written s.bytes at bytes
+pieces_written : (n at : ℕ) (bytes : List ℕ) (s now : MediumState) → length bytes ≤ n → at + length bytes ≤ length s.bytes
+    → AllWrites s (piece_writes n at bytes) now → now.bytes ≡ written s.bytes at bytes
 pieces_written zero at [] s now le fits same = ap (λ (m : MediumState). m.bytes) same ∙ sym (written_nil s.bytes at)
 pieces_written zero at (b ∷ bs) s now le fits same = absurd (omega arith)
 pieces_written (suc n) at [] s now le fits same = ap (λ (m : MediumState). m.bytes) same ∙ sym (written_nil s.bytes at)
@@ -34,12 +35,14 @@ pieces_written (suc n) at (b ∷ bs) s now le fits (next, wrote, rest) =
     (λ short.
     let none : c ≡ [] = drop_all 4096 bytes (omega arith) in
     let all : a ≡ bytes = take_all 4096 bytes (omega arith) in
-    let same : now ≡ next = subst (λ ws. AllWrites next ws now) (pieces_nil n (at + 4096)) (subst (λ (l : List ℕ). AllWrites next (piece_writes n (at + 4096) l) now) none rest) in
+    let same : now ≡ next = subst (λ ws. AllWrites next ws now) (pieces_nil n (at + 4096))
+    (subst (λ (l : List ℕ). AllWrites next (piece_writes n (at + 4096) l) now) none rest) in
     ap (λ (m : MediumState). m.bytes) same ∙ wrote.bytes ∙ ap (λ (l : List ℕ). written s.bytes at l) all)
     (λ long.
     let size : length a ≡ 4096 = omega (arith, la) in
     let ih = pieces_written n (at + 4096) c next now (omega (arith, lc)) (omega (arith, lc, kept)) rest in
-    ih ∙ (λ i. written (wrote.bytes i) (at + sym size i) c) ∙ written_written s.bytes at a c (omega (arith, la, lc)) ∙ ap (λ (l : List ℕ). written s.bytes at l) whole)
+    ih ∙ (λ i. written (wrote.bytes i) (at + sym size i) c) ∙ written_written s.bytes at a c (omega (arith, la, lc))
+    ∙ ap (λ (l : List ℕ). written s.bytes at l) whole)
     (cases_lt (length bytes) 4096)
 
 -- The five steps of a format, by the bytes that each leaves, on a medium of two halves of `h` bytes.
@@ -78,13 +81,15 @@ module _ (g : ℕ) (wide : 16 ≤ g) (d a b c e now image units : List ℕ) (h :
   len_c = tc.size ∙ len_b
 
   te : Torn c g (header_unit g 0 len) e
-  te = subst (λ (l : List ℕ). Torn c g (header_unit g 0 len) l) (sym is_e) (written_torn c g (header_unit g 0 len) (omega (arith, head_size, len_c)))
+  te = subst (λ (l : List ℕ). Torn c g (header_unit g 0 len) l) (sym is_e)
+      (written_torn c g (header_unit g 0 len) (omega (arith, head_size, len_c)))
 
   len_e : length e ≡ h + h
   len_e = te.size ∙ len_c
 
   tn : Torn e 0 (gate_unit g OPEN) now
-  tn = subst (λ (l : List ℕ). Torn e 0 (gate_unit g OPEN) l) (sym is_now) (written_torn e 0 (gate_unit g OPEN) (omega (arith, open_size, len_e)))
+  tn = subst (λ (l : List ℕ). Torn e 0 (gate_unit g OPEN) l) (sym is_now)
+      (written_torn e 0 (gate_unit g OPEN) (omega (arith, open_size, len_e)))
 
   len_now : length now ≡ h + h
   len_now = tn.size ∙ len_e
@@ -121,28 +126,35 @@ module _ (g : ℕ) (wide : 16 ≤ g) (d a b c e now image units : List ℕ) (h :
   image_front =
       let at : 2 * g ≡ 0 + 2 * g = omega arith in
       let part : 2 * g + length units - 2 * g ≡ length units = omega arith in
-      sym front ∙ ap (λ (l : List ℕ). take len l) (sym first_data ∙ (λ i. take (part i) (drop (at i) now))) ∙ take-take len (length units) (drop (0 + 2 * g) now) least
+      sym front ∙ ap (λ (l : List ℕ). take len l) (sym first_data ∙ (λ i. take (part i) (drop (at i) now)))
+      ∙ take-take len (length units) (drop (0 + 2 * g) now) least
       ∙ sym (take-take len (0 + slot_size now - (0 + 2 * g)) (drop (0 + 2 * g) now) (omega (arith, size_now)))
 
   format_active : HasTwoSlots g now → ActiveAt g now 0 (slot_size now) image
   format_active sized =
-      let room_is : length (slot g now 0).data_bytes ≡ capacity g now = data_length g now 0 (omega (arith, sized.even)) (omega (arith, sized.room)) in
+      let room_is : length (slot g now 0).data_bytes ≡ capacity g now = data_length g now 0 (omega (arith, sized.even))
+      (omega (arith, sized.room)) in
       let head : (slot g now 0).header ≡ header 0 len = first_header in
       let shut : slice_index now (slot_size now) ≡ 0 = ap (λ (q : ℕ). slice_index now q) size_now ∙ second_gate in
       record {
         sized = sized;
         places = inl (refl, refl);
         newest = record { counts = first_gate; newer = inl (λ o. absurd (omega (arith, o, shut))) };
-        header_is = record { well_formed = head ∙ ap (λ (l : List ℕ). header (slice_index l 0) len) (sym head); fits = omega (arith, room_is, size_now) };
+        header_is = record {
+          well_formed = head ∙ ap (λ (l : List ℕ). header (slice_index l 0) len) (sym head);
+          fits = omega (arith, room_is, size_now);
+        };
         image_is = image_front;
       }
 
 -- The two halves of a medium have room for the gate units and what fits in the data.
-halves_of : (g : ℕ) (l : List ℕ) (n : ℕ) → HasTwoSlots g l → n ≤ capacity g l → (length l ≡ slot_size l + slot_size l) × (2 * g + n ≤ slot_size l)
+halves_of : (g : ℕ) (l : List ℕ) (n : ℕ) → HasTwoSlots g l → n ≤ capacity g l → (length l ≡ slot_size l + slot_size l)
+    × (2 * g + n ≤ slot_size l)
 halves_of g l n sized fits = (omega (arith, sized.even), omega (arith, fits, sized.room))
 
 -- Once both gates are closed, what fits in the data lies within the medium.
-closed_room : (g : ℕ) → 16 ≤ g → (d a b : List ℕ) (n h : ℕ) → length d ≡ h + h → 2 * g + n ≤ h → a ≡ written d h (gate_unit g 0) → b ≡ written a 0 (gate_unit g 0) → 2 * g + n ≤ length b
+closed_room : (g : ℕ) → 16 ≤ g → (d a b : List ℕ) (n h : ℕ) → length d ≡ h + h → 2 * g + n ≤ h → a ≡ written d h (gate_unit g 0)
+    → b ≡ written a 0 (gate_unit g 0) → 2 * g + n ≤ length b
 closed_room g wide d a b n h halves room is_a is_b =
     let gates = length-gate_unit g 0 wide in
     let one : length a ≡ h + h = ap length is_a ∙ (written_torn d h (gate_unit g 0) (omega (arith, gates))).size ∙ halves in
@@ -158,7 +170,8 @@ sized_on g l m sized same = record {
 }
 
 -- A format that is done leaves the image active in the first slot.
-pub format_done : (u : WriteUnit) (g : ℕ) → 16 ≤ g → (s now : MediumState) (image : List ℕ) → HasTwoSlots g s.bytes → IsMultiple u (capacity g s.bytes) → length image ≤ capacity g s.bytes
+pub format_done : (u : WriteUnit) (g : ℕ) → 16 ≤ g → (s now : MediumState) (image : List ℕ) → HasTwoSlots g s.bytes
+    → IsMultiple u (capacity g s.bytes) → length image ≤ capacity g s.bytes
     → AllWrites s (format_writes u g s.bytes image) now → ActiveAt g now.bytes 0 (slot_size now.bytes) image
 format_done u g wide s now image sized whole small (m1, w1, (m2, w2, rest)) =
     let units = filled u image in
@@ -168,12 +181,16 @@ format_done u g wide s now image sized whole small (m1, w1, (m2, w2, rest)) =
     let fits : length units ≤ capacity g s.bytes = filled_within u (capacity g s.bytes) image whole small in
     let halves = halves_of g s.bytes (length units) sized fits in
     let room2 = closed_room g wide s.bytes m1.bytes m2.bytes (length units) (slot_size s.bytes) halves.0 halves.1 w1.bytes w2.bytes in
-    let is_c : m3.bytes ≡ written m2.bytes (2 * g) units = pieces_written (length units) (2 * g) units m2 m3 (omega arith) room2 parts.1.first in
+    let is_c : m3.bytes ≡ written m2.bytes (2 * g) units = pieces_written (length units) (2 * g) units m2 m3
+    (omega arith) room2 parts.1.first in
     let zero_g : 0 + g ≡ g = omega arith in
     let is_e = parts.1.second.1.bytes ∙ ap (λ (p : ℕ). written m3.bytes p (header_unit g 0 (length image))) zero_g in
-    let is_now : now.bytes ≡ written m4.bytes 0 (gate_unit g OPEN) = ap (λ (m : MediumState). m.bytes) parts.1.second.2.2 ∙ parts.1.second.2.1.bytes in
+    let is_now : now.bytes ≡ written m4.bytes 0 (gate_unit g OPEN) = ap (λ (m : MediumState). m.bytes) parts.1.second.2.2
+    ∙ parts.1.second.2.1.bytes in
     let front = take_at image (replicate (fill_size u (length image)) 0) (length image) refl in
     let least : length image ≤ length units = omega (arith, length-filled u image) in
-    let size = len_now g wide s.bytes m1.bytes m2.bytes m3.bytes m4.bytes now.bytes image units (slot_size s.bytes) halves.0 halves.1 front least w1.bytes w2.bytes is_c is_e is_now in
-    format_active g wide s.bytes m1.bytes m2.bytes m3.bytes m4.bytes now.bytes image units (slot_size s.bytes) halves.0 halves.1 front least w1.bytes w2.bytes is_c is_e is_now
+    let size = len_now g wide s.bytes m1.bytes m2.bytes m3.bytes m4.bytes now.bytes image units
+    (slot_size s.bytes) halves.0 halves.1 front least w1.bytes w2.bytes is_c is_e is_now in
+    format_active g wide s.bytes m1.bytes m2.bytes m3.bytes m4.bytes now.bytes image units
+    (slot_size s.bytes) halves.0 halves.1 front least w1.bytes w2.bytes is_c is_e is_now
     (sized_on g s.bytes now.bytes sized (size ∙ sym halves.0))

@@ -41,17 +41,21 @@ module _ (s mid : MediumState) (sized : IsSized s) (all : AllWrites s (close_wri
 image_inside : (s : MediumState) (image : List ℕ) → CanFormat s image → AllInside 0 (length s.bytes) (image_writes s.unit (gate_of s) image)
 image_inside s image can =
     let units = filled s.unit image in
-    pieces_inside (length units) 0 (length s.bytes) (2 * gate_of s) units (omega arith) (omega (arith, units_fit s image can, can.sized.room, can.sized.even))
+    pieces_inside (length units) 0 (length s.bytes) (2 * gate_of s) units (omega arith)
+    (omega (arith, units_fit s image can, can.sized.room, can.sized.even))
 
-module _ (s now : MediumState) (image : List ℕ) (can : CanFormat s image) (all : AllWrites s (image_writes s.unit (gate_of s) image) now) where
+module _ (s now : MediumState) (image : List ℕ) (can : CanFormat s image)
+    (all : AllWrites s (image_writes s.unit (gate_of s) image) now) where
   image_unit : now.unit ≡ s.unit
   image_unit = all_unit (image_writes s.unit (gate_of s) image) s now all
 
   image_sized : IsSized now
-  image_sized = sized_after s now can.sized image_unit (all_keep 0 (length s.bytes) (image_writes s.unit (gate_of s) image) s now (omega arith) (image_inside s image can) all).size
+  image_sized = sized_after s now can.sized image_unit
+      (all_keep 0 (length s.bytes) (image_writes s.unit (gate_of s) image) s now (omega arith) (image_inside s image can) all).size
 
 -- A medium that can be formatted still can once its gates are closed.
-closed_can : (s mid : MediumState) (image : List ℕ) → CanFormat s image → AllWrites s (close_writes (gate_of s) s.bytes) mid → CanFormat mid image
+closed_can : (s mid : MediumState) (image : List ℕ) → CanFormat s image → AllWrites s (close_writes (gate_of s) s.bytes) mid
+    → CanFormat mid image
 closed_can s mid image can all = record {
   sized = closed_sized s mid can.sized all;
   fits = omega (arith, can.fits, closed_size s mid can.sized all, ap gate_size (closed_unit s mid can.sized all));
@@ -71,9 +75,14 @@ module _ (s now : MediumState) (image : List ℕ) (can : CanFormat s image) (all
   formatted_size =
       let g = gate_of s in
       let wide = gate_wide s.unit in
-      let opening = inside_append 0 (length s.bytes) (close_writes g s.bytes ++ image_writes s.unit g image) (open_writes g 0 0 (length image))
-      (inside_append 0 (length s.bytes) (close_writes g s.bytes) (image_writes s.unit g image) (close_inside s can.sized) (image_inside s image can))
-      (omega arith, omega (arith, length-header_unit g 0 (length image) wide, can.sized.room, can.sized.even), (omega arith, omega (arith, length-gate_unit g OPEN wide, can.sized.room, can.sized.even), tt)) in
+      let opening = inside_append 0 (length s.bytes) (close_writes g s.bytes ++ image_writes s.unit g image)
+      (open_writes g 0 0 (length image))
+      (inside_append 0 (length s.bytes) (close_writes g s.bytes) (image_writes s.unit g image) (close_inside s can.sized)
+      (image_inside s image can)) (
+        omega arith,
+        omega (arith, length-header_unit g 0 (length image) wide, can.sized.room, can.sized.even),
+        (omega arith, omega (arith, length-gate_unit g OPEN wide, can.sized.room, can.sized.even), tt),
+      ) in
       (all_keep 0 (length s.bytes) (format_series s image) s now (omega arith) opening all).size
 
   -- It makes the image active.
@@ -83,7 +92,8 @@ module _ (s now : MediumState) (image : List ℕ) (can : CanFormat s image) (all
       (format_done s.unit (gate_of s) (gate_wide s.unit) s now image (two_slots s can.sized) can.sized.whole can.fits all)
 
 -- The steps of the code: the gates are closed, the pieces are written, and the first slot is opened.
-module _ (s mid : MediumState) (image : List ℕ) (can : CanFormat s image) (at : ℕ) (at_is : at ≡ 0 + 2 * gate_of s) (closed : AllWrites s (close_writes (gate_of s) s.bytes) mid) where
+module _ (s mid : MediumState) (image : List ℕ) (can : CanFormat s image) (at : ℕ) (at_is : at ≡ 0 + 2 * gate_of s)
+    (closed : AllWrites s (close_writes (gate_of s) s.bytes) mid) where
   abbrev units : List ℕ
   units = filled mid.unit image
 
@@ -94,9 +104,11 @@ module _ (s mid : MediumState) (image : List ℕ) (can : CanFormat s image) (at 
   are = pieces_are s mid image at at_is unit
 
   -- A piece fails.
-  pub pieces_broken : (now : MediumState) → ((n : ℕ) → length units ≤ n → BrokenWrites mid (piece_writes n at units) now) → BrokenWrites s (format_series s image) now
+  pub pieces_broken : (now : MediumState) → ((n : ℕ) → length units ≤ n → BrokenWrites mid (piece_writes n at units) now)
+      → BrokenWrites s (format_series s image) now
   pieces_broken now broken =
-      broken_first (close_writes (gate_of s) s.bytes ++ image_writes s.unit (gate_of s) image) (open_writes (gate_of s) 0 0 (length image)) s now
+      broken_first (close_writes (gate_of s) s.bytes ++ image_writes s.unit (gate_of s) image)
+      (open_writes (gate_of s) 0 0 (length image)) s now
       (broken_later (close_writes (gate_of s) s.bytes) (image_writes s.unit (gate_of s) image) s mid now closed
       (subst (λ (ws : List Write). BrokenWrites mid ws now) are (broken (length units) (omega arith))))
 
@@ -116,11 +128,14 @@ module _ (s mid : MediumState) (image : List ℕ) (can : CanFormat s image) (at 
     front_within = omega (arith, pieces_sized.room, pieces_sized.even)
 
     -- And the writes that open the first slot are the last ones of the `format`.
-    pub pieces_opened : {T E : Type 0} (now : MediumState) (r : Result T E) → Series filling (open_writes (gate_of filling) 0 0 (length image)) r now → Series s (format_series s image) r now
+    pub pieces_opened : {T E : Type 0} (now : MediumState) (r : Result T E)
+        → Series filling (open_writes (gate_of filling) 0 0 (length image)) r now → Series s (format_series s image) r now
     pieces_opened now r series =
-        series_after (close_writes (gate_of s) s.bytes ++ image_writes s.unit (gate_of s) image) (open_writes (gate_of s) 0 0 (length image)) s filling now r
+        series_after (close_writes (gate_of s) s.bytes ++ image_writes s.unit (gate_of s) image)
+        (open_writes (gate_of s) 0 0 (length image)) s filling now r
         (all_append (close_writes (gate_of s) s.bytes) (image_writes s.unit (gate_of s) image) s mid filling closed written)
-        (subst (λ (u : WriteUnit). Series filling (open_writes (gate_size u) 0 0 (length image)) r now) (all_unit (image_writes s.unit (gate_of s) image) mid filling written ∙ unit) series)
+        (subst (λ (u : WriteUnit). Series filling (open_writes (gate_size u) 0 0 (length image)) r now)
+        (all_unit (image_writes s.unit (gate_of s) image) mid filling written ∙ unit) series)
 
 -- What is tested before a `format` is what it needs.
 pub can_format : (s : MediumState) (image : List ℕ) (a b : ℕ) → IsSized s → length image ≤ b → b ≡ a → a ≡ capacity_of s → CanFormat s image
@@ -133,7 +148,8 @@ pub record FormatLeaves (x : SlotsState) (image : List ℕ) : Type 0 where
   pub fresh : IsFresh x
 
 -- So does a store on the medium that was formatted.
-pub format_leaves : (s now : MediumState) (image : List ℕ) → CanFormat s image → AllWrites s (format_series s image) now → (held : List ℕ) (put_end : ℕ) → held ≡ [] → put_end ≡ 0 → FormatLeaves (store_of now held put_end) image
+pub format_leaves : (s now : MediumState) (image : List ℕ) → CanFormat s image → AllWrites s (format_series s image) now
+    → (held : List ℕ) (put_end : ℕ) → held ≡ [] → put_end ≡ 0 → FormatLeaves (store_of now held put_end) image
 format_leaves s now image can all held put_end none zero_is =
     let active : Active now image = formatted s now image can all in
     record {

@@ -8,16 +8,19 @@ use Rattle.dfu_slots.proofs.Parts.{gate_outside, header_outside, slot_outside, s
 
 -- The slot at one place stays the newest beside what stands at the other one now.
 abbrev pub StaysNewest : ℕ → List ℕ → List ℕ → ℕ → ℕ → Type 0
-StaysNewest g old now mine other = (¬ Counts (slot g now other)) ⊎ (generation (slot g old mine) ≡ next_generation (generation (slot g now other)))
+StaysNewest g old now mine other = (¬ Counts (slot g now other))
+    ⊎ (generation (slot g old mine) ≡ next_generation (generation (slot g now other)))
 
 -- Whatever stands in the spare slot now, the active one stays, if the spare does not count or is one generation behind.
 pub active_kept : (g : ℕ) → 16 ≤ g → (old now : List ℕ) (mine other : ℕ) (image : List ℕ) (from to : ℕ)
-    → ActiveAt g old mine other image → KeepsOutside from to old now → other ≤ from → to ≤ other + slot_size old → StaysNewest g old now mine other
+    → ActiveAt g old mine other image → KeepsOutside from to old now → other ≤ from → to ≤ other + slot_size old
+    → StaysNewest g old now mine other
     → ActiveAt g now mine other image
 active_kept g wide old now mine other image from to a keeps above below newer =
     let room = a.sized.room in
     let same : slot g now mine ≡ slot g old mine =
-    slot_outside g from to old now mine keeps wide (omega (arith, room)) (⊎_elim (λ p. inl (omega (arith, p.0, p.1))) (λ p. inr (omega (arith, p.0, p.1))) a.places) in
+    slot_outside g from to old now mine keeps wide (omega (arith, room))
+    (⊎_elim (λ p. inl (omega (arith, p.0, p.1))) (λ p. inr (omega (arith, p.0, p.1))) a.places) in
     let size = size_kept from to old now keeps in
     record {
       sized = sized_kept g from to old now keeps a.sized;
@@ -27,21 +30,24 @@ active_kept g wide old now mine other image from to a keeps above below newer =
       image_is = subst (λ (s : Slot). image ≡ take (length image) s.data_bytes) (sym same) a.image_is;
     }
 
-module _ (g : ℕ) (wide : 16 ≤ g) (old now : List ℕ) (mine other : ℕ) (image : List ℕ) (from to : ℕ) (a : ActiveAt g old mine other image) (keeps : KeepsOutside from to old now) where
+module _ (g : ℕ) (wide : 16 ≤ g) (old now : List ℕ) (mine other : ℕ) (image : List ℕ) (from to : ℕ) (a : ActiveAt g old mine other image)
+    (keeps : KeepsOutside from to old now) where
   -- A change of the spare's data keeps it.
   pub data_change : other + 2 * g ≤ from → to ≤ other + slot_size old → ActiveAt g now mine other image
   data_change above below =
       let gate = gate_outside g from to old now other keeps (inl (omega arith)) in
       let head = header_outside g from to old now other keeps (inl (omega arith)) in
       active_kept g wide old now mine other image from to a keeps (omega arith) below
-      (⊎_elim (λ off. inl (λ c. off (sym gate ∙ c))) (λ newer. inr (newer ∙ ap (λ (h : List ℕ). next_generation (slice_index h 0)) (sym head))) a.newest.newer)
+      (⊎_elim (λ off. inl (λ c. off (sym gate ∙ c)))
+      (λ newer. inr (newer ∙ ap (λ (h : List ℕ). next_generation (slice_index h 0)) (sym head))) a.newest.newer)
 
   -- So does a change of its gate, where it counts already.
   pub gate_change : Counts (slot g old other) → other ≤ from → to ≤ other + g → ActiveAt g now mine other image
   gate_change was_open above below =
       let head = header_outside g from to old now other keeps (inr below) in
       active_kept g wide old now mine other image from to a keeps above (omega (arith, a.sized.room))
-      (⊎_elim (λ off. absurd (off was_open)) (λ newer. inr (newer ∙ ap (λ (h : List ℕ). next_generation (slice_index h 0)) (sym head))) a.newest.newer)
+      (⊎_elim (λ off. absurd (off was_open)) (λ newer. inr (newer ∙ ap (λ (h : List ℕ). next_generation (slice_index h 0)) (sym head)))
+      a.newest.newer)
 
   -- So does a change behind its gate, where it does not count.
   pub closed_change : ¬ Counts (slot g old other) → other < from → to ≤ other + slot_size old → ActiveAt g now mine other image

@@ -92,14 +92,17 @@ fill_piece U256 n le = omega (arith, le)
 
 -- Filled bytes are longer by the zeros.
 pub length-filled : (u : WriteUnit) (bytes : List ℕ) → length (filled u bytes) ≡ length bytes + fill_size u (length bytes)
-length-filled u bytes = length-append bytes (replicate (fill_size u (length bytes)) 0) ∙ ap (λ (n : ℕ). length bytes + n) (length-replicate {A = ℕ} (fill_size u (length bytes)) 0)
+length-filled u bytes = length-append bytes (replicate (fill_size u (length bytes)) 0)
+    ∙ ap (λ (n : ℕ). length bytes + n) (length-replicate {A = ℕ} (fill_size u (length bytes)) 0)
 
-filled_fits : (u : WriteUnit) (k c : ℕ) (bytes : List ℕ) → IsMultiple u k → IsMultiple u c → k + length bytes ≤ c → k + length (filled u bytes) ≤ c
+filled_fits : (u : WriteUnit) (k c : ℕ) (bytes : List ℕ) → IsMultiple u k → IsMultiple u c → k + length bytes ≤ c
+    → k + length (filled u bytes) ≤ c
 filled_fits u k c bytes x y le = omega (arith, length-filled u bytes, fill_fits u k (length bytes) c x y le)
 
 -- Bytes that are no more than a whole length are so filled up too.
 pub filled_within : (u : WriteUnit) (c : ℕ) (bytes : List ℕ) → IsMultiple u c → length bytes ≤ c → length (filled u bytes) ≤ c
-filled_within u c bytes whole le = omega (arith, length-filled u bytes, fill_fits u 0 (length bytes) c (multiple_zero u) whole (omega (arith, le)))
+filled_within u c bytes whole le = omega
+    (arith, length-filled u bytes, fill_fits u 0 (length bytes) c (multiple_zero u) whole (omega (arith, le)))
 
 -- The places of a medium.
 
@@ -109,7 +112,8 @@ sized_after m n sized unit size = record {
   even = omega (arith, size, sized.even);
   room = omega (arith, size, ap gate_size unit, sized.room);
   bound = omega (arith, size, ap gate_size unit, sized.bound);
-  whole = subst (λ (u : WriteUnit). IsMultiple u (length n.bytes / 2 - 2 * gate_size u)) (sym unit) (subst (λ (k : ℕ). IsMultiple m.unit (k / 2 - 2 * gate_of m)) (sym size) sized.whole);
+  whole = subst (λ (u : WriteUnit). IsMultiple u (length n.bytes / 2 - 2 * gate_size u)) (sym unit)
+      (subst (λ (k : ℕ). IsMultiple m.unit (k / 2 - 2 * gate_of m)) (sym size) sized.whole);
 }
 
 -- What a store holds back.
@@ -124,8 +128,14 @@ module _ (s : SlotsState) (puts : HasPuts s) where
 
   -- Filled up with zeros, they end within the data of a slot.
   pub held_fits : IsMultiple s.medium.unit (capacity_of s.medium) → held_at s + length (filled s.medium.unit s.held) ≤ capacity_of s.medium
-  held_fits whole = filled_fits s.medium.unit (held_at s) (capacity_of s.medium) s.held held_multiple whole (omega (arith, held_end, puts.fits))
+  held_fits whole = filled_fits s.medium.unit (held_at s) (capacity_of s.medium) s.held held_multiple whole
+      (omega (arith, held_end, puts.fits))
 
   -- And within the medium.
   pub place_fits : IsSized s.medium → data_place s (held_at s) + length (filled s.medium.unit s.held) ≤ length s.medium.bytes
-  place_fits sized = omega (arith, held_fits sized.whole, spare_end (gate_of s.medium) s.medium.bytes (two_slots s.medium sized), sized.room)
+  place_fits sized = omega (
+    arith,
+    held_fits sized.whole,
+    spare_end (gate_of s.medium) s.medium.bytes (two_slots s.medium sized),
+    sized.room,
+  )

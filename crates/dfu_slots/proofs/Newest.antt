@@ -34,7 +34,8 @@ newest_from mine other test =
     let parts = and_parts (counts mine) _ test in
     record {
       counts = counts_from mine parts.0;
-      newer = ⊎_elim (λ off. inl (counts_not other (not-true _ off))) (λ newer. inr (eqb-true _ _ newer)) (or_cases (not (counts other)) _ parts.1);
+      newer = ⊎_elim (λ off. inl (counts_not other (not-true _ off))) (λ newer. inr (eqb-true _ _ newer))
+          (or_cases (not (counts other)) _ parts.1);
     }
 
 turns : (g h : ℕ) → g ≡ next_generation h → h ≡ next_generation g → ⊥
@@ -49,34 +50,54 @@ other_test mine other a =
     a.newer
 
 -- Where the active slot stands.
-pub places_newest : (g : ℕ) (bytes : List ℕ) (mine other : ℕ) → ArePlaces bytes mine other → IsNewest (slot g bytes mine) (slot g bytes other) → (mine ≡ active_at g bytes) × (other ≡ spare_at g bytes)
+pub places_newest : (g : ℕ) (bytes : List ℕ) (mine other : ℕ) → ArePlaces bytes mine other
+    → IsNewest (slot g bytes mine) (slot g bytes other) → (mine ≡ active_at g bytes) × (other ≡ spare_at g bytes)
 places_newest g bytes mine other places newest =
     ⊎_elim
     (λ p.
     let is_first : first_is_active g bytes ≡ true =
-    newest_test _ _ (subst (λ (q : ℕ). IsNewest (slot g bytes q) (slot g bytes (slot_size bytes))) p.0 (subst (λ (q : ℕ). IsNewest (slot g bytes mine) (slot g bytes q)) p.1 newest)) in
-    (p.0 ∙ sym (cond-true (first_is_active g bytes) 0 (slot_size bytes) is_first), p.1 ∙ sym (cond-true (first_is_active g bytes) (slot_size bytes) 0 is_first)))
+    newest_test _ _ (subst (λ (q : ℕ). IsNewest (slot g bytes q) (slot g bytes (slot_size bytes))) p.0
+    (subst (λ (q : ℕ). IsNewest (slot g bytes mine) (slot g bytes q)) p.1 newest)) in (
+      p.0 ∙ sym (cond-true (first_is_active g bytes) 0 (slot_size bytes) is_first),
+      p.1
+          ∙ sym (cond-true (first_is_active g bytes) (slot_size bytes) 0 is_first),
+    ))
     (λ p.
     let is_second : first_is_active g bytes ≡ false =
-    other_test _ _ (subst (λ (q : ℕ). IsNewest (slot g bytes q) (slot g bytes 0)) p.0 (subst (λ (q : ℕ). IsNewest (slot g bytes mine) (slot g bytes q)) p.1 newest)) in
-    (p.0 ∙ sym (cond-false (first_is_active g bytes) 0 (slot_size bytes) is_second), p.1 ∙ sym (cond-false (first_is_active g bytes) (slot_size bytes) 0 is_second)))
+    other_test _ _ (subst (λ (q : ℕ). IsNewest (slot g bytes q) (slot g bytes 0)) p.0
+    (subst (λ (q : ℕ). IsNewest (slot g bytes mine) (slot g bytes q)) p.1 newest)) in (
+      p.0 ∙ sym (cond-false (first_is_active g bytes) 0 (slot_size bytes) is_second),
+      p.1
+          ∙ sym (cond-false (first_is_active g bytes) (slot_size bytes) 0 is_second),
+    ))
     places
 
 -- The test finds the active slot and the spare at their places.
-pub places_are : (g : ℕ) (bytes : List ℕ) (mine other : ℕ) (image : List ℕ) → ActiveAt g bytes mine other image → (mine ≡ active_at g bytes) × (other ≡ spare_at g bytes)
+pub places_are : (g : ℕ) (bytes : List ℕ) (mine other : ℕ) (image : List ℕ) → ActiveAt g bytes mine other image → (mine ≡ active_at g bytes)
+    × (other ≡ spare_at g bytes)
 places_are g bytes mine other image a = places_newest g bytes mine other a.places a.newest
 
 -- The places that the test finds.
 pub tested_places : (g : ℕ) (bytes : List ℕ) → ArePlaces bytes (active_at g bytes) (spare_at g bytes)
 tested_places g bytes = elim (cases_Bool (first_is_active g bytes)) [
-  | inl first ↦ inl (cond-true (first_is_active g bytes) 0 (slot_size bytes) first, cond-true (first_is_active g bytes) (slot_size bytes) 0 first)
-  | inr second ↦ inr (cond-false (first_is_active g bytes) 0 (slot_size bytes) second, cond-false (first_is_active g bytes) (slot_size bytes) 0 second)
+  | inl first ↦ inl (
+    cond-true (first_is_active g bytes) 0 (slot_size bytes) first,
+    cond-true (first_is_active g bytes)
+        (slot_size bytes) 0 first,
+  )
+  | inr second ↦ inr (
+    cond-false (first_is_active g bytes) 0 (slot_size bytes) second,
+    cond-false (first_is_active g bytes)
+        (slot_size bytes) 0 second,
+  )
 ]
 
 -- Each slot ends within the medium.
-pub place_end : (g : ℕ) (bytes : List ℕ) (mine other : ℕ) → HasTwoSlots g bytes → ArePlaces bytes mine other → (mine + slot_size bytes ≤ length bytes) × (other + slot_size bytes ≤ length bytes)
+pub place_end : (g : ℕ) (bytes : List ℕ) (mine other : ℕ) → HasTwoSlots g bytes → ArePlaces bytes mine other
+    → (mine + slot_size bytes ≤ length bytes) × (other + slot_size bytes ≤ length bytes)
 place_end g bytes mine other sized places =
-    ⊎_elim (λ p. (omega (arith, sized.even, p.0), omega (arith, sized.even, p.1))) (λ p. (omega (arith, sized.even, p.0), omega (arith, sized.even, p.1))) places
+    ⊎_elim (λ p. (omega (arith, sized.even, p.0), omega (arith, sized.even, p.1)))
+    (λ p. (omega (arith, sized.even, p.0), omega (arith, sized.even, p.1))) places
 
 -- The place of the active slot is that of a slot within the medium.
 pub active_end : (g : ℕ) (bytes : List ℕ) → HasTwoSlots g bytes → active_at g bytes + slot_size bytes ≤ length bytes

@@ -21,12 +21,18 @@ neither x y a b some = elim (cases_Bool (counts x)) [
   ]
 ]
 
-both_tests : (g : ℕ) (bytes : List ℕ) → is_newest (slot g bytes (active_at g bytes)) (slot g bytes (spare_at g bytes)) ≡ false → (b : Bool) → first_is_active g bytes ≡ b
-    → (is_newest (slot g bytes 0) (slot g bytes (slot_size bytes)) ≡ false) × (is_newest (slot g bytes (slot_size bytes)) (slot g bytes 0) ≡ false)
+both_tests : (g : ℕ) (bytes : List ℕ) → is_newest (slot g bytes (active_at g bytes)) (slot g bytes (spare_at g bytes)) ≡ false → (b : Bool)
+    → first_is_active g bytes ≡ b
+    → (is_newest (slot g bytes 0) (slot g bytes (slot_size bytes)) ≡ false)
+    × (is_newest (slot g bytes (slot_size bytes)) (slot g bytes 0) ≡ false)
 both_tests g bytes test true first =
-    absurd (both_ways _ (sym (λ i. is_newest (slot g bytes (cond-true (first_is_active g bytes) 0 (slot_size bytes) first i)) (slot g bytes (cond-true (first_is_active g bytes) (slot_size bytes) 0 first i))) ∙ test) first)
-both_tests g bytes test false second =
-    (second, sym (λ i. is_newest (slot g bytes (cond-false (first_is_active g bytes) 0 (slot_size bytes) second i)) (slot g bytes (cond-false (first_is_active g bytes) (slot_size bytes) 0 second i))) ∙ test)
+    absurd (both_ways _ (sym (λ i. is_newest (slot g bytes (cond-true (first_is_active g bytes) 0 (slot_size bytes) first i))
+    (slot g bytes (cond-true (first_is_active g bytes) (slot_size bytes) 0 first i))) ∙ test) first)
+both_tests g bytes test false second = (
+  second,
+  sym (λ i. is_newest (slot g bytes (cond-false (first_is_active g bytes) 0 (slot_size bytes) second i))
+      (slot g bytes (cond-false (first_is_active g bytes) (slot_size bytes) 0 second i))) ∙ test,
+)
 
 module _ (m : MediumState) where
   abbrev g : ℕ
@@ -45,7 +51,8 @@ module _ (m : MediumState) where
       none : ¬ HasNewest m
       none one =
           let p = places_newest g m.bytes one.at one.other one.places one.newest in
-          both_ways _ test (newest_test _ _ (subst (λ (q : ℕ). IsNewest (slot_of m q) (slot_of m (spare_at g m.bytes))) p.0 (subst (λ (q : ℕ). IsNewest (slot_of m one.at) (slot_of m q)) p.1 one.newest)))
+          both_ways _ test (newest_test _ _ (subst (λ (q : ℕ). IsNewest (slot_of m q) (slot_of m (spare_at g m.bytes))) p.0
+          (subst (λ (q : ℕ). IsNewest (slot_of m one.at) (slot_of m q)) p.1 one.newest)))
 
   -- A medium that passes.
   has_image : (len : ℕ) → IsSized m → tested ≡ true → HasHeader (slot_of m (active_at g m.bytes)) len → HasImage m
@@ -72,12 +79,14 @@ module _ (m : MediumState) where
     test_there b test = sym (λ i. is_newest (slot_of m (at_active i)) (slot_of m (at_spare i))) ∙ test
 
     -- Where the test finds no newest slot, and one slot counts, both do, and neither follows the other.
-    pub two_images_there : is_newest (slot_of m p) (slot_of m q) ≡ false → ¬ ((¬ FirstCounts m) × (¬ SecondCounts m)) → FirstCounts m × SecondCounts m × (¬ HasNewest m)
+    pub two_images_there : is_newest (slot_of m p) (slot_of m q) ≡ false → ¬ ((¬ FirstCounts m) × (¬ SecondCounts m)) → FirstCounts m
+        × SecondCounts m × (¬ HasNewest m)
     two_images_there test some = two_images (test_there false test) some
 
     -- Where it finds the newest slot, and that one has a well-formed header, the medium has an active image.
     pub has_image_there : (len : ℕ) → IsSized m → is_newest (slot_of m p) (slot_of m q) ≡ true → HasHeader (slot_of m p) len → HasImage m
-    has_image_there len sized test head = has_image len sized (test_there true test) (subst (λ (r : ℕ). HasHeader (slot_of m r) len) at_active head)
+    has_image_there len sized test head = has_image len sized (test_there true test)
+        (subst (λ (r : ℕ). HasHeader (slot_of m r) len) at_active head)
 
     -- Where that slot has no well-formed header, the medium has a bad header.
     pub bad_header_there : is_newest (slot_of m p) (slot_of m q) ≡ true → ((len : ℕ) → ¬ HasHeader (slot_of m p) len) → HasBadHeader m
@@ -85,7 +94,8 @@ module _ (m : MediumState) where
       newest = record {
         at = p;
         other = q;
-        places = subst (λ (r : ℕ). ArePlaces m.bytes r q) (sym at_active) (subst (ArePlaces m.bytes (active_at g m.bytes)) (sym at_spare) (tested_places g m.bytes));
+        places = subst (λ (r : ℕ). ArePlaces m.bytes r q) (sym at_active)
+            (subst (ArePlaces m.bytes (active_at g m.bytes)) (sym at_spare) (tested_places g m.bytes));
         newest = newest_from _ _ test;
       };
       none = none;

@@ -12,7 +12,8 @@ length-gate_unit g gate wide = omega (arith, length-replicate {A = ℕ} (g - 1) 
 
 -- A header unit that is written has the same size.
 pub length-header_unit : (g gen len : ℕ) → 16 ≤ g → length (header_unit g gen len) ≡ g
-length-header_unit g gen len wide = omega (arith, length-append (header gen len) (replicate (g - 16) 0), length-replicate {A = ℕ} (g - 16) 0)
+length-header_unit g gen len wide = omega
+    (arith, length-append (header gen len) (replicate (g - 16) 0), length-replicate {A = ℕ} (g - 16) 0)
 
 -- The byte behind the gate unit is the generation.
 pub generation_at : (g : ℕ) (bytes : List ℕ) (at : ℕ) → slice_index bytes (at + g) ≡ generation (slot g bytes at)
@@ -22,11 +23,17 @@ generation_at g bytes at =
     ∙ sym (get_or-take (at + g + 16 - (at + g)) (drop (at + g) bytes) 0 0 (omega arith))
 
 -- A slot has the capacity.
-pub data_length : (g : ℕ) (bytes : List ℕ) (at : ℕ) → at + slot_size bytes ≤ length bytes → 2 * g ≤ slot_size bytes → length (slot g bytes at).data_bytes ≡ capacity g bytes
-data_length g bytes at end room = omega (arith, length-take-le (at + slot_size bytes - (at + 2 * g)) (drop (at + 2 * g) bytes) (omega (arith, length-drop (at + 2 * g) bytes, end)))
+pub data_length : (g : ℕ) (bytes : List ℕ) (at : ℕ) → at + slot_size bytes ≤ length bytes → 2 * g ≤ slot_size bytes
+    → length (slot g bytes at).data_bytes ≡ capacity g bytes
+data_length g bytes at end room = omega (
+  arith,
+  length-take-le (at + slot_size bytes - (at + 2 * g)) (drop (at + 2 * g) bytes)
+      (omega (arith, length-drop (at + 2 * g) bytes, end)),
+)
 
 -- Sixteen bytes that are read behind the gate unit, and are a header that fits, are a well-formed header of the slot.
-pub header_from : (g : ℕ) (bytes : List ℕ) (at len : ℕ) (out : List ℕ) → out ≡ slice_range bytes (at + g) (at + g + 16) → out ≡ header (get_or out 0 0) len → len ≤ capacity g bytes
+pub header_from : (g : ℕ) (bytes : List ℕ) (at len : ℕ) (out : List ℕ) → out ≡ slice_range bytes (at + g) (at + g + 16)
+    → out ≡ header (get_or out 0 0) len → len ≤ capacity g bytes
     → at + slot_size bytes ≤ length bytes → 2 * g ≤ slot_size bytes → HasHeader (slot g bytes at) len
 header_from g bytes at len out read is fits end room = record {
   well_formed = sym read ∙ is ∙ ap (λ (l : List ℕ). header (get_or l 0 0) len) read;
@@ -64,6 +71,8 @@ module _ (g from to : ℕ) (old now : List ℕ) (p : ℕ) (keeps : KeepsOutside 
   pub slot_outside : 16 ≤ g → 2 * g ≤ slot_size old → (p + slot_size old ≤ from) ⊎ (to ≤ p) → slot g now p ≡ slot g old p
   slot_outside wide room apart =
       let gate : (slot g now p).gate ≡ (slot g old p).gate = gate_outside (⊎_elim (λ le. inl (omega arith)) (λ le. inr le) apart) in
-      let head : (slot g now p).header ≡ (slot g old p).header = header_outside (⊎_elim (λ le. inl (omega arith)) (λ le. inr (omega arith)) apart) in
-      let data_kept : (slot g now p).data_bytes ≡ (slot g old p).data_bytes = data_outside (⊎_elim (λ le. inl le) (λ le. inr (omega arith)) apart) in
+      let head : (slot g now p).header ≡ (slot g old p).header =
+      header_outside (⊎_elim (λ le. inl (omega arith)) (λ le. inr (omega arith)) apart) in
+      let data_kept : (slot g now p).data_bytes ≡ (slot g old p).data_bytes =
+      data_outside (⊎_elim (λ le. inl le) (λ le. inr (omega arith)) apart) in
       λ i. record { gate = gate i; header = head i; data_bytes = data_kept i }

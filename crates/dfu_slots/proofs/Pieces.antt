@@ -18,7 +18,8 @@ pieces_nil (suc n) at = refl
 
 -- The first piece and the others.
 pieces_step : (n at : ℕ) (bytes : List ℕ) (size : ℕ) → size ≡ min 4096 (length bytes) → 0 < length bytes → length bytes ≤ n
-    → (m : ℕ) × (length (drop size bytes) ≤ m) × (piece_writes n at bytes ≡ record { at = at; bytes = take size bytes } ∷ piece_writes m (at + size) (drop size bytes))
+    → (m : ℕ) × (length (drop size bytes) ≤ m)
+    × (piece_writes n at bytes ≡ record { at = at; bytes = take size bytes } ∷ piece_writes m (at + size) (drop size bytes))
 pieces_step n at [] size is some le = absurd (omega arith)
 pieces_step zero at (b ∷ bs) size is some le = absurd (omega arith)
 pieces_step (suc m) at (b ∷ bs) size is some le =
@@ -30,14 +31,16 @@ pieces_step (suc m) at (b ∷ bs) size is some le =
           ∙ ap (λ (ws : List Write). record { at = at; bytes = take size bytes } ∷ ws) (tail (cases_lt (length bytes) 4096)),
     )
   where
-    tail : (length (b ∷ bs) < 4096) ⊎ (4096 ≤ length (b ∷ bs)) → piece_writes m (at + 4096) (drop 4096 (b ∷ bs)) ≡ piece_writes m (at + size) (drop size (b ∷ bs))
+    tail : (length (b ∷ bs) < 4096) ⊎ (4096 ≤ length (b ∷ bs))
+        → piece_writes m (at + 4096) (drop 4096 (b ∷ bs)) ≡ piece_writes m (at + size) (drop size (b ∷ bs))
     tail (inl short) =
         ap (λ (l : List ℕ). piece_writes m (at + 4096) l) (drop_all 4096 (b ∷ bs) (omega arith)) ∙ pieces_nil m (at + 4096)
         ∙ sym (ap (λ (l : List ℕ). piece_writes m (at + size) l) (drop_all size (b ∷ bs) (omega arith)) ∙ pieces_nil m (at + size))
     tail (inr long) = let e : 4096 ≡ size = omega arith in ap (λ (k : ℕ). piece_writes m (at + k) (drop k (b ∷ bs))) e
 
 -- The first piece, where its write fails.
-pieces_first : (s now : MediumState) (n at size : ℕ) (bytes : List ℕ) → size ≡ min 4096 (length bytes) → 0 < length bytes → length bytes ≤ n → FailedWrite s at (take size bytes) now → BrokenWrites s (piece_writes n at bytes) now
+pieces_first : (s now : MediumState) (n at size : ℕ) (bytes : List ℕ) → size ≡ min 4096 (length bytes) → 0 < length bytes → length bytes ≤ n
+    → FailedWrite s at (take size bytes) now → BrokenWrites s (piece_writes n at bytes) now
 pieces_first s now n at size bytes is some le failed =
     let step = pieces_step n at bytes size is some le in
     subst (λ (ws : List Write). BrokenWrites s ws now) (sym step.2) (inl failed)
@@ -59,7 +62,8 @@ some_left (suc n) h = omega arith
 written_none : (s : MediumState) (n at : ℕ) (bytes : List ℕ) → length bytes ≤ n → WrittenTo s s n at bytes at bytes
 written_none s n at bytes le = record { front = []; left = n; all = refl; enough = le; pieces = refl }
 
-module _ (old mid now : MediumState) (n at : ℕ) (bytes : List ℕ) (place : ℕ) (rest : List ℕ) (size : ℕ) (is : size ≡ min 4096 (length rest)) (some : 0 < length rest) (w : WrittenTo old mid n at bytes place rest) where
+module _ (old mid now : MediumState) (n at : ℕ) (bytes : List ℕ) (place : ℕ) (rest : List ℕ) (size : ℕ) (is : size ≡ min 4096 (length rest))
+    (some : 0 < length rest) (w : WrittenTo old mid n at bytes place rest) where
   -- One piece more.
   written_more : Wrote mid place (take size rest) now → WrittenTo old now n at bytes (place + size) (drop size rest)
   written_more wrote =
@@ -70,14 +74,16 @@ module _ (old mid now : MediumState) (n at : ℕ) (bytes : List ℕ) (place : �
         left = step.0;
         all = all_append w.front first old mid now w.all (now, wrote, refl);
         enough = step.1;
-        pieces = w.pieces ∙ ap (λ (ws : List Write). w.front ++ ws) step.2 ∙ sym (append_assoc w.front first (piece_writes step.0 (place + size) (drop size rest)));
+        pieces = w.pieces ∙ ap (λ (ws : List Write). w.front ++ ws) step.2
+            ∙ sym (append_assoc w.front first (piece_writes step.0 (place + size) (drop size rest)));
       }
 
   -- The next piece fails.
   written_stopped : FailedWrite mid place (take size rest) now → BrokenWrites old (piece_writes n at bytes) now
   written_stopped failed =
       subst (λ (ws : List Write). BrokenWrites old ws now) (sym w.pieces)
-      (broken_later w.front (piece_writes w.left place rest) old mid now w.all (pieces_first mid now w.left place size rest is some w.enough failed))
+      (broken_later w.front (piece_writes w.left place rest) old mid now w.all
+      (pieces_first mid now w.left place size rest is some w.enough failed))
 
 -- What is left is no more than one piece.
 pieces_one : (n at : ℕ) (bytes : List ℕ) → length bytes ≤ 4096 → length bytes ≤ n → piece_writes n at bytes ≡ write_some at bytes
@@ -85,14 +91,18 @@ pieces_one n at [] short le = pieces_nil n at
 pieces_one zero at (b ∷ bs) short le = absurd (omega (arith, le))
 pieces_one (suc n) at (b ∷ bs) short le =
     ap (λ (l : List ℕ). record { at = at; bytes = l } ∷ piece_writes n (at + 4096) (drop 4096 (b ∷ bs))) (take_all 4096 (b ∷ bs) short)
-    ∙ ap (λ (ws : List Write). record { at = at; bytes = b ∷ bs } ∷ ws) (ap (λ (l : List ℕ). piece_writes n (at + 4096) l) (drop_all 4096 (b ∷ bs) short) ∙ pieces_nil n (at + 4096))
-    ∙ sym (cond-false (length (b ∷ bs) == 0) [] (record { at = at; bytes = b ∷ bs } ∷ []) (ne_eqb (length (b ∷ bs)) 0 (λ e. omega (arith, e))))
+    ∙ ap (λ (ws : List Write). record { at = at; bytes = b ∷ bs } ∷ ws)
+    (ap (λ (l : List ℕ). piece_writes n (at + 4096) l) (drop_all 4096 (b ∷ bs) short) ∙ pieces_nil n (at + 4096))
+    ∙ sym (cond-false (length (b ∷ bs) == 0) [] (record { at = at; bytes = b ∷ bs } ∷ [])
+    (ne_eqb (length (b ∷ bs)) 0 (λ e. omega (arith, e))))
 
-written_last : {T E : Type 0} (old mid now : MediumState) (n at : ℕ) (bytes : List ℕ) (place : ℕ) (rest : List ℕ) (r : Result T E) → length rest ≤ 4096 → WrittenTo old mid n at bytes place rest
+written_last : {T E : Type 0} (old mid now : MediumState) (n at : ℕ) (bytes : List ℕ) (place : ℕ) (rest : List ℕ) (r : Result T E)
+    → length rest ≤ 4096 → WrittenTo old mid n at bytes place rest
     → Series mid (write_some place rest) r now → Series old (piece_writes n at bytes) r now
 written_last old mid now n at bytes place rest r short w last =
     subst (λ (ws : List Write). Series old ws r now) (sym w.pieces)
-    (series_after w.front (piece_writes w.left place rest) old mid now r w.all (subst (λ (ws : List Write). Series mid ws r now) (sym (pieces_one w.left place rest short w.enough)) last))
+    (series_after w.front (piece_writes w.left place rest) old mid now r w.all
+    (subst (λ (ws : List Write). Series mid ws r now) (sym (pieces_one w.left place rest short w.enough)) last))
 
 -- The pieces lie where the bytes go.
 pub pieces_inside : (n from to at : ℕ) (bytes : List ℕ) → from ≤ at → at + length bytes ≤ to → AllInside from to (piece_writes n at bytes)
@@ -102,7 +112,8 @@ pieces_inside (suc n) from to at (b ∷ bs) low high = (
   low,
   omega (arith, length-take 4096 (b ∷ bs)),
   (elim (cases_lt (length (b ∷ bs)) 4096) [
-    | inl short ↦ subst (λ (l : List ℕ). AllInside from to (piece_writes n (at + 4096) l)) (sym (drop_all 4096 (b ∷ bs) (omega arith))) (subst (AllInside from to) (sym (pieces_nil n (at + 4096))) tt)
+    | inl short ↦ subst (λ (l : List ℕ). AllInside from to (piece_writes n (at + 4096) l)) (sym (drop_all 4096 (b ∷ bs) (omega arith)))
+        (subst (AllInside from to) (sym (pieces_nil n (at + 4096))) tt)
     | inr long ↦ pieces_inside n from to (at + 4096) (drop 4096 (b ∷ bs)) (omega arith) (omega (arith, length-drop 4096 (b ∷ bs)))
   ]),
 )
@@ -118,7 +129,8 @@ module _ (u : WriteUnit) (bytes : List ℕ) where
   filled_back : 4096 ≤ length bytes → drop 4096 (filled u bytes) ≡ filled u (drop 4096 bytes)
   filled_back le =
       drop-append-le 4096 bytes (replicate (fill_size u (length bytes)) 0) le
-      ∙ ap (λ (n : ℕ). drop 4096 bytes ++ replicate n 0) (sym (ap (λ (k : ℕ). fill_size u k) (length-drop 4096 bytes) ∙ fill_piece u (length bytes) le))
+      ∙ ap (λ (n : ℕ). drop 4096 bytes ++ replicate n 0)
+      (sym (ap (λ (k : ℕ). fill_size u k) (length-drop 4096 bytes) ∙ fill_piece u (length bytes) le))
 
   -- No more than a piece stays no more than one.
   pub filled_short : length bytes ≤ 4096 → length (filled u bytes) ≤ 4096
@@ -133,10 +145,13 @@ pub record OnTheWay (old mid : MediumState) (at : ℕ) (bytes : List ℕ) (place
   pub told : (n : ℕ) → length (filled old.unit bytes) ≤ n → WrittenTo old mid n at (filled old.unit bytes) place (filled old.unit rest)
 
 -- Before the first piece.
-pub way_begins : (s : MediumState) (at : ℕ) (bytes : List ℕ) → at + length (filled s.unit bytes) ≤ length s.bytes → at + length bytes < 2 ^ 32 → IsMultiple s.unit at → OnTheWay s s at bytes at bytes
-way_begins s at bytes within room whole = record { unit = refl; within = within; room = room; whole = whole; told = λ n le. written_none s n at (filled s.unit bytes) le }
+pub way_begins : (s : MediumState) (at : ℕ) (bytes : List ℕ) → at + length (filled s.unit bytes) ≤ length s.bytes
+    → at + length bytes < 2 ^ 32 → IsMultiple s.unit at → OnTheWay s s at bytes at bytes
+way_begins s at bytes within room whole =
+    record { unit = refl; within = within; room = room; whole = whole; told = λ n le. written_none s n at (filled s.unit bytes) le }
 
-module _ (old mid now : MediumState) (at : ℕ) (bytes : List ℕ) (place : ℕ) (rest : List ℕ) (way : OnTheWay old mid at bytes place rest) (long : 4096 < length rest) where
+module _ (old mid now : MediumState) (at : ℕ) (bytes : List ℕ) (place : ℕ) (rest : List ℕ) (way : OnTheWay old mid at bytes place rest)
+    (long : 4096 < length rest) where
   abbrev units : List ℕ
   units = filled old.unit rest
 
@@ -156,7 +171,8 @@ module _ (old mid now : MediumState) (at : ℕ) (bytes : List ℕ) (place : ℕ)
   -- One piece more.
   pub way_on : Wrote mid place (take 4096 rest) now → OnTheWay old now at bytes (place + 4096) (drop 4096 rest)
   way_on wrote =
-      let size : length now.bytes ≡ length mid.bytes = ap length wrote.bytes ∙ (written_torn mid.bytes place (take 4096 rest) (omega (arith, piece_fits, length-take 4096 rest))).size in
+      let size : length now.bytes ≡ length mid.bytes = ap length wrote.bytes
+      ∙ (written_torn mid.bytes place (take 4096 rest) (omega (arith, piece_fits, length-take 4096 rest))).size in
       let back = filled_back old.unit rest (omega (arith, long)) in
       record {
         unit = wrote.unit ∙ way.unit;
@@ -165,17 +181,22 @@ module _ (old mid now : MediumState) (at : ℕ) (bytes : List ℕ) (place : ℕ)
         whole = multiple_add old.unit place 4096 way.whole (multiple_piece old.unit);
         told = λ n le.
             subst (λ (l : List ℕ). WrittenTo old now n at (filled old.unit bytes) (place + 4096) l) back
-            (written_more old mid now n at (filled old.unit bytes) place units 4096 piece_is (omega (arith, long_units)) (way.told n le) (subst (λ (l : List ℕ). Wrote mid place l now) front wrote));
+            (written_more old mid now n at (filled old.unit bytes) place units 4096 piece_is (omega (arith, long_units)) (way.told n le)
+            (subst (λ (l : List ℕ). Wrote mid place l now) front wrote));
       }
 
   -- The next piece fails.
-  pub way_broken : (n : ℕ) → length (filled old.unit bytes) ≤ n → FailedWrite mid place (take 4096 rest) now → BrokenWrites old (piece_writes n at (filled old.unit bytes)) now
+  pub way_broken : (n : ℕ) → length (filled old.unit bytes) ≤ n → FailedWrite mid place (take 4096 rest) now
+      → BrokenWrites old (piece_writes n at (filled old.unit bytes)) now
   way_broken n le failed =
-      written_stopped old mid now n at (filled old.unit bytes) place units 4096 piece_is (omega (arith, long_units)) (way.told n le) (subst (λ (l : List ℕ). FailedWrite mid place l now) front failed)
+      written_stopped old mid now n at (filled old.unit bytes) place units 4096 piece_is (omega (arith, long_units)) (way.told n le)
+      (subst (λ (l : List ℕ). FailedWrite mid place l now) front failed)
 
 -- The last piece.
-pub way_ends : {T E : Type 0} (old mid now : MediumState) (at : ℕ) (bytes : List ℕ) (place : ℕ) (rest : List ℕ) → OnTheWay old mid at bytes place rest → length rest ≤ 4096
-    → (r : Result T E) → Series mid (write_some place (filled mid.unit rest)) r now → (n : ℕ) → length (filled old.unit bytes) ≤ n → Series old (piece_writes n at (filled old.unit bytes)) r now
+pub way_ends : {T E : Type 0} (old mid now : MediumState) (at : ℕ) (bytes : List ℕ) (place : ℕ) (rest : List ℕ)
+    → OnTheWay old mid at bytes place rest → length rest ≤ 4096
+    → (r : Result T E) → Series mid (write_some place (filled mid.unit rest)) r now → (n : ℕ) → length (filled old.unit bytes) ≤ n
+    → Series old (piece_writes n at (filled old.unit bytes)) r now
 way_ends old mid now at bytes place rest way short r last n le =
     written_last old mid now n at (filled old.unit bytes) place (filled old.unit rest) r (filled_short old.unit rest short) (way.told n le)
     (subst (λ (u : WriteUnit). Series mid (write_some place (filled u rest)) r now) way.unit last)

@@ -35,7 +35,8 @@ module _ (u : WriteUnit) (held bytes : List ℕ) where
   rest_length = length-drop whole all
 
   front_is : take head all ++ drop head (take whole all) ≡ take whole all
-  front_is = ap (λ (l : List ℕ). l ++ drop head (take whole all)) (sym (take-take head whole all head_le)) ∙ take-append-drop head (take whole all)
+  front_is = ap (λ (l : List ℕ). l ++ drop head (take whole all)) (sym (take-take head whole all head_le))
+      ∙ take-append-drop head (take whole all)
 
   front_length : length (take head all) ≡ head
   front_length = length-take-le head all (omega (arith, head_le, whole_le))
@@ -51,22 +52,27 @@ module _ (u : WriteUnit) (held bytes : List ℕ) where
   put_inside from to at low high =
       inside_append from to (write_some at (take head all)) (write_some (at + head) (drop head (take whole all)))
       (inside_some from to at (take head all) low (omega (arith, high, front_length, head_le, whole_le)))
-      (inside_some from to (at + head) (drop head (take whole all)) (omega (arith, low)) (omega (arith, high, back_length, head_le, whole_le)))
+      (inside_some from to (at + head) (drop head (take whole all)) (omega (arith, low))
+      (omega (arith, high, back_length, head_le, whole_le)))
 
   -- Together they are one write of all whole units.
-  pub put_written : (s now : MediumState) (at : ℕ) → at + length all ≤ length s.bytes → AllWrites s (put_writes u at held bytes) now → now.bytes ≡ written s.bytes at (take whole all)
+  pub put_written : (s now : MediumState) (at : ℕ) → at + length all ≤ length s.bytes → AllWrites s (put_writes u at held bytes) now
+      → now.bytes ≡ written s.bytes at (take whole all)
   put_written s now at fits came =
       let parts = all_parts (write_some at (take head all)) (write_some (at + head) (drop head (take whole all))) s now came in
       let mid = parts.0 in
       let one : mid.bytes ≡ written s.bytes at (take head all) = some_written s mid at (take head all) parts.1.first in
-      let two : now.bytes ≡ written mid.bytes (at + head) (drop head (take whole all)) = some_written mid now (at + head) (drop head (take whole all)) parts.1.second in
+      let two : now.bytes ≡ written mid.bytes (at + head) (drop head (take whole all)) =
+      some_written mid now (at + head) (drop head (take whole all)) parts.1.second in
       two
       ∙ (λ i. written (one i) (at + sym front_length i) (drop head (take whole all)))
-      ∙ written_written s.bytes at (take head all) (drop head (take whole all)) (omega (arith, fits, front_length, back_length, head_le, whole_le))
+      ∙ written_written s.bytes at (take head all) (drop head (take whole all))
+      (omega (arith, fits, front_length, back_length, head_le, whole_le))
       ∙ ap (λ (l : List ℕ). written s.bytes at l) front_is
 
   -- With what is held back behind them, all bytes stand there.
-  pub put_joined : (d : List ℕ) (k : ℕ) → k + length all ≤ length d → written (written d k (take whole all)) (k + whole) (put_rest u held bytes) ≡ written d k all
+  pub put_joined : (d : List ℕ) (k : ℕ) → k + length all ≤ length d
+      → written (written d k (take whole all)) (k + whole) (put_rest u held bytes) ≡ written d k all
   put_joined d k fits =
       (λ i. written (written d k (take whole all)) (k + sym whole_length i) (drop whole all))
       ∙ written_written d k (take whole all) (drop whole all) (omega (arith, fits, whole_length, rest_length, whole_le))

@@ -14,7 +14,8 @@ use Rattle.dfu_slots.proofs.Multiples.{multiple_part, unit_more}
 use Rattle.dfu_slots.proofs.Put.{head_le}
 use Rattle.dfu_slots.proofs.Series.{broken_first, series_after}
 
-empty_writes : (u : WriteUnit) (at : ℕ) (bytes : List ℕ) → put_writes u at [] bytes ≡ write_some at (take (whole_part u (length bytes)) bytes)
+empty_writes : (u : WriteUnit) (at : ℕ) (bytes : List ℕ)
+    → put_writes u at [] bytes ≡ write_some at (take (whole_part u (length bytes)) bytes)
 empty_writes u at bytes = let e : at + 0 ≡ at = omega arith in ap (λ (p : ℕ). write_some p (take (whole_part u (length bytes)) bytes)) e
 
 module _ (u : WriteUnit) (at : ℕ) (held bytes : List ℕ) (count : ℕ) (is : count ≡ whole_part u (length held + length bytes)) where
@@ -30,10 +31,12 @@ module _ (u : WriteUnit) (at : ℕ) (held bytes : List ℕ) (count : ℕ) (is : 
     count_is = (let e : length bytes ≡ length held + length bytes = omega (arith, none) in ap (λ (n : ℕ). whole_part u n) e) ∙ sym is
 
     writes_of_none : write_some at (take count bytes) ≡ put_writes u at held bytes
-    writes_of_none = sym ((λ i. put_writes u at (nil i) bytes) ∙ empty_writes u at bytes ∙ ap (λ (n : ℕ). write_some at (take n bytes)) count_is)
+    writes_of_none = sym ((λ i. put_writes u at (nil i) bytes) ∙ empty_writes u at bytes
+        ∙ ap (λ (n : ℕ). write_some at (take n bytes)) count_is)
 
     rest_of_none : held ++ drop count bytes ≡ put_rest u held bytes
-    rest_of_none = ap (λ (l : List ℕ). l ++ drop count bytes) nil ∙ ap (λ (n : ℕ). drop n bytes) (sym count_is) ∙ (λ i. put_rest u (sym nil i) bytes)
+    rest_of_none = ap (λ (l : List ℕ). l ++ drop count bytes) nil ∙ ap (λ (n : ℕ). drop n bytes) (sym count_is)
+        ∙ (λ i. put_rest u (sym nil i) bytes)
 
   -- No unit is full.
   module _ (zero_is : count ≡ 0) where
@@ -44,7 +47,8 @@ module _ (u : WriteUnit) (at : ℕ) (held bytes : List ℕ) (count : ℕ) (is : 
     no_head = omega (arith, head_le u held bytes, no_whole)
 
     writes_of_few : ◌≡◌ {A = List Write} [] (put_writes u at held bytes)
-    writes_of_few = sym (λ i. write_some at (take (no_head i) (held ++ bytes)) ++ write_some (at + no_head i) (drop (no_head i) (take (no_whole i) (held ++ bytes))))
+    writes_of_few = sym (λ i. write_some at (take (no_head i) (held ++ bytes)) ++ write_some (at + no_head i)
+        (drop (no_head i) (take (no_whole i) (held ++ bytes))))
 
     rest_of_few : held ++ bytes ≡ put_rest u held bytes
     rest_of_few = sym (ap (λ (n : ℕ). drop n (held ++ bytes)) no_whole)
@@ -56,15 +60,18 @@ module _ (u : WriteUnit) (at : ℕ) (held bytes : List ℕ) (count : ℕ) (is : 
   -- The unit that was begun is full.
   module _ (size : ℕ) (of_unit : size ≡ unit_size u) (some : 0 < length held) (part : length held ≤ size) (full : size ≤ count) where
     head_is : head_size u held bytes ≡ size
-    head_is = cond-false (length held == 0) 0 (min (unit_size u) (whole_part u (length (held ++ bytes)))) (ne_eqb (length held) 0 (λ e. omega (arith, some, e))) ∙ omega (arith, of_unit, full, whole_is)
+    head_is = cond-false (length held == 0) 0 (min (unit_size u) (whole_part u (length (held ++ bytes))))
+        (ne_eqb (length held) 0 (λ e. omega (arith, some, e))) ∙ omega (arith, of_unit, full, whole_is)
 
     skipped : drop size (held ++ bytes) ≡ drop (size - length held) bytes
-    skipped = drop_past (held ++ bytes) (length held) size part ∙ ap (λ (l : List ℕ). drop (size - length held) l) (drop_at held bytes (length held) (omega arith))
+    skipped = drop_past (held ++ bytes) (length held) size part
+        ∙ ap (λ (l : List ℕ). drop (size - length held) l) (drop_at held bytes (length held) (omega arith))
 
     first : take (head_size u held bytes) (held ++ bytes) ≡ held ++ take (size - length held) bytes
     first = ap (λ (n : ℕ). take n (held ++ bytes)) head_is ∙ take_past held bytes size part
 
-    second : drop (head_size u held bytes) (take (whole_part u (length (held ++ bytes))) (held ++ bytes)) ≡ take (count - size) (drop (size - length held) bytes)
+    second : drop (head_size u held bytes) (take (whole_part u (length (held ++ bytes))) (held ++ bytes)) ≡ take (count - size)
+        (drop (size - length held) bytes)
     second =
         let e : count ≡ size + (count - size) = omega (arith, full) in
         (λ i. drop (head_is i) (take (whole_is i) (held ++ bytes)))
@@ -72,7 +79,8 @@ module _ (u : WriteUnit) (at : ℕ) (held bytes : List ℕ) (count : ℕ) (is : 
         ∙ drop-take size (count - size) (held ++ bytes)
         ∙ ap (λ (l : List ℕ). take (count - size) l) skipped
 
-    writes_of_full : write_some at (held ++ take (size - length held) bytes) ++ write_some (at + size) (take (count - size) (drop (size - length held) bytes)) ≡ put_writes u at held bytes
+    writes_of_full : write_some at (held ++ take (size - length held) bytes) ++ write_some (at + size)
+        (take (count - size) (drop (size - length held) bytes)) ≡ put_writes u at held bytes
     writes_of_full = sym (λ i. write_some at (first i) ++ write_some (at + head_is i) (second i))
 
     rest_of_full : drop (count - size) (drop (size - length held) bytes) ≡ put_rest u held bytes
@@ -82,7 +90,8 @@ module _ (u : WriteUnit) (at : ℕ) (held bytes : List ℕ) (count : ℕ) (is : 
         ∙ sym (ap (λ (n : ℕ). drop n (held ++ bytes)) whole_is)
 
 -- The same, by what the code reads: `n` and `k` are how many bytes are held, and `v` is the unit.
-module _ (m : MediumState) (v : WriteUnit) (unit : v ≡ m.unit) (at : ℕ) (held bytes : List ℕ) (n k size : ℕ) (n_is : n ≡ length held) (k_is : k ≡ length held) (size_is : size ≡ unit_size v)
+module _ (m : MediumState) (v : WriteUnit) (unit : v ≡ m.unit) (at : ℕ) (held bytes : List ℕ) (n k size : ℕ) (n_is : n ≡ length held)
+    (k_is : k ≡ length held) (size_is : size ≡ unit_size v)
     (more : n + length bytes - (n + length bytes) % size ≢ 0) (some : 0 < length held) (part : length held < unit_size m.unit) where
   abbrev count : ℕ
   count = n + length bytes - (n + length bytes) % size
@@ -107,20 +116,25 @@ module _ (m : MediumState) (v : WriteUnit) (unit : v ≡ m.unit) (at : ℕ) (hel
       → BrokenWrites m (write_some at x) now → BrokenWrites m (put_writes m.unit at held bytes) now
   full_broken now x y h one two three broken =
       subst (λ (ws : List Write). BrokenWrites m ws now) (writes_of_full m.unit at held bytes count count_of size of_unit some short full)
-      (broken_first (write_some at (held ++ take (size - length held) bytes)) _ m now (subst (λ (l : List ℕ). BrokenWrites m (write_some at l) now) (first_is x y h one two three) broken))
+      (broken_first (write_some at (held ++ take (size - length held) bytes)) _ m now
+      (subst (λ (l : List ℕ). BrokenWrites m (write_some at l) now) (first_is x y h one two three) broken))
 
   -- It works, and the further whole units follow it.
-  pub full_series : {T E : Type 0} (mid now : MediumState) (r : Result T E) (x y h rest : List ℕ) → x ≡ y → y ≡ held ++ h → h ≡ take (size - k) bytes → rest ≡ drop (size - k) bytes
-      → AllWrites m (write_some at x) mid → Series mid (write_some (at + size) (take (count - size) rest)) r now → Series m (put_writes m.unit at held bytes) r now
+  pub full_series : {T E : Type 0} (mid now : MediumState) (r : Result T E) (x y h rest : List ℕ) → x ≡ y → y ≡ held ++ h
+      → h ≡ take (size - k) bytes → rest ≡ drop (size - k) bytes
+      → AllWrites m (write_some at x) mid → Series mid (write_some (at + size) (take (count - size) rest)) r now
+      → Series m (put_writes m.unit at held bytes) r now
   full_series mid now r x y h rest one two three back came series =
       subst (λ (ws : List Write). Series m ws r now) (writes_of_full m.unit at held bytes count count_of size of_unit some short full)
       (series_after (write_some at (held ++ take (size - length held) bytes)) _ m mid now r
       (subst (λ (l : List ℕ). AllWrites m (write_some at l) mid) (first_is x y h one two three) came)
-      (subst (λ (l : List ℕ). Series mid (write_some (at + size) (take (count - size) l)) r now) (back ∙ ap (λ (j : ℕ). drop (size - j) bytes) k_is) series))
+      (subst (λ (l : List ℕ). Series mid (write_some (at + size) (take (count - size) l)) r now)
+      (back ∙ ap (λ (j : ℕ). drop (size - j) bytes) k_is) series))
 
   -- The rest of the bytes is held then.
   pub full_held : {T E : Type 0} (r : Result T E) (before now rest : List ℕ) → before ≡ [] → rest ≡ drop (size - k) bytes
       → OnOk r (now ≡ before ++ drop (count - size) rest) → OnOk r (now ≡ put_rest m.unit held bytes)
   full_held r before now rest none back is =
       let later = back ∙ ap (λ (j : ℕ). drop (size - j) bytes) k_is in
-      on_ok_weaker r (λ h. h ∙ (λ i. none i ++ drop (count - size) (later i)) ∙ rest_of_full m.unit at held bytes count count_of size of_unit some short full) is
+      on_ok_weaker r (λ h. h ∙ (λ i. none i ++ drop (count - size) (later i))
+      ∙ rest_of_full m.unit at held bytes count count_of size of_unit some short full) is

@@ -32,7 +32,8 @@ image_is s image active =
     let fits = active_fits g bytes p refl active.at active.spare image a in
     let head = active_header g bytes p refl active.at active.spare image a in
     let len : header_length (slot g bytes p) ≡ length image =
-    ap (λ (l : List ℕ). from_le_bytes w32 (take 4 (drop 4 l))) head.well_formed ∙ from_le_bytes-to_le_bytes_4 (length image) (omega (arith, fits, a.sized.bound)) in
+    ap (λ (l : List ℕ). from_le_bytes w32 (take 4 (drop 4 l))) head.well_formed
+    ∙ from_le_bytes-to_le_bytes_4 (length image) (omega (arith, fits, a.sized.bound)) in
     image_at g bytes p refl active.at active.spare image a ∙ ap (λ (n : ℕ). take n (slot g bytes p).data_bytes) (sym len)
 
 -- The image that a store is seen to have is the active one.
@@ -40,10 +41,12 @@ pub image_active : (s : SlotsState) → HasImage s.medium → Active s.medium (i
 image_active s has = subst (λ (l : List ℕ). Active s.medium l) (image_is s has.image has.active) has.active
 
 -- An image that stands on a medium of the same unit and the same length is active there.
-pub active_on : (m n : MediumState) (at spare : ℕ) (image : List ℕ) → n.unit ≡ m.unit → length n.bytes ≡ length m.bytes → IsMultiple m.unit (capacity_of m) → ActiveAt (gate_of m) n.bytes at spare image → Active n image
+pub active_on : (m n : MediumState) (at spare : ℕ) (image : List ℕ) → n.unit ≡ m.unit → length n.bytes ≡ length m.bytes
+    → IsMultiple m.unit (capacity_of m) → ActiveAt (gate_of m) n.bytes at spare image → Active n image
 active_on m n at spare image unit size whole stands =
     active_from n at spare image
-    (subst (λ (u : WriteUnit). IsMultiple u (length n.bytes / 2 - 2 * gate_size u)) (sym unit) (subst (λ (k : ℕ). IsMultiple m.unit (k / 2 - 2 * gate_of m)) (sym size) whole))
+    (subst (λ (u : WriteUnit). IsMultiple u (length n.bytes / 2 - 2 * gate_size u)) (sym unit)
+    (subst (λ (k : ℕ). IsMultiple m.unit (k / 2 - 2 * gate_of m)) (sym size) whole))
     (subst (λ (u : WriteUnit). ActiveAt (gate_size u) n.bytes at spare image) (sym unit) stands)
 
 -- What is put.
@@ -83,7 +86,8 @@ unfolding room_of
 room_capacity s = refl
 
 -- A medium of the same unit and the same length has the same room.
-pub room_from : (s now : SlotsState) → now.medium.unit ≡ s.medium.unit → length now.medium.bytes ≡ length s.medium.bytes → room_of now ≡ room_of s
+pub room_from : (s now : SlotsState) → now.medium.unit ≡ s.medium.unit → length now.medium.bytes ≡ length s.medium.bytes
+    → room_of now ≡ room_of s
 unfolding room_of
 room_from s now unit size = λ i. size i / 2 - 2 * gate_size (unit i)
 
@@ -96,20 +100,24 @@ spare_length s store =
     let g = gate_of s.medium in
     let bytes = s.medium.bytes in
     let sized = (standing store.has_image.active).sized in
-    let whole : length (spare g bytes).data_bytes ≡ capacity g bytes = data_length g bytes (spare_at g bytes) (spare_end g bytes sized) (omega (arith, sized.room)) in
-    ap length (spare_is s) ∙ (written_torn (spare_slot s).data_bytes (held_at s) s.held (omega (arith, whole, held_end s store.puts, store.puts.fits))).size ∙ whole ∙ sym (room_capacity s)
+    let whole : length (spare g bytes).data_bytes ≡ capacity g bytes = data_length g bytes (spare_at g bytes) (spare_end g bytes sized)
+    (omega (arith, sized.room)) in
+    ap length (spare_is s) ∙ (written_torn (spare_slot s).data_bytes (held_at s) s.held
+    (omega (arith, whole, held_end s store.puts, store.puts.fits))).size ∙ whole ∙ sym (room_capacity s)
 
 image_fits : (s : SlotsState) → IsStore s → length (image_of s) ≤ room_of s
 image_fits s store =
     let a = store.has_image.active in
-    let fits = active_fits (gate_of s.medium) s.medium.bytes (active_at (gate_of s.medium) s.medium.bytes) refl a.at a.spare store.has_image.image (standing a) in
+    let fits = active_fits (gate_of s.medium) s.medium.bytes
+    (active_at (gate_of s.medium) s.medium.bytes) refl a.at a.spare store.has_image.image (standing a) in
     omega (arith, fits, ap length (image_is s store.has_image.image a), room_capacity s)
 
 -- Every store has the shape that the layers above ask for.
 pub shaped : (s : SlotsState) → IsStore s → is_shaped s ≡ true
 shaped s store =
     and_from (length (spare_of s) == room_of s) _ (eq-eqb _ _ (spare_length s store))
-    (and_from (nat_le (room_of s) (2 ^ 24)) _ (le-leb _ _ (omega (arith, room_capacity s, store.has_image.active.sized.bound))) (le-leb _ _ (image_fits s store)))
+    (and_from (nat_le (room_of s) (2 ^ 24)) _ (le-leb _ _ (omega (arith, room_capacity s, store.has_image.active.sized.bound)))
+    (le-leb _ _ (image_fits s store)))
 
 -- A store on which nothing was put yet is a store, and is seen as its medium alone.
 pub record IsFresh (x : SlotsState) : Type 0 where
@@ -119,11 +127,17 @@ pub record IsFresh (x : SlotsState) : Type 0 where
   pub store : IsStore x
 
 -- A medium with an active image makes such a store, where nothing is held and the puts end at 0.
-pub fresh_leaves : (m : MediumState) → HasImage m → (held : List ℕ) (put_end : ℕ) → held ≡ [] → put_end ≡ 0 → IsFresh (store_of m held put_end)
+pub fresh_leaves : (m : MediumState) → HasImage m → (held : List ℕ) (put_end : ℕ) → held ≡ [] → put_end ≡ 0
+    → IsFresh (store_of m held put_end)
 fresh_leaves m has held put_end none zero_is =
     let same : store_of m held put_end ≡ store_on m = fresh_is m held put_end none zero_is in
     let kept : IsStore (store_of m held put_end) = subst IsStore (sym same) (fresh_store m has) in
-    record { active = image_active (store_of m held put_end) has; shape = shaped (store_of m held put_end) kept; fresh = same; store = kept }
+    record {
+      active = image_active (store_of m held put_end) has;
+      shape = shaped (store_of m held put_end) kept;
+      fresh = same;
+      store = kept;
+    }
 
 -- The gate of the spare.
 
@@ -164,10 +178,15 @@ pub record FuseLeaves (v now : SlotsState) : Type 0 where
   pub store : IsStore now
 
 -- Where the medium has another fuse, the store is as it was.
-pub fuse_leaves : {s v : SlotsState} → s ≡ v → IsStore s → (m : MediumState) (fuse : Fuse) → m ≡ record s.medium { fuse = fuse } → FuseLeaves v (store_of m s.held s.put_end)
+pub fuse_leaves : {s v : SlotsState} → s ≡ v → IsStore s → (m : MediumState) (fuse : Fuse) → m ≡ record s.medium { fuse = fuse }
+    → FuseLeaves v (store_of m s.held s.put_end)
 fuse_leaves {s} {v} view store m fuse is =
     let same : store_of m s.held s.put_end ≡ fused s fuse = ap (λ (x : MediumState). store_of x s.held s.put_end) is in
-    let kept : IsStore (store_of m s.held s.put_end) = subst IsStore (sym same) (record { has_image = has_image_fused s.medium fuse store.has_image; puts = record { fits = store.puts.fits; part = store.puts.part } }) in
+    let kept : IsStore (store_of m s.held s.put_end) =
+    subst IsStore (sym same) (record {
+      has_image = has_image_fused s.medium fuse store.has_image;
+      puts = record { fits = store.puts.fits; part = store.puts.part };
+    }) in
     subst (λ (x : SlotsState). FuseLeaves x (store_of m s.held s.put_end)) view
     (record {
       image = ap image_of same ∙ image_fused s fuse;

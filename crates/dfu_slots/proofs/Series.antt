@@ -22,28 +22,34 @@ abbrev pub Ends : MediumState → List Write → MediumState → Type 0
 Ends s ws now = AllWrites s ws now ⊎ BrokenWrites s ws now
 
 module _ (from to : ℕ) where
-  wrote_keeps : (s now : MediumState) (w : Write) → to ≤ length s.bytes → from ≤ w.at → w.at + length w.bytes ≤ to → Wrote s w.at w.bytes now → KeepsOutside from to s.bytes now.bytes
+  wrote_keeps : (s now : MediumState) (w : Write) → to ≤ length s.bytes → from ≤ w.at → w.at + length w.bytes ≤ to
+      → Wrote s w.at w.bytes now → KeepsOutside from to s.bytes now.bytes
   wrote_keeps s now w room low high wrote =
-      let torn : Torn s.bytes w.at w.bytes now.bytes = subst (λ (l : List ℕ). Torn s.bytes w.at w.bytes l) (sym wrote.bytes) (written_torn s.bytes w.at w.bytes (omega arith)) in
+      let torn : Torn s.bytes w.at w.bytes now.bytes = subst (λ (l : List ℕ). Torn s.bytes w.at w.bytes l) (sym wrote.bytes)
+      (written_torn s.bytes w.at w.bytes (omega arith)) in
       keeps_wider w.at (w.at + length w.bytes) from to s.bytes now.bytes torn low high
 
   -- Writes within a range, all of them, leave the rest of the medium.
-  pub all_keep : (ws : List Write) (s now : MediumState) → to ≤ length s.bytes → AllInside from to ws → AllWrites s ws now → KeepsOutside from to s.bytes now.bytes
+  pub all_keep : (ws : List Write) (s now : MediumState) → to ≤ length s.bytes → AllInside from to ws → AllWrites s ws now
+      → KeepsOutside from to s.bytes now.bytes
   all_keep [] s now room inside same = keeps_same from to s.bytes now.bytes (ap (λ (m : MediumState). m.bytes) same)
   all_keep (w ∷ ws) s now room (low, high, inside) (next, wrote, more) =
       let first = wrote_keeps s next w room low high wrote in
       keeps_both from to s.bytes next.bytes now.bytes first (all_keep ws next now (omega (arith, first.size)) inside more)
 
   -- So do those up to one that failed, and that one.
-  pub broken_keep : (ws : List Write) (s now : MediumState) → to ≤ length s.bytes → AllInside from to ws → BrokenWrites s ws now → KeepsOutside from to s.bytes now.bytes
+  pub broken_keep : (ws : List Write) (s now : MediumState) → to ≤ length s.bytes → AllInside from to ws → BrokenWrites s ws now
+      → KeepsOutside from to s.bytes now.bytes
   broken_keep [] s now room inside none = absurd none
-  broken_keep (w ∷ ws) s now room (low, high, inside) (inl failed) = keeps_wider w.at (w.at + length w.bytes) from to s.bytes now.bytes failed.bytes low high
+  broken_keep (w ∷ ws) s now room (low, high, inside) (inl failed) =
+      keeps_wider w.at (w.at + length w.bytes) from to s.bytes now.bytes failed.bytes low high
   broken_keep (w ∷ ws) s now room (low, high, inside) (inr (next, wrote, more)) =
       let first = wrote_keeps s next w room low high wrote in
       keeps_both from to s.bytes next.bytes now.bytes first (broken_keep ws next now (omega (arith, first.size)) inside more)
 
   -- So do writes that came to their end, or to one that failed.
-  pub ends_keep : (ws : List Write) (s now : MediumState) → to ≤ length s.bytes → AllInside from to ws → Ends s ws now → KeepsOutside from to s.bytes now.bytes
+  pub ends_keep : (ws : List Write) (s now : MediumState) → to ≤ length s.bytes → AllInside from to ws → Ends s ws now
+      → KeepsOutside from to s.bytes now.bytes
   ends_keep ws s now room inside (inl all) = all_keep ws s now room inside all
   ends_keep ws s now room inside (inr broken) = broken_keep ws s now room inside broken
 
@@ -84,14 +90,16 @@ broken_count ws s now broken = omega (arith, broken_rose ws s now broken)
 -- A change of the store.
 
 -- A change made its writes, or those up to one that failed, or it left the store as it was.
-pub changes_ends : {T : Type 0} (s now : SlotsState) (call : Call) (result : Result T PutFault) → Changes s call result now → Ends s.medium (writes_of s call) now.medium ⊎ (now ≡ s)
+pub changes_ends : {T : Type 0} (s now : SlotsState) (call : Call) (result : Result T PutFault) → Changes s call result now
+    → Ends s.medium (writes_of s call) now.medium ⊎ (now ≡ s)
 changes_ends s now call (Ok x) worked = inl (inl worked.writes)
 changes_ends s now call (Err Failed) failed = inl (inr failed.writes)
 changes_ends s now call (Err TooLarge) same = inr same
 changes_ends s now call (Err NotBegun) same = inr same
 
 -- It fails only where the medium did.
-pub changes_rose : {T : Type 0} (s now : SlotsState) (call : Call) (result : Result T PutFault) → Changes s call result now → IsErrOf result Failed → Rose s.medium.failures now.medium.failures
+pub changes_rose : {T : Type 0} (s now : SlotsState) (call : Call) (result : Result T PutFault) → Changes s call result now
+    → IsErrOf result Failed → Rose s.medium.failures now.medium.failures
 changes_rose s now call (Ok x) changes is = absurd (cc)
 changes_rose s now call (Err Failed) failed is = broken_rose (writes_of s call) s.medium now.medium failed.writes
 changes_rose s now call (Err TooLarge) changes is = absurd (cc)
@@ -108,7 +116,8 @@ wrote_there s now p q x y place bytes wrote = subst (λ (l : List ℕ). Wrote s 
 
 -- The same of a write that failed.
 pub failed_there : (s now : MediumState) (p q : ℕ) (x y : List ℕ) → p ≡ q → x ≡ y → FailedWrite s p x now → FailedWrite s q y now
-failed_there s now p q x y place bytes failed = subst (λ (l : List ℕ). FailedWrite s q l now) bytes (subst (λ (n : ℕ). FailedWrite s n x now) place failed)
+failed_there s now p q x y place bytes failed = subst (λ (l : List ℕ). FailedWrite s q l now) bytes
+    (subst (λ (n : ℕ). FailedWrite s n x now) place failed)
 
 -- Parts of a list.
 
@@ -124,26 +133,32 @@ broken_first (w ∷ ws) vs s now (inl failed) = inl failed
 broken_first (w ∷ ws) vs s now (inr (next, wrote, broken)) = inr (next, wrote, broken_first ws vs next now broken)
 
 -- So is one that was broken off in its second part.
-pub broken_later : (ws vs : List Write) (s mid now : MediumState) → AllWrites s ws mid → BrokenWrites mid vs now → BrokenWrites s (ws ++ vs) now
+pub broken_later : (ws vs : List Write) (s mid now : MediumState) → AllWrites s ws mid → BrokenWrites mid vs now
+    → BrokenWrites s (ws ++ vs) now
 broken_later [] vs s mid now same broken = subst (λ (m : MediumState). BrokenWrites m vs now) same broken
 broken_later (w ∷ ws) vs s mid now (next, wrote, rest) broken = inr (next, wrote, broken_later ws vs next mid now rest broken)
 
 -- A list of writes that came, and a series after it.
-pub series_after : {T E : Type 0} (ws vs : List Write) (s mid now : MediumState) (r : Result T E) → AllWrites s ws mid → Series mid vs r now → Series s (ws ++ vs) r now
+pub series_after : {T E : Type 0} (ws vs : List Write) (s mid now : MediumState) (r : Result T E) → AllWrites s ws mid → Series mid vs r now
+    → Series s (ws ++ vs) r now
 series_after ws vs s mid now (Ok x) first second = all_append ws vs s mid now first second
 series_after ws vs s mid now (Err e) first second = broken_later ws vs s mid now first second
 
 -- A series of one write, by what it answered.
-pub series_one : {T E : Type 0} (s now : MediumState) (at : ℕ) (bytes : List ℕ) (r : Result T E) → OnOk r (Wrote s at bytes now) → OnErr r (FailedWrite s at bytes now) → Series s (record { at = at; bytes = bytes } ∷ []) r now
+pub series_one : {T E : Type 0} (s now : MediumState) (at : ℕ) (bytes : List ℕ) (r : Result T E) → OnOk r (Wrote s at bytes now)
+    → OnErr r (FailedWrite s at bytes now) → Series s (record { at = at; bytes = bytes } ∷ []) r now
 series_one s now at bytes (Ok x) wrote failed = (now, wrote, refl)
 series_one s now at bytes (Err e) wrote failed = inl failed
 
 -- A write that came, and a series after it.
-pub series_next : {T E : Type 0} (s mid now : MediumState) (at : ℕ) (bytes : List ℕ) (ws : List Write) (r : Result T E) → Wrote s at bytes mid → Series mid ws r now → Series s (record { at = at; bytes = bytes } ∷ ws) r now
-series_next s mid now at bytes ws r wrote rest = series_after (record { at = at; bytes = bytes } ∷ []) ws s mid now r (mid, wrote, refl) rest
+pub series_next : {T E : Type 0} (s mid now : MediumState) (at : ℕ) (bytes : List ℕ) (ws : List Write) (r : Result T E)
+    → Wrote s at bytes mid → Series mid ws r now → Series s (record { at = at; bytes = bytes } ∷ ws) r now
+series_next s mid now at bytes ws r wrote rest = series_after (record { at = at; bytes = bytes } ∷ []) ws s mid now r
+    (mid, wrote, refl) rest
 
 -- A series that an error broke off.
-pub series_broken : {T E : Type 0} (ws : List Write) (s now : MediumState) (r : Result T E) → IsErr r → BrokenWrites s ws now → Series s ws r now
+pub series_broken : {T E : Type 0} (ws : List Write) (s now : MediumState) (r : Result T E) → IsErr r → BrokenWrites s ws now
+    → Series s ws r now
 series_broken ws s now (Ok x) is broken = absurd (cc)
 series_broken ws s now (Err e) is broken = broken
 
@@ -153,14 +168,16 @@ pub record Halfway (ws vs : List Write) (s : MediumState) (mid : MediumState) (r
   pub second : rest
 
 -- A list that came has its two parts, one after the other.
-pub all_parts : (ws vs : List Write) (s now : MediumState) → AllWrites s (ws ++ vs) now → (mid : MediumState) × Halfway ws vs s mid (AllWrites mid vs now)
+pub all_parts : (ws vs : List Write) (s now : MediumState) → AllWrites s (ws ++ vs) now → (mid : MediumState)
+    × Halfway ws vs s mid (AllWrites mid vs now)
 all_parts [] vs s now all = (s, record { first = refl; second = all })
 all_parts (w ∷ ws) vs s now (next, wrote, rest) =
     let parts = all_parts ws vs next now rest in
     (parts.0, record { first = (next, wrote, parts.1.first); second = parts.1.second })
 
 -- A list that was broken off was so in its first part or in its second.
-pub broken_parts : (ws vs : List Write) (s now : MediumState) → BrokenWrites s (ws ++ vs) now → BrokenWrites s ws now ⊎ ((mid : MediumState) × Halfway ws vs s mid (BrokenWrites mid vs now))
+pub broken_parts : (ws vs : List Write) (s now : MediumState) → BrokenWrites s (ws ++ vs) now → BrokenWrites s ws now
+    ⊎ ((mid : MediumState) × Halfway ws vs s mid (BrokenWrites mid vs now))
 broken_parts [] vs s now broken = inr (s, record { first = refl; second = broken })
 broken_parts (w ∷ ws) vs s now (inl failed) = inl (inl failed)
 broken_parts (w ∷ ws) vs s now (inr (next, wrote, rest)) = elim (broken_parts ws vs next now rest) [
@@ -169,22 +186,26 @@ broken_parts (w ∷ ws) vs s now (inr (next, wrote, rest)) = elim (broken_parts 
 ]
 
 -- A series by these writes or by none, as a test says.
-pub ends_if : (s now : MediumState) (b : Bool) (ws : List Write) → Ends s (if b then ws else []) now → ((b ≡ true) × Ends s ws now) ⊎ ((b ≡ false) × (now ≡ s))
+pub ends_if : (s now : MediumState) (b : Bool) (ws : List Write) → Ends s (if b then ws else []) now → ((b ≡ true) × Ends s ws now)
+    ⊎ ((b ≡ false) × (now ≡ s))
 ends_if s now true ws ends = inl (refl, ends)
 ends_if s now false ws (inl same) = inr (refl, same)
 ends_if s now false ws (inr none) = absurd none
 
 -- Writes that a test asks for came, or none did.
-pub all_if : (s now : MediumState) (b : Bool) (ws : List Write) → AllWrites s (if b then ws else []) now → ((b ≡ true) × AllWrites s ws now) ⊎ ((b ≡ false) × (now ≡ s))
+pub all_if : (s now : MediumState) (b : Bool) (ws : List Write) → AllWrites s (if b then ws else []) now → ((b ≡ true) × AllWrites s ws now)
+    ⊎ ((b ≡ false) × (now ≡ s))
 all_if s now true ws all = inl (refl, all)
 all_if s now false ws same = inr (refl, same)
 
-all_unless : (s now : MediumState) (b : Bool) (ws : List Write) → AllWrites s (if b then [] else ws) now → ((b ≡ true) × (now ≡ s)) ⊎ ((b ≡ false) × AllWrites s ws now)
+all_unless : (s now : MediumState) (b : Bool) (ws : List Write) → AllWrites s (if b then [] else ws) now → ((b ≡ true) × (now ≡ s))
+    ⊎ ((b ≡ false) × AllWrites s ws now)
 all_unless s now true ws same = inl (refl, same)
 all_unless s now false ws all = inr (refl, all)
 
 -- A list that a test chooses lies within a range where both do.
-pub inside_if : (from to : ℕ) (b : Bool) (ws vs : List Write) → AllInside from to ws → AllInside from to vs → AllInside from to (if b then ws else vs)
+pub inside_if : (from to : ℕ) (b : Bool) (ws vs : List Write) → AllInside from to ws → AllInside from to vs
+    → AllInside from to (if b then ws else vs)
 inside_if from to true ws vs a b = a
 inside_if from to false ws vs a b = b
 
@@ -196,15 +217,18 @@ inside_append from to (w ∷ ws) vs (low, high, a) b = (low, high, inside_append
 -- A write of some bytes, or of none.
 
 -- A write of some bytes or of none leaves those bytes there.
-pub some_written : (s now : MediumState) (at : ℕ) (bytes : List ℕ) → AllWrites s (write_some at bytes) now → now.bytes ≡ written s.bytes at bytes
+pub some_written : (s now : MediumState) (at : ℕ) (bytes : List ℕ) → AllWrites s (write_some at bytes) now
+    → now.bytes ≡ written s.bytes at bytes
 some_written s now at bytes all =
     ⊎_elim
-    (λ none. ap (λ (m : MediumState). m.bytes) none.1 ∙ sym (ap (λ (l : List ℕ). written s.bytes at l) (nil_from_length bytes (eqb-true _ _ none.0)) ∙ written_nil s.bytes at))
+    (λ none. ap (λ (m : MediumState). m.bytes) none.1
+    ∙ sym (ap (λ (l : List ℕ). written s.bytes at l) (nil_from_length bytes (eqb-true _ _ none.0)) ∙ written_nil s.bytes at))
     (λ one. ap (λ (m : MediumState). m.bytes) one.1.2 ∙ one.1.1.bytes)
     (all_unless s now (length bytes == 0) (record { at = at; bytes = bytes } ∷ []) all)
 
 -- So it keeps the length.
-pub some_size : (s now : MediumState) (at : ℕ) (bytes : List ℕ) → at + length bytes ≤ length s.bytes → AllWrites s (write_some at bytes) now → length now.bytes ≡ length s.bytes
+pub some_size : (s now : MediumState) (at : ℕ) (bytes : List ℕ) → at + length bytes ≤ length s.bytes → AllWrites s (write_some at bytes) now
+    → length now.bytes ≡ length s.bytes
 some_size s now at bytes fits all = ap length (some_written s now at bytes all) ∙ (written_torn s.bytes at bytes fits).size
 
 -- It lies within a range where its bytes do.

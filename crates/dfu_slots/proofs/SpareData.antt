@@ -23,7 +23,8 @@ module _ (g : ℕ) (wide : 16 ≤ g) (s now : MediumState) (mine other : ℕ) (i
 
   -- The active image stands where it stood.
   pub data_keeps : ActiveAt g now.bytes mine other image
-  data_keeps = data_change g wide s.bytes now.bytes mine other image (other + 2 * g) (other + slot_size s.bytes) a data_kept (omega arith) (omega arith)
+  data_keeps = data_change g wide s.bytes now.bytes mine other image (other + 2 * g) (other + slot_size s.bytes) a data_kept (omega arith)
+      (omega arith)
 
   -- The spare is at the place where it was.
   pub data_spare : spare_at g now.bytes ≡ spare_at g s.bytes
@@ -41,7 +42,8 @@ module _ (g : ℕ) (wide : 16 ≤ g) (s now : MediumState) (mine other : ℕ) (i
       ∙ ap (λ (q : ℕ). slice_index s.bytes q) place
 
 -- Bytes that were written at a place of the spare's data stand there in it.
-pub data_written : (g : ℕ) (old now : List ℕ) (mine other : ℕ) (image : List ℕ) → ActiveAt g old mine other image → spare_at g now ≡ spare_at g old
+pub data_written : (g : ℕ) (old now : List ℕ) (mine other : ℕ) (image : List ℕ) → ActiveAt g old mine other image
+    → spare_at g now ≡ spare_at g old
     → (k : ℕ) (new : List ℕ) → k + length new ≤ capacity g old → now ≡ written old (spare_at g old + 2 * g + k) new
     → (spare g now).data_bytes ≡ written (spare g old).data_bytes k new
 data_written g old now mine other image a same k new fits is =

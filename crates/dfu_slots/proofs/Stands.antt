@@ -25,10 +25,17 @@ two_slots m sized = record { even = sized.even; room = sized.room; bound = sized
 
 -- An active image stands at its place.
 pub standing : {m : MediumState} {image : List ℕ} (a : Active m image) → ActiveAt (gate_of m) m.bytes a.at a.spare image
-standing {m} a = record { sized = two_slots m a.sized; places = a.places; newest = a.newest; header_is = a.header_is; image_is = a.image_is }
+standing {m} a = record {
+  sized = two_slots m a.sized;
+  places = a.places;
+  newest = a.newest;
+  header_is = a.header_is;
+  image_is = a.image_is;
+}
 
 -- An image that stands on a medium, with whole units of data in a slot, is the active one.
-pub active_from : (m : MediumState) (at spare : ℕ) (image : List ℕ) → IsMultiple m.unit (capacity_of m) → ActiveAt (gate_of m) m.bytes at spare image → Active m image
+pub active_from : (m : MediumState) (at spare : ℕ) (image : List ℕ) → IsMultiple m.unit (capacity_of m)
+    → ActiveAt (gate_of m) m.bytes at spare image → Active m image
 active_from m at spare image whole stands = record {
   sized = record { even = stands.sized.even; room = stands.sized.room; bound = stands.sized.bound; whole = whole };
   at = at;

@@ -17,7 +17,8 @@ pub record Stays (s now : SlotsState) (has : HasImage s.medium) : Type 0 where
 
 module _ (s now : SlotsState) (has : HasImage s.medium) (stays : Stays s now has) where
   stays_active : Active now.medium has.image
-  stays_active = active_on s.medium now.medium has.active.at has.active.spare has.image stays.unit stays.size has.active.sized.whole stays.stands
+  stays_active = active_on s.medium now.medium has.active.at has.active.spare has.image stays.unit stays.size has.active.sized.whole
+      stays.stands
 
   -- The medium has an active image then.
   pub stays_has : HasImage now.medium
@@ -34,7 +35,8 @@ module _ (s now : SlotsState) (has : HasImage s.medium) (stays : Stays s now has
 -- They do where the store is as it was.
 pub stays_same : (s now : SlotsState) (has : HasImage s.medium) → now ≡ s → Stays s now has
 stays_same s now has same = record {
-  stands = subst (λ (x : SlotsState). ActiveAt (gate_of s.medium) x.medium.bytes has.active.at has.active.spare has.image) (sym same) (standing has.active);
+  stands = subst (λ (x : SlotsState). ActiveAt (gate_of s.medium) x.medium.bytes has.active.at has.active.spare has.image) (sym same)
+      (standing has.active);
   unit = ap (λ (x : SlotsState). x.medium.unit) same;
   size = ap (λ (x : SlotsState). length x.medium.bytes) same;
 }

@@ -21,24 +21,28 @@ range_above old now to i j same le =
     ap (λ (l : List ℕ). take (j - i) l) (drop_past now to i le ∙ ap (λ (l : List ℕ). drop (i - to) l) same ∙ sym (drop_past old to i le))
 
 -- A range that the write does not touch.
-pub range_outside : (from to : ℕ) (old now : List ℕ) (i j : ℕ) → KeepsOutside from to old now → (j ≤ from) ⊎ (to ≤ i) → slice_range now i j ≡ slice_range old i j
+pub range_outside : (from to : ℕ) (old now : List ℕ) (i j : ℕ) → KeepsOutside from to old now → (j ≤ from) ⊎ (to ≤ i)
+    → slice_range now i j ≡ slice_range old i j
 range_outside from to old now i j keeps (inl below) = range_below old now from i j keeps.before below
 range_outside from to old now i j keeps (inr above) = range_above old now to i j keeps.after above
 
 -- A byte that the write does not touch.
-pub byte_outside : (from to : ℕ) (old now : List ℕ) (i : ℕ) → KeepsOutside from to old now → (i < from) ⊎ (to ≤ i) → slice_index now i ≡ slice_index old i
+pub byte_outside : (from to : ℕ) (old now : List ℕ) (i : ℕ) → KeepsOutside from to old now → (i < from) ⊎ (to ≤ i)
+    → slice_index now i ≡ slice_index old i
 byte_outside from to old now i keeps (inl below) =
     sym (get_or-take from now i 0 below) ∙ ap (λ (l : List ℕ). get_or l i 0) keeps.before ∙ get_or-take from old i 0 below
 byte_outside from to old now i keeps (inr above) =
     let e : to + (i - to) ≡ i = omega arith in
-    ap (λ (k : ℕ). get_or now k 0) (sym e) ∙ sym (get_or-drop to now (i - to) 0) ∙ ap (λ (l : List ℕ). get_or l (i - to) 0) keeps.after ∙ get_or-drop to old (i - to) 0
+    ap (λ (k : ℕ). get_or now k 0) (sym e) ∙ sym (get_or-drop to now (i - to) 0) ∙ ap (λ (l : List ℕ). get_or l (i - to) 0) keeps.after
+    ∙ get_or-drop to old (i - to) 0
     ∙ ap (λ (k : ℕ). get_or old k 0) e
 
 -- The byte where a range begins is the first of it.
 pub first_of_range : (l : List ℕ) (i j x : ℕ) (xs : List ℕ) → i < j → slice_range l i j ≡ x ∷ xs → slice_index l i ≡ x
 first_of_range l i j x xs lt is =
     let e : i ≡ i + 0 = omega arith in
-    ap (λ (k : ℕ). get_or l k 0) e ∙ sym (get_or-drop i l 0 0) ∙ sym (get_or-take (j - i) (drop i l) 0 0 (omega arith)) ∙ ap (λ (r : List ℕ). get_or r 0 0) is
+    ap (λ (k : ℕ). get_or l k 0) e ∙ sym (get_or-drop i l 0 0) ∙ sym (get_or-take (j - i) (drop i l) 0 0 (omega arith))
+    ∙ ap (λ (r : List ℕ). get_or r 0 0) is
 
 -- A wider range keeps no more.
 pub keeps_wider : (a b from to : ℕ) (old now : List ℕ) → KeepsOutside a b old now → from ≤ a → b ≤ to → KeepsOutside from to old now
@@ -57,7 +61,8 @@ keeps_same from to old now same = record {
 }
 
 -- Two changes of one range.
-pub keeps_both : (from to : ℕ) (old mid now : List ℕ) → KeepsOutside from to old mid → KeepsOutside from to mid now → KeepsOutside from to old now
+pub keeps_both : (from to : ℕ) (old mid now : List ℕ) → KeepsOutside from to old mid → KeepsOutside from to mid now
+    → KeepsOutside from to old now
 keeps_both from to old mid now first second = record {
   size = second.size ∙ first.size;
   before = second.before ∙ first.before;
@@ -71,9 +76,17 @@ module _ (old : List ℕ) (at : ℕ) (new : List ℕ) (fits : at + length new �
   -- A write that works leaves the rest as it was too.
   pub written_torn : Torn old at new (written old at new)
   written_torn = record {
-    size = omega (arith, length-append (take at old ++ new) (drop (at + length new) old), length-append (take at old) new, front, length-drop (at + length new) old);
-    before = ap (λ (l : List ℕ). take at l) (append_assoc (take at old) new (drop (at + length new) old)) ∙ take_at (take at old) (new ++ drop (at + length new) old) at front;
-    after = drop_at (take at old ++ new) (drop (at + length new) old) (at + length new) (omega (arith, length-append (take at old) new, front));
+    size = omega (
+      arith,
+      length-append (take at old ++ new) (drop (at + length new) old),
+      length-append (take at old) new,
+      front,
+      length-drop (at + length new) old,
+    );
+    before = ap (λ (l : List ℕ). take at l) (append_assoc (take at old) new (drop (at + length new) old))
+        ∙ take_at (take at old) (new ++ drop (at + length new) old) at front;
+    after = drop_at (take at old ++ new) (drop (at + length new) old) (at + length new)
+        (omega (arith, length-append (take at old) new, front));
   }
 
   -- And its bytes stand in its range.
@@ -84,7 +97,8 @@ module _ (old : List ℕ) (at : ℕ) (new : List ℕ) (fits : at + length new �
       ∙ take_at new (drop (at + length new) old) (at + length new - at) (omega arith)
 
 -- A tear that is no longer than the write.
-pub torn_write : (old : List ℕ) (at : ℕ) (new tear left : List ℕ) → at + length new ≤ length old → left ≡ written old at (take (length new) tear) → Torn old at new left
+pub torn_write : (old : List ℕ) (at : ℕ) (new tear left : List ℕ) → at + length new ≤ length old
+    → left ≡ written old at (take (length new) tear) → Torn old at new left
 torn_write old at new tear left fits is =
     let short = take (length new) tear in
     let le : length short ≤ length new = omega (arith, length-take (length new) tear) in

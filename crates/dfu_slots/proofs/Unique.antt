@@ -13,9 +13,11 @@ use Rattle.dfu_slots.proofs.Parts.{data_length}
 
 header_length : (g a b : ℕ) → a < 2 ^ 32 → b < 2 ^ 32 → header g a ≡ header g b → a ≡ b
 header_length g a b fa fb same =
-    sym (from_le_bytes-to_le_bytes_4 a fa) ∙ ap (λ (l : List ℕ). from_le_bytes w32 (take 4 (drop 4 l))) same ∙ from_le_bytes-to_le_bytes_4 b fb
+    sym (from_le_bytes-to_le_bytes_4 a fa) ∙ ap (λ (l : List ℕ). from_le_bytes w32 (take 4 (drop 4 l))) same
+    ∙ from_le_bytes-to_le_bytes_4 b fb
 
-module _ (g : ℕ) (bytes : List ℕ) (p : ℕ) (here : p ≡ active_at g bytes) (mine other : ℕ) (image : List ℕ) (a : ActiveAt g bytes mine other image) where
+module _ (g : ℕ) (bytes : List ℕ) (p : ℕ) (here : p ≡ active_at g bytes) (mine other : ℕ) (image : List ℕ)
+    (a : ActiveAt g bytes mine other image) where
   sized : HasTwoSlots g bytes
   sized = a.sized
 
@@ -36,7 +38,8 @@ module _ (g : ℕ) (bytes : List ℕ) (p : ℕ) (here : p ≡ active_at g bytes)
   -- The length that a header of that slot tells is that of the active image.
   pub active_len_is : (len : ℕ) → HasHeader (slot g bytes p) len → len ≡ length image
   active_len_is len head =
-      header_length (generation (slot g bytes p)) len (length image) (omega (arith, head.fits, room_is, sized.bound)) (omega (arith, active_fits, sized.bound)) (sym head.well_formed ∙ active_header.well_formed)
+      header_length (generation (slot g bytes p)) len (length image) (omega (arith, head.fits, room_is, sized.bound))
+      (omega (arith, active_fits, sized.bound)) (sym head.well_formed ∙ active_header.well_formed)
 
   -- The active image is the front of that slot's data.
   pub image_at : image ≡ take (length image) (slot g bytes p).data_bytes
@@ -46,7 +49,8 @@ module _ (g : ℕ) (bytes : List ℕ) (p : ℕ) (here : p ≡ active_at g bytes)
   pub active_part : (i j : ℕ) → j ≤ length image → slice_range (slot g bytes p).data_bytes i j ≡ slice_range image i j
   active_part i j le =
       let whole = (slot g bytes p).data_bytes in
-      between_is whole i j ∙ ap (λ (l : List ℕ). drop i l) (sym (take-take j (length image) whole le) ∙ ap (λ (l : List ℕ). take j l) (sym image_at)) ∙ sym (between_is image i j)
+      between_is whole i j ∙ ap (λ (l : List ℕ). drop i l)
+      (sym (take-take j (length image) whole le) ∙ ap (λ (l : List ℕ). take j l) (sym image_at)) ∙ sym (between_is image i j)
 
 -- No medium has two active images.
 pub active_unique : (m : MediumState) (x y : List ℕ) → Active m x → Active m y → x ≡ y
@@ -55,5 +59,6 @@ active_unique m x y first second =
     let here = active_at g m.bytes in
     let one = image_at g m.bytes here refl first.at first.spare x (standing first) in
     let two = image_at g m.bytes here refl second.at second.spare y (standing second) in
-    let same : length y ≡ length x = active_len_is g m.bytes here refl first.at first.spare x (standing first) (length y) (active_header g m.bytes here refl second.at second.spare y (standing second)) in
+    let same : length y ≡ length x = active_len_is g m.bytes here refl first.at first.spare x (standing first) (length y)
+    (active_header g m.bytes here refl second.at second.spare y (standing second)) in
     one ∙ ap (λ (n : ℕ). take n (slot g m.bytes here).data_bytes) (sym same) ∙ sym two

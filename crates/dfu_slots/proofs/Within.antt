@@ -7,7 +7,8 @@ use Rattle.dfu_slots.proofs.Torn.{written_torn, drop_past}
 
 -- A front that is longer than the first of two lists goes on in the second.
 pub take_past : (xs ys : List ℕ) (n : ℕ) → length xs ≤ n → take n (xs ++ ys) ≡ xs ++ take (n - length xs) ys
-take_past xs ys n le = let e : n ≡ length xs + (n - length xs) = omega arith in ap (λ (k : ℕ). take k (xs ++ ys)) e ∙ take-append-add xs ys (n - length xs)
+take_past xs ys n le = let e : n ≡ length xs + (n - length xs) = omega arith in
+    ap (λ (k : ℕ). take k (xs ++ ys)) e ∙ take-append-add xs ys (n - length xs)
 
 drop_written : (old : List ℕ) (p k : ℕ) (new : List ℕ) → p + k ≤ length old → drop p (written old (p + k) new) ≡ written (drop p old) k new
 drop_written old p k new le =
@@ -15,36 +16,44 @@ drop_written old p k new le =
     let front : length (take (p + k) old) ≡ p + k = length-take-le (p + k) old le in
     let e : p + k + n ≡ p + (k + n) = omega arith in
     drop-append-le p (take (p + k) old ++ new) (drop (p + k + n) old) (omega (arith, front, length-append (take (p + k) old) new))
-    ∙ ap (λ (l : List ℕ). l ++ drop (p + k + n) old) (drop-append-le p (take (p + k) old) new (omega (arith, front)) ∙ ap (λ (l : List ℕ). l ++ new) (drop-take p k old))
+    ∙ ap (λ (l : List ℕ). l ++ drop (p + k + n) old)
+    (drop-append-le p (take (p + k) old) new (omega (arith, front)) ∙ ap (λ (l : List ℕ). l ++ new) (drop-take p k old))
     ∙ ap (λ (l : List ℕ). take k (drop p old) ++ new ++ l) (ap (λ (j : ℕ). drop j old) e ∙ sym (drop-drop (k + n) p old))
 
-take_written : (old : List ℕ) (m k : ℕ) (new : List ℕ) → k + length new ≤ m → k ≤ length old → take m (written old k new) ≡ written (take m old) k new
+take_written : (old : List ℕ) (m k : ℕ) (new : List ℕ) → k + length new ≤ m → k ≤ length old
+    → take m (written old k new) ≡ written (take m old) k new
 take_written old m k new le fits =
     let n = length new in
     let front : length (take k old ++ new) ≡ k + n = omega (arith, length-take-le k old fits, length-append (take k old) new) in
     let e : m ≡ k + n + (m - (k + n)) = omega arith in
     take_past (take k old ++ new) (drop (k + n) old) m (omega (arith, front))
     ∙ ap (λ (j : ℕ). take k old ++ new ++ take (m - j) (drop (k + n) old)) front
-    ∙ ap (λ (l : List ℕ). take k old ++ new ++ l) (sym (drop-take (k + n) (m - (k + n)) old) ∙ ap (λ (j : ℕ). drop (k + n) (take j old)) (sym e))
+    ∙ ap (λ (l : List ℕ). take k old ++ new ++ l)
+    (sym (drop-take (k + n) (m - (k + n)) old) ∙ ap (λ (j : ℕ). drop (k + n) (take j old)) (sym e))
     ∙ ap (λ (l : List ℕ). l ++ new ++ drop (k + n) (take m old)) (sym (take-take k m old (omega arith)))
 
 -- A range that was written within it.
-pub written_within : (old : List ℕ) (p q k : ℕ) (new : List ℕ) → p + k + length new ≤ q → q ≤ length old → slice_range (written old (p + k) new) p q ≡ written (slice_range old p q) k new
+pub written_within : (old : List ℕ) (p q k : ℕ) (new : List ℕ) → p + k + length new ≤ q → q ≤ length old
+    → slice_range (written old (p + k) new) p q ≡ written (slice_range old p q) k new
 written_within old p q k new le fits =
     ap (λ (l : List ℕ). take (q - p) l) (drop_written old p k new (omega arith))
     ∙ take_written (drop p old) (q - p) k new (omega arith) (omega (arith, length-drop p old))
 
 -- Two writes, one right after the other, are one.
-pub written_written : (d : List ℕ) (p : ℕ) (a b : List ℕ) → p + length a + length b ≤ length d → written (written d p a) (p + length a) b ≡ written d p (a ++ b)
+pub written_written : (d : List ℕ) (p : ℕ) (a b : List ℕ) → p + length a + length b ≤ length d
+    → written (written d p a) (p + length a) b ≡ written d p (a ++ b)
 written_written d p a b fits =
     let torn = written_torn d p a (omega arith) in
     let front : length (take p d ++ a) ≡ p + length a = omega (arith, length-append (take p d) a, length-take-le p d (omega arith)) in
     let end = p + length a + length b in
-    let first : take (p + length a) (written d p a) ≡ take p d ++ a = take_at (take p d ++ a) (drop (p + length a) d) (p + length a) front in
+    let first : take (p + length a) (written d p a) ≡ take p d ++ a = take_at (take p d ++ a) (drop (p + length a) d)
+    (p + length a) front in
     let last : drop end (written d p a) ≡ drop end d =
-    drop_past (written d p a) (p + length a) end (omega arith) ∙ ap (λ (l : List ℕ). drop (end - (p + length a)) l) torn.after ∙ sym (drop_past d (p + length a) end (omega arith)) in
+    drop_past (written d p a) (p + length a) end (omega arith) ∙ ap (λ (l : List ℕ). drop (end - (p + length a)) l) torn.after
+    ∙ sym (drop_past d (p + length a) end (omega arith)) in
     let e : end ≡ p + length (a ++ b) = omega (arith, length-append a b) in
-    (λ i. first i ++ b ++ last i) ∙ ap (λ (l : List ℕ). l ++ drop end d) (append_assoc (take p d) a b) ∙ ap (λ (n : ℕ). take p d ++ (a ++ b) ++ drop n d) e
+    (λ i. first i ++ b ++ last i) ∙ ap (λ (l : List ℕ). l ++ drop end d) (append_assoc (take p d) a b)
+    ∙ ap (λ (n : ℕ). take p d ++ (a ++ b) ++ drop n d) e
 
 -- A write of no bytes changes nothing.
 pub written_nil : (l : List ℕ) (k : ℕ) → written l k [] ≡ l

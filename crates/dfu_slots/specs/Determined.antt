@@ -40,7 +40,8 @@ works_known (Armed n tear stop) g k (m, e, a) = subst IsKnown (sym a) tt
 works_known Stopped g k a = absurd a
 
 -- What a write that fails leaves is one, and so is the fuse after it.
-breaks_one : (f : Fuse) (old : List ℕ) (at : ℕ) (new l r : List ℕ) (g h : Fuse) → IsKnown f → MayFail f old at new l g → MayFail f old at new r h → (l ≡ r) × (g ≡ h)
+breaks_one : (f : Fuse) (old : List ℕ) (at : ℕ) (new l r : List ℕ) (g h : Fuse) → IsKnown f → MayFail f old at new l g
+    → MayFail f old at new r h → (l ≡ r) × (g ≡ h)
 breaks_one Unknown old at new l r g h k a b = absurd k
 breaks_one Whole old at new l r g h k a b = absurd a
 breaks_one (Armed n tear true) old at new l r g h k a b = (a.1 ∙ sym b.1, a.2 ∙ sym b.2)
@@ -72,13 +73,15 @@ module _ (w : Write) (s t x y : MediumState) (same : Same s t) where
   failed_same : IsKnown s.fuse → FailedWrite s w.at w.bytes x → FailedWrite t w.at w.bytes y → Same x y
   failed_same k a b =
       let moved : MayFail t.fuse t.bytes w.at w.bytes x.bytes x.fuse =
-      subst (λ (f : Fuse). MayFail f t.bytes w.at w.bytes x.bytes x.fuse) same.fuse (subst (λ (l : List ℕ). MayFail s.fuse l w.at w.bytes x.bytes x.fuse) same.bytes a.fuse) in
+      subst (λ (f : Fuse). MayFail f t.bytes w.at w.bytes x.bytes x.fuse) same.fuse
+      (subst (λ (l : List ℕ). MayFail s.fuse l w.at w.bytes x.bytes x.fuse) same.bytes a.fuse) in
       let both = breaks_one t.fuse t.bytes w.at w.bytes x.bytes y.bytes x.fuse y.fuse (known_on k) moved b.fuse in
       record { bytes = both.0; fuse = both.1; unit = a.unit ∙ same.unit ∙ sym b.unit }
 
   -- It is not Ok on one and Failed on the other.
   one_way : IsKnown s.fuse → Wrote s w.at w.bytes x → FailedWrite t w.at w.bytes y → ⊥
-  one_way k a b = not_both t.fuse x.fuse y.fuse t.bytes w.at w.bytes y.bytes (known_on k) (subst (λ (f : Fuse). MayWork f x.fuse) same.fuse a.fuse) b.fuse
+  one_way k a b = not_both t.fuse x.fuse y.fuse t.bytes w.at w.bytes y.bytes (known_on k)
+      (subst (λ (f : Fuse). MayWork f x.fuse) same.fuse a.fuse) b.fuse
 
 -- After a write that works the fuse is known.
 known_next : (w : Write) (s x : MediumState) → IsKnown s.fuse → Wrote s w.at w.bytes x → IsKnown x.fuse
@@ -108,15 +111,19 @@ all_same_end (w ∷ ws) s t x y same (p, a, more) (q, b, rest) = all_same_end ws
 pub never_both : (ws : List Write) (s t x y : MediumState) → Same s t → IsKnown s.fuse → AllWrites s ws x → BrokenWrites t ws y → ⊥
 never_both [] s t x y same k a b = b
 never_both (w ∷ ws) s t x y same k (p, a, more) (inl failed) = one_way w s t p y same k a failed
-never_both (w ∷ ws) s t x y same k (p, a, more) (inr (q, b, rest)) = never_both ws p q x y (wrote_same w s t p q same a b) (known_next w s p k a) more rest
+never_both (w ∷ ws) s t x y same k (p, a, more) (inr (q, b, rest)) = never_both ws p q x y (wrote_same w s t p q same a b)
+    (known_next w s p k a) more rest
 
 -- Broken off, they leave the same medium too.
-pub broken_same_end : (ws : List Write) (s t x y : MediumState) → Same s t → IsKnown s.fuse → BrokenWrites s ws x → BrokenWrites t ws y → Same x y
+pub broken_same_end : (ws : List Write) (s t x y : MediumState) → Same s t → IsKnown s.fuse → BrokenWrites s ws x → BrokenWrites t ws y
+    → Same x y
 broken_same_end [] s t x y same k a b = absurd a
 broken_same_end (w ∷ ws) s t x y same k (inl a) (inl b) = failed_same w s t x y same k a b
-broken_same_end (w ∷ ws) s t x y same k (inl a) (inr (q, b, rest)) = absurd (one_way w t s q x (flip s t same) (subst IsKnown same.fuse k) b a)
+broken_same_end (w ∷ ws) s t x y same k (inl a) (inr (q, b, rest)) =
+    absurd (one_way w t s q x (flip s t same) (subst IsKnown same.fuse k) b a)
 broken_same_end (w ∷ ws) s t x y same k (inr (p, a, more)) (inl b) = absurd (one_way w s t p y same k a b)
-broken_same_end (w ∷ ws) s t x y same k (inr (p, a, more)) (inr (q, b, rest)) = broken_same_end ws p q x y (wrote_same w s t p q same a b) (known_next w s p k a) more rest
+broken_same_end (w ∷ ws) s t x y same k (inr (p, a, more)) (inr (q, b, rest)) = broken_same_end ws p q x y (wrote_same w s t p q same a b)
+    (known_next w s p k a) more rest
 
 -- Calls.
 
@@ -141,7 +148,8 @@ writes_same s t (Put at bytes) same =
 writes_same s t (Commit len) same =
     λ i.
     part_writes (same.medium.unit i)
-    (spare_at (gate_size (same.medium.unit i)) (same.medium.bytes i) + 2 * gate_size (same.medium.unit i) + (same.put_end i - length (same.held i)))
+    (spare_at (gate_size (same.medium.unit i)) (same.medium.bytes i) + 2 * gate_size (same.medium.unit i) +
+    (same.put_end i - length (same.held i)))
     (same.held i)
     ++ commit_writes (gate_size (same.medium.unit i)) (same.medium.bytes i) len
 
@@ -187,8 +195,10 @@ call_known s x call k a = all_known (writes_of s call) s.medium x.medium k a.wri
 -- Lists of calls.
 
 -- The same calls from the same store, with the same outcome, leave the same store.
-pub called_same_end : (calls : List Call) (ok : Bool) (s t x y : SlotsState) → SameStore s t → IsKnown s.medium.fuse → Called s calls ok x → Called t calls ok y → SameStore x y
-called_same_end [] true s t x y same k a b = subst (λ (z : SlotsState). SameStore z y) (sym a) (subst (λ (z : SlotsState). SameStore s z) (sym b) same)
+pub called_same_end : (calls : List Call) (ok : Bool) (s t x y : SlotsState) → SameStore s t → IsKnown s.medium.fuse → Called s calls ok x
+    → Called t calls ok y → SameStore x y
+called_same_end [] true s t x y same k a b = subst (λ (z : SlotsState). SameStore z y) (sym a)
+    (subst (λ (z : SlotsState). SameStore s z) (sym b) same)
 called_same_end [] false s t x y same k a b = absurd a
 called_same_end (call ∷ calls) true s t x y same k (p, a, more) (q, b, rest) =
     called_same_end calls true p q x y (worked_same s t p q call same a b) (call_known s p call k a) more rest
@@ -200,7 +210,8 @@ called_same_end (call ∷ calls) false s t x y same k (inr (p, a, more)) (inr (q
     called_same_end calls false p q x y (worked_same s t p q call same a b) (call_known s p call k a) more rest
 
 -- They are not all Ok here and broken off there.
-pub called_never_both : (calls : List Call) (s t x y : SlotsState) → SameStore s t → IsKnown s.medium.fuse → Called s calls true x → Called t calls false y → ⊥
+pub called_never_both : (calls : List Call) (s t x y : SlotsState) → SameStore s t → IsKnown s.medium.fuse → Called s calls true x
+    → Called t calls false y → ⊥
 called_never_both [] s t x y same k a b = b
 called_never_both (call ∷ calls) s t x y same k (p, a, more) (inl b) = call_one_way s t p y call same k a b
 called_never_both (call ∷ calls) s t x y same k (p, a, more) (inr (q, b, rest)) =

@@ -85,4 +85,5 @@ AllWrites old (w ∷ ws) now = (next : MediumState) × Wrote old w.at w.bytes ne
 -- These writes answered Ok up to one that answered Failed, and none came after it.
 abbrev pub BrokenWrites : MediumState → List Write → MediumState → Type 0
 BrokenWrites old [] now = ⊥
-BrokenWrites old (w ∷ ws) now = FailedWrite old w.at w.bytes now ⊎ ((next : MediumState) × Wrote old w.at w.bytes next × BrokenWrites next ws now)
+BrokenWrites old (w ∷ ws) now = FailedWrite old w.at w.bytes now
+    ⊎ ((next : MediumState) × Wrote old w.at w.bytes next × BrokenWrites next ws now)

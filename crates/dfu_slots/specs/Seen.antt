@@ -78,7 +78,8 @@ pub data Call : Type 0 where
 abbrev pub writes_of : SlotsState → Call → List Write
 writes_of s Begin = begin_writes (gate_of s.medium) s.medium.bytes
 writes_of s (Put at bytes) = put_writes s.medium.unit (data_place s (at - length s.held)) s.held bytes
-writes_of s (Commit len) = part_writes s.medium.unit (data_place s (held_at s)) s.held ++ commit_writes (gate_of s.medium) s.medium.bytes len
+writes_of s (Commit len) = part_writes s.medium.unit (data_place s (held_at s)) s.held ++ commit_writes
+    (gate_of s.medium) s.medium.bytes len
 
 -- What a store holds back after a call that is Ok.
 abbrev pub next_held : SlotsState → Call → List ℕ

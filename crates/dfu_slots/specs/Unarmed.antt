@@ -23,10 +23,12 @@ broken_whole s now (w ∷ ws) e (inr (next, wrote, more)) = broken_whole next no
 -- After a list of calls it is whole.
 pub called_whole : (s now : SlotsState) (calls : List Call) → s.medium.fuse ≡ Whole → Called s calls true now → now.medium.fuse ≡ Whole
 called_whole s now [] e same = ap (λ (x : SlotsState). x.medium.fuse) same ∙ e
-called_whole s now (call ∷ calls) e (mid, first, more) = called_whole mid now calls (all_whole s.medium mid.medium (writes_of s call) e first.writes) more
+called_whole s now (call ∷ calls) e (mid, first, more) =
+    called_whole mid now calls (all_whole s.medium mid.medium (writes_of s call) e first.writes) more
 
 -- None of a list of calls fails.
 pub called_works : (s now : SlotsState) (calls : List Call) → s.medium.fuse ≡ Whole → Called s calls false now → ⊥
 called_works s now [] e none = none
 called_works s now (call ∷ calls) e (inl failed) = broken_whole s.medium now.medium (writes_of s call) e failed.writes
-called_works s now (call ∷ calls) e (inr (mid, first, more)) = called_works mid now calls (all_whole s.medium mid.medium (writes_of s call) e first.writes) more
+called_works s now (call ∷ calls) e (inr (mid, first, more)) =
+    called_works mid now calls (all_whole s.medium mid.medium (writes_of s call) e first.writes) more

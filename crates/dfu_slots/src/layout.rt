@@ -18,7 +18,7 @@ pub const OPEN_GATE: u8 = 0xa5;
 pub const CLOSED_GATE: u8 = 0x00;
 
 /// How many bytes the gate unit has, and as many the header unit, from 16 to 256.
-pub fn gate_size(unit: Unit) -> u32
+pub(crate) fn gate_size(unit: Unit) -> u32
     ensures value { result ≡ gate_size unit }
     ensures most { result ≤ 256 }
 {
@@ -26,7 +26,7 @@ pub fn gate_size(unit: Unit) -> u32
 }
 
 /// A header: generation, version 1, two zeros, the length in little-endian order, and then zeros.
-pub fn make_header(generation: u8, len: u32) -> [u8; 16]
+pub(crate) fn make_header(generation: u8, len: u32) -> [u8; 16]
     ensures { result ≡ header generation len }
 {
     let [a, b, c, d] = len.to_le_bytes();
@@ -34,7 +34,7 @@ pub fn make_header(generation: u8, len: u32) -> [u8; 16]
 }
 
 /// How many zeros fill so many bytes up to the end of a unit, from 0 to 255.
-pub fn fill_size(unit: Unit, len: usize) -> usize
+pub(crate) fn fill_size(unit: Unit, len: usize) -> usize
     ensures value { result ≡ fill_size unit len }
     ensures most { result < 256 }
 {
@@ -43,7 +43,7 @@ pub fn fill_size(unit: Unit, len: usize) -> usize
 }
 
 /// These bytes, at most 256, and zeros behind them up to 256 bytes.
-pub fn fill_up(bytes: &[u8]) -> [u8; 256]
+pub(crate) fn fill_up(bytes: &[u8]) -> [u8; 256]
     requires { length bytes.now ≤ 256 }
     ensures { result ≡ bytes.now ++ replicate (256 - length bytes.now) 0 }
 {

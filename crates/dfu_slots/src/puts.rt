@@ -19,7 +19,7 @@ pub struct Puts {
 
 impl Puts {
     /// Nothing was put.
-    pub fn nothing() -> Puts
+    pub(crate) fn nothing() -> Puts
         ensures held { result.held.items ≡ [] }
         ensures end { result.end ≡ 0 }
     {
@@ -30,7 +30,7 @@ impl Puts {
     }
 
     /// Forgets what was put.
-    pub fn clear(&mut self)
+    pub(crate) fn clear(&mut self)
         ensures held { self.new.held.items ≡ [] }
         ensures end { self.new.end ≡ 0 }
     {
@@ -75,7 +75,7 @@ fn put_front<M: Medium>(
 
 /// Puts these bytes behind those that are held, which belong at `at`: it writes the unit that the held
 /// bytes begin, where it is full now, and then all further whole units in one write, and holds the rest back.
-pub fn put_units<M: Medium>(
+pub(crate) fn put_units<M: Medium>(
     medium: &mut M,
     held: &mut ArrayVec<u8, 256>,
     at: u32,

@@ -23,7 +23,7 @@ fn byte_at<M: Medium>(medium: &M, at: u32) -> u8
 }
 
 /// How many bytes the gate unit of a slot has, and as many its header unit, from 16 to 256.
-pub fn gate_of<M: Medium>(medium: &M) -> u32
+pub(crate) fn gate_of<M: Medium>(medium: &M) -> u32
     ensures value { result ≡ gate_of (M.state medium.now) }
     ensures most { result ≤ 256 }
 {
@@ -31,7 +31,7 @@ pub fn gate_of<M: Medium>(medium: &M) -> u32
 }
 
 /// How many bytes of data each slot has.
-pub fn capacity_of<M: Medium>(medium: &M) -> u32
+pub(crate) fn capacity_of<M: Medium>(medium: &M) -> u32
     requires { IsSized (M.state medium.now) }
     ensures { result ≡ capacity_of (M.state medium.now) }
 {
@@ -39,7 +39,7 @@ pub fn capacity_of<M: Medium>(medium: &M) -> u32
 }
 
 /// Whether the slot that begins there is open.
-pub fn is_open<M: Medium>(medium: &M, at: u32) -> bool
+pub(crate) fn is_open<M: Medium>(medium: &M, at: u32) -> bool
     requires { at < length (M.state medium.now).bytes }
     ensures { result ≡ ((slot_of (M.state medium.now) at).gate == OPEN) }
 {
@@ -47,7 +47,7 @@ pub fn is_open<M: Medium>(medium: &M, at: u32) -> bool
 }
 
 /// Whether the slot that begins there counts.
-pub fn counts<M: Medium>(medium: &M, at: u32) -> bool
+pub(crate) fn counts<M: Medium>(medium: &M, at: u32) -> bool
     requires { at < length (M.state medium.now).bytes }
     ensures { result ≡ counts (slot_of (M.state medium.now) at) }
 {
@@ -55,7 +55,7 @@ pub fn counts<M: Medium>(medium: &M, at: u32) -> bool
 }
 
 /// The generation in the header of the slot that begins there.
-pub fn generation<M: Medium>(medium: &M, at: u32) -> u8
+pub(crate) fn generation<M: Medium>(medium: &M, at: u32) -> u8
     requires sized { IsSized (M.state medium.now) }
     requires within { at + gate_of (M.state medium.now) < length (M.state medium.now).bytes }
     ensures { result ≡ generation (slot_of (M.state medium.now) at) }
@@ -64,7 +64,7 @@ pub fn generation<M: Medium>(medium: &M, at: u32) -> u8
 }
 
 /// Whether the first of two slots counts, and the other one does not, or is one generation behind.
-pub fn is_newest<M: Medium>(medium: &M, mine: u32, other: u32) -> bool
+pub(crate) fn is_newest<M: Medium>(medium: &M, mine: u32, other: u32) -> bool
     requires sized { IsSized (M.state medium.now) }
     requires mine { mine + gate_of (M.state medium.now) < length (M.state medium.now).bytes }
     requires other { other + gate_of (M.state medium.now) < length (M.state medium.now).bytes }
@@ -76,7 +76,7 @@ pub fn is_newest<M: Medium>(medium: &M, mine: u32, other: u32) -> bool
 }
 
 /// Where the two slots stand.
-pub fn find_places<M: Medium>(medium: &M) -> Places
+pub(crate) fn find_places<M: Medium>(medium: &M) -> Places
     requires { IsSized (M.state medium.now) }
     ensures active { result.active ≡ active_at (gate_of (M.state medium.now)) (M.state medium.now).bytes }
     ensures spare { result.spare ≡ spare_at (gate_of (M.state medium.now)) (M.state medium.now).bytes }
@@ -96,7 +96,7 @@ pub fn find_places<M: Medium>(medium: &M) -> Places
 }
 
 /// The length in the header of the slot that begins there, if that is a well-formed header of an image that fits.
-pub fn header_len<M: Medium>(medium: &M, at: u32) -> Option<u32>
+pub(crate) fn header_len<M: Medium>(medium: &M, at: u32) -> Option<u32>
     requires sized { IsSized (M.state medium.now) }
     requires within { at + slot_size (M.state medium.now).bytes ≤ length (M.state medium.now).bytes }
     ensures some { IfSome result (λ len. HasHeader (slot_of (M.state medium.now) at) len) }
@@ -113,7 +113,7 @@ pub fn header_len<M: Medium>(medium: &M, at: u32) -> Option<u32>
 }
 
 /// Where the data of the slot that begins there begins.
-pub fn data_at<M: Medium>(medium: &M, slot_at: u32) -> u32
+pub(crate) fn data_at<M: Medium>(medium: &M, slot_at: u32) -> u32
     requires sized { IsSized (M.state medium.now) }
     requires slot { slot_at + slot_size (M.state medium.now).bytes ≤ length (M.state medium.now).bytes }
     ensures { result ≡ slot_at + 2 * gate_of (M.state medium.now) }
@@ -122,7 +122,7 @@ pub fn data_at<M: Medium>(medium: &M, slot_at: u32) -> u32
 }
 
 /// Reads from the data of the slot that begins there.
-pub fn read_data<M: Medium>(medium: &M, slot_at: u32, at: u32, out: &mut [u8])
+pub(crate) fn read_data<M: Medium>(medium: &M, slot_at: u32, at: u32, out: &mut [u8])
     requires sized { IsSized (M.state medium.now) }
     requires slot { slot_at + slot_size (M.state medium.now).bytes ≤ length (M.state medium.now).bytes }
     requires within { at + length out.old ≤ capacity_of (M.state medium.now) }

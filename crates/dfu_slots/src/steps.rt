@@ -28,7 +28,7 @@ fn close_spare<M: Medium>(medium: &mut M) -> Result<(), Failed>
 }
 
 /// Closes the spare's gate, where it reads open, and forgets what was put.
-pub fn begin<M: Medium>(medium: &mut M, puts: &mut Puts) -> Result<(), PutFault>
+pub(crate) fn begin<M: Medium>(medium: &mut M, puts: &mut Puts) -> Result<(), PutFault>
     requires { IsSized (M.state medium.old) }
     ensures changes { Changes (store_of (M.state medium.old) puts.old.held.items puts.old.end) (Begin) result
         (store_of (M.state medium.new) puts.new.held.items puts.new.end) }
@@ -42,7 +42,7 @@ pub fn begin<M: Medium>(medium: &mut M, puts: &mut Puts) -> Result<(), PutFault>
 }
 
 /// Puts these bytes behind those that were put, as far as they make whole units, and holds the rest back.
-pub fn put<M: Medium>(
+pub(crate) fn put<M: Medium>(
     medium: &mut M,
     puts: &mut Puts,
     at: u32,
@@ -102,7 +102,7 @@ fn open_spare<M: Medium>(
 }
 
 /// Makes the first `len` bytes of what was put the image of the spare, and opens it. It forgets what was put.
-pub fn commit<M: Medium>(medium: &mut M, puts: &mut Puts, len: u32) -> Result<(), PutFault>
+pub(crate) fn commit<M: Medium>(medium: &mut M, puts: &mut Puts, len: u32) -> Result<(), PutFault>
     requires sized { IsSized (M.state medium.old) }
     requires puts { HasPuts (store_of (M.state medium.old) puts.old.held.items puts.old.end) }
     requires end { len ≤ puts.old.end }

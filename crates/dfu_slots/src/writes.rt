@@ -12,7 +12,7 @@ use crate::read::gate_of;
 use crate::{Failed, Medium};
 
 /// Writes these bytes there. All writes of the store go through it.
-pub fn write<M: Medium>(medium: &mut M, at: u32, bytes: &[u8]) -> Result<(), Failed>
+pub(crate) fn write<M: Medium>(medium: &mut M, at: u32, bytes: &[u8]) -> Result<(), Failed>
     requires within { at + length bytes.now ≤ length (M.state medium.old).bytes }
     requires place { IsMultiple (M.state medium.old).unit at }
     requires whole { IsMultiple (M.state medium.old).unit (length bytes.now) }
@@ -23,7 +23,7 @@ pub fn write<M: Medium>(medium: &mut M, at: u32, bytes: &[u8]) -> Result<(), Fai
 }
 
 /// Writes these bytes there, and writes nothing for no bytes.
-pub fn write_some<M: Medium>(medium: &mut M, at: u32, bytes: &[u8]) -> Result<(), Failed>
+pub(crate) fn write_some<M: Medium>(medium: &mut M, at: u32, bytes: &[u8]) -> Result<(), Failed>
     requires within { at + length bytes.now ≤ length (M.state medium.old).bytes }
     requires place { IsMultiple (M.state medium.old).unit at }
     requires whole { IsMultiple (M.state medium.old).unit (length bytes.now) }
@@ -36,7 +36,7 @@ pub fn write_some<M: Medium>(medium: &mut M, at: u32, bytes: &[u8]) -> Result<()
 }
 
 /// Writes these bytes there, at most 4,096, with zeros up to the end of a unit, and writes nothing for no bytes.
-pub fn write_filled<M: Medium>(medium: &mut M, at: u32, bytes: &[u8]) -> Result<(), Failed>
+pub(crate) fn write_filled<M: Medium>(medium: &mut M, at: u32, bytes: &[u8]) -> Result<(), Failed>
     requires short { length bytes.now ≤ 4096 }
     requires within { at + length (filled (M.state medium.old).unit bytes.now) ≤ length (M.state medium.old).bytes }
     requires place { IsMultiple (M.state medium.old).unit at }
@@ -50,7 +50,12 @@ pub fn write_filled<M: Medium>(medium: &mut M, at: u32, bytes: &[u8]) -> Result<
 }
 
 /// Writes these bytes there, and zeros behind them up to `size` bytes, at most 256.
-pub fn write_unit<M: Medium>(medium: &mut M, at: u32, bytes: &[u8], size: u32) -> Result<(), Failed>
+pub(crate) fn write_unit<M: Medium>(
+    medium: &mut M,
+    at: u32,
+    bytes: &[u8],
+    size: u32,
+) -> Result<(), Failed>
     requires least { length bytes.now ≤ size }
     requires most { size ≤ 256 }
     requires within { at + size ≤ length (M.state medium.old).bytes }
@@ -66,7 +71,7 @@ pub fn write_unit<M: Medium>(medium: &mut M, at: u32, bytes: &[u8], size: u32) -
 }
 
 /// Writes the gate unit of the slot that begins there.
-pub fn write_gate<M: Medium>(medium: &mut M, at: u32, gate: u8) -> Result<(), Failed>
+pub(crate) fn write_gate<M: Medium>(medium: &mut M, at: u32, gate: u8) -> Result<(), Failed>
     requires within { at + gate_of (M.state medium.old) ≤ length (M.state medium.old).bytes }
     requires place { IsMultiple (M.state medium.old).unit at }
     ensures ok { let was = M.state medium.old in
@@ -79,7 +84,12 @@ pub fn write_gate<M: Medium>(medium: &mut M, at: u32, gate: u8) -> Result<(), Fa
 }
 
 /// Writes the header of the slot that begins there, and then, in a write of its own, opens its gate.
-pub fn open_slot<M: Medium>(medium: &mut M, at: u32, generation: u8, len: u32) -> Result<(), Failed>
+pub(crate) fn open_slot<M: Medium>(
+    medium: &mut M,
+    at: u32,
+    generation: u8,
+    len: u32,
+) -> Result<(), Failed>
     requires sized { IsSized (M.state medium.old) }
     requires within { at + 2 * gate_of (M.state medium.old) ≤ length (M.state medium.old).bytes }
     requires place { IsMultiple (M.state medium.old).unit at }

@@ -34,8 +34,10 @@ fn live_line<'f, M: Faulty, W: Write>(
     writer: &mut W,
 ) -> Result<(), ScriptFault>
     requires { IsLive world.old.bench.session }
-    ensures ok { OnOk result (Steps (point limits.old world.old.bench) line.now (W.contents writer.old) (point limits.new world.new.bench) (W.contents writer.new)) }
-    ensures fault { IfErr result (λ f. LineFalls (point limits.old world.old.bench) number line.now (W.contents writer.old) (W.contents writer.new) f) }
+    ensures ok { OnOk result (Steps (point limits.old world.old.bench) line.now (W.contents writer.old) (point limits.new world.new.bench)
+        (W.contents writer.new)) }
+    ensures fault { IfErr result (λ f. LineFalls (point limits.old world.old.bench) number line.now (W.contents writer.old)
+        (W.contents writer.new) f) }
 {
     match parse(line) {
         None => Err(ScriptFault::BadLine(number)),
@@ -64,8 +66,10 @@ fn follow<'f, M: Faulty, W: Write>(
     writer: &mut W,
 ) -> Result<Option<Device<M>>, ScriptFault>
     ensures shrinks { length lines.new.rest.now ≤ length lines.old.rest.now }
-    ensures ok { IfOk result (λ d. LinesDone (point limits.old world.entry.bench) (lines.old.number + 1) (lines_of lines.old.rest.now) (W.contents writer.old) d (point limits.new) (lines.new.number + 1) (lines_of lines.new.rest.now) (W.contents writer.new)) }
-    ensures fault { IfErr result (λ f. RunFalls (point limits.old world.entry.bench) (lines.old.number + 1) (lines_of lines.old.rest.now) (W.contents writer.old) (W.contents writer.new) f) }
+    ensures ok { IfOk result (λ d. LinesDone (point limits.old world.entry.bench) (lines.old.number + 1) (lines_of lines.old.rest.now)
+        (W.contents writer.old) d (point limits.new) (lines.new.number + 1) (lines_of lines.new.rest.now) (W.contents writer.new)) }
+    ensures fault { IfErr result (λ f. RunFalls (point limits.old world.entry.bench) (lines.old.number + 1) (lines_of lines.old.rest.now)
+        (W.contents writer.old) (W.contents writer.new) f) }
 {
     let mut world = world;
     'lines: loop {
@@ -95,8 +99,10 @@ fn act<M: Faulty, W: Write>(
 ) -> Result<Option<Device<M>>, ScriptFault>
     requires { IsUnarmed device }
     ensures shrinks { length lines.new.rest.now ≤ length lines.old.rest.now }
-    ensures ok { IfOk result (λ d. LinesDone (point limits.old (at_rest device)) lines.old.number (line.now ∷ lines_of lines.old.rest.now) (W.contents writer.old) d (point limits.new) (lines.new.number + 1) (lines_of lines.new.rest.now) (W.contents writer.new)) }
-    ensures fault { IfErr result (λ f. RunFalls (point limits.old (at_rest device)) lines.old.number (line.now ∷ lines_of lines.old.rest.now) (W.contents writer.old) (W.contents writer.new) f) }
+    ensures ok { IfOk result (λ d. LinesDone (point limits.old (at_rest device)) lines.old.number (line.now ∷ lines_of lines.old.rest.now)
+        (W.contents writer.old) d (point limits.new) (lines.new.number + 1) (lines_of lines.new.rest.now) (W.contents writer.new)) }
+    ensures fault { IfErr result (λ f. RunFalls (point limits.old (at_rest device)) lines.old.number
+        (line.now ∷ lines_of lines.old.rest.now) (W.contents writer.old) (W.contents writer.new) f) }
 {
     match parse(line) {
         None => Err(ScriptFault::BadLine(lines.number)),
@@ -131,8 +137,10 @@ pub(crate) fn run_on<M: Faulty, W: Write>(
     writer: &mut W,
 ) -> Result<(), ScriptFault>
     requires { IsUnarmed device }
-    ensures ok { OnOk result (Ends (point limits (at_rest device)) (with_first first.entry (lines_of lines.old.rest.now)) (W.contents writer.old) (W.contents writer.new)) }
-    ensures fault { IfErr result (λ f. RunFalls (point limits (at_rest device)) (number_of_first first.entry lines.old.number) (with_first first.entry (lines_of lines.old.rest.now)) (W.contents writer.old) (W.contents writer.new) f) }
+    ensures ok { OnOk result (Ends (point limits (at_rest device)) (with_first first.entry (lines_of lines.old.rest.now))
+        (W.contents writer.old) (W.contents writer.new)) }
+    ensures fault { IfErr result (λ f. RunFalls (point limits (at_rest device)) (number_of_first first.entry lines.old.number)
+        (with_first first.entry (lines_of lines.old.rest.now)) (W.contents writer.old) (W.contents writer.new) f) }
 {
     let mut device = device;
     let mut limits = limits;

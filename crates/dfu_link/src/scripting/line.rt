@@ -5,8 +5,7 @@ ghost use Rattle.std.specs.Prelude.{◌≤◌};
 use crate::fate::Fate;
 use crate::scripting::hex_text::HexText;
 use dfu_slots::Unit;
-use dfu_wire::Ids;
-use dfu_wire::Functional;
+use dfu_wire::{Functional, Ids};
 
 /// How many bytes an image may have.
 #[derive(Clone, Copy)]

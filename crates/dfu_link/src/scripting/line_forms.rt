@@ -14,8 +14,7 @@ use crate::scripting::keywords::{FateKeyword, read_fate};
 use crate::scripting::line::{ConfigLine, EventLine, HarmKind, Line, Room};
 use crate::scripting::words::word_at;
 use dfu_slots::Unit;
-use dfu_wire::Ids;
-use dfu_wire::Functional;
+use dfu_wire::{Functional, Ids};
 
 /// `ids VVVV PPPP DDDD`.
 #[tactic(auto, unfolding(crate::specs::Lines::ids_of))]

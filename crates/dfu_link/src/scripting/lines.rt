@@ -22,8 +22,10 @@ fn newline_at(text: &[u8]) -> Option<usize>
 /// The next line, without its 0Ah.
 pub(crate) fn next_line<'t>(lines: &mut Lines<'t>) -> Option<&'t [u8]>
     ensures shrinks { length lines.new.rest.now ≤ length lines.old.rest.now }
-    ensures next { MatchOption result ((lines_of lines.old.rest.now ≡ []) × (lines_of lines.new.rest.now ≡ []) × (lines.new.number ≡ lines.old.number))
-        (λ line. (lines_of lines.old.rest.now ≡ line.now ∷ lines_of lines.new.rest.now) × (lines.new.number ≡ lines.old.number + 1) × (length lines.new.rest.now < length lines.old.rest.now)) }
+    ensures next { MatchOption result ((lines_of lines.old.rest.now ≡ []) × (lines_of lines.new.rest.now ≡ [])
+        × (lines.new.number ≡ lines.old.number))
+        (λ line. (lines_of lines.old.rest.now ≡ line.now ∷ lines_of lines.new.rest.now) × (lines.new.number ≡ lines.old.number + 1)
+        × (length lines.new.rest.now < length lines.old.rest.now)) }
 {
     if lines.rest.is_empty() {
         return None;

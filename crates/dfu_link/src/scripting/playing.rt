@@ -28,8 +28,10 @@ fn play<'f, M: Faulty, W: Write>(
     times: u32,
     writer: &mut W,
 ) -> Result<(), ScriptFault>
-    ensures ok { OnOk result (HasPlayed world.old.bench (replicate times (happening event.entry)) (W.contents writer.old) world.new.bench (W.contents writer.new)) }
-    ensures err { OnErr result (HasBroken world.old.bench (replicate times (happening event.entry)) (W.contents writer.old) (W.contents writer.new)) }
+    ensures ok { OnOk result (HasPlayed world.old.bench (replicate times (happening event.entry)) (W.contents writer.old) world.new.bench
+        (W.contents writer.new)) }
+    ensures err { OnErr result (HasBroken world.old.bench (replicate times (happening event.entry)) (W.contents writer.old)
+        (W.contents writer.new)) }
     ensures fault { IfErr result (λ f. f ≡ ScriptFault.Write) }
 {
     for turn in 0..times {
@@ -83,8 +85,10 @@ pub(crate) fn play_events<'f, M: Faulty, W: Write>(
 ) -> Result<(), ScriptFault>
     requires file { file.now ≡ file_bytes (event_line_of events) }
     requires tear { torn.now ≡ tear_bytes events }
-    ensures ok { OnOk result (HasPlayed world.old.bench (events_of limits (event_line_of events.entry)) (W.contents writer.old) world.new.bench (W.contents writer.new)) }
-    ensures err { OnErr result (HasBroken world.old.bench (events_of limits (event_line_of events.entry)) (W.contents writer.old) (W.contents writer.new)) }
+    ensures ok { OnOk result (HasPlayed world.old.bench (events_of limits (event_line_of events.entry))
+        (W.contents writer.old) world.new.bench (W.contents writer.new)) }
+    ensures err { OnErr result (HasBroken world.old.bench (events_of limits (event_line_of events.entry)) (W.contents writer.old)
+        (W.contents writer.new)) }
     ensures fault { IfErr result (λ f. f ≡ ScriptFault.Write) }
 {
     match events {
@@ -111,8 +115,10 @@ pub(crate) fn play_live<'f, M: Faulty, W: Write>(
 ) -> Result<(), ScriptFault>
     requires live { IsLive world.old.bench.session }
     requires tear { torn.now ≡ tear_bytes events }
-    ensures ok { OnOk result (HasPlayed world.old.bench (events_of limits (event_line_of events.entry)) (W.contents writer.old) world.new.bench (W.contents writer.new)) }
-    ensures err { OnErr result (HasBroken world.old.bench (events_of limits (event_line_of events.entry)) (W.contents writer.old) (W.contents writer.new)) }
+    ensures ok { OnOk result (HasPlayed world.old.bench (events_of limits (event_line_of events.entry))
+        (W.contents writer.old) world.new.bench (W.contents writer.new)) }
+    ensures err { OnErr result (HasBroken world.old.bench (events_of limits (event_line_of events.entry)) (W.contents writer.old)
+        (W.contents writer.new)) }
     ensures fault { IfErr result (λ f. f ≡ ScriptFault.Write) }
 {
     match events {

@@ -9,8 +9,7 @@ use crate::scripting::hex_text::HexText;
 use crate::scripting::line::{ConfigLine, Room};
 use dfu_host::Limits;
 use dfu_slots::Unit;
-use dfu_wire::Ids;
-use dfu_wire::Functional;
+use dfu_wire::{Functional, Ids};
 
 /// What is set: what `Config::new` takes, the unit in which the medium is written, how many bytes an
 /// image may have, the image at first (the byte 00 where there is none), and the limits of sessions.

@@ -26,8 +26,10 @@ fn write_piece<M: Medium, W: Write>(
 ) -> Result<(), ScriptFault>
     requires piece { len ≤ 256 }
     requires within { at + len ≤ length (image_of slots.now) }
-    ensures ok { OnOk result (Appends (W.contents writer.old) (W.contents writer.new) (encode_lower (slice_range (image_of slots.now) at (at + len)))) }
-    ensures err { OnErr result (Broke (W.contents writer.old) (W.contents writer.new) (encode_lower (slice_range (image_of slots.now) at (at + len)))) }
+    ensures ok { OnOk result (Appends (W.contents writer.old) (W.contents writer.new)
+        (encode_lower (slice_range (image_of slots.now) at (at + len)))) }
+    ensures err { OnErr result (Broke (W.contents writer.old) (W.contents writer.new)
+        (encode_lower (slice_range (image_of slots.now) at (at + len)))) }
     ensures fault { IfErr result (λ f. f ≡ ScriptFault.Write) }
 {
     let len = len as usize;

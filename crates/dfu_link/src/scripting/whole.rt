@@ -9,7 +9,7 @@ ghost use Rattle.dfu_link.specs.SetupView.{settings_of};
 
 use crate::scripting::after_start::run_on;
 use crate::scripting::fault::ScriptFault;
-use crate::scripting::gather::gather;
+use crate::scripting::gather::gather_text;
 use crate::scripting::line::Line;
 use crate::scripting::lines::{Lines, next_line};
 use crate::scripting::reading::parse;
@@ -25,7 +25,8 @@ fn configure<'t>(
     setup: &mut Setup<'t>,
     lines: &mut Lines<'t>,
 ) -> Result<Option<&'t [u8]>, ScriptFault>
-    ensures ok { IfOk result (λ first. Prepared (settings_of setup.old) (lines.old.number + 1) (lines_of lines.old.rest.now) (settings_of setup.new) (number_of_first first lines.new.number) (with_first first (lines_of lines.new.rest.now))) }
+    ensures ok { IfOk result (λ first. Prepared (settings_of setup.old) (lines.old.number + 1) (lines_of lines.old.rest.now)
+        (settings_of setup.new) (number_of_first first lines.new.number) (with_first first (lines_of lines.new.rest.now))) }
     ensures ready { IfOk result (λ first. IsReady (with_first first (lines_of lines.new.rest.now))) }
     ensures fault { IfErr result (λ f. SettingFalls (settings_of setup.old) (lines.old.number + 1) (lines_of lines.old.rest.now) f) }
 {
@@ -80,6 +81,6 @@ pub fn script<R: Read + Drop, W: Write>(
     // Which fault comes when, and what is out then.
     ensures fault { IfSome (R.remaining reader) (λ text. IfErr result (λ f. Falls text (W.contents writer.old) (W.contents writer.new) f)) }
 {
-    let text = gather(alloc, reader)?;
+    let text = gather_text(alloc, reader)?;
     run_text(alloc, &text, writer)
 }

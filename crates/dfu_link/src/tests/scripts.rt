@@ -24,7 +24,8 @@ fn scripts_install(rt: HostRuntime) -> Result<(), Fail> {
         ("device 03 255 8 1 5 10 / offer W / go pass 12", "report unconfirmed\nimage ffffffff\n"),
         ("capacity 3 / offer W / go pass 6", "report refused errADDRESS\nimage 00\n"),
         ("device 07 255 8 5 5 10 / offer W / go pass 10", "report refused errNOTDONE\nimage 00\n"),
-        ("limits 9 0 / offer W / go pass 9 / limits 100 0 / offer N / go pass 3 / show / go pass 13", "report gave-up\nstate dfuIDLE status OK image ffffffff\nreport installed\nimage 313233343536373839\n"),
+        ("limits 9 0 / offer W / go pass 9 / limits 100 0 / offer N / go pass 3 / show / go pass 13",
+         "report gave-up\nstate dfuIDLE status OK image ffffffff\nreport installed\nimage 313233343536373839\n"),
     ];
     for (row, out) in rows {
         ends(&rt, rt.alloc(), row, Ok(()), out)?;
@@ -40,14 +41,17 @@ fn scripts_go_on_after_losses(rt: HostRuntime) -> Result<(), Fail> {
         ("offer W / go pass 4 / go lostback / go pass 9", INSTALLED),
         ("offer W / go pass 4 / go lostout / go pass 10", INSTALLED),
         ("offer W / go pass 4 / go twicelostback / go pass 13", INSTALLED),
-        ("offer W / go pass 4 / go twice / show / go pass 12", "state dfuERROR status errSTALLEDPKT image 00\nreport installed\nimage ffffffff\n"),
-        ("offer W / go pass 9 / go lostback / go pass 4 / show / go pass 9", "state dfuIDLE status OK image 00\nreport installed\nimage ffffffff\n"),
+        ("offer W / go pass 4 / go twice / show / go pass 12",
+         "state dfuERROR status errSTALLEDPKT image 00\nreport installed\nimage ffffffff\n"),
+        ("offer W / go pass 9 / go lostback / go pass 4 / show / go pass 9",
+         "state dfuIDLE status OK image 00\nreport installed\nimage ffffffff\n"),
         ("offer W / go pass 6 / go slip 4 / go pass 13", INSTALLED),
         ("offer W / go pass 2 / time 255 / go pass 14", INSTALLED),
         ("limits 100 1 / offer W / go pass 7 / reset / go pass 13", INSTALLED),
         ("offer W / go pass 7 / reset", "report restarts-spent\nimage 00\n"),
         ("device 07 0 8 1 5 10 / offer W / go pass 2 / time 1 / show", "state appIDLE status OK image 00\nimage 00\n"),
-        ("device 07 65535 8 1 5 10 / offer W / go pass 2 / time 65534 / show / time 4294967295 / show", "state appDETACH status OK image 00\nstate appIDLE status OK image 00\nimage 00\n"),
+        ("device 07 65535 8 1 5 10 / offer W / go pass 2 / time 65534 / show / time 4294967295 / show",
+         "state appDETACH status OK image 00\nstate appIDLE status OK image 00\nimage 00\n"),
     ];
     for (row, out) in rows {
         ends(&rt, rt.alloc(), row, Ok(()), out)?;
@@ -62,7 +66,8 @@ fn scripts_write_whole_units(rt: HostRuntime) -> Result<(), Fail> {
     let rows = [
         ("unit 64 / offer W / go pass 13", INSTALLED),
         ("unit 16 / offer N / go pass 17", "report installed\nimage 313233343536373839\n"),
-        ("unit 256 / capacity 256 / image 0001 / offer N / go pass 3 / show / go pass 14", "state dfuIDLE status OK image 0001\nreport installed\nimage 313233343536373839\n"),
+        ("unit 256 / capacity 256 / image 0001 / offer N / go pass 3 / show / go pass 14",
+         "state dfuIDLE status OK image 0001\nreport installed\nimage 313233343536373839\n"),
         ("unit 64 / unit 1 / capacity 4 / offer W / go pass 13", INSTALLED),
         ("unit 16 / offer N / go pass 14 / go cut 1 a5", "report restarts-spent\nimage 00\n"),
         ("unit 16 / offer N / go pass 14 / go cut 2 a5", "report restarts-spent\nimage 313233343536373839\n"),
@@ -91,7 +96,8 @@ fn scripts_lose_their_power(rt: HostRuntime) -> Result<(), Fail> {
         ("limits 100 1 / offer W / go pass 7 / cut / go pass 13", INSTALLED),
         ("offer W / go pass 10 / cut", "report restarts-spent\nimage 00\n"),
         ("offer W / go pass 4 / abort / cut", "report aborted\nimage 00\n"),
-        ("cut / show / go cut 0 a5 / offer W / go pass 12 / cut / cut", "state appIDLE status OK image 00\nrefused NoHost\nreport restarts-spent\nimage ffffffff\n"),
+        ("cut / show / go cut 0 a5 / offer W / go pass 12 / cut / cut",
+         "state appIDLE status OK image 00\nrefused NoHost\nreport restarts-spent\nimage ffffffff\n"),
     ];
     for (row, out) in rows {
         ends(&rt, rt.alloc(), row, Ok(()), out)?;
@@ -106,9 +112,12 @@ fn scripts_go_on_after_failed_writes(rt: HostRuntime) -> Result<(), Fail> {
     let rows = [
         ("offer W / go pass 10 / go fail 1 a5 / go pass 1", "report refused errPROG\nimage ffffffff\n"),
         ("offer W / go pass 10 / go fail 1 00 / go pass 1", "report refused errPROG\nimage 00\n"),
-        ("offer W / go pass 6 / go fail 0 aa / go pass 1 / offer W / go pass 12", "report refused errWRITE\nreport installed\nimage ffffffff\n"),
-        ("offer W / go pass 13 / offer N / go pass 6 / go fail 0 a5 / go pass 1", "report installed\nreport refused errWRITE\nimage ffffffff\n"),
-        ("offer W / go pass 10 / go fail 1 a5 / go pass 1 / offer N / go pass 16", "report refused errPROG\nreport installed\nimage 313233343536373839\n"),
+        ("offer W / go pass 6 / go fail 0 aa / go pass 1 / offer W / go pass 12",
+         "report refused errWRITE\nreport installed\nimage ffffffff\n"),
+        ("offer W / go pass 13 / offer N / go pass 6 / go fail 0 a5 / go pass 1",
+         "report installed\nreport refused errWRITE\nimage ffffffff\n"),
+        ("offer W / go pass 10 / go fail 1 a5 / go pass 1 / offer N / go pass 16",
+         "report refused errPROG\nreport installed\nimage 313233343536373839\n"),
         ("offer W / go pass 5 / go fail 0 00 / go pass 7", INSTALLED),
         ("go fail 0 -", "refused NoHost\nimage 00\n"),
     ];
@@ -128,11 +137,13 @@ fn scripts_upload_and_give_up(rt: HostRuntime) -> Result<(), Fail> {
         ("upload / go pass 4 / go twice / go pass 1", "report uploaded 00\nimage 00\n"),
         ("image 0001020304050607 / upload / go pass 4 / go twice / go pass 6", eight),
         ("image - / upload / go pass 6", "report uploaded -\nimage -\n"),
-        ("upload / go pass 6 / offer W / go pass 13 / upload / go pass 6", "report uploaded 00\nreport installed\nreport uploaded ffffffff\nimage ffffffff\n"),
+        ("upload / go pass 6 / offer W / go pass 13 / upload / go pass 6",
+         "report uploaded 00\nreport installed\nreport uploaded ffffffff\nimage ffffffff\n"),
         ("device 05 255 8 1 5 10 / upload", "refused BadOffer CannotUpload\nimage 00\n"),
         ("limits 3 0 / upload / go pass 3", "report gave-up\nimage 00\n"),
         ("offer W / go pass 8 / abort / go pass 1 / show", "report aborted\nstate dfuIDLE status OK image 00\nimage 00\n"),
-        ("abort / upload / upload / offer W / abort / go lostout", "refused NoHost\nrefused HostBusy\nrefused HostBusy\nreport aborted\nimage 00\n"),
+        ("abort / upload / upload / offer W / abort / go lostout",
+         "refused NoHost\nrefused HostBusy\nrefused HostBusy\nreport aborted\nimage 00\n"),
     ];
     for (row, out) in rows {
         ends(&rt, rt.alloc(), row, Ok(()), out)?;

@@ -8,7 +8,8 @@ use Rattle.dfu_slots.proofs.Pieces.{OnTheWay, way_begins, way_on, way_broken, wa
 use Rattle.dfu_slots.proofs.format.write_pieces.Goals as goal
 
 pub loop-rest-init : goal.loop-rest-init
-loop-rest-init g c = way_begins (g.M.Medium.state c.args.medium.now) c.args.at c.args.bytes.now c.requires.within c.requires.room c.requires.place
+loop-rest-init g c = way_begins (g.M.Medium.state c.args.medium.now) c.args.at c.args.bytes.now c.requires.within c.requires.room
+    c.requires.place
 
 pub write-requires-clause-whole : goal.write-requires-clause-whole
 write-requires-clause-whole g c =
@@ -43,5 +44,6 @@ pub returns : goal.returns
 returns g c n le =
     let rest = c.loop-rest.rest.now in
     let short : length rest ≤ 4096 = omega (arith, c.loop-rest-test.false) in
-    way_ends (g.M.Medium.state c.args.medium.now) (g.M.Medium.state c.loop-rest.medium) (g.M.Medium.state c.write_filled.new.medium) c.args.at c.args.bytes.now c.loop-rest.place rest c.loop-rest.invariant short
+    way_ends (g.M.Medium.state c.args.medium.now) (g.M.Medium.state c.loop-rest.medium)
+    (g.M.Medium.state c.write_filled.new.medium) c.args.at c.args.bytes.now c.loop-rest.place rest c.loop-rest.invariant short
     c.write_filled.result c.write_filled.ensures n le

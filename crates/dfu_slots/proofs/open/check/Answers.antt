@@ -17,11 +17,15 @@ returns-in-Some-clause-ok g c =
     let m = g.M.Medium.state c.args.medium.now in
     let sized = c.is_sized.ensures.0 c.if-not-is_sized.false in
     let found = c.find_places-places in
-    has_image_there m found.result.active found.result.spare found.ensures.active found.ensures.spare c.in-Some.field-0 sized (sym c.is_newest.ensures ∙ c.if-not-is_newest.false) c.in-Some.ensures.some
+    has_image_there m found.result.active found.result.spare found.ensures.active found.ensures.spare c.in-Some.field-0 sized
+    (sym c.is_newest.ensures ∙ c.if-not-is_newest.false) c.in-Some.ensures.some
 
 pub returns-in-None-clause-fault : goal.returns-in-None-clause-fault
 returns-in-None-clause-fault g c =
     let m = g.M.Medium.state c.args.medium.now in
     let sized = c.is_sized.ensures.0 c.if-not-is_sized.false in
-    let found = c.find_places-places in
-    (sized, bad_header_there m found.result.active found.result.spare found.ensures.active found.ensures.spare (sym c.is_newest.ensures ∙ c.if-not-is_newest.false) c.in-None.ensures.none)
+    let found = c.find_places-places in (
+      sized,
+      bad_header_there m found.result.active found.result.spare found.ensures.active found.ensures.spare
+          (sym c.is_newest.ensures ∙ c.if-not-is_newest.false) c.in-None.ensures.none,
+    )

@@ -3,24 +3,29 @@ use Rattle.dfu_slots.proofs.steps.open_spare.Goals as goal
 
 pub write_filled-requires-clause-within : goal.write_filled-requires-clause-within
 write_filled-requires-clause-within g c =
-    held_within (g.M.Medium.state c.args.medium.now) c.args.puts.now.held.items c.args.puts.now.end c.requires.sized c.requires.puts c.args.places.spare c.data_at.result c.len.result c.as_slice.result.now
+    held_within (g.M.Medium.state c.args.medium.now) c.args.puts.now.held.items c.args.puts.now.end c.requires.sized c.requires.puts
+    c.args.places.spare c.data_at.result c.len.result c.as_slice.result.now
     c.requires.spare c.data_at.ensures c.len.ensures.value c.as_slice.ensures.value
 
 pub open_slot-requires-clause-sized : goal.open_slot-requires-clause-sized
 open_slot-requires-clause-sized g c =
-    held_sized (g.M.Medium.state c.args.medium.now) c.args.puts.now.held.items c.args.puts.now.end c.requires.sized c.requires.puts c.args.places.spare c.data_at.result c.len.result c.as_slice.result.now
+    held_sized (g.M.Medium.state c.args.medium.now) c.args.puts.now.held.items c.args.puts.now.end c.requires.sized c.requires.puts
+    c.args.places.spare c.data_at.result c.len.result c.as_slice.result.now
     c.requires.spare c.data_at.ensures c.len.ensures.value c.as_slice.ensures.value
     (g.M.Medium.state c.write_filled.new.medium) c.in-Ok.ensures
 
 pub open_slot-requires-clause-within : goal.open_slot-requires-clause-within
 open_slot-requires-clause-within g c =
-    units_within (g.M.Medium.state c.args.medium.now) c.args.puts.now.held.items c.args.puts.now.end c.requires.sized c.requires.puts c.args.places.spare c.data_at.result c.len.result c.as_slice.result.now
+    units_within (g.M.Medium.state c.args.medium.now) c.args.puts.now.held.items c.args.puts.now.end c.requires.sized c.requires.puts
+    c.args.places.spare c.data_at.result c.len.result c.as_slice.result.now
     c.requires.spare c.data_at.ensures c.len.ensures.value c.as_slice.ensures.value
     (g.M.Medium.state c.write_filled.new.medium) c.in-Ok.ensures
 
 pub returns-in-Ok : goal.returns-in-Ok
 returns-in-Ok g c =
-    spare_opened (g.M.Medium.state c.args.medium.now) c.args.puts.now.held.items c.args.puts.now.end c.requires.sized c.requires.puts c.args.places.spare c.data_at.result c.len.result c.as_slice.result.now
+    spare_opened (g.M.Medium.state c.args.medium.now) c.args.puts.now.held.items c.args.puts.now.end c.requires.sized c.requires.puts
+    c.args.places.spare c.data_at.result c.len.result c.as_slice.result.now
     c.requires.spare c.data_at.ensures c.len.ensures.value c.as_slice.ensures.value
-    (g.M.Medium.state c.write_filled.new.medium) c.in-Ok.ensures (g.M.Medium.state c.open_slot.new.medium) c.open_slot.result c.args.places.active c.generation-next.result c.args.len
+    (g.M.Medium.state c.write_filled.new.medium) c.in-Ok.ensures
+    (g.M.Medium.state c.open_slot.new.medium) c.open_slot.result c.args.places.active c.generation-next.result c.args.len
     c.requires.active c.generation-next.ensures c.open_slot.ensures

@@ -5,10 +5,14 @@ use Rattle.dfu_slots.proofs.writes.write_unit.Goals as goal
 
 pub returns-clause-ok : goal.returns-clause-ok
 returns-clause-ok g c =
-    let bytes = ap (λ (l : List ℕ). take c.args.size l) c.fill_up-unit.ensures ∙ buffer_front c.args.bytes.now c.args.size 256 c.requires.least c.requires.most in
-    subst (λ (l : List ℕ). OnOk c.write.result (Wrote (g.M.Medium.state c.args.medium.now) c.args.at l (g.M.Medium.state c.write.new.medium))) bytes c.write.ensures.ok
+    let bytes = ap (λ (l : List ℕ). take c.args.size l) c.fill_up-unit.ensures
+    ∙ buffer_front c.args.bytes.now c.args.size 256 c.requires.least c.requires.most in
+    subst (λ (l : List ℕ). OnOk c.write.result
+    (Wrote (g.M.Medium.state c.args.medium.now) c.args.at l (g.M.Medium.state c.write.new.medium))) bytes c.write.ensures.ok
 
 pub returns-clause-failed : goal.returns-clause-failed
 returns-clause-failed g c =
-    let bytes = ap (λ (l : List ℕ). take c.args.size l) c.fill_up-unit.ensures ∙ buffer_front c.args.bytes.now c.args.size 256 c.requires.least c.requires.most in
-    subst (λ (l : List ℕ). OnErr c.write.result (FailedWrite (g.M.Medium.state c.args.medium.now) c.args.at l (g.M.Medium.state c.write.new.medium))) bytes c.write.ensures.failed
+    let bytes = ap (λ (l : List ℕ). take c.args.size l) c.fill_up-unit.ensures
+    ∙ buffer_front c.args.bytes.now c.args.size 256 c.requires.least c.requires.most in
+    subst (λ (l : List ℕ). OnErr c.write.result
+    (FailedWrite (g.M.Medium.state c.args.medium.now) c.args.at l (g.M.Medium.state c.write.new.medium))) bytes c.write.ensures.failed

@@ -4,19 +4,25 @@ use Rattle.dfu_slots.proofs.Seeing.{fuse_leaves}
 use Rattle.dfu_slots.proofs.slots.Slots.arm.Goals as goal
 
 pub invariant_of-self : goal.invariant_of-self
-invariant_of-self g c = (fuse_leaves c.self.view_is c.self.invariant (g.M.Medium.state c.arm.new.self) (Armed c.args.writes (take 4096 c.args.tear.now) c.args.stop) c.arm.ensures).store
+invariant_of-self g c = (fuse_leaves c.self.view_is c.self.invariant (g.M.Medium.state c.arm.new.self)
+    (Armed c.args.writes (take 4096 c.args.tear.now) c.args.stop) c.arm.ensures).store
 
 pub returns-clause-image : goal.returns-clause-image
-returns-clause-image g c = (fuse_leaves c.self.view_is c.self.invariant (g.M.Medium.state c.arm.new.self) (Armed c.args.writes (take 4096 c.args.tear.now) c.args.stop) c.arm.ensures).image
+returns-clause-image g c = (fuse_leaves c.self.view_is c.self.invariant (g.M.Medium.state c.arm.new.self)
+    (Armed c.args.writes (take 4096 c.args.tear.now) c.args.stop) c.arm.ensures).image
 
 pub returns-clause-spare : goal.returns-clause-spare
-returns-clause-spare g c = (fuse_leaves c.self.view_is c.self.invariant (g.M.Medium.state c.arm.new.self) (Armed c.args.writes (take 4096 c.args.tear.now) c.args.stop) c.arm.ensures).spare
+returns-clause-spare g c = (fuse_leaves c.self.view_is c.self.invariant (g.M.Medium.state c.arm.new.self)
+    (Armed c.args.writes (take 4096 c.args.tear.now) c.args.stop) c.arm.ensures).spare
 
 pub returns-clause-begun : goal.returns-clause-begun
-returns-clause-begun g c = (fuse_leaves c.self.view_is c.self.invariant (g.M.Medium.state c.arm.new.self) (Armed c.args.writes (take 4096 c.args.tear.now) c.args.stop) c.arm.ensures).begun
+returns-clause-begun g c = (fuse_leaves c.self.view_is c.self.invariant (g.M.Medium.state c.arm.new.self)
+    (Armed c.args.writes (take 4096 c.args.tear.now) c.args.stop) c.arm.ensures).begun
 
 pub returns-clause-room : goal.returns-clause-room
-returns-clause-room g c = (fuse_leaves c.self.view_is c.self.invariant (g.M.Medium.state c.arm.new.self) (Armed c.args.writes (take 4096 c.args.tear.now) c.args.stop) c.arm.ensures).room
+returns-clause-room g c = (fuse_leaves c.self.view_is c.self.invariant (g.M.Medium.state c.arm.new.self)
+    (Armed c.args.writes (take 4096 c.args.tear.now) c.args.stop) c.arm.ensures).room
 
 pub returns-clause-shape : goal.returns-clause-shape
-returns-clause-shape g c = (fuse_leaves c.self.view_is c.self.invariant (g.M.Medium.state c.arm.new.self) (Armed c.args.writes (take 4096 c.args.tear.now) c.args.stop) c.arm.ensures).shape
+returns-clause-shape g c = (fuse_leaves c.self.view_is c.self.invariant (g.M.Medium.state c.arm.new.self)
+    (Armed c.args.writes (take 4096 c.args.tear.now) c.args.stop) c.arm.ensures).shape
