@@ -6,7 +6,7 @@ use Rattle.std.proofs.lemmas.List.Folds.{drop_split}
 use Rattle.std.proofs.Math.Seq.{take-add}
 use Rattle.std.specs.Io.KnownBytes.{Appends}
 use Rattle.hex.specs.Hex.{encode_with, encode_lower, lower_digits}
-use Rattle.dfu_link.specs.Writing.{Broke}
+use Rattle.dfu_suffix.specs.Writing.{IsOutInPart}
 use Rattle.dfu_link.specs.Texts.{hex_text}
 use Rattle.dfu_link.proofs.WriteLaws.{appends_none, appends_more, broke_before, broke_after}
 
@@ -31,7 +31,7 @@ pieces_more bytes at n old mid new before piece =
 
 -- A piece broke.
 pub pieces_broke : (bytes : List ℕ) (at n : ℕ) (old mid new : Option (List ℕ)) → Appends old mid (encode_lower (take at bytes))
-    → Broke mid new (encode_lower (slice_range bytes at (at + n))) → Broke old new (encode_lower bytes)
+    → IsOutInPart mid new (encode_lower (slice_range bytes at (at + n))) → IsOutInPart old new (encode_lower bytes)
 pieces_broke bytes at n old mid new before piece =
     let front = encode_lower (take at bytes) in
     let part = encode_lower (slice_range bytes at (at + n)) in
@@ -40,7 +40,7 @@ pieces_broke bytes at n old mid new before piece =
     ∙ encode-append lower_digits (slice_range bytes at (at + n)) (drop (at + n) bytes) in
     let text : encode_lower bytes ≡ front ++ (part ++ rest) = ap encode_lower (sym (take-append-drop at bytes))
     ∙ (encode-append lower_digits (take at bytes) (drop at bytes) ∙ ap (λ (xs : List ℕ). front ++ xs) tail) in
-    subst (λ (xs : List ℕ). Broke old new xs) (sym text) (broke_after old mid new front (part ++ rest) before
+    subst (λ (xs : List ℕ). IsOutInPart old new xs) (sym text) (broke_after old mid new front (part ++ rest) before
     (broke_before mid new part rest piece))
 
 -- At first nothing is out.

@@ -18,7 +18,7 @@ use Rattle.dfu_link.specs.Refusing.{IsLive}
 use Rattle.dfu_link.specs.Comes.{Comes, refuses, shown_as, gave_of, ComesWith, GivesWithUploaded, HasCome}
 use Rattle.dfu_link.specs.declared.fault.LinkFault.{LinkFault}
 use Rattle.dfu_link.specs.declared.fault.LinkFault.TheVariants.{HostBusy}
-use Rattle.dfu_link.specs.Writing.{Broke}
+use Rattle.dfu_suffix.specs.Writing.{IsOutInPart}
 use Rattle.dfu_link.specs.Texts.{uploaded_line, told_line, answer_line, image_line, show_line}
 use Rattle.dfu_link.specs.Said.{Said, Blank, LimitsTo, Does, Show, EventLine}
 use Rattle.dfu_link.specs.Lines.{line_of}
@@ -72,7 +72,7 @@ busy_plays b file limits old new live told = record {
 
 -- So it is where the writer fails in it.
 pub busy_broken : (b : Bench) (file : List ℕ) (limits : Limits) (old new : Option (List ℕ)) → IsLive b.session
-    → Broke old new (answer_line (Err HostBusy)) → HasBroken b (Offers file limits ∷ []) old new
+    → IsOutInPart old new (answer_line (Err HostBusy)) → HasBroken b (Offers file limits ∷ []) old new
 busy_broken b file limits old new live broke = record {
   played = Offers file limits ∷ [];
   left = [];
@@ -93,7 +93,7 @@ replicate_front (suc k) (suc n) x h =
 
 -- The writer fails at one of so many turns of the same event.
 pub broken : (b : Bench) (c c' : LinkState) (e : Happening) (k n : ℕ) (r : Result (Option Report) LinkFault) (old mid new : Option (List ℕ))
-    → HasPlayed b (replicate k e) old c.bench mid → k < n → HasCome c e c' r → Broke mid new (told_line r c'.up)
+    → HasPlayed b (replicate k e) old c.bench mid → k < n → HasCome c e c' r → IsOutInPart mid new (told_line r c'.up)
     → HasBroken b (replicate n e) old new
 broken b c c' e k n r old mid new p lt come broke =
     let rest = replicate_front k n e lt in

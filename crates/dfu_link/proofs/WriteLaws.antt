@@ -1,10 +1,9 @@
--- What a loop over `write` has put out.
-use Rattle.std.proofs.Common.{◌<◌, ℕ, List, [], ◌++◌, length, length-append, Option, Some, None, sym, ap, ◌∙◌, arith}
+-- What is out of texts that are written one after the other.
+use Rattle.std.proofs.Common.{ℕ, List, [], ◌++◌, length-append, Option, Some, None, sym, ap, ◌∙◌, arith}
 use Rattle.std.proofs.lemmas.List.{append_assoc, append-nil}
-use Rattle.std.specs.Io.KnownBytes.{Appends, Keeps}
+use Rattle.std.specs.Io.KnownBytes.{Appends}
 use Rattle.std.specs.Prelude.{Result, Ok, Err, OnErr, OnOk}
-use Rattle.dfu_suffix.proofs.Progress.{Progress}
-use Rattle.dfu_link.specs.Writing.{Broke}
+use Rattle.dfu_suffix.specs.Writing.{IsOutInPart}
 
 -- Nothing is out.
 pub appends_none : (old : Option (List ℕ)) → Appends old old []
@@ -18,32 +17,8 @@ appends_more (Some a) None new xs ys h k = absurd h
 appends_more (Some a) (Some b) None xs ys h k = absurd k
 appends_more (Some a) (Some b) (Some c) xs ys h k = k ∙ (ap (λ (zs : List ℕ). zs ++ ys) h ∙ append_assoc a xs ys)
 
--- What is out stays out.
-pub appends_kept : (old mid new : Option (List ℕ)) (xs : List ℕ) → Appends old mid xs → Keeps mid new → Appends old new xs
-appends_kept None mid new xs h k = tt
-appends_kept (Some a) None new xs h k = absurd h
-appends_kept (Some a) (Some b) None xs h k = absurd k
-appends_kept (Some a) (Some b) (Some c) xs h k = k ∙ h
-
--- The writer failed, or took nothing, when something was left.
-pub progress_fault : (old mid new : Option (List ℕ)) (text rest : List ℕ) → Progress old mid text rest → 0 < length rest → Keeps mid new
-    → Broke old new text
-progress_fault old mid new text rest p some k = record {
-  front = p.0;
-  rest = rest;
-  whole = p.1;
-  left = some;
-  told = appends_kept old mid new p.0 p.2 k;
-}
-
--- Where nothing more is out, all is as it was.
-pub keeps_none : (mid new : Option (List ℕ)) → Appends mid new [] → Keeps mid new
-keeps_none None new k = tt
-keeps_none (Some a) None k = k
-keeps_none (Some a) (Some b) k = k ∙ append-nil a
-
 -- A text that broke, and would have gone on.
-pub broke_before : (old new : Option (List ℕ)) (xs ys : List ℕ) → Broke old new xs → Broke old new (xs ++ ys)
+pub broke_before : (old new : Option (List ℕ)) (xs ys : List ℕ) → IsOutInPart old new xs → IsOutInPart old new (xs ++ ys)
 broke_before old new xs ys b =
     record {
       front = b.front;
@@ -54,15 +29,15 @@ broke_before old new xs ys b =
     }
 
 -- A text that broke after another was out.
-pub broke_after : (old mid new : Option (List ℕ)) (xs ys : List ℕ) → Appends old mid xs → Broke mid new ys → Broke old new (xs ++ ys)
+pub broke_after : (old mid new : Option (List ℕ)) (xs ys : List ℕ) → Appends old mid xs → IsOutInPart mid new ys
+    → IsOutInPart old new (xs ++ ys)
 broke_after old mid new xs ys h b =
     record {
       front = xs ++ b.front;
       rest = b.rest;
       left = b.left;
       whole = ap (λ (zs : List ℕ). xs ++ zs) b.whole ∙ sym (append_assoc xs b.front b.rest);
-      told =
-          appends_more old mid new xs b.front h b.told;
+      told = appends_more old mid new xs b.front h b.told;
     }
 
 -- What holds at all holds of an error.

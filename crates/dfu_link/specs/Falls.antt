@@ -7,7 +7,7 @@ use Rattle.dfu_device.specs.Setting.{FirstFault}
 use Rattle.dfu_device.specs.Shown.{Shown}
 use Rattle.dfu_link.specs.Bench.{Nobody, Bench}
 use Rattle.dfu_link.specs.Happening.{Happening}
-use Rattle.dfu_link.specs.Writing.{Broke}
+use Rattle.dfu_suffix.specs.Writing.{IsOutInPart}
 use Rattle.dfu_link.specs.Texts.{image_line, show_line}
 use Rattle.dfu_link.specs.Words.{lines_of}
 use Rattle.dfu_link.specs.Said.{ConfigLine, EventLine, Offer, HasTear, Sets, Does, Show}
@@ -24,13 +24,13 @@ pub record HasBroken (b : Bench) (events : List Happening) (old new : Option (Li
   pub after : Bench
   pub out : List ℕ
   pub plays : AllCome b played out after
-  pub broke : Broke old new out
+  pub broke : IsOutInPart old new out
 
 -- The writer failed in a line: among its events, or in the line of `show`.
 pub data BreaksIn (p : Point) (line : List ℕ) (old new : Option (List ℕ)) : Type 0 where
   in_events : {events : EventLine} → line_of line ≡ Some (Does events) → HasBroken p.at (events_of p.limits events) old new
       → BreaksIn p line old new
-  in_show : line_of line ≡ Some Show → Broke old new (show_line p.at.device) → BreaksIn p line old new
+  in_show : line_of line ≡ Some Show → IsOutInPart old new (show_line p.at.device) → BreaksIn p line old new
 
 -- A line sets something about the device.
 pub record IsSetting (line : List ℕ) : Type 0 where
@@ -59,7 +59,7 @@ LineFalls p k line old new fault = ⊥
 -- What falls where these lines are left, the first of them line k: that line, or where none is left the line of the image, when the writer
 -- fails.
 abbrev pub NextFalls : Point → ℕ → List (List ℕ) → Option (List ℕ) → Option (List ℕ) → ScriptFault → Type 0
-NextFalls p k [] old new fault = (fault ≡ Write) × Broke old new (image_line p.at.device)
+NextFalls p k [] old new fault = (fault ≡ Write) × IsOutInPart old new (image_line p.at.device)
 NextFalls p k (line ∷ lines) old new fault = LineFalls p k line old new fault
 
 -- Lines fall, the first of them line k: some run, and what they print is out; then the next falls.

@@ -25,7 +25,6 @@ pub mod Words
 pub mod Said
 pub mod Keywords
 pub mod Lines
-pub mod Writing
 pub mod Texts
 pub mod Gathering
 pub mod ScriptRun

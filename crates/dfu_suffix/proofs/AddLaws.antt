@@ -7,7 +7,7 @@ use Rattle.dfu_suffix.specs.Grammar.{Content, IsFile, First}
 use Rattle.dfu_suffix.specs.Gathering.{Gathers}
 use Rattle.dfu_suffix.specs.declared.gathering.GatherFault.{GatherFault}
 use Rattle.dfu_suffix.specs.declared.gathering.GatherFault.TheVariants as gather
-use Rattle.dfu_suffix.specs.Adding.{HasSuffix, NeedsSuffix, IsAdded}
+use Rattle.dfu_suffix.specs.Adding.{HasSuffix, IsAdded}
 use Rattle.dfu_suffix.specs.inside.Making.{Makes, added_fields, added_suffix, gathering_fault}
 use Rattle.dfu_wire.specs.declared.ids.Ids.{Ids}
 use Rattle.dfu_suffix.specs.declared.fault.SuffixFault.{SuffixFault}

@@ -1,7 +1,7 @@
 -- How far a text is written that is put out piece by piece.
-use Rattle.std.proofs.Common.{◌≡◌, ℕ, ◌<◌, List, [], ◌++◌, length, take, drop, Option, refl, sym, ap, ◌∙◌, subst, arith, length-append}
+use Rattle.std.proofs.Common.{◌≡◌, ℕ, ◌<◌, List, [], ◌++◌, length, take, drop, Option, sym, ap, ◌∙◌, subst}
 use Rattle.std.proofs.KnownBytes.{Appends-nil, Appends-trans, Appends-kept}
-use Rattle.std.proofs.lemmas.List.{append_assoc, take-append-drop, take_at, append-nil}
+use Rattle.std.proofs.lemmas.List.{append_assoc, take-append-drop, append-nil}
 use Rattle.std.specs.Io.KnownBytes.{Appends, Keeps}
 use Rattle.dfu_suffix.specs.Writing.{IsOutInPart}
 
@@ -22,11 +22,13 @@ progress_more old mid new text rest n p k = (
 -- Where something is left, and nothing more came out, a front of the text is out, and not all of it.
 pub progress_stopped : (old mid new : Option (List ℕ)) (text rest : List ℕ) →
     Progress old mid text rest → 0 < length rest → Appends mid new [] → IsOutInPart old new text
-progress_stopped old mid new text rest p some k =
-    let front : take (length p.0) text ≡ p.0 = ap (take (length p.0)) p.1 ∙ take_at p.0 rest (length p.0) refl in
-    let whole : Appends old new (p.0 ++ []) = Appends-trans old mid new p.0 [] p.2 k in
-    let less : length p.0 < length text = omega (arith, ap length p.1, length-append p.0 rest) in
-    (length p.0, less, subst (λ (zs : List ℕ). Appends old new zs) (append-nil p.0 ∙ sym front) whole)
+progress_stopped old mid new text rest p some k = record {
+  front = p.0;
+  rest = rest;
+  whole = p.1;
+  left = some;
+  told = subst (λ (zs : List ℕ). Appends old new zs) (append-nil p.0) (Appends-trans old mid new p.0 [] p.2 k);
+}
 
 -- Where nothing changed, nothing came out.
 pub keeps_nothing : (mid new : Option (List ℕ)) → Keeps mid new → Appends mid new []

@@ -1,10 +1,14 @@
 -- What a writer holds once a text was written to it.
-use Rattle.std.specs.Prelude.{ℕ, ◌<◌, List, length, take, Option, Result, Ok, Err}
+use Rattle.std.specs.Prelude.{◌≡◌, ℕ, ◌<◌, List, ◌++◌, length, Option, Result, Ok, Err}
 use Rattle.std.specs.Io.KnownBytes.{Appends}
 
--- A front of the text is out, and not all of it: its first k bytes.
-abbrev pub IsOutInPart : Option (List ℕ) → Option (List ℕ) → List ℕ → Type 0
-IsOutInPart old new text = (k : ℕ) × (k < length text) × Appends old new (take k text)
+-- A front of the text is out, and not all of it.
+pub record IsOutInPart (old new : Option (List ℕ)) (text : List ℕ) : Type 0 where
+  pub front : List ℕ
+  pub rest : List ℕ
+  pub whole : text ≡ front ++ rest
+  pub left : 0 < length rest
+  pub told : Appends old new front
 
 -- At Ok the text is out whole, and at a fault a front of it is, and not all of it.
 abbrev pub WritesWhole : {T E : Type 0} → Option (List ℕ) → Option (List ℕ) → List ℕ → Result T E → Type 0

@@ -3,7 +3,7 @@
 ghost use Rattle.std.specs.Prelude.{◌≡◌, ◌≤◌, ◌++◌, ◌∷◌, [], length, OnOk, OnErr, IfErr};
 ghost use Rattle.std.specs.Io.KnownBytes.{Appends};
 ghost use Rattle.hex.specs.Hex.{encode_lower};
-ghost use Rattle.dfu_link.specs.Writing.{Broke};
+ghost use Rattle.dfu_suffix.specs.Writing.{IsOutInPart};
 ghost use Rattle.dfu_link.specs.Texts.{hex_text};
 
 use crate::scripting::fault::ScriptFault;
@@ -17,7 +17,7 @@ const PIECE: usize = 256;
 pub(crate) fn write_digits<W: Write>(writer: &mut W, bytes: &[u8]) -> Result<(), ScriptFault>
     requires { length bytes.now ≤ 256 }
     ensures ok { OnOk result (Appends (W.contents writer.old) (W.contents writer.new) (encode_lower bytes.now)) }
-    ensures err { OnErr result (Broke (W.contents writer.old) (W.contents writer.new) (encode_lower bytes.now)) }
+    ensures err { OnErr result (IsOutInPart (W.contents writer.old) (W.contents writer.new) (encode_lower bytes.now)) }
     ensures fault { IfErr result (λ f. f ≡ ScriptFault.Write) }
 {
     let len = bytes.len();
@@ -31,7 +31,7 @@ pub(crate) fn write_digits<W: Write>(writer: &mut W, bytes: &[u8]) -> Result<(),
 /// Writes bytes as digits, piece by piece.
 fn write_all_digits<W: Write>(writer: &mut W, bytes: &[u8]) -> Result<(), ScriptFault>
     ensures ok { OnOk result (Appends (W.contents writer.old) (W.contents writer.new) (encode_lower bytes.now)) }
-    ensures err { OnErr result (Broke (W.contents writer.old) (W.contents writer.new) (encode_lower bytes.now)) }
+    ensures err { OnErr result (IsOutInPart (W.contents writer.old) (W.contents writer.new) (encode_lower bytes.now)) }
     ensures fault { IfErr result (λ f. f ≡ ScriptFault.Write) }
 {
     let all = bytes.len();
@@ -47,7 +47,7 @@ fn write_all_digits<W: Write>(writer: &mut W, bytes: &[u8]) -> Result<(), Script
 /// Writes bytes as they are printed, and ends the line.
 pub(crate) fn write_bytes<W: Write>(writer: &mut W, bytes: &[u8]) -> Result<(), ScriptFault>
     ensures ok { OnOk result (Appends (W.contents writer.old) (W.contents writer.new) (hex_text bytes.now ++ 10 ∷ [])) }
-    ensures err { OnErr result (Broke (W.contents writer.old) (W.contents writer.new) (hex_text bytes.now ++ 10 ∷ [])) }
+    ensures err { OnErr result (IsOutInPart (W.contents writer.old) (W.contents writer.new) (hex_text bytes.now ++ 10 ∷ [])) }
     ensures fault { IfErr result (λ f. f ≡ ScriptFault.Write) }
 {
     if bytes.is_empty() {

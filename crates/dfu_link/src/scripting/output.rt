@@ -2,30 +2,23 @@
 
 ghost use Rattle.std.specs.Prelude.{◌≡◌, ◌++◌, OnOk, OnErr, IfErr};
 ghost use Rattle.std.specs.Io.KnownBytes.{Appends};
-ghost use Rattle.dfu_link.specs.Writing.{Broke};
+ghost use Rattle.dfu_suffix.specs.Writing.{IsOutInPart};
 
 use crate::scripting::fault::ScriptFault;
+use dfu_suffix::write_whole;
 use std::io::Write;
 
 /// Writes the whole text, or answers Write at the first error of the writer, and where it takes
 /// nothing of what is left.
 pub(crate) fn write_out<W: Write>(writer: &mut W, text: &[u8]) -> Result<(), ScriptFault>
     ensures ok { OnOk result (Appends (W.contents writer.old) (W.contents writer.new) text.now) }
-    ensures err { OnErr result (Broke (W.contents writer.old) (W.contents writer.new) text.now) }
+    ensures err { OnErr result (IsOutInPart (W.contents writer.old) (W.contents writer.new) text.now) }
     ensures fault { IfErr result (λ f. f ≡ ScriptFault.Write) }
 {
-    let mut rest = text;
-    while !rest.is_empty() {
-        match writer.write(rest) {
-            Ok(0) => return Err(ScriptFault::Write),
-            Ok(taken) => {
-                let (_, left) = rest.split_at(taken);
-                rest = left;
-            }
-            Err(_) => return Err(ScriptFault::Write),
-        }
+    match write_whole(writer, text) {
+        Ok(()) => Ok(()),
+        Err(_) => Err(ScriptFault::Write),
     }
-    Ok(())
 }
 
 /// Writes two texts, one after the other.
@@ -35,7 +28,7 @@ pub(crate) fn write_two<W: Write>(
     last: &str,
 ) -> Result<(), ScriptFault>
     ensures ok { OnOk result (Appends (W.contents writer.old) (W.contents writer.new) (first.now ++ last.now)) }
-    ensures err { OnErr result (Broke (W.contents writer.old) (W.contents writer.new) (first.now ++ last.now)) }
+    ensures err { OnErr result (IsOutInPart (W.contents writer.old) (W.contents writer.new) (first.now ++ last.now)) }
     ensures fault { IfErr result (λ f. f ≡ ScriptFault.Write) }
 {
     write_out(writer, first.as_bytes())?;
@@ -50,7 +43,7 @@ pub(crate) fn write_three<W: Write>(
     last: &str,
 ) -> Result<(), ScriptFault>
     ensures ok { OnOk result (Appends (W.contents writer.old) (W.contents writer.new) (first.now ++ middle.now ++ last.now)) }
-    ensures err { OnErr result (Broke (W.contents writer.old) (W.contents writer.new) (first.now ++ middle.now ++ last.now)) }
+    ensures err { OnErr result (IsOutInPart (W.contents writer.old) (W.contents writer.new) (first.now ++ middle.now ++ last.now)) }
     ensures fault { IfErr result (λ f. f ≡ ScriptFault.Write) }
 {
     write_two(writer, first, middle)?;

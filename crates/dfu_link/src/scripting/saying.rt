@@ -2,7 +2,7 @@
 
 ghost use Rattle.std.specs.Prelude.{◌≡◌, OnOk, OnErr, IfErr};
 ghost use Rattle.std.specs.Io.KnownBytes.{Appends};
-ghost use Rattle.dfu_link.specs.Writing.{Broke};
+ghost use Rattle.dfu_suffix.specs.Writing.{IsOutInPart};
 ghost use Rattle.dfu_link.specs.Texts.{offer_fault_name, uploaded_line, report_line, refusal_line, told_line};
 
 use crate::fault::{LinkFault, OfferFault};
@@ -23,7 +23,7 @@ fn offer_fault_name(fault: OfferFault) -> &'static str
 
 fn say_uploaded<W: Write>(writer: &mut W, bytes: &[u8]) -> Result<(), ScriptFault>
     ensures ok { OnOk result (Appends (W.contents writer.old) (W.contents writer.new) (uploaded_line bytes.now)) }
-    ensures err { OnErr result (Broke (W.contents writer.old) (W.contents writer.new) (uploaded_line bytes.now)) }
+    ensures err { OnErr result (IsOutInPart (W.contents writer.old) (W.contents writer.new) (uploaded_line bytes.now)) }
     ensures fault { IfErr result (λ f. f ≡ ScriptFault.Write) }
 {
     write_out(writer, b"report uploaded ")?;
@@ -33,7 +33,7 @@ fn say_uploaded<W: Write>(writer: &mut W, bytes: &[u8]) -> Result<(), ScriptFaul
 /// The line of a report. What was uploaded is shown with Uploaded alone.
 fn say_report<W: Write>(writer: &mut W, report: Report, uploaded: &[u8]) -> Result<(), ScriptFault>
     ensures ok { OnOk result (Appends (W.contents writer.old) (W.contents writer.new) (report_line report uploaded.now)) }
-    ensures err { OnErr result (Broke (W.contents writer.old) (W.contents writer.new) (report_line report uploaded.now)) }
+    ensures err { OnErr result (IsOutInPart (W.contents writer.old) (W.contents writer.new) (report_line report uploaded.now)) }
     ensures fault { IfErr result (λ f. f ≡ ScriptFault.Write) }
 {
     match report {
@@ -51,7 +51,7 @@ fn say_report<W: Write>(writer: &mut W, report: Report, uploaded: &[u8]) -> Resu
 
 fn say_refusal<W: Write>(writer: &mut W, fault: LinkFault) -> Result<(), ScriptFault>
     ensures ok { OnOk result (Appends (W.contents writer.old) (W.contents writer.new) (refusal_line fault)) }
-    ensures err { OnErr result (Broke (W.contents writer.old) (W.contents writer.new) (refusal_line fault)) }
+    ensures err { OnErr result (IsOutInPart (W.contents writer.old) (W.contents writer.new) (refusal_line fault)) }
     ensures fault { IfErr result (λ f. f ≡ ScriptFault.Write) }
 {
     match fault {
@@ -71,7 +71,7 @@ pub(crate) fn say<W: Write>(
     uploaded: &[u8],
 ) -> Result<(), ScriptFault>
     ensures ok { OnOk result (Appends (W.contents writer.old) (W.contents writer.new) (told_line answer uploaded.now)) }
-    ensures err { OnErr result (Broke (W.contents writer.old) (W.contents writer.new) (told_line answer uploaded.now)) }
+    ensures err { OnErr result (IsOutInPart (W.contents writer.old) (W.contents writer.new) (told_line answer uploaded.now)) }
     ensures fault { IfErr result (λ f. f ≡ ScriptFault.Write) }
 {
     match answer {

@@ -4,7 +4,7 @@ ghost use Rattle.std.specs.Prelude.{◌≡◌, ◌+◌, ◌≤◌, ◌++◌, ◌
 ghost use Rattle.std.specs.Io.KnownBytes.{Appends};
 ghost use Rattle.hex.specs.Hex.{encode_lower};
 ghost use Rattle.dfu_slots.specs.Seen.{image_of};
-ghost use Rattle.dfu_link.specs.Writing.{Broke};
+ghost use Rattle.dfu_suffix.specs.Writing.{IsOutInPart};
 ghost use Rattle.dfu_link.specs.Texts.{hex_text, image_line, state_text, show_line};
 
 use crate::scripting::digits::write_digits;
@@ -28,7 +28,7 @@ fn write_piece<M: Medium, W: Write>(
     requires within { at + len ≤ length (image_of slots.now) }
     ensures ok { OnOk result (Appends (W.contents writer.old) (W.contents writer.new)
         (encode_lower (slice_range (image_of slots.now) at (at + len)))) }
-    ensures err { OnErr result (Broke (W.contents writer.old) (W.contents writer.new)
+    ensures err { OnErr result (IsOutInPart (W.contents writer.old) (W.contents writer.new)
         (encode_lower (slice_range (image_of slots.now) at (at + len)))) }
     ensures fault { IfErr result (λ f. f ≡ ScriptFault.Write) }
 {
@@ -41,7 +41,7 @@ fn write_piece<M: Medium, W: Write>(
 /// Writes an image as hexadecimal text, piece by piece.
 fn write_pieces<M: Medium, W: Write>(writer: &mut W, slots: &Slots<M>) -> Result<(), ScriptFault>
     ensures ok { OnOk result (Appends (W.contents writer.old) (W.contents writer.new) (encode_lower (image_of slots.now))) }
-    ensures err { OnErr result (Broke (W.contents writer.old) (W.contents writer.new) (encode_lower (image_of slots.now))) }
+    ensures err { OnErr result (IsOutInPart (W.contents writer.old) (W.contents writer.new) (encode_lower (image_of slots.now))) }
     ensures fault { IfErr result (λ f. f ≡ ScriptFault.Write) }
 {
     let all = slots.active_len();
@@ -57,7 +57,7 @@ fn write_pieces<M: Medium, W: Write>(writer: &mut W, slots: &Slots<M>) -> Result
 /// Writes the image of a slot store, and ends the line.
 fn write_hex<M: Medium, W: Write>(writer: &mut W, slots: &Slots<M>) -> Result<(), ScriptFault>
     ensures ok { OnOk result (Appends (W.contents writer.old) (W.contents writer.new) (hex_text (image_of slots.now) ++ 10 ∷ [])) }
-    ensures err { OnErr result (Broke (W.contents writer.old) (W.contents writer.new) (hex_text (image_of slots.now) ++ 10 ∷ [])) }
+    ensures err { OnErr result (IsOutInPart (W.contents writer.old) (W.contents writer.new) (hex_text (image_of slots.now) ++ 10 ∷ [])) }
     ensures fault { IfErr result (λ f. f ≡ ScriptFault.Write) }
 {
     if slots.active_len() == 0 {
@@ -73,7 +73,7 @@ pub(crate) fn write_image<M: Medium, W: Write>(
     device: &Device<M>,
 ) -> Result<(), ScriptFault>
     ensures ok { OnOk result (Appends (W.contents writer.old) (W.contents writer.new) (image_line device.now)) }
-    ensures err { OnErr result (Broke (W.contents writer.old) (W.contents writer.new) (image_line device.now)) }
+    ensures err { OnErr result (IsOutInPart (W.contents writer.old) (W.contents writer.new) (image_line device.now)) }
     ensures fault { IfErr result (λ f. f ≡ ScriptFault.Write) }
 {
     write_out(writer, b"image ")?;
@@ -83,7 +83,7 @@ pub(crate) fn write_image<M: Medium, W: Write>(
 /// Writes the device's state and its status code.
 fn write_state<M: Medium, W: Write>(writer: &mut W, device: &Device<M>) -> Result<(), ScriptFault>
     ensures ok { OnOk result (Appends (W.contents writer.old) (W.contents writer.new) (state_text device.now)) }
-    ensures err { OnErr result (Broke (W.contents writer.old) (W.contents writer.new) (state_text device.now)) }
+    ensures err { OnErr result (IsOutInPart (W.contents writer.old) (W.contents writer.new) (state_text device.now)) }
     ensures fault { IfErr result (λ f. f ≡ ScriptFault.Write) }
 {
     let state = device.state();
@@ -98,7 +98,7 @@ pub(crate) fn write_show<M: Medium, W: Write>(
     device: &Device<M>,
 ) -> Result<(), ScriptFault>
     ensures ok { OnOk result (Appends (W.contents writer.old) (W.contents writer.new) (show_line device.now)) }
-    ensures err { OnErr result (Broke (W.contents writer.old) (W.contents writer.new) (show_line device.now)) }
+    ensures err { OnErr result (IsOutInPart (W.contents writer.old) (W.contents writer.new) (show_line device.now)) }
     ensures fault { IfErr result (λ f. f ≡ ScriptFault.Write) }
 {
     write_state(writer, device)?;

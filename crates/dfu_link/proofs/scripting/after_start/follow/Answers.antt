@@ -3,7 +3,7 @@ use Rattle.std.proofs.Common.{arith, ◌∙◌, ◌+◌, ap, subst, List, ℕ, [
 use Rattle.dfu_link.specs.Bench.{LinkState}
 use Rattle.dfu_device.specs.Shown.{Shown}
 use Rattle.std.specs.Io.KnownBytes.{Appends}
-use Rattle.dfu_link.specs.Writing.{Broke}
+use Rattle.dfu_suffix.specs.Writing.{IsOutInPart}
 use Rattle.dfu_link.specs.Words.{lines_of}
 use Rattle.dfu_link.specs.Texts.{image_line}
 use Rattle.dfu_link.specs.ScriptRun.{point}
@@ -51,7 +51,7 @@ returns-in_err-write_image-in-None-clause-fault g c =
     let b = c.lines.world.bench in
     let m : Moves p k lines old (point l b) k1 [] mid = subst (λ (ls : List (List ℕ)). Moves p k lines old (point l b) k1 ls mid)
     (c.in-None.ensures.next).0 c.lines.invariant.moves in
-    let broke : Broke mid new (image_line b.device) = subst (λ (d : Shown). Broke mid new (image_line d))
+    let broke : IsOutInPart mid new (image_line b.device) = subst (λ (d : Shown). IsOutInPart mid new (image_line d))
     (c.device.ensures.device ∙ ap (λ (x : LinkState). x.bench.device) (c.in-Err.ensures.err).1)
     c.in_err-write_image-in-None.ensures.err in
     rw (failed.1, failed.2) (falls_next p (point l b) k k1 lines [] old mid new _ m (c.in_err-write_image-in-None.ensures.fault, broke))

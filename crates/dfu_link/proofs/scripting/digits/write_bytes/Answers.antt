@@ -1,7 +1,7 @@
 use Rattle.std.proofs.Common.{◌≡◌, ◌∷◌, [], ◌++◌, ◌==◌, length, false, sym, ◌∙◌, arith}
 use Rattle.std.proofs.lemmas.Bool.Decides.{nat_tests}
 use Rattle.hex.specs.Hex.{encode_lower}
-use Rattle.dfu_link.specs.Writing.{Broke}
+use Rattle.dfu_suffix.specs.Writing.{IsOutInPart}
 use Rattle.dfu_link.specs.Texts.{hex_text}
 use Rattle.dfu_link.proofs.WriteLaws.{broke_before, on_err}
 use Rattle.dfu_link.proofs.HexLaws.{text_some}
@@ -14,5 +14,5 @@ returns-in_err-write_all_digits-clause-err g c =
     let bytes = c.args.bytes.now in
     let filled : (length bytes == 0) ≡ false = sym c.is_empty.ensures ∙ c.if-is_empty.false in
     let some : hex_text bytes ≡ encode_lower bytes = text_some bytes (λ none. absurd (grind (arith, nat_tests))) in
-    on_err c.from_residual.result (Broke old new (hex_text bytes ++ 10 ∷ []))
+    on_err c.from_residual.result (IsOutInPart old new (hex_text bytes ++ 10 ∷ []))
     (rw some (broke_before old new (encode_lower bytes) (10 ∷ []) c.in_err-write_all_digits.ensures.err))

@@ -1,7 +1,7 @@
 use Rattle.std.proofs.Common.{sym, subst, Err}
 use Rattle.std.specs.Io.KnownBytes.{Appends}
 use Rattle.dfu_link.specs.Said.{hex_bytes, event_line_of}
-use Rattle.dfu_link.specs.Writing.{Broke}
+use Rattle.dfu_suffix.specs.Writing.{IsOutInPart}
 use Rattle.dfu_link.specs.Texts.{answer_line}
 use Rattle.dfu_link.specs.ScriptRun.{events_of}
 use Rattle.dfu_link.specs.Falls.{HasBroken}
@@ -28,7 +28,7 @@ returns-in-Offer-clause-err g c =
     let old = g.W.Write.contents c.args.writer.now in
     let new = g.W.Write.contents c.say.new.writer in
     let b = c.args.world.now.bench in
-    on_err_map c.say.result (Broke old new (answer_line (Err HostBusy)))
+    on_err_map c.say.result (IsOutInPart old new (answer_line (Err HostBusy)))
     (HasBroken b (events_of c.args.limits (event_line_of c.args.events)) old new)
     (λ broke. subst (λ (d : EventLine). HasBroken b (events_of c.args.limits (event_line_of d)) old new) (sym c.in-Offer.is)
     (busy_broken b (hex_bytes c.in-Offer.field-0) c.args.limits old new c.requires.live broke))

@@ -1,6 +1,6 @@
 use Rattle.std.proofs.Common.{◌∷◌, [], ◌++◌}
 use Rattle.std.specs.Prelude.{codes}
-use Rattle.dfu_link.specs.Writing.{Broke}
+use Rattle.dfu_suffix.specs.Writing.{IsOutInPart}
 use Rattle.dfu_link.specs.Texts.{hex_text, uploaded_line}
 use Rattle.dfu_link.proofs.WriteLaws.{broke_before, broke_after, on_err, on_err_map}
 use Rattle.dfu_link.proofs.scripting.saying.say_uploaded.Goals as goal
@@ -10,7 +10,7 @@ returns-in_err-write_out-clause-err g c =
     let old = g.W.Write.contents c.args.writer.now in
     let new = g.W.Write.contents c.write_out.new.writer in
     let last = hex_text c.args.bytes.now ++ 10 ∷ [] in
-    on_err c.from_residual.result (Broke old new (uploaded_line c.args.bytes.now))
+    on_err c.from_residual.result (IsOutInPart old new (uploaded_line c.args.bytes.now))
     (broke_before old new (codes "report uploaded ") last c.in_err-write_out.ensures.err)
 
 pub returns-clause-err : goal.returns-clause-err
@@ -19,5 +19,5 @@ returns-clause-err g c =
     let mid = g.W.Write.contents c.write_out.new.writer in
     let new = g.W.Write.contents c.write_bytes.new.writer in
     let last = hex_text c.args.bytes.now ++ 10 ∷ [] in
-    on_err_map c.write_bytes.result (Broke mid new last) (Broke old new (uploaded_line c.args.bytes.now))
+    on_err_map c.write_bytes.result (IsOutInPart mid new last) (IsOutInPart old new (uploaded_line c.args.bytes.now))
     (λ h. broke_after old mid new (codes "report uploaded ") last c.in_ok-write_out.ensures.ok h) c.write_bytes.ensures.err

@@ -1,7 +1,7 @@
 use Rattle.std.proofs.Common.{◌≡◌, ◌∷◌, [], ◌++◌, arith}
 use Rattle.hex.specs.Hex.{encode_lower}
 use Rattle.dfu_slots.specs.Seen.{image_of}
-use Rattle.dfu_link.specs.Writing.{Broke}
+use Rattle.dfu_suffix.specs.Writing.{IsOutInPart}
 use Rattle.dfu_link.specs.Texts.{hex_text}
 use Rattle.dfu_link.proofs.WriteLaws.{broke_before, broke_after, on_err, on_err_map}
 use Rattle.dfu_link.proofs.HexLaws.{text_some}
@@ -13,7 +13,7 @@ returns-in_err-write_pieces-clause-err g c =
     let new = g.W.Write.contents c.write_pieces.new.writer in
     let image = image_of c.args.slots.now in
     let some : hex_text image ≡ encode_lower image = text_some image (λ none. absurd (omega (arith, none))) in
-    on_err c.from_residual.result (Broke old new (hex_text image ++ 10 ∷ []))
+    on_err c.from_residual.result (IsOutInPart old new (hex_text image ++ 10 ∷ []))
     (rw some (broke_before old new (encode_lower image) (10 ∷ []) c.in_err-write_pieces.ensures.err))
 
 pub returns-clause-err : goal.returns-clause-err
@@ -23,5 +23,5 @@ returns-clause-err g c =
     let new = g.W.Write.contents c.write_out.new.writer in
     let image = image_of c.args.slots.now in
     let some : hex_text image ≡ encode_lower image = text_some image (λ none. absurd (omega (arith, none))) in
-    on_err_map c.write_out.result (Broke mid new (10 ∷ [])) (Broke old new (hex_text image ++ 10 ∷ []))
+    on_err_map c.write_out.result (IsOutInPart mid new (10 ∷ [])) (IsOutInPart old new (hex_text image ++ 10 ∷ []))
     (λ h. rw some (broke_after old mid new (encode_lower image) (10 ∷ []) c.in_ok-write_pieces.ensures.ok h)) c.write_out.ensures.err

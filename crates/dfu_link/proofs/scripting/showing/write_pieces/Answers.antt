@@ -1,7 +1,7 @@
 use Rattle.std.proofs.Common.{arith}
 use Rattle.hex.specs.Hex.{encode_lower}
 use Rattle.dfu_slots.specs.Seen.{image_of}
-use Rattle.dfu_link.specs.Writing.{Broke}
+use Rattle.dfu_suffix.specs.Writing.{IsOutInPart}
 use Rattle.dfu_link.proofs.WriteLaws.{on_err}
 use Rattle.dfu_link.proofs.HexLaws.{pieces_none, pieces_more, pieces_broke}
 use Rattle.dfu_link.proofs.scripting.showing.write_pieces.Goals as goal
@@ -15,7 +15,7 @@ returns-in_err-write_piece-clause-err g c =
     let mid = g.W.Write.contents c.loop-at.writer in
     let new = g.W.Write.contents c.write_piece.new.writer in
     let image = image_of c.args.slots.now in
-    on_err c.from_residual.result (Broke old new (encode_lower image))
+    on_err c.from_residual.result (IsOutInPart old new (encode_lower image))
     (pieces_broke image c.loop-at.at c.min-len.result old mid new c.loop-at.invariant.told c.in_err-write_piece.ensures.err)
 
 pub loop-at-preserved : goal.loop-at-preserved

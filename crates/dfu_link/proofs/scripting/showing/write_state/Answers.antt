@@ -4,7 +4,7 @@ use Rattle.std.specs.Io.KnownBytes.{Appends}
 use Rattle.dfu_wire.specs.State.{state_name}
 use Rattle.dfu_wire.specs.Code.{code_name}
 use Rattle.dfu_device.specs.Stage.{state_of, code_of}
-use Rattle.dfu_link.specs.Writing.{Broke}
+use Rattle.dfu_suffix.specs.Writing.{IsOutInPart}
 use Rattle.dfu_link.proofs.WriteLaws.{broke_before, broke_after, on_err, on_err_map}
 use Rattle.dfu_link.proofs.scripting.showing.write_state.Goals as goal
 
@@ -16,9 +16,9 @@ returns-in_err-write_three-clause-err g c =
     let first = codes "state " ++ state_name (state_of stage) ++ codes " status " in
     let last = code_name (code_of stage) ++ codes " " in
     let name : c.name.result.now ≡ state_name (state_of stage) = c.name.ensures ∙ ap state_name c.state-state.ensures in
-    let b : Broke old new first = subst (λ (xs : List ℕ). Broke old new (codes "state " ++ xs ++ codes " status ")) name
+    let b : IsOutInPart old new first = subst (λ (xs : List ℕ). IsOutInPart old new (codes "state " ++ xs ++ codes " status ")) name
     c.in_err-write_three.ensures.err in
-    on_err c.from_residual.result (Broke old new (first ++ last)) (broke_before old new first last b)
+    on_err c.from_residual.result (IsOutInPart old new (first ++ last)) (broke_before old new first last b)
 
 pub returns-clause-err : goal.returns-clause-err
 returns-clause-err g c =
@@ -32,6 +32,6 @@ returns-clause-err g c =
     let code : c.name-2.result.now ≡ code_name (code_of stage) = c.name-2.ensures ∙ ap code_name c.code-code.ensures in
     let a : Appends old mid first = subst (λ (xs : List ℕ). Appends old mid (codes "state " ++ xs ++ codes " status ")) state
     c.in_ok-write_three.ensures.ok in
-    on_err_map c.write_two.result (Broke mid new (c.name-2.result.now ++ codes " ")) (Broke old new (first ++ last))
-    (λ h. broke_after old mid new first last a (subst (λ (xs : List ℕ). Broke mid new (xs ++ codes " ")) code h))
+    on_err_map c.write_two.result (IsOutInPart mid new (c.name-2.result.now ++ codes " ")) (IsOutInPart old new (first ++ last))
+    (λ h. broke_after old mid new first last a (subst (λ (xs : List ℕ). IsOutInPart mid new (xs ++ codes " ")) code h))
     c.write_two.ensures.err
