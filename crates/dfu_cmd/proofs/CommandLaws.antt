@@ -1,13 +1,9 @@
 -- The command line as clap reads it.
-use Rattle.std.proofs.Common.{◌≡◌, List, Option, Some, None, false, true, refl, ap, ◌∙◌, option_map}
-use Rattle.std.specs.Box.{box_value}
-use Rattle.std.specs.Prelude.{Box}
-use Rattle.clap.specs.Words.{App, HasMatchesOf, IsParsedFrom, Row, Text, app_of, has_subcommand, is_simple, subcommand_of, subcommand_rows, subcommand_rows_of}
+use Rattle.std.proofs.Common.{◌≡◌, List, false, true, refl, ap, ◌∙◌}
+use Rattle.clap.specs.Words.{App, HasMatchesOf, IsParsedFrom, Text, app_of, has_subcommand, is_simple, subcommand_of, subcommand_rows_of}
 use Rattle.clap.specs.declared.builder.Command.{Command}
 use Rattle.clap.specs.declared.builder.Command.TheViews.{out-Command}
-use Rattle.clap.specs.declared.parser.matches.SubCommand.{SubCommand}
 use Rattle.clap.specs.declared.parser.matches.ArgMatches.{ArgMatches}
-use Rattle.clap.specs.declared.parser.matches.ArgMatches.TheViews.{out-SubCommand}
 use Rattle.clap.proofs.CallerLemmas.{subcommand_required}
 use Rattle.dfu_cmd.specs.CommandLine.{dfu_app}
 

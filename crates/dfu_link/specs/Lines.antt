@@ -1,10 +1,11 @@
 -- The grammar of a line: its fields, its forms, and what each form says.
 use Rattle.std.specs.Prelude.{ℕ, Bool, false, length, ◌==◌, List, [], ◌∷◌, Option, Some, None, nat_le, if◌then◌else◌}
+use Rattle.dfu_wire.specs.Functional.{functional_of}
 use Rattle.dfu_slots.specs.declared.unit.Unit.{Unit as WriteUnit}
 use Rattle.dfu_slots.specs.declared.unit.Unit.TheVariants.{Byte, U16, U64, U256}
 use Rattle.dfu_link.specs.Words.{◌>>=◌, guard, bytes_of, number_of, quad_of, pair_of, first, ends, words_of}
 use Rattle.dfu_link.specs.Happening.{Fate, Pass, LostOut, LostBack, Twice, TwiceLostBack, Slip, CutIn, Fail, unharmed, harmed}
-use Rattle.dfu_link.specs.Said.{Said, Blank, Sets, LimitsTo, Does, Show, TheIds, TheDevice, TheUnit, TheCapacity, TheImage, Offer, Upload, Abort, Go, Time, Reset, Cut, functional_of}
+use Rattle.dfu_link.specs.Said.{Said, Blank, Sets, LimitsTo, Does, Show, TheIds, TheDevice, TheUnit, TheCapacity, TheImage, Offer, Upload, Abort, Go, Time, Reset, Cut}
 use Rattle.dfu_link.specs.Keywords.{keyword_of, fate_keyword_of}
 use Rattle.dfu_link.specs.declared.scripting.keywords.Keyword.{Keyword}
 use Rattle.dfu_link.specs.declared.scripting.keywords.Keyword.TheVariants as key
@@ -56,7 +57,7 @@ device_of words = do
   least ← number_at transfer.1
   busy ← number_at least.1
   manifest ← number_at busy.1
-  ends (Sets (TheDevice (functional_of attributes.0 detach.0 transfer.0) least.0 busy.0 manifest.0)) manifest.1
+  ends (Sets (TheDevice (functional_of attributes.0 detach.0 transfer.0 0x0110) least.0 busy.0 manifest.0)) manifest.1
 
 -- The unit of so many bytes.
 abbrev pub unit_named : ℕ → Option WriteUnit

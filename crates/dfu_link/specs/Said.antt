@@ -1,5 +1,5 @@
 -- What a line says, as plain data.
-use Rattle.std.specs.Prelude.{ℕ, ◌/◌, ◌%◌, ◌==◌, List, [], unwrap_or}
+use Rattle.std.specs.Prelude.{ℕ, List, [], unwrap_or}
 use Rattle.dfu_wire.specs.declared.ids.Ids.{Ids}
 use Rattle.dfu_wire.specs.declared.functionals.Functional.{Functional}
 use Rattle.dfu_slots.specs.declared.unit.Unit.{Unit as WriteUnit}
@@ -18,18 +18,6 @@ use Rattle.dfu_link.specs.declared.scripting.line.EventLine.TheVariants as event
 -- The bytes that a hexadecimal text stands for.
 abbrev pub hex_bytes : HexText → List ℕ
 hex_bytes text = unwrap_or (bytes_of text.text.now) []
-
--- The functional descriptor with these attributes: bits 0 to 3 are the four flags (USB DFU 1.1, section 4.1.3).
-abbrev pub functional_of : (attributes detach transfer : ℕ) → Functional
-functional_of attributes detach transfer = record {
-  can_download = attributes % 2 == 1;
-  can_upload = attributes / 2 % 2 == 1;
-  tolerant = attributes / 4 % 2 == 1;
-  will_detach = attributes / 8 % 2 == 1;
-  detach_ms = detach;
-  transfer = transfer;
-  version = 0x0110;
-}
 
 -- What a configuration line sets: who the device is, what it is like, how many bytes an image may have, or the image that it has at first.
 pub data ConfigLine : Type 0 where

@@ -1,6 +1,7 @@
 -- What a script does, and what it prints.
 use Rattle.std.specs.Prelude.{◌≡◌, ℕ, ◌+◌, ◌*◌, ◌≤◌, List, [], ◌∷◌, ◌++◌, length, Option, Some, None, Result, replicate}
 use Rattle.std.specs.Io.KnownBytes.{Appends}
+use Rattle.dfu_wire.specs.Functional.{functional_of}
 use Rattle.dfu_host.specs.declared.limits.Limits.{Limits}
 use Rattle.dfu_slots.specs.declared.unit.Unit.{Unit as WriteUnit}
 use Rattle.dfu_slots.specs.declared.unit.Unit.TheVariants.{Byte}
@@ -18,7 +19,7 @@ use Rattle.dfu_link.specs.Comes.{Comes}
 use Rattle.dfu_link.specs.declared.fault.LinkFault.{LinkFault}
 use Rattle.dfu_link.specs.Texts.{answer_line, image_line, show_line}
 use Rattle.dfu_link.specs.Words.{lines_of}
-use Rattle.dfu_link.specs.Said.{ConfigLine, TheIds, TheDevice, TheUnit, TheCapacity, TheImage, EventLine, Offer, Upload, Abort, Go, Time, Reset, Cut, Said, Blank, Sets, LimitsTo, Does, Show, functional_of}
+use Rattle.dfu_link.specs.Said.{ConfigLine, TheIds, TheDevice, TheUnit, TheCapacity, TheImage, EventLine, Offer, Upload, Abort, Go, Time, Reset, Cut, Said, Blank, Sets, LimitsTo, Does, Show}
 use Rattle.dfu_link.specs.Lines.{line_of}
 
 -- What is set before the first event line or `show`: the device, the unit in which its medium is written, how many bytes an image may have,
@@ -35,7 +36,7 @@ abbrev pub beginning : Settings
 beginning = record {
   device = record {
     ids = record { device = 0x0100; product = 0x0001; vendor = 0x1209 };
-    functional = functional_of 7 255 8;
+    functional = functional_of 7 255 8 0x0110;
     least = 1;
     busy_ms = 5;
     manifest_ms = 10;

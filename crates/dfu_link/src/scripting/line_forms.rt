@@ -3,7 +3,7 @@
 ghost use Rattle.std.specs.Prelude.{◌≡◌, None};
 ghost use Rattle.dfu_link.specs.Words.{Reads, words_of, ends};
 ghost use Rattle.dfu_link.specs.Happening.{fate_of, harm_in};
-ghost use Rattle.dfu_link.specs.Said.{said_of, Go, Does, functional_of, harm_fate};
+ghost use Rattle.dfu_link.specs.Said.{said_of, Go, Does, harm_fate};
 ghost use Rattle.dfu_link.specs.Lines.{small_at, ids_of, device_of, unit_named, unit_of, capacity_of, image_of, limits_of, offer_of, time_of, pass_of, slip_of, harmed_of, by_fate, go_of};
 
 use crate::fate::Fate;
@@ -32,21 +32,6 @@ pub(crate) fn ids(line: &[u8]) -> Option<Line<'_>>
     ended(Line::Set(ConfigLine::Ids(ids)), rest)
 }
 
-/// The functional descriptor with these attributes (USB DFU 1.1, section 4.1.3).
-fn functional(attributes: u8, detach_ms: u16, transfer: u16) -> Functional
-    ensures { result ≡ functional_of attributes detach_ms transfer }
-{
-    Functional {
-        can_download: attributes % 2 == 1,
-        can_upload: attributes / 2 % 2 == 1,
-        tolerant: attributes / 4 % 2 == 1,
-        will_detach: attributes / 8 % 2 == 1,
-        detach_ms,
-        transfer,
-        version: 0x0110,
-    }
-}
-
 /// `device FF DETACH TRANSFER LEAST BUSY MANIFEST`.
 #[tactic(auto, unfolding(crate::specs::Lines::device_of))]
 pub(crate) fn device(line: &[u8]) -> Option<Line<'_>>
@@ -58,7 +43,7 @@ pub(crate) fn device(line: &[u8]) -> Option<Line<'_>>
     let (least, rest) = number_at(rest)?;
     let (busy_ms, rest) = number_at(rest)?;
     let (manifest_ms, rest) = number_at(rest)?;
-    let functional = functional(attributes, detach_ms, transfer);
+    let functional = Functional::of_attributes(attributes, detach_ms, transfer, 0x0110);
     let said = Line::Set(ConfigLine::Device {
         functional,
         least,

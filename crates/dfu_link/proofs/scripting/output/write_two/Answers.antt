@@ -11,7 +11,7 @@ returns-in_err-write_out-clause-err g c =
     let first = c.args.first.now in
     let last = c.args.last.now in
     let b : IsOutInPart old new first =
-        subst (λ (xs : List ℕ). IsOutInPart old new xs) c.as_bytes.ensures.value c.in_err-write_out.ensures.err in
+    subst (λ (xs : List ℕ). IsOutInPart old new xs) c.as_bytes.ensures.value c.in_err-write_out.ensures.err in
     on_err c.from_residual.result (IsOutInPart old new (first ++ last)) (broke_before old new first last b)
 
 pub returns-clause-err : goal.returns-clause-err
