@@ -1,4 +1,5 @@
-//! Laws of plays: each function does nothing, and its contract is the law.
+//! Laws of plays. Each is the contract of a function that does nothing, which is proved and not to
+//! be called by programs. `World::step` calls `image_shown`, for its law alone.
 
 ghost use Rattle.dfu_link.specs.LinkAgreement.{SomeAgrees, FreshAgrees, LinkAgreesOn};
 ghost use Rattle.dfu_link.specs.CleanRun.{CleanRun};

@@ -11,7 +11,7 @@ mod event;
 mod fate;
 mod fault;
 mod going;
-mod laws;
+pub mod laws;
 mod offering;
 mod play;
 mod port;
@@ -23,10 +23,6 @@ mod world;
 pub use event::Event;
 pub use fate::Fate;
 pub use fault::{LinkFault, OfferFault};
-pub use laws::{
-    bytes_show, clean_run, headline, image_shown, machine_agrees, one_answer, only_offered,
-    power_comes_back, simulation, understood, uploads_give_the_image,
-};
 pub use running::{Stop, run};
 pub use scripting::{ScriptFault, script};
 pub use world::World;
