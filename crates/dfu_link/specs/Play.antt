@@ -1,5 +1,6 @@
 -- The table of fates: what an event of the link does to a device and a host, over the device table and the host table.
 use Rattle.std.specs.Prelude.{◌≡◌, ℕ, ◌<◌, Bool, false, List, length, Option, Some, None}
+use Rattle.dfu_wire.specs.declared.functionals.Functional.{Functional}
 use Rattle.dfu_host.specs.declared.report.Report.{Report}
 use Rattle.dfu_host.specs.declared.report.Report.TheVariants.{Uploaded}
 use Rattle.dfu_device.specs.Stage.{Request, Reply, Ack, StatusOf, StateOf, Data, Stall, Profile}
@@ -7,7 +8,7 @@ use Rattle.dfu_device.specs.Table.{Plan, plan}
 use Rattle.dfu_device.specs.Outcome.{Situation, Luck, Works, outcome, handled, elapsed, was_reset, powered}
 use Rattle.dfu_device.specs.Rows.{meant}
 use Rattle.dfu_host.specs.Table.{Goal, ToLoad, ToFetch, Task, Phase, Over, OverUploaded, Deed, Send, Wait, Reset, Done, deed, Heard, Acked, Status, StateIs, Part, NoRoom, Stalled, Nothing, Waited, WasReset, Restarted}
-use Rattle.dfu_host.specs.Host.{HostState, begun, after, aborted as host_aborted}
+use Rattle.dfu_host.specs.Host.{HostState, begun, after, aborted as host_aborted, task_for as host_task_for}
 use Rattle.dfu_link.specs.Session.{Kind, AnOffer, AnUpload, AnAbort, ATime, ARestart, AGo}
 use Rattle.dfu_link.specs.Happening.{Fate, Pass, LostOut, LostBack, Twice, TwiceLostBack, Slip, CutIn, Fail}
 use Rattle.dfu_link.specs.Bench.{Session, Nobody, Hosted}
@@ -63,9 +64,21 @@ pub record Played : Type 0 where
 
 -- The host.
 
--- A session's task goes by what the device's descriptor says.
+-- The descriptor of a device with this profile, whose version no task goes by.
+abbrev pub descriptor_of : Profile → Functional
+descriptor_of c = record {
+  can_download = c.can_download;
+  can_upload = c.can_upload;
+  tolerant = c.tolerant;
+  will_detach = c.will_detach;
+  detach_ms = c.detach_ms;
+  transfer = c.transfer;
+  version = 0x0110;
+}
+
+-- A session's task with this goal is the host's task by the device's descriptor.
 abbrev pub task_for : Profile → Goal → Task
-task_for c goal = record { goal = goal; transfer = c.transfer; tolerant = c.tolerant; will_detach = c.will_detach; detach_ms = c.detach_ms }
+task_for c goal = host_task_for (descriptor_of c) goal
 
 -- A session that begins, with the device's task for this goal.
 abbrev pub opened : Profile → Goal → (actions restarts : ℕ) → Session
