@@ -6,6 +6,7 @@ use Rattle.dfu_link.specs.declared.scripting.fault.ScriptFault.{ScriptFault}
 use Rattle.dfu_link.specs.declared.scripting.fault.ScriptFault.TheVariants.{BadLine, LateConfig, BadConfig, TooLarge, NoMemory, Read, Write}
 use Rattle.dfu_link.specs.ScriptRun.{WroteRun}
 use Rattle.dfu_link.specs.Falls.{Falls}
+use Rattle.dfu_link.specs.ScriptLegal.{WroteLegal, StopsLegally}
 use Rattle.dfu_cmd.specs.declared.exit.Exit.{Exit}
 use Rattle.dfu_cmd.specs.declared.exit.Exit.TheVariants.{Done, Refused, Fault}
 use Rattle.dfu_cmd.specs.AnswerLines.{fault_line}
@@ -34,3 +35,10 @@ pub data WritesRun (given old new : Option (List ℕ)) (result : Exit) : Type 0 
   runs : IfSome given (λ text. WroteRun text old new) → result ≡ Done → WritesRun given old new result
   stops : (mid : Option (List ℕ)) (fault : ScriptFault) →
       IfSome given (λ text. Falls text old mid fault) → WritesStop fault mid new result → WritesRun given old new result
+
+-- The session machine goes along with what is written: to the end of the script, and that is all; or to where it stopped, and
+-- behind that the line of its fault is written.
+pub data WritesLegally (given old new : Option (List ℕ)) (result : Exit) : Type 0 where
+  to_the_end : IfSome given (λ text. WroteLegal text old new) → result ≡ Done → WritesLegally given old new result
+  to_the_stop : (mid : Option (List ℕ)) (fault : ScriptFault) →
+      IfSome given (λ text. StopsLegally text old mid) → WritesStop fault mid new result → WritesLegally given old new result

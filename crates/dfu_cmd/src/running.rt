@@ -3,7 +3,7 @@
 ghost use Rattle.std.specs.Prelude.{◌≡◌, ◌++◌, ◌∷◌, IfOk, [], codes};
 ghost use Rattle.std.specs.Fmt.{decimal};
 ghost use Rattle.std.specs.String.{string_bytes};
-ghost use Rattle.dfu_cmd.specs.RunText.{WritesNumber, WritesStop, WritesRun};
+ghost use Rattle.dfu_cmd.specs.RunText.{WritesNumber, WritesStop, WritesRun, WritesLegally};
 
 use crate::exit::Exit;
 use crate::faults::fault_text;
@@ -60,7 +60,8 @@ fn stop_text<W: Write>(alloc: Global, fault: ScriptFault, writer: &mut W) -> Exi
 /// Where the writer fails it answers Fault; a front of the text is out, not all of it, and nothing
 /// more is written.
 pub fn run_text<R: Read + Drop, W: Write>(alloc: Global, reader: R, writer: &mut W) -> Exit
-    ensures { WritesRun (R.remaining reader) (W.contents writer.old) (W.contents writer.new) result }
+    ensures run { WritesRun (R.remaining reader) (W.contents writer.old) (W.contents writer.new) result }
+    ensures legal { WritesLegally (R.remaining reader) (W.contents writer.old) (W.contents writer.new) result }
 {
     match script(alloc, reader, writer) {
         Ok(()) => Exit::Done,

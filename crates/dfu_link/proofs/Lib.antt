@@ -36,4 +36,6 @@ pub mod HexLaws
 pub mod MoveLaws
 pub mod FallLaws
 pub mod WholeLaws
+pub mod Beside
+pub mod LegalScripts
 pub mod Refusals

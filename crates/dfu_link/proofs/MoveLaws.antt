@@ -11,7 +11,7 @@ use Rattle.dfu_device.specs.Shown.{Shown}
 use Rattle.dfu_slots.specs.Medium.{Fuse}
 use Rattle.dfu_slots.specs.Medium.Fuse.{Whole}
 use Rattle.dfu_link.specs.Play.{Answered, given}
-use Rattle.dfu_link.specs.Bench.{Bench, LinkState}
+use Rattle.dfu_link.specs.Bench.{Bench, ShowsActive, LinkState}
 use Rattle.dfu_link.specs.Bytes.{armed}
 use Rattle.dfu_link.specs.Happening.{Happening, Offers}
 use Rattle.dfu_link.specs.Refusing.{IsLive}
@@ -50,12 +50,12 @@ told_same (Err fault) up up' whole e = refl
 
 -- One event more.
 pub plays_one : (b : Bench) (c c' : LinkState) (events : List Happening) (e : Happening) (out : List ℕ)
-    (r : Result (Option Report) LinkFault) → AllCome b events out c.bench → HasCome c e c' r
+    (r : Result (Option Report) LinkFault) → AllCome b events out c.bench → HasCome c e c' r → ShowsActive c'.bench
     → AllCome b (events ++ e ∷ []) (out ++ told_line r c'.up) c'.bench
-plays_one b c c' events e out r p h =
+plays_one b c c' events e out r p h active =
     let same : told_line r c'.up ≡ answer_line h.answer = ap (λ (x : Result (Option Report) LinkFault). told_line x c'.up) h.told
     ∙ told_same h.answer c.up c'.up h.whole h.up_is in
-    subst (λ (text : List ℕ). AllCome b (events ++ e ∷ []) (out ++ text) c'.bench) (sym same) (then_comes p h.comes)
+    subst (λ (text : List ℕ). AllCome b (events ++ e ∷ []) (out ++ text) c'.bench) (sym same) (then_comes p h.comes active)
 
 -- An offer while a session is live.
 busy_offer : (b : Bench) (file : List ℕ) (limits : Limits) → IsLive b.session → Comes b (Offers file limits) b (Err HostBusy)
@@ -63,23 +63,23 @@ busy_offer b file limits live = refuses live
 
 -- An offer while a session is live is refused, whatever its file is, and that is printed.
 pub busy_plays : (b : Bench) (file : List ℕ) (limits : Limits) (old new : Option (List ℕ)) → IsLive b.session
-    → Appends old new (answer_line (Err HostBusy)) → HasPlayed b (Offers file limits ∷ []) old b new
-busy_plays b file limits old new live told = record {
+    → ShowsActive b → Appends old new (answer_line (Err HostBusy)) → HasPlayed b (Offers file limits ∷ []) old b new
+busy_plays b file limits old new live active told = record {
   out = answer_line (Err HostBusy);
-  plays = then_comes none_comes (busy_offer b file limits live);
+  plays = then_comes none_comes (busy_offer b file limits live) active;
   told = told;
 }
 
 -- So it is where the writer fails in it.
 pub busy_broken : (b : Bench) (file : List ℕ) (limits : Limits) (old new : Option (List ℕ)) → IsLive b.session
-    → IsOutInPart old new (answer_line (Err HostBusy)) → HasBroken b (Offers file limits ∷ []) old new
-busy_broken b file limits old new live broke = record {
+    → ShowsActive b → IsOutInPart old new (answer_line (Err HostBusy)) → HasBroken b (Offers file limits ∷ []) old new
+busy_broken b file limits old new live active broke = record {
   played = Offers file limits ∷ [];
   left = [];
   split = refl;
   after = b;
   out = answer_line (Err HostBusy);
-  plays = then_comes none_comes (busy_offer b file limits live);
+  plays = then_comes none_comes (busy_offer b file limits live) active;
   broke = broke;
 }
 
@@ -93,9 +93,10 @@ replicate_front (suc k) (suc n) x h =
 
 -- The writer fails at one of so many turns of the same event.
 pub broken : (b : Bench) (c c' : LinkState) (e : Happening) (k n : ℕ) (r : Result (Option Report) LinkFault) (old mid new : Option (List ℕ))
-    → HasPlayed b (replicate k e) old c.bench mid → k < n → HasCome c e c' r → IsOutInPart mid new (told_line r c'.up)
+    → HasPlayed b (replicate k e) old c.bench mid → k < n → HasCome c e c' r → ShowsActive c'.bench
+    → IsOutInPart mid new (told_line r c'.up)
     → HasBroken b (replicate n e) old new
-broken b c c' e k n r old mid new p lt come broke =
+broken b c c' e k n r old mid new p lt come active broke =
     let rest = replicate_front k n e lt in
     record {
       played = replicate k e ++ e ∷ [];
@@ -103,7 +104,7 @@ broken b c c' e k n r old mid new p lt come broke =
       split = rest.1;
       after = c'.bench;
       out = p.out ++ told_line r c'.up;
-      plays = plays_one b c c' (replicate k e) e p.out r p.plays come;
+      plays = plays_one b c c' (replicate k e) e p.out r p.plays come active;
       broke =
           broke_after old mid new p.out (told_line r c'.up) p.told broke;
     }

@@ -1,6 +1,7 @@
 -- Whole scripts, put together of their parts.
 use Rattle.std.proofs.Common.{◌≡◌, ℕ, ◌≤◌, ◌++◌, List, length, Option, Some, None, refl, subst}
-use Rattle.std.specs.Prelude.{Result, Ok, Err, IfErr, IfSome}
+use Rattle.std.specs.Prelude.{Result, Ok, Err, IfErr, IfSome, Vec}
+use Rattle.std.specs.declared.alloc.Global.{Global}
 use Rattle.dfu_device.specs.Shown.{Shown}
 use Rattle.dfu_link.specs.Words.{lines_of}
 use Rattle.dfu_link.specs.Texts.{image_line}
@@ -83,3 +84,9 @@ gather_ends (Some all) old BadConfig h = absurd h
 gather_ends (Some all) old Write h = absurd h
 gather_ends (Some all) old (BadLine n) h = absurd h
 gather_ends (Some all) old (LateConfig n) h = absurd h
+
+-- What holds of the text that was gathered holds of what was read.
+pub holds_of_read : (given : Option (List ℕ)) (v : Vec ℕ Global) (P : List ℕ → Type 0) → IfSome given (λ all. Gathers all (Ok v)) → P v.items
+    → IfSome given P
+holds_of_read None v P all h = tt
+holds_of_read (Some text) v P all h = subst P all.0 h

@@ -30,5 +30,6 @@ pub mod Gathering
 pub mod ScriptRun
 pub mod SetupView
 pub mod Falls
+pub mod ScriptLegal
 pub mod Moving
 pub mod Forming

@@ -8,11 +8,12 @@ use Rattle.dfu_slots.specs.declared.unit.Unit.TheVariants.{Byte}
 use Rattle.dfu_slots.specs.Units.{gate_size, IsMultiple}
 use Rattle.dfu_slots.specs.Medium.{MediumState, AllWrites}
 use Rattle.dfu_slots.specs.Medium.Fuse.{Whole}
+use Rattle.dfu_slots.specs.Image.{Active}
 use Rattle.dfu_slots.specs.Seen.{image_of, format_series}
 use Rattle.dfu_device.specs.Stage.{InAppIdle}
 use Rattle.dfu_device.specs.Setting.{Setting, IsAllowed, of_this_version}
 use Rattle.dfu_device.specs.Shown.{Shown}
-use Rattle.dfu_link.specs.Bench.{Nobody, Bench}
+use Rattle.dfu_link.specs.Bench.{Nobody, Bench, ShowsActive}
 use Rattle.dfu_link.specs.Play.{Answered}
 use Rattle.dfu_link.specs.Happening.{Happening, Offers, Uploads, Aborts, Goes, Passes, Resets, Cuts}
 use Rattle.dfu_link.specs.Comes.{Comes}
@@ -85,13 +86,14 @@ abbrev pub blank : WriteUnit → ℕ → MediumState
 blank unit capacity = record { bytes = replicate (2 * (2 * gate_size unit + capacity)) 255; failures = 0; fuse = Whole; unit = unit }
 
 -- The device starts: it is allowed, the room has whole units, the image fits, and it stands in appIDLE on a blank medium that was formatted
--- with the image.
+-- with the image, which is the active one of its bytes.
 pub record Starts (s : Settings) (d : Shown) : Type 0 where
   pub config : d.config ≡ record s.device { functional = of_this_version s.device.functional }
   pub allowed : IsAllowed d.config
   pub whole : IsMultiple s.unit s.capacity
   pub fits : length s.image ≤ s.capacity
   pub formatted : AllWrites (blank s.unit s.capacity) (format_series (blank s.unit s.capacity) s.image) d.slots.medium
+  pub active : Active d.slots.medium s.image
   pub image : image_of d.slots ≡ s.image
   pub stage : d.stage ≡ InAppIdle
 
@@ -99,11 +101,11 @@ pub record Starts (s : Settings) (d : Shown) : Type 0 where
 abbrev pub at_rest : Shown → Bench
 at_rest d = record { device = d; session = Nobody }
 
--- Events one after the other, with what they print.
+-- Events one after the other, with what they print; after each the image that the bench shows is the active one of its medium's bytes.
 pub data AllCome : Bench → List Happening → List ℕ → Bench → Type 0 where
   none_comes : {b : Bench} → AllCome b [] [] b
   then_comes : {b c c' : Bench} {events : List Happening} {event : Happening} {out : List ℕ} {answer : Result Answered LinkFault} →
-      AllCome b events out c → Comes c event c' answer → AllCome b (events ++ event ∷ []) (out ++ answer_line answer) c'
+      AllCome b events out c → Comes c event c' answer → ShowsActive c' → AllCome b (events ++ event ∷ []) (out ++ answer_line answer) c'
 
 -- Where a script is once the device is started: the limits of the next session, and the link.
 pub record Point : Type 0 where

@@ -60,9 +60,13 @@ told_line (Err fault) uploaded = refusal_line fault
 abbrev pub answer_line : Result Answered LinkFault → List ℕ
 answer_line answer = told_line (shown_as answer) (unwrap_or (gave_of answer) [])
 
+-- The line of an image.
+abbrev pub line_of_image : List ℕ → List ℕ
+line_of_image image = codes "image " ++ (hex_text image ++ 10 ∷ [])
+
 -- The line of the device's image.
 abbrev pub image_line : Shown → List ℕ
-image_line device = codes "image " ++ (hex_text (image_of device.slots) ++ 10 ∷ [])
+image_line device = line_of_image (image_of device.slots)
 
 -- What `show` prints before the image: the device's state and its status code.
 abbrev pub state_text : Shown → List ℕ

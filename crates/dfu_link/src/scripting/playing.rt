@@ -122,7 +122,12 @@ pub(crate) fn play_live<'f, M: Faulty, W: Write>(
     ensures fault { IfErr result (λ f. f ≡ ScriptFault.Write) }
 {
     match events {
-        EventLine::Offer(_) => say(writer, Err(LinkFault::HostBusy), &[]),
+        EventLine::Offer(_) => {
+            // Called for its clause `active`, which a refusal's bench needs; what it answers isn't
+            // used.
+            let _ = world.device();
+            say(writer, Err(LinkFault::HostBusy), &[])
+        }
         _ => play_events(world, events, &[], torn, limits, writer),
     }
 }

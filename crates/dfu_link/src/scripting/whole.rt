@@ -1,12 +1,14 @@
 //! Whole scripts.
 
-ghost use Rattle.std.specs.Prelude.{◌+◌, ◌≤◌, length, OnOk, IfOk, IfErr, IfSome};
+ghost use Rattle.std.specs.Prelude.{◌+◌, ◌≤◌, length, OnOk, OnErr, IfOk, IfErr, IfSome};
 ghost use Rattle.dfu_link.specs.Words.{lines_of};
 ghost use Rattle.dfu_link.specs.ScriptRun.{IsReady, WroteRun};
 ghost use Rattle.dfu_link.specs.Falls.{SettingFalls, Falls};
+ghost use Rattle.dfu_link.specs.ScriptLegal.{WroteLegal, StopsLegally};
 ghost use Rattle.dfu_link.specs.Moving.{Prepared, with_first, number_of_first};
 ghost use Rattle.dfu_link.specs.SetupView.{settings_of};
 
+use crate::laws::image_shown;
 use crate::scripting::after_start::run_on;
 use crate::scripting::fault::ScriptFault;
 use crate::scripting::gather::gather_text;
@@ -61,6 +63,23 @@ fn run_text<W: Write>(alloc: Global, text: &[u8], writer: &mut W) -> Result<(), 
     run_on(alloc, device, first, &mut lines, setup.limits, writer)
 }
 
+/// The same, with the session machine beside it.
+fn run_legally<W: Write>(
+    alloc: Global,
+    text: &[u8],
+    writer: &mut W,
+) -> Result<(), ScriptFault>
+    requires { length text.now ≤ 16777216 }
+    ensures ok { OnOk result (WroteRun text.now (W.contents writer.old) (W.contents writer.new)) }
+    ensures fault { IfErr result (λ f. Falls text.now (W.contents writer.old) (W.contents writer.new) f) }
+    ensures legal { OnOk result (WroteLegal text.now (W.contents writer.old) (W.contents writer.new)) }
+    ensures stopped { OnErr result (StopsLegally text.now (W.contents writer.old) (W.contents writer.new)) }
+{
+    // Called for its law, which `legal` needs: no image but the one that is shown is active.
+    image_shown();
+    run_text(alloc, text, writer)
+}
+
 /// Runs a script: reads the whole text, and then does its lines one after the other. Configuration
 /// lines set up a device, event lines let events come to a link of that device and a host, and what
 /// is printed of them is written; last comes the line of the device's image.
@@ -80,7 +99,11 @@ pub fn script<R: Read + Drop, W: Write>(
     ensures ok { IfSome (R.remaining reader) (λ text. OnOk result (WroteRun text (W.contents writer.old) (W.contents writer.new))) }
     // Which fault comes when, and what is out then.
     ensures fault { IfSome (R.remaining reader) (λ text. IfErr result (λ f. Falls text (W.contents writer.old) (W.contents writer.new) f)) }
+    // The session machine goes along: what was written is what it reports, and the image that it has active.
+    ensures legal { IfSome (R.remaining reader) (λ text. OnOk result (WroteLegal text (W.contents writer.old) (W.contents writer.new))) }
+    // It does so as far as a script goes that stops.
+    ensures stopped { IfSome (R.remaining reader) (λ text. OnErr result (StopsLegally text (W.contents writer.old) (W.contents writer.new))) }
 {
     let text = gather_text(alloc, reader)?;
-    run_text(alloc, &text, writer)
+    run_legally(alloc, &text, writer)
 }

@@ -23,7 +23,7 @@ loop-turn-preserved g c =
     let more : HasPlayed c.args.world.now.bench (replicate c.loop-turn.turn e ++ e ∷ []) old c.step-answer.new.self.bench new = record {
       out = before.out ++ text;
       plays = plays_one c.args.world.now.bench c.loop-turn.world c.step-answer.new.self (replicate c.loop-turn.turn e) e before.out
-          c.step-answer.result before.plays c.step-answer.ensures.play;
+          c.step-answer.result before.plays c.step-answer.ensures.play c.step-answer.ensures.active;
       told = appends_more old mid new before.out text before.told (rw c.uploaded.ensures at c.in_ok-say.ensures.ok);
     } in
     subst (λ (es : List Happening). HasPlayed c.args.world.now.bench es old c.step-answer.new.self.bench new)
@@ -37,4 +37,5 @@ returns-in_err-say-clause-err g c =
     let new = g.W.Write.contents c.say.new.writer in
     on_err c.from_residual.result (HasBroken c.args.world.now.bench (replicate c.args.times e) old new)
     (broken c.args.world.now.bench c.loop-turn.world c.step-answer.new.self e c.loop-turn.turn c.args.times c.step-answer.result old mid new
-    c.loop-turn.invariant c.loop-turn-test.true c.step-answer.ensures.play (rw c.uploaded.ensures at c.in_err-say.ensures.err))
+    c.loop-turn.invariant c.loop-turn-test.true c.step-answer.ensures.play c.step-answer.ensures.active
+    (rw c.uploaded.ensures at c.in_err-say.ensures.err))

@@ -39,6 +39,7 @@ returns-in-Ok-format-clause-ok c =
       whole = subst (λ (k : ℕ). n % k ≡ 0) c.size.ensures.value c.if-room-size-ne0.false;
       fits = omega (arith, can.fits, room_blank c.args.unit n);
       formatted = writes;
+      active = c.in-Ok-format.ensures.active;
       image_is = c.in-Ok-format.ensures.image;
       unarmed = all_whole b s.medium (format_series b image) refl writes;
     }

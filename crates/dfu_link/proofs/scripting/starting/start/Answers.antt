@@ -19,6 +19,7 @@ returns-clause-ok c =
       whole = formed.whole;
       fits = formed.fits;
       formatted = formed.formatted;
+      active = formed.active;
       image = formed.image_is;
       stage = refl;
     })
