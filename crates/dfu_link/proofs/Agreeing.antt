@@ -1,6 +1,7 @@
 -- That some session machine agrees with each link, and when a bench agrees.
-use Rattle.std.proofs.Common.{ℕ, List, [], ◌∷◌, refl, sym, ap, subst, inl, inr}
-use Rattle.dfu_slots.specs.Image.{Active}
+use Rattle.std.proofs.Common.{ℕ, List, [], ◌∷◌, refl, sym, ap, ◌∙◌, subst, inl, inr}
+use Rattle.dfu_slots.specs.Medium.Fuse.{Whole}
+use Rattle.dfu_slots.specs.Image.{Active, active_fused}
 use Rattle.dfu_device.specs.Stage.{Stage, InManifestSync, InManifest}
 use Rattle.dfu_host.specs.Table.{Goal, ToLoad, ToFetch}
 use Rattle.dfu_link.specs.Session.{Machine}
@@ -9,6 +10,7 @@ use Rattle.dfu_link.specs.Bench.{Session, Nobody, Hosted, Bench}
 use Rattle.dfu_link.specs.LinkAgreement.{pending_of, IsSound, Agrees, NothingClosed, SomeAgrees, FreshAgrees, LinkAgreesOn}
 use Rattle.dfu_link.specs.Agreement.{live_goal, live_of, IsLiveOffer, AgreesOn}
 use Rattle.dfu_link.specs.Bytes.{link_of}
+use Rattle.dfu_link.specs.NextSession.{SessionsGoOn}
 use Rattle.dfu_link.specs.Understood.{ImageShown}
 
 -- Some machine agrees with each link.
@@ -100,4 +102,15 @@ link_agrees shown b up m agrees = record {
   up_is = agrees.up_is;
   sound = agrees.sound;
   offered = agrees.offered;
+}
+
+-- The session machine goes on from one world to the next.
+pub sessions_go_on : SessionsGoOn
+sessions_go_on w m none agrees = record {
+  active = active_fused w.bench.device.slots.medium Whole m.cur agrees.active;
+  pending = agrees.pending;
+  live = agrees.live ∙ ap (λ (s : Session). live_of s) none;
+  up_is = refl;
+  sound = agrees.sound;
+  offered = tt;
 }

@@ -132,7 +132,8 @@ refused_by {b = b} {b' = b'} {why = why} x =
     let r = refused_of b.up why x.comes x.told in
     (ap (λ (up : List ℕ). linked b'.bench up) x.up_is ∙ r.0, r.1)
 
-stop_why : (b : Bench) (next : Happening) (why : LinkFault) → IsRefused b next why → IsStop b next why
+-- A refusal is why a run stops.
+pub stop_why : (b : Bench) (next : Happening) (why : LinkFault) → IsRefused b next why → IsStop b next why
 stop_why b next fault.NoMemory h = tt
 stop_why b next why h = h
 

@@ -17,21 +17,17 @@ use Rattle.dfu_link.specs.CleanRun.{PassesTo, Quietly, here, there, resting, Ins
 use Rattle.dfu_link.specs.Refusing.{IsOffered}
 use Rattle.dfu_link.specs.Comes.{Means}
 use Rattle.dfu_link.specs.Sure.{IsHarmless, IsAsPlayed, IsSure}
+use Rattle.dfu_link.specs.CleanSteps.{SureSteps, no_step, one_step, StepsInstall}
 use Rattle.dfu_link.specs.CleanInstall.{clean_passes, CanInstall, offer_and_passes, InstallsCleanly}
 use Rattle.dfu_link.proofs.Clean.{clean_run}
 use Rattle.dfu_link.proofs.Events.{has_transfer, can_download, bytes_of}
 use Rattle.dfu_link.proofs.Chains.{Chain, no_more, one_more, same_profile}
 
--- Events one after the other, as the table of fates says of a medium that works.
-pub data SureChain : Bench → List Happening → List Report → Bench → Type 0 where
-  none_sure : {b : Bench} → SureChain b [] [] b
-  one_sure : {b mid b' : Bench} {h : Happening} {hs : List Happening} {report : Option Report} {reports : List Report}
-      → IsSure b h mid report → SureChain mid hs reports b' → SureChain b (h ∷ hs) (said report ++ reports) b'
-
+-- A chain of steps is sure.
 pub sure_chain : {w w' : LinkState} {hs : List Happening} {reports : List Report} → Chain w hs reports w'
-    → SureChain w.bench hs reports w'.bench
-sure_chain no_more = none_sure
-sure_chain (one_more s more) = one_sure s.sure (sure_chain more)
+    → SureSteps w.bench hs reports w'.bench
+sure_chain no_more = no_step
+sure_chain (one_more s more) = one_step s.sure (sure_chain more)
 
 abbrev pub pass : Happening
 pass = Goes Pass unharmed
@@ -85,13 +81,13 @@ pub record WasQuiet (c : Profile) (b' : Bench) (reports : List Report) (n : ℕ)
   pub fixed : profile b'.device ≡ c
 
 pub quiet_passes : {b b' : Bench} {reports : List Report} {c : Profile} {end : Link} (k m : ℕ) → k ≤ m
-    → SureChain b (replicate k pass) reports b' → profile b.device ≡ c → Quietly c (link_of b) m end → WasQuiet c b' reports (m - k) end
-quiet_passes {b = b} {c = c} {end = end} zero m h none_sure e q = record {
+    → SureSteps b (replicate k pass) reports b' → profile b.device ≡ c → Quietly c (link_of b) m end → WasQuiet c b' reports (m - k) end
+quiet_passes {b = b} {c = c} {end = end} zero m h no_step e q = record {
   none = refl;
   rest = let same : m ≡ m - 0 = omega arith in subst (λ (z : ℕ). Quietly c (link_of b) z end) same q;
   fixed = e;
 }
-quiet_passes {b = b} {b' = b'} {c = c} {end = end} (suc k) (suc m) h (one_sure {mid = mid} {report = report} {reports = later} s more) e
+quiet_passes {b = b} {b' = b'} {c = c} {end = end} (suc k) (suc m) h (one_step {mid = mid} {report = report} {reports = later} s more) e
     (there {mid = w} p q) =
     let t = pass_leads b mid report c w silent e s p in
     let rest = quiet_passes k m (omega (arith, h)) more (same_profile b.device mid.device s.kept ∙ e)
@@ -109,12 +105,12 @@ record WasLast (b' : Bench) (reports : List Report) (end : Link) (report : Repor
   link : link_of b' ≡ end
 
 last_pass : {b b' : Bench} {reports : List Report} {c : Profile} {before end : Link} {last : Report} (n : ℕ)
-    → SureChain b (replicate (suc n) pass) reports b' → profile b.device ≡ c → Quietly c (link_of b) n before
+    → SureSteps b (replicate (suc n) pass) reports b' → profile b.device ≡ c → Quietly c (link_of b) n before
     → PassesTo c before end (record { report = Some last; gave = None }) → WasLast b' reports end last
-last_pass {b = b} {b' = b'} {c = c} {end = end} {last = last} zero (one_sure {report = report} s none_sure) e here f =
+last_pass {b = b} {b' = b'} {c = c} {end = end} {last = last} zero (one_step {report = report} s no_step) e here f =
     let t = pass_leads b b' report c end (record { report = Some last; gave = None }) e s f in
     record { says = ap (λ (r : Option Report). said r ++ []) t.told; link = t.link }
-last_pass {b = b} {c = c} {before = before} (suc n) (one_sure {mid = mid} {report = report} {reports = later} s more) e
+last_pass {b = b} {c = c} {before = before} (suc n) (one_step {mid = mid} {report = report} {reports = later} s more) e
     (there {mid = w} p q) f =
     let t = pass_leads b mid report c w silent e s p in
     let rest = last_pass n more (same_profile b.device mid.device s.kept ∙ e) (subst (λ (z : Link). Quietly c z n before) (sym t.link) q)
@@ -162,13 +158,13 @@ has_begun b mid report file limits payload can s =
 -- The whole run.
 clean_chain : {b b' : Bench} {reports : List Report} (file : List ℕ) (limits : Limits) (payload : List ℕ) (count : ℕ)
     → CanInstall b file limits payload → count ≤ clean_passes b.device.config payload
-    → SureChain b (offer_and_passes file limits count) reports b' → InstallsCleanly b payload count reports b'
-clean_chain {b = b} {b' = b'} file limits payload count can most (one_sure {mid = mid} {report = report} {reports = later} s more) =
+    → SureSteps b (offer_and_passes file limits count) reports b' → InstallsCleanly b payload count reports b'
+clean_chain {b = b} {b' = b'} file limits payload count can most (one_step {mid = mid} {report = report} {reports = later} s more) =
     let n : ℕ = clean_passes b.device.config payload in
     let x = has_begun b mid report file limits payload can s in
     let some : suc (n - 1) ≡ n = omega arith in
     let ends : count ≡ n → WasLast b' later (resting payload) Installed =
-    λ k. last_pass (n - 1) (subst (λ (z : ℕ). SureChain mid (replicate z pass) later b') (k ∙ sym some) more) x.fixed x.quiet x.last in
+    λ k. last_pass (n - 1) (subst (λ (z : ℕ). SureSteps mid (replicate z pass) later b') (k ∙ sym some) more) x.fixed x.quiet x.last in
     record {
       early = λ less. ap (λ (r : Option Report). said r ++ later) x.told
           ∙ (quiet_passes count (n - 1) (omega (arith, less)) more x.fixed x.quiet).none;
@@ -182,5 +178,9 @@ pub ran_clean : {w w' : LinkState} {hs : List Happening} {reports : List Report}
     → hs ≡ offer_and_passes file limits count → count ≤ clean_passes w.bench.device.config payload
     → InstallsCleanly w.bench payload count reports w'.bench
 ran_clean {w = w} {w' = w'} {reports = reports} file limits payload count chain can is most =
-    clean_chain file limits payload count can most (subst (λ (x : List Happening). SureChain w.bench x reports w'.bench) is
+    clean_chain file limits payload count can most (subst (λ (x : List Happening). SureSteps w.bench x reports w'.bench) is
     (sure_chain chain))
+
+-- Steps that come as a clean run does report as one.
+pub steps_install : StepsInstall
+steps_install b b' file limits payload count reports can most steps = clean_chain file limits payload count can most steps

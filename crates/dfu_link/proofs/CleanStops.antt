@@ -8,18 +8,19 @@ use Rattle.dfu_host.specs.declared.limits.Limits.{Limits}
 use Rattle.dfu_host.specs.declared.report.Report.{Report}
 use Rattle.dfu_host.specs.declared.report.Report.TheVariants.{Installed}
 use Rattle.dfu_link.specs.Session.{said}
-use Rattle.dfu_link.specs.Happening.{Pass, Happening, Offers}
+use Rattle.dfu_link.specs.Happening.{Pass, Happening, Offers, Uploads, Aborts, Goes, Passes, Resets, Cuts}
 use Rattle.dfu_link.specs.Play.{Link, Played, gone}
 use Rattle.dfu_link.specs.Bench.{Session, Nobody, Bench, LinkState}
 use Rattle.dfu_link.specs.CleanRun.{PassesTo, Quietly, here, there, resting}
-use Rattle.dfu_link.specs.Refusing.{IsLive}
+use Rattle.dfu_link.specs.Refusing.{IsLive, IsRefused}
 use Rattle.dfu_link.specs.CleanInstall.{clean_passes, CanInstall, offer_and_passes}
 use Rattle.dfu_link.specs.declared.fault.LinkFault.{LinkFault}
 use Rattle.dfu_link.specs.declared.fault.LinkFault.TheVariants as fault
 use Rattle.dfu_link.specs.Running.{IsStop}
 use Rattle.dfu_link.proofs.Refusals.{offered_not_bad}
-use Rattle.dfu_link.proofs.Chains.{Stopped}
-use Rattle.dfu_link.proofs.CleanRuns.{SureChain, none_sure, one_sure, sure_chain, pass, quiet_passes, has_begun}
+use Rattle.dfu_link.proofs.Chains.{Stopped, stop_why}
+use Rattle.dfu_link.specs.CleanSteps.{SureSteps, no_step, one_step, StepsStand}
+use Rattle.dfu_link.proofs.CleanRuns.{sure_chain, pass, quiet_passes, has_begun}
 
 -- With no session passes lead nowhere.
 nobody_stays : {c : Profile} {w end : Link} {n : ℕ} → Quietly c w n end → w.session ≡ Nobody → end.session ≡ Nobody
@@ -59,6 +60,16 @@ next_pass zero (suc k) e = absurd cc
 next_pass (suc count) zero e = (omega arith, cc)
 next_pass (suc count) (suc k) e = let x = next_pass count k e in (omega (arith, x.0), x.1)
 
+-- No event is refused for want of memory.
+never_full : (b : Bench) (h : Happening) → ¬ IsRefused b h fault.NoMemory
+never_full b (Offers file limits) refused = refused
+never_full b (Uploads limits) refused = refused
+never_full b Aborts refused = refused
+never_full b (Goes f harm) refused = refused
+never_full b (Passes ms) refused = refused
+never_full b Resets refused = refused
+never_full b Cuts refused = refused
+
 record StopsCleanly (why : LinkFault) (reports : List Report) : Type 0 where
   pub fault : why ≡ fault.NoMemory
   pub none : reports ≡ []
@@ -66,17 +77,17 @@ record StopsCleanly (why : LinkFault) (reports : List Report) : Type 0 where
 clean_stop : {b b' : Bench} {next : Happening} {more : List Happening} {why : LinkFault} {reports : List Report} (file : List ℕ)
     (limits : Limits) (payload : List ℕ) (count at : ℕ) → CanInstall b file limits payload
     → count ≤ clean_passes b.device.config payload → drop at (offer_and_passes file limits count) ≡ next ∷ more
-    → SureChain b (take at (offer_and_passes file limits count)) reports b' → IsStop b' next why → StopsCleanly why reports
-clean_stop {b = b} {next = next} {why = why} file limits payload count zero can most next_is none_sure stop =
+    → SureSteps b (take at (offer_and_passes file limits count)) reports b' → IsStop b' next why → StopsCleanly why reports
+clean_stop {b = b} {next = next} {why = why} file limits payload count zero can most next_is no_step stop =
     let same : next ≡ Offers file limits = cc in
     record { fault = offer_stands b file limits payload can why (subst (λ (h : Happening). IsStop b h why) same stop); none = refl }
 clean_stop {b = b} {b' = b'} {why = why} file limits payload count (suc k) can most next_is
-    (one_sure {mid = mid} {report = report} {reports = later} s more) stop =
+    (one_step {mid = mid} {report = report} {reports = later} s more) stop =
     let n : ℕ = clean_passes b.device.config payload in
     let y = next_pass count k next_is in
     let x = has_begun b mid report file limits payload can s in
     let cut : take k (replicate count pass) ≡ replicate k pass = take-replicate k count pass (omega (arith, y.0)) in
-    let q = quiet_passes k (n - 1) (omega (arith, y.0, most)) (subst (λ (hs : List Happening). SureChain mid hs later b') cut more) x.fixed
+    let q = quiet_passes k (n - 1) (omega (arith, y.0, most)) (subst (λ (hs : List Happening). SureSteps mid hs later b') cut more) x.fixed
     x.quiet in
     record {
       fault = pass_stands b' (λ e. nobody_installs (profile b.device) x.before (resting payload) x.last (nobody_stays q.rest e)) why
@@ -93,5 +104,11 @@ stopped_clean {w = w} {w' = w'} {at = at} {reports = reports} file limits payloa
     let x =
     clean_stop file limits payload count at can most (subst (λ (hs : List Happening). drop at hs ≡ s.runs.next ∷ s.runs.more) is
     s.runs.here)
-    (subst (λ (hs : List Happening). SureChain w.bench (take at hs) reports w'.bench) is (sure_chain s.chain)) s.runs.why in
+    (subst (λ (hs : List Happening). SureSteps w.bench (take at hs) reports w'.bench) is (sure_chain s.chain)) s.runs.why in
     (x.fault, x.none)
+
+-- No step of a clean run is refused.
+pub steps_stand : StepsStand
+steps_stand b b' file limits payload count at reports next more why can most steps next_is refused =
+    let x = clean_stop file limits payload count at can most next_is steps (stop_why b' next why refused) in
+    never_full b' next (subst (λ (f : LinkFault). IsRefused b' next f) x.fault refused)

@@ -31,5 +31,7 @@ pub mod ScriptRun
 pub mod SetupView
 pub mod Falls
 pub mod ScriptLegal
+pub mod NextSession
+pub mod CleanSteps
 pub mod Moving
 pub mod Forming

@@ -3,6 +3,8 @@
 
 ghost use Rattle.dfu_link.specs.LinkAgreement.{SomeAgrees, FreshAgrees, LinkAgreesOn};
 ghost use Rattle.dfu_link.specs.CleanRun.{CleanRun};
+ghost use Rattle.dfu_link.specs.CleanSteps.{StepsInstall, StepsStand};
+ghost use Rattle.dfu_link.specs.NextSession.{SessionsGoOn};
 ghost use Rattle.dfu_link.specs.Giving.{UploadsGive, RestIsSteady};
 ghost use Rattle.dfu_link.specs.Headline.{Headline, OnlyOffered, Simulation};
 ghost use Rattle.dfu_link.specs.OneAnswer.{OneEvent, OneRefusal, RefusedIsNoPlay};
@@ -30,6 +32,14 @@ pub fn clean_run()
     ensures { CleanRun }
 {}
 
+/// The same by steps, with no premise on memory: where each step is one of an offer and at most the
+/// passes of a clean run, as the clause `sure` of `World::step` says of it, the reports are those of
+/// a clean run, and no step is refused.
+pub fn clean_steps()
+    ensures install { StepsInstall }
+    ensures stand { StepsStand }
+{}
+
 /// After a legal run the active image is the one before it, or a whole payload that was offered so
 /// far.
 pub fn only_offered()
@@ -43,6 +53,12 @@ pub fn machine_agrees()
     ensures some { SomeAgrees }
     ensures fresh { FreshAgrees }
     ensures on { LinkAgreesOn }
+{}
+
+/// A world with no session is taken apart, and the next is made over its device: the session machine
+/// goes on, with nothing uploaded so far.
+pub fn sessions_go_on()
+    ensures { SessionsGoOn }
 {}
 
 /// What goes over the wire is understood: what a device answers to a request of a host, in bytes,
