@@ -38,4 +38,5 @@ pub mod FallLaws
 pub mod WholeLaws
 pub mod Beside
 pub mod LegalScripts
+pub mod Harmed
 pub mod Refusals

@@ -33,5 +33,6 @@ pub mod Falls
 pub mod ScriptLegal
 pub mod NextSession
 pub mod CleanSteps
+pub mod OneResult
 pub mod Moving
 pub mod Forming

@@ -1,0 +1,210 @@
+-- An action in which a write is harmed has one result.
+use Rattle.std.proofs.Common.{◌≡◌, inl, inr, ℕ, Bool, true, false, List, ◌∷◌, [], length, refl, sym, ap, ◌∙◌, subst}
+use Rattle.dfu_wire.specs.declared.requests.Request.{Request as Asked}
+use Rattle.dfu_slots.specs.Medium.Fuse.{Whole}
+use Rattle.dfu_slots.specs.Seen.{SlotsState, image_of, Commit}
+use Rattle.dfu_slots.specs.Determined.{IsKnown, SameStore, called_same_end, called_never_both}
+use Rattle.dfu_device.specs.declared.answer.Answer.{Answer}
+use Rattle.dfu_device.specs.declared.answer.Answer.TheVariants as answer
+use Rattle.dfu_device.specs.Table.{Plan, Sure, Writes, Commits, plan, time_plan}
+use Rattle.dfu_device.specs.Outcome.{Luck, Works, FailsOld, outcome}
+use Rattle.dfu_device.specs.Shown.{Shown, profile}
+use Rattle.dfu_device.specs.Rows.{meant, asked_length, Answers, block_calls, Done, Handles}
+use Rattle.dfu_device.specs.Came.{row_of}
+use Rattle.dfu_host.specs.Table.{Deed, Send, Wait, Reset, Done as IsDone, deed, Heard, Waited, WasReset, Restarted}
+use Rattle.dfu_host.specs.Host.{HostState}
+use Rattle.dfu_host.specs.Wire.{IsAsked}
+use Rattle.dfu_link.specs.Happening.{Fate, CutIn, Fail, Harm}
+use Rattle.dfu_link.specs.Bench.{Hosted, Bench}
+use Rattle.dfu_link.specs.Play.{Answered, took, heard_as, remembered}
+use Rattle.dfu_link.specs.Bytes.{fuse_of, armed, powered_up, Sends, cuts, fails, Acts, after_fate, NextAction}
+use Rattle.dfu_link.specs.OneResult.{SameDevice, AreOne, HarmsAWrite}
+use Rattle.dfu_link.proofs.Replies.{IsHosts, HostsDeed, hosts_deed, plan_heard, served}
+
+-- Devices that are the same.
+
+same_store : (s : SlotsState) → SameStore s s
+same_store s = record { medium = record { bytes = refl; fuse = refl; unit = refl }; held = refl; put_end = refl }
+
+same_device : {w v : Shown} → w ≡ v → SameDevice w v
+same_device {w = w} e = subst (λ (z : Shown). SameDevice w z) e (record { config = refl; stage = refl; store = same_store w.slots })
+
+-- After their power came back, and once they are disarmed, they are the same again.
+
+powered_same : {w v : Shown} → SameDevice w v → SameDevice (powered_up w) (powered_up v)
+powered_same same = record {
+  config = same.config;
+  stage = refl;
+  store = record {
+    medium = record { bytes = same.store.medium.bytes; fuse = refl; unit = same.store.medium.unit };
+    held = refl;
+    put_end = refl;
+  };
+}
+
+disarmed_same : {w v : Shown} → SameDevice w v → SameDevice (armed w Whole) (armed v Whole)
+disarmed_same same = record {
+  config = same.config;
+  stage = same.stage;
+  store = record {
+    medium = record { bytes = same.store.medium.bytes; fuse = refl; unit = same.store.medium.unit };
+    held = same.store.held;
+    put_end = same.store.put_end;
+  };
+}
+
+-- A plan that was carried out twice from the same device: there is one reply, and the devices are the same.
+record DoneOnce (p : Plan) (len : ℕ) (w w' v' : Shown) (a b : Answer) (out other : List ℕ) : Type 0 where
+  luck : Luck
+  first : Answers len (outcome (image_of w.slots) p luck).reply a out
+  second : Answers len (outcome (image_of w.slots) p luck).reply b other
+  device : SameDevice w' v'
+
+done_once : (p : Plan) (len : ℕ) (w w' v' : Shown) (a b : Answer) (out other : List ℕ) → IsKnown w.slots.medium.fuse
+    → Done p len w a out w' → Done p len w b other v' → DoneOnce p len w w' v' a b out other
+done_once (Sure reply stage) len w w' v' a b out other known (says, is) (says2, is2) =
+    record { luck = Works; first = says; second = says2; device = same_device (is ∙ sym is2) }
+done_once (Writes before block reply stage bad) len w w' v' a b out other known (inl (says, h)) (inl (says2, k)) = record {
+  luck = Works;
+  first = says;
+  second = says2;
+  device = record {
+    config = h.config_is ∙ sym k.config_is;
+    stage = h.stage_is ∙ sym k.stage_is;
+    store = called_same_end (block_calls before block) true w.slots w.slots w'.slots v'.slots (same_store w.slots) known h.calls k.calls;
+  };
+}
+done_once (Writes before block reply stage bad) len w w' v' a b out other known (inr (says, h)) (inr (says2, k)) = record {
+  luck = FailsOld;
+  first = says;
+  second = says2;
+  device = record {
+    config = h.config_is ∙ sym k.config_is;
+    stage = h.stage_is ∙ sym k.stage_is;
+    store = called_same_end (block_calls before block) false w.slots w.slots w'.slots v'.slots (same_store w.slots) known h.calls k.calls;
+  };
+}
+done_once (Writes before block reply stage bad) len w w' v' a b out other known (inl (says, h)) (inr (says2, k)) =
+    absurd (called_never_both (block_calls before block) w.slots w.slots w'.slots v'.slots (same_store w.slots) known h.calls k.calls)
+done_once (Writes before block reply stage bad) len w w' v' a b out other known (inr (says, h)) (inl (says2, k)) =
+    absurd (called_never_both (block_calls before block) w.slots w.slots v'.slots w'.slots (same_store w.slots) known k.calls h.calls)
+done_once (Commits taken reply stage bad) len w w' v' a b out other known (inl (says, h)) (inl (says2, k)) = record {
+  luck = Works;
+  first = says;
+  second = says2;
+  device = record {
+    config = h.config_is ∙ sym k.config_is;
+    stage = h.stage_is ∙ sym k.stage_is;
+    store = called_same_end (Commit (length taken) ∷ []) true w.slots w.slots w'.slots v'.slots (same_store w.slots) known h.calls k.calls;
+  };
+}
+done_once (Commits taken reply stage bad) len w w' v' a b out other known (inr (says, h)) (inr (says2, k)) = record {
+  luck = FailsOld;
+  first = says;
+  second = says2;
+  device = record {
+    config = h.config_is ∙ sym k.config_is;
+    stage = h.stage_is ∙ sym k.stage_is;
+    store = called_same_end (Commit (length taken) ∷ []) false w.slots w.slots w'.slots v'.slots (same_store w.slots) known h.calls k.calls;
+  };
+}
+done_once (Commits taken reply stage bad) len w w' v' a b out other known (inl (says, h)) (inr (says2, k)) =
+    absurd (called_never_both (Commit (length taken) ∷ []) w.slots w.slots w'.slots v'.slots (same_store w.slots) known h.calls k.calls)
+done_once (Commits taken reply stage bad) len w w' v' a b out other known (inr (says, h)) (inl (says2, k)) =
+    absurd (called_never_both (Commit (length taken) ∷ []) w.slots w.slots v'.slots w'.slots (same_store w.slots) known k.calls h.calls)
+
+-- What two results of an action have in common: the devices are the same, and one thing is heard, but for want of memory.
+record ActedOnce (w' v' : Shown) (heard other : Heard) : Type 0 where
+  device : SameDevice w' v'
+  hears : Heard
+  first : (room : Bool) × (heard ≡ remembered hears room)
+  second : (room : Bool) × (other ≡ remembered hears room)
+
+module _ (q : Asked) (body : List ℕ) (is : IsHosts q body) (w : Shown) (known : IsKnown w.slots.medium.fuse) where
+  -- A request goes by its plan, whatever bytes ask for it.
+  goes_by : (setup : List ℕ) (w' : Shown) (a : Answer) (out : List ℕ) → IsAsked q setup → Handles setup body w a out w'
+      → Done (plan (profile w) (image_of w.slots) w.stage (meant q body)) (asked_length q) w a out w'
+  goes_by setup w' a out asked h =
+      rw (served asked.setup q body is asked.asks) at (row_of asked.setup q setup body w a out w' asked.fields asked.asks h)
+
+  handled_once : (setup setup2 : List ℕ) (w' v' : Shown) (a b : Answer) (out other : List ℕ) → IsAsked q setup → IsAsked q setup2
+      → Handles setup body w a out w' → Handles setup2 body w b other v'
+      → DoneOnce (plan (profile w) (image_of w.slots) w.stage (meant q body)) (asked_length q) w w' v' a b out other
+  handled_once setup setup2 w' v' a b out other asked asked2 h k =
+      done_once (plan (profile w) (image_of w.slots) w.stage (meant q body)) (asked_length q) w w' v' a b out other known
+      (goes_by setup w' a out asked h) (goes_by setup2 v' b other asked2 k)
+
+  sends_once : (fate : Fate) (setup setup2 : List ℕ) (w' v' : Shown) (heard heard2 : Heard) → HarmsAWrite fate → IsAsked q setup
+      → IsAsked q setup2 → Sends q setup body fate w w' heard → Sends q setup2 body fate w v' heard2 → ActedOnce w' v' heard heard2
+  sends_once CutIn setup setup2 w' v' heard heard2 harms asked asked2 (cuts {a = a} {out = out} h) (cuts {a = b} {out = other} k) =
+      let x = handled_once setup setup2 w' v' a b out other asked asked2 h k in
+      record { device = x.device; hears = Restarted; first = (true, refl); second = (true, refl) }
+  sends_once Fail setup setup2 w' v' heard heard2 harms asked asked2 (fails {a = a} {out = out} h r) (fails {a = b} {out = other} k s) =
+      let x = handled_once setup setup2 w' v' a b out other asked asked2 h k in
+      let p = plan (profile w) (image_of w.slots) w.stage (meant q body) in
+      record {
+        device = x.device;
+        hears = heard_as (outcome (image_of w.slots) p x.luck).reply;
+        first = plan_heard q body (profile w) (image_of w.slots) w.stage x.luck a out heard is x.first r;
+        second = plan_heard q body (profile w) (image_of w.slots) w.stage x.luck b other heard2 is x.second s;
+      }
+  sends_once fate setup setup2 w' v' heard heard2 harms asked asked2 h k = elim harms [ ]
+
+-- An action in which a write is harmed, from one device.
+acts_once : (d : Deed) (fate : Fate) (w w' v' : Shown) (heard heard2 : Heard) → HostsDeed d → HarmsAWrite fate
+    → IsKnown w.slots.medium.fuse → Acts d fate w w' heard → Acts d fate w v' heard2 → ActedOnce w' v' heard heard2
+acts_once (Send q body) fate w w' v' heard heard2 is harms known (setup, asked, h) (setup2, asked2, k) =
+    sends_once q body is w known fate setup setup2 w' v' heard heard2 harms asked asked2 h k
+acts_once (Wait ms) CutIn w w' v' heard heard2 is harms known (h, e) (k, f) =
+    let x = done_once (time_plan (profile w) w.stage ms) 0 w w' v' answer.Ack answer.Ack [] [] known h k in
+    record { device = x.device; hears = Restarted; first = (true, e); second = (true, f) }
+acts_once (Wait ms) Fail w w' v' heard heard2 is harms known (h, e) (k, f) =
+    let x = done_once (time_plan (profile w) w.stage ms) 0 w w' v' answer.Ack answer.Ack [] [] known h k in
+    record { device = x.device; hears = Waited; first = (true, e); second = (true, f) }
+acts_once Reset CutIn w w' v' heard heard2 is harms known (h, e) (k, f) =
+    record { device = same_device (h ∙ sym k); hears = Restarted; first = (true, e); second = (true, f) }
+acts_once Reset Fail w w' v' heard heard2 is harms known (h, e) (k, f) =
+    record { device = same_device (h ∙ sym k); hears = WasReset; first = (true, e); second = (true, f) }
+acts_once (Wait ms) fate w w' v' heard heard2 is harms known h k = elim harms [ ]
+acts_once Reset fate w w' v' heard heard2 is harms known h k = elim harms [ ]
+acts_once (IsDone report) fate w w' v' heard heard2 is harms known h k = absurd h
+
+-- The fuse of an action in which a write is harmed is known.
+fuse_known : (fate : Fate) (harm : Harm) → HarmsAWrite fate → IsKnown (fuse_of fate harm)
+fuse_known CutIn harm harms = tt
+fuse_known Fail harm harms = tt
+fuse_known fate harm harms = elim harms [ ]
+
+after_same : (fate : Fate) {w v : Shown} → HarmsAWrite fate → SameDevice w v → SameDevice (after_fate fate w) (after_fate fate v)
+after_same CutIn harms same = powered_same same
+after_same Fail harms same = disarmed_same same
+after_same fate harms same = elim harms [ ]
+
+hosted_one : (h k : HostState) → Hosted h ≡ Hosted k → k ≡ h
+hosted_one h k e = sym cc
+
+-- The host's next action, where a write is harmed in it.
+pub action_once : (fate : Fate) (harm : Harm) (b c d : Bench) (x y : Answered) → HarmsAWrite fate
+    → NextAction b.session fate harm b c x → NextAction b.session fate harm b d y → AreOne c d x y
+action_once fate harm b c d x y harms g k =
+    let w = armed b.device (fuse_of fate harm) in
+    let same : k.host ≡ g.host = hosted_one g.host k.host (sym g.live ∙ k.live) in
+    let acts : Acts (deed g.host.task g.host.phase) fate w k.last k.heard = subst
+    (λ (h : HostState). Acts (deed h.task h.phase) fate w k.last k.heard) same k.acts in
+    let one = acts_once (deed g.host.task g.host.phase) fate w g.last k.last g.heard k.heard (hosts_deed g.host.task g.host.phase) harms
+    (fuse_known fate harm harms) g.acts acts in
+    record {
+      device = subst (λ (z : Shown). SameDevice z d.device) (sym g.device)
+          (subst (λ (z : Shown). SameDevice (after_fate fate g.last) z) (sym k.device) (after_same fate harms one.device));
+      rule = λ room. took g.host (remembered one.hears room);
+      first = (one.first.0, λ i. record {
+        session = (ap (λ (z : Heard). (took g.host z).session) (sym one.first.1) ∙ sym g.session) i;
+        answer = (ap (λ (z : Heard). (took g.host z).answer) (sym one.first.1) ∙ sym g.answered) i;
+      });
+      second = (one.second.0, λ i. record {
+        session = (ap (λ (z : Heard). (took g.host z).session) (sym one.second.1)
+            ∙ ap (λ (h : HostState). (took h k.heard).session) (sym same) ∙ sym k.session) i;
+        answer = (ap (λ (z : Heard). (took g.host z).answer) (sym one.second.1)
+            ∙ ap (λ (h : HostState). (took h k.heard).answer) (sym same) ∙ sym k.answered) i;
+      });
+    }
