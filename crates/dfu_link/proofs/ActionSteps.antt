@@ -8,7 +8,7 @@ use Rattle.dfu_host.specs.Table.{Goal, ToLoad, ToFetch, Task, Phase, deed}
 use Rattle.dfu_host.specs.Host.{HostState, IsOn}
 use Rattle.dfu_link.specs.Session.{Machine, Live, Loading, Fetching, IsFirst, Begins, begins_not, takes, installs, Ends, ends_not, drops, Kind, AGo, Step, goes}
 use Rattle.dfu_link.specs.Happening.{Fate}
-use Rattle.dfu_link.specs.Play.{Go, Link, given, Played, task_for, acted, played}
+use Rattle.dfu_link.specs.Play.{Link, given, Played, task_for, acted, gone}
 use Rattle.dfu_link.specs.Bench.{Hosted}
 use Rattle.dfu_link.specs.LinkAgreement.{pending_of, IsSound}
 use Rattle.dfu_link.specs.Agreement.{live_goal, live_of, IsLiveOffer}
@@ -69,7 +69,7 @@ module _ (c : Profile) (sized : 0 < c.transfer) (offers : List (List ℕ)) where
           actions = left;
           restarts = again;
         });
-      } in Simulated c offers w up AGo (played c w (Go fate) l k room) offers
+      } in Simulated c offers w up AGo (gone c w w.session fate l k room) offers
   goal_simulated s (ToLoad p) phase left again up fate l k room q o on f some =
       let d = acted c s (deed (task_for c (ToLoad p)) phase) fate l k in
       let g = go c offers p some sized phase s on f q o fate l k in
@@ -86,11 +86,11 @@ module _ (c : Profile) (sized : 0 < c.transfer) (offers : List (List ℕ)) where
   -- Each action of a live host is one step of the session machine, and what holds of the link holds after it.
   pub go_simulated : (s : Situation) (h : HostState) (up : List ℕ) (fate : Fate) (l k : Luck) (room : Bool) → IsSound offers s.stage
       → IsLiveOffer offers (live_goal h.task.goal) → HostFact c s h
-      → let w : Link = record { device = s; session = Hosted h } in Simulated c offers w up AGo (played c w (Go fate) l k room) offers
+      → let w : Link = record { device = s; session = Hosted h } in Simulated c offers w up AGo (gone c w w.session fate l k room) offers
   go_simulated s h up fate l k room q o f =
       subst (λ (task : Task). let w : Link = record {
         device = s;
         session = Hosted (record { task = task; phase = h.phase; actions = h.actions; restarts = h.restarts });
       } in
-      Simulated c offers w up AGo (played c w (Go fate) l k room) offers) (sym (task_by c h.task f.task_is))
+      Simulated c offers w up AGo (gone c w w.session fate l k room) offers) (sym (task_by c h.task f.task_is))
       (goal_simulated s h.task.goal h.phase h.actions h.restarts up fate l k room q o f.on f.fact f.some)

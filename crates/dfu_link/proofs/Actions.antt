@@ -15,7 +15,7 @@ use Rattle.dfu_host.specs.Table.{Deed, Send, Wait, Reset, Done, Heard}
 use Rattle.dfu_host.specs.Wire.{IsAsked}
 use Rattle.dfu_link.specs.Happening.{Fate, Pass, LostOut, LostBack, Twice, TwiceLostBack, Slip, CutIn, Fail}
 use Rattle.dfu_link.specs.Play.{heard_as, remembered, acted}
-use Rattle.dfu_link.specs.Bytes.{armed, bus_was_reset, HearsAnswer, Sends, passes, goes_lost, comes_lost, repeats, repeats_lost, slips, cuts, fails, Waits, Resets, Acts}
+use Rattle.dfu_link.specs.Bytes.{armed, bus_was_reset, HearsAnswer, Sends, passes, goes_lost, comes_lost, repeats, repeats_lost, slips, cuts, fails, Waits, ResetsBus, Acts}
 use Rattle.dfu_link.proofs.Replies.{IsHosts, HostsDeed, plan_heard, served}
 
 -- The fuse of the medium is no part of what is shown.
@@ -194,7 +194,7 @@ waits_go ms fate w w' heard (e, h) = let y = time_came ms w w' e in
       lucky = λ whole. ((y.unarmed whole).0, refl);
     }
 
-resets_go : (fate : Fate) (w w' : Shown) (heard : Heard) → Resets fate w w' heard
+resets_go : (fate : Fate) (w w' : Shown) (heard : Heard) → ResetsBus fate w w' heard
     → Went w.slots.medium.fuse (profile w) (situation w) Reset fate w' heard
 resets_go (Slip ms) w w' heard (e, h) = let y = time_came ms (bus_was_reset w) w' e in
     record {

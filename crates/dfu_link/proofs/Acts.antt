@@ -13,7 +13,7 @@ use Rattle.dfu_link.specs.declared.fate.Fate.{Fate as GivenFate}
 use Rattle.dfu_link.specs.declared.fate.Fate.TheVariants as fate
 use Rattle.dfu_link.specs.declared.back.Back.TheVariants as back
 use Rattle.dfu_link.specs.Happening.{Fate, Pass, LostOut, LostBack, Twice, TwiceLostBack, Slip, CutIn, Fail, fate_of, harm_in}
-use Rattle.dfu_link.specs.Bytes.{fuse_of, armed, bus_was_reset, Sends, passes, goes_lost, comes_lost, repeats, repeats_lost, slips, cuts, fails, Waits, Resets, Acts, after_fate}
+use Rattle.dfu_link.specs.Bytes.{fuse_of, armed, bus_was_reset, Sends, passes, goes_lost, comes_lost, repeats, repeats_lost, slips, cuts, fails, Waits, ResetsBus, Acts, after_fate}
 use Rattle.dfu_link.specs.Acting.{HasSent, HasWaited, HasReset}
 
 -- A request, by its fate.
@@ -112,7 +112,7 @@ acts_wait (Wait ms) f given w w' heard e h = subst (λ (n : ℕ). Waits n f w w'
 acts_wait d f given w w' heard e h = elim e [ ]
 
 -- What the code does as a reset is a reset of the table.
-pub acts_reset : (d : Deed) (f : Fate) (w w' : Shown) (heard : Heard) → Spells d action.Reset → Resets f w w' heard → Acts d f w w' heard
+pub acts_reset : (d : Deed) (f : Fate) (w w' : Shown) (heard : Heard) → Spells d action.Reset → ResetsBus f w w' heard → Acts d f w w' heard
 acts_reset Reset f w w' heard e h = h
 acts_reset d f w w' heard e h = elim e [ ]
 

@@ -72,7 +72,7 @@ begun_run c p i again left tol can sized some least room budget =
 
 -- The clean run holds, put together of its turns.
 pub clean_run : CleanRun
-clean_run c image payload actions again tol can sized long least room budget other memory =
+clean_run c image payload limits tol can sized long least room budget other memory =
     let b = length (blocks payload c.transfer) in
     let some : 0 < b = block_counts payload c.transfer 0 sized (omega (arith, long)) in
-    begun_run c payload image again (max 1 actions) tol can sized some least room (omega (arith, budget))
+    begun_run c payload image limits.restarts (max 1 limits.actions) tol can sized some least room (omega (arith, budget))

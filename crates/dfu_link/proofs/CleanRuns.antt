@@ -9,13 +9,11 @@ use Rattle.dfu_host.specs.declared.report.Report.{Report}
 use Rattle.dfu_host.specs.declared.report.Report.TheVariants.{Installed}
 use Rattle.dfu_host.specs.Table.{ToLoad}
 use Rattle.dfu_link.specs.Session.{said}
-use Rattle.dfu_link.specs.Happening.{Fate, Pass, Happening, Offers, Goes, unharmed}
-use Rattle.dfu_link.specs.Play.{Event, Offer, Go, Link, Answered, silent, opened, Played, played}
+use Rattle.dfu_link.specs.Happening.{Pass, Happening, Offers, Goes, unharmed}
+use Rattle.dfu_link.specs.Play.{Link, Answered, silent, opened, Played, played}
 use Rattle.dfu_link.specs.Bench.{Bench, LinkState}
 use Rattle.dfu_link.specs.Bytes.{link_of}
 use Rattle.dfu_link.specs.CleanRun.{PassesTo, Quietly, here, there, resting, InstalledAfter}
-use Rattle.dfu_link.specs.Refusing.{IsOffered}
-use Rattle.dfu_link.specs.Comes.{Means}
 use Rattle.dfu_link.specs.Sure.{IsHarmless, IsAsPlayed, IsSure}
 use Rattle.dfu_link.specs.CleanSteps.{SureSteps, no_step, one_step, StepsInstall}
 use Rattle.dfu_link.specs.CleanInstall.{clean_passes, CanInstall, offer_and_passes, InstallsCleanly}
@@ -32,36 +30,18 @@ sure_chain (one_more s more) = one_step s.sure (sure_chain more)
 abbrev pub pass : Happening
 pass = Goes Pass unharmed
 
--- A pass is the one of the table of fates.
-pass_played : (b mid : Bench) (report : Option Report) (event : Event) → Means b.device.config pass event
-    → (IsHarmless event → IsAsPlayed b event mid report) → IsAsPlayed b (Go Pass) mid report
-pass_played b mid report (Go fate) m w = subst (λ (f : Fate). IsAsPlayed b (Go f) mid report) m
-    (w (subst (λ (f : Fate). IsHarmless (Go f)) (sym m) tt))
-pass_played b mid report event m w = elim m [ ]
-
--- An offer too, of the payload that the file has.
-record OfferPlayed (b : Bench) (file : List ℕ) (limits : Limits) (mid : Bench) (report : Option Report) : Type 0 where
-  payload : List ℕ
-  offered : IsOffered b.device.config file payload
-  as_played : IsAsPlayed b (Offer payload limits.actions limits.restarts) mid report
-
-offer_played : (b mid : Bench) (report : Option Report) (file : List ℕ) (limits : Limits) (event : Event)
-    → Means b.device.config (Offers file limits) event → (IsHarmless event → IsAsPlayed b event mid report)
-    → OfferPlayed b file limits mid report
-offer_played b mid report file limits (Offer payload actions restarts) m w = record {
-  payload = payload;
-  offered = m.0;
-  as_played = subst (λ (r : ℕ). IsAsPlayed b (Offer payload limits.actions r) mid report) m.2
-      (subst (λ (a : ℕ). IsAsPlayed b (Offer payload a restarts) mid report) m.1 (w tt));
-}
-offer_played b mid report file limits event m w = elim m [ ]
+-- What is played of an event is played of what it is.
+is_played : (b mid : Bench) (report : Option Report) (event now : Happening) → event ≡ now → IsHarmless now
+    → (IsHarmless event → IsAsPlayed b event mid report) → IsAsPlayed b now mid report
+is_played b mid report event now e harmless w =
+    subst (λ (x : Happening). IsAsPlayed b x mid report) e (w (subst IsHarmless (sym e) harmless))
 
 -- Where it leads, and what it reports.
 record LeadsTo (mid : Bench) (report : Option Report) (w : Link) (answer : Answered) : Type 0 where
   link : link_of mid ≡ w
   told : report ≡ answer.report
 
-leads_to : (b mid : Bench) (report : Option Report) (event : Event) (c : Profile) (w : Link) (answer : Answered) → profile b.device ≡ c
+leads_to : (b mid : Bench) (report : Option Report) (event : Happening) (c : Profile) (w : Link) (answer : Answered) → profile b.device ≡ c
     → IsAsPlayed b event mid report
     → ((room : Bool) → played c (link_of b) event Works Works room ≡ record { link = w; answer = answer }) → LeadsTo mid report w answer
 leads_to b mid report event c w answer e x f =
@@ -71,7 +51,8 @@ leads_to b mid report event c w answer e x f =
 
 pass_leads : (b mid : Bench) (report : Option Report) (c : Profile) (w : Link) (answer : Answered) → profile b.device ≡ c
     → IsSure b pass mid report → PassesTo c (link_of b) w answer → LeadsTo mid report w answer
-pass_leads b mid report c w answer e s f = leads_to b mid report (Go Pass) c w answer e (pass_played b mid report s.event s.means s.works)
+pass_leads b mid report c w answer e s f = leads_to b mid report pass c w answer e
+    (is_played b mid report s.event pass s.means tt s.works)
     (λ room. f Works room)
 
 -- Passes that report nothing.
@@ -132,11 +113,11 @@ has_begun b mid report file limits payload can s =
     let c : Profile = profile b.device in
     let n : ℕ = clean_passes b.device.config payload in
     let image : List ℕ = (link_of b).device.image in
-    let o = offer_played b mid report file limits s.event s.means s.works in
-    let same : o.payload ≡ payload = (one_reading file o.payload payload _ _ _ _ _ _ o.offered.reads can.offered.reads).0 in
-    let start : Link = (played c (resting image) (Offer payload limits.actions limits.restarts) Works Works true).link in
+    let offer : Happening = Offers s.means.0 limits in
+    let same : s.means.0 ≡ payload = (one_reading file s.means.0 payload _ _ _ _ _ _ s.means.1.reads can.offered.reads).0 in
+    let start : Link = (played c (resting image) (Offers payload limits) Works Works true).link in
     let lead : LeadsTo mid report start silent =
-    leads_to b mid report (Offer o.payload limits.actions limits.restarts) c start silent refl o.as_played
+    leads_to b mid report offer c start silent refl (is_played b mid report s.event offer s.means.2 tt s.works)
     (λ room. λ i. record {
       link = record {
         device = record { image = image; stage = can.rests i };
@@ -145,7 +126,7 @@ has_begun b mid report file limits payload can s =
       answer = silent;
     }) in
     let run : InstalledAfter c start n payload =
-    clean_run c image payload limits.actions limits.restarts can.tolerant (can_download can.offered) (has_transfer can.offered)
+    clean_run c image payload limits can.tolerant (can_download can.offered) (has_transfer can.offered)
     (bytes_of can.offered) can.least can.room can.enough Works true in
     record {
       before = run.before;

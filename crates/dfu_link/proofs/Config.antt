@@ -7,9 +7,9 @@ use Rattle.dfu_device.specs.Table.{Plan, Sure, Writes, Commits, time_plan}
 use Rattle.dfu_device.specs.Shown.{Shown, profile}
 use Rattle.dfu_device.specs.Rows.{asked_length, setup_plan, Done, Handles, handled_as, Elapses}
 use Rattle.dfu_host.specs.Table.{Deed, Send, Wait, Reset, Done as IsDone, deed, Heard}
-use Rattle.dfu_link.specs.Happening.{Fate, Slip, CutIn, Harm}
-use Rattle.dfu_link.specs.Play.{Event, Offer, UploadIt, AbortIt, Go, Time, ResetBus, Cut, Answered}
-use Rattle.dfu_link.specs.Bytes.{fuse_of, armed, bus_was_reset, Sends, passes, goes_lost, comes_lost, repeats, repeats_lost, slips, cuts, fails, Waits, Resets, Acts, after_fate, Happens}
+use Rattle.dfu_link.specs.Happening.{Fate, Slip, CutIn, Happening, Offers, Uploads, Aborts, Goes, Passes, Resets, Cuts}
+use Rattle.dfu_link.specs.Play.{Answered}
+use Rattle.dfu_link.specs.Bytes.{fuse_of, armed, bus_was_reset, Sends, passes, goes_lost, comes_lost, repeats, repeats_lost, slips, cuts, fails, Waits, ResetsBus, Acts, after_fate, Happens}
 use Rattle.dfu_link.specs.Bench.{Bench}
 
 done_config : (p : Plan) (len : ℕ) (w : Shown) (a : Answer) (out : List ℕ) (w' : Shown) → Done p len w a out w' → w'.config ≡ w.config
@@ -42,7 +42,7 @@ waits_config ms (Slip other) w w' heard h = elapses_config other w w' h.0
 waits_config ms CutIn w w' heard h = elapses_config ms w w' h.0
 waits_config ms f w w' heard h = elapses_config ms w w' h.0
 
-resets_config : (f : Fate) (w w' : Shown) (heard : Heard) → Resets f w w' heard → w'.config ≡ w.config
+resets_config : (f : Fate) (w w' : Shown) (heard : Heard) → ResetsBus f w w' heard → w'.config ≡ w.config
 resets_config (Slip ms) w w' heard h = elapses_config ms (bus_was_reset w) w' h.0
 resets_config CutIn w w' heard h = ap (λ (x : Shown). x.config) h.0
 resets_config f w w' heard h = ap (λ (x : Shown). x.config) h.0
@@ -58,14 +58,14 @@ after_config CutIn w = refl
 after_config f w = refl
 
 -- No event changes what a device is set up as.
-pub happens_config : (event : Event) (harm : Harm) (b b' : Bench) (answer : Answered) → Happens event harm b b' answer
+pub happens_config : (event : Happening) (b b' : Bench) (answer : Answered) → Happens event b b' answer
     → b'.device.config ≡ b.device.config
-happens_config (Offer payload actions restarts) harm b b' answer (e, f) = ap (λ (x : Bench). x.device.config) e
-happens_config (UploadIt actions restarts) harm b b' answer (e, f) = ap (λ (x : Bench). x.device.config) e
-happens_config AbortIt harm b b' answer (e, f) = ap (λ (x : Bench). x.device.config) e
-happens_config (Go fate) harm b b' answer g =
+happens_config (Offers payload limits) b b' answer (e, f) = ap (λ (x : Bench). x.device.config) e
+happens_config (Uploads limits) b b' answer (e, f) = ap (λ (x : Bench). x.device.config) e
+happens_config Aborts b b' answer (e, f) = ap (λ (x : Bench). x.device.config) e
+happens_config (Goes fate harm) b b' answer g =
     ap (λ (x : Shown). x.config) g.device ∙ after_config fate g.last
     ∙ acts_config (deed g.host.task g.host.phase) fate (armed b.device (fuse_of fate harm)) g.last g.heard g.acts
-happens_config (Time ms) harm b b' answer (e, s, n) = elapses_config ms b.device b'.device e
-happens_config ResetBus harm b b' answer (e, f) = ap (λ (x : Bench). x.device.config) e
-happens_config Cut harm b b' answer (e, f) = ap (λ (x : Bench). x.device.config) e
+happens_config (Passes ms) b b' answer (e, s, n) = elapses_config ms b.device b'.device e
+happens_config Resets b b' answer (e, f) = ap (λ (x : Bench). x.device.config) e
+happens_config Cuts b b' answer (e, f) = ap (λ (x : Bench). x.device.config) e

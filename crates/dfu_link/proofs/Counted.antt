@@ -8,8 +8,8 @@ use Rattle.dfu_host.specs.Counting.{IsCounted}
 use Rattle.dfu_host.specs.CountingLaws.{after_stays, after_same_task}
 use Rattle.dfu_device.specs.Stage.{Profile}
 use Rattle.dfu_device.specs.Outcome.{Situation}
-use Rattle.dfu_link.specs.Happening.{Fate, Harm}
-use Rattle.dfu_link.specs.Play.{Event, Offer, UploadIt, AbortIt, Go, Time, ResetBus, Cut, Answered, settled, took, told, aborted}
+use Rattle.dfu_link.specs.Happening.{Fate, Happening, Offers, Uploads, Aborts, Goes, Passes, Resets, Cuts}
+use Rattle.dfu_link.specs.Play.{Answered, settled, took, told, aborted}
 use Rattle.dfu_link.specs.Bench.{Session, Nobody, Hosted, Bench}
 use Rattle.dfu_link.specs.Fact.{SessionFact}
 use Rattle.dfu_link.specs.Bytes.{Happens}
@@ -101,28 +101,28 @@ acted_counted fate w w' h h' some c acted = subst (λ (x : HostState). IsCounted
 -- Each event.
 
 -- After each event what a live session keeps is counted.
-pub happens_counted : (event : Event) (harm : Harm) (b b' : Bench) (answer : Answered) → SendsBytes b.session → IsCountedIn b.session
-    → Happens event harm b b' answer → IsCountedIn b'.session
-happens_counted (Offer payload actions restarts) harm b b' answer some c (e, f) = subst (λ (x : Bench). IsCountedIn x.session) (sym e) tt
-happens_counted (UploadIt actions restarts) harm b b' answer some c (e, f) = subst (λ (x : Bench). IsCountedIn x.session) (sym e) tt
-happens_counted AbortIt harm b b' answer some c (e, f) = subst (λ (x : Bench). IsCountedIn x.session) (sym e) (aborted_counted b.session c)
-happens_counted (Go fate) harm b b' answer some c g = subst IsCountedIn (sym g.session)
+pub happens_counted : (event : Happening) (b b' : Bench) (answer : Answered) → SendsBytes b.session → IsCountedIn b.session
+    → Happens event b b' answer → IsCountedIn b'.session
+happens_counted (Offers payload limits) b b' answer some c (e, f) = subst (λ (x : Bench). IsCountedIn x.session) (sym e) tt
+happens_counted (Uploads limits) b b' answer some c (e, f) = subst (λ (x : Bench). IsCountedIn x.session) (sym e) tt
+happens_counted Aborts b b' answer some c (e, f) = subst (λ (x : Bench). IsCountedIn x.session) (sym e) (aborted_counted b.session c)
+happens_counted (Goes fate harm) b b' answer some c g = subst IsCountedIn (sym g.session)
     (took_counted g.host g.heard (subst SendsBytes g.live some) (subst IsCountedIn g.live c))
-happens_counted (Time ms) harm b b' answer some c (e, s, n) = subst IsCountedIn (sym s) c
-happens_counted ResetBus harm b b' answer some c (e, f) = subst (λ (x : Bench). IsCountedIn x.session) (sym e)
+happens_counted (Passes ms) b b' answer some c (e, s, n) = subst IsCountedIn (sym s) c
+happens_counted Resets b b' answer some c (e, f) = subst (λ (x : Bench). IsCountedIn x.session) (sym e)
     (told_counted b.session some c)
-happens_counted Cut harm b b' answer some c (e, f) = subst (λ (x : Bench). IsCountedIn x.session) (sym e) (told_counted b.session some c)
+happens_counted Cuts b b' answer some c (e, f) = subst (λ (x : Bench). IsCountedIn x.session) (sym e) (told_counted b.session some c)
 
 -- What an answer gives, by the device's transfer size.
-pub happens_fits : (p : Profile) (s : Situation) (event : Event) (harm : Harm) (b b' : Bench) (answer : Answered)
-    → SessionFact p s b.session → SendsBytes b.session → IsCountedIn b.session → Happens event harm b b' answer → Fits p.transfer answer
-happens_fits p s (Offer payload actions restarts) harm b b' answer f some c (e, a) = subst (Fits p.transfer) (sym a) tt
-happens_fits p s (UploadIt actions restarts) harm b b' answer f some c (e, a) = subst (Fits p.transfer) (sym a) tt
-happens_fits p s AbortIt harm b b' answer f some c (e, a) = subst (Fits p.transfer) (sym a) tt
-happens_fits p s (Go fate) harm b b' answer f some c g =
+pub happens_fits : (p : Profile) (s : Situation) (event : Happening) (b b' : Bench) (answer : Answered)
+    → SessionFact p s b.session → SendsBytes b.session → IsCountedIn b.session → Happens event b b' answer → Fits p.transfer answer
+happens_fits p s (Offers payload limits) b b' answer f some c (e, a) = subst (Fits p.transfer) (sym a) tt
+happens_fits p s (Uploads limits) b b' answer f some c (e, a) = subst (Fits p.transfer) (sym a) tt
+happens_fits p s Aborts b b' answer f some c (e, a) = subst (Fits p.transfer) (sym a) tt
+happens_fits p s (Goes fate harm) b b' answer f some c g =
     let fact = subst (SessionFact p s) g.live f in
     subst (Fits p.transfer) (sym g.answered) (subst (λ (n : ℕ). Fits n (took g.host g.heard).answer) fact.task_is.transfer
     (took_fits g.host g.heard (subst SendsBytes g.live some) (subst IsCountedIn g.live c)))
-happens_fits p s (Time ms) harm b b' answer f some c (e, k, a) = subst (Fits p.transfer) (sym a) tt
-happens_fits p s ResetBus harm b b' answer f some c (e, a) = subst (Fits p.transfer) (sym a) (told_fits p s b.session f some c)
-happens_fits p s Cut harm b b' answer f some c (e, a) = subst (Fits p.transfer) (sym a) (told_fits p s b.session f some c)
+happens_fits p s (Passes ms) b b' answer f some c (e, k, a) = subst (Fits p.transfer) (sym a) tt
+happens_fits p s Resets b b' answer f some c (e, a) = subst (Fits p.transfer) (sym a) (told_fits p s b.session f some c)
+happens_fits p s Cuts b b' answer f some c (e, a) = subst (Fits p.transfer) (sym a) (told_fits p s b.session f some c)

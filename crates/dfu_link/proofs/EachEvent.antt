@@ -10,7 +10,8 @@ use Rattle.dfu_host.specs.BlockLaws.{block_counts}
 use Rattle.dfu_host.specs.Table.{Goal, ToLoad, ToFetch, Phase, Fetch, LastUploaded, GiveUp, Over, OverUploaded, Restarted}
 use Rattle.dfu_host.specs.Host.{HostState, IsOn, aborted_in}
 use Rattle.dfu_link.specs.Session.{Machine, Live, NoOne, Says, says_not, ATime, ARestart, Step, offered, uploads, aborts, passes, passes_installed, restarts, stops, and_then}
-use Rattle.dfu_link.specs.Play.{Event, Offer, UploadIt, AbortIt, Go, Time, ResetBus, Cut, kind_of, Link, Answered, silent, given, Played, took, restarted_to, played, IsAllowed, Play}
+use Rattle.dfu_link.specs.Happening.{Happening, Offers, Uploads, Aborts, Goes, Passes, Resets, Cuts}
+use Rattle.dfu_link.specs.Play.{kind_of, Link, Answered, silent, given, Played, took, restarted_to, played, IsAllowed, Play}
 use Rattle.dfu_link.specs.Bench.{Session, Nobody, Hosted}
 use Rattle.dfu_link.specs.LinkAgreement.{pending_of, IsSound, Agrees}
 use Rattle.dfu_link.specs.Agreement.{live_goal, live_of, IsLiveOffer}
@@ -123,20 +124,20 @@ module _ (c : Profile) (offers : List (List ℕ)) where
   more_sound p stage h = tt
 
 -- The offers after an event.
-abbrev offers_by : Event → List (List ℕ) → List (List ℕ)
-offers_by (Offer payload actions again) offers = payload ∷ offers
+abbrev offers_by : Happening → List (List ℕ) → List (List ℕ)
+offers_by (Offers payload limits) offers = payload ∷ offers
 offers_by event offers = offers
 
 -- What an event has to know of the transfer size: an offer, and an action of the host.
-abbrev pub Sizes : Profile → Session → Event → Type 0
-Sizes c Nobody (Offer payload actions again) = 0 < c.transfer
-Sizes c (Hosted h) (Go fate) = 0 < c.transfer
+abbrev pub Sizes : Profile → Session → Happening → Type 0
+Sizes c Nobody (Offers payload limits) = 0 < c.transfer
+Sizes c (Hosted h) (Goes fate harm) = 0 < c.transfer
 Sizes c session event = Unit {0}
 
 -- Where the transfer size is known, each event knows it.
-pub all_sized : (c : Profile) (session : Session) (event : Event) → 0 < c.transfer → Sizes c session event
-all_sized c Nobody (Offer payload actions again) h = h
-all_sized c (Hosted host) (Go fate) h = h
+pub all_sized : (c : Profile) (session : Session) (event : Happening) → 0 < c.transfer → Sizes c session event
+all_sized c Nobody (Offers payload limits) h = h
+all_sized c (Hosted host) (Goes fate harm) h = h
 all_sized c session event h = tt
 
 -- A live host that its caller gives up is in Give up.
@@ -149,12 +150,12 @@ module _ (c : Profile) where
   some_blocks : (p : List ℕ) → 0 < c.transfer → 0 < length p → 0 < length (blocks p c.transfer)
   some_blocks p sized h = block_counts p c.transfer 0 sized (omega (arith, h))
 
-  simulated : (offers : List (List ℕ)) (s : Situation) (session : Session) (up : List ℕ) (event : Event) (l k : Luck) (room : Bool)
+  simulated : (offers : List (List ℕ)) (s : Situation) (session : Session) (up : List ℕ) (event : Happening) (l k : Luck) (room : Bool)
       → Sizes c session event → IsAllowed session event → IsSound offers s.stage → IsLiveOffer offers (live_of session)
       → SessionFact c s session
       → let w : Link = record { device = s; session = session } in
       Simulated c offers w up (kind_of event) (played c w event l k room) (offers_by event offers)
-  simulated offers s Nobody up (Offer payload actions again) l k room z a q o f =
+  simulated offers s Nobody up (Offers payload limits) l k room z a q o f =
       record {
         step = offered refl;
         sound = more_sound c offers payload s.stage q;
@@ -162,8 +163,8 @@ module _ (c : Profile) where
         fact = record { task_is = goes_by c (ToLoad payload); on = tt; some = some_blocks payload z a; fact = tt };
         done = λ e. cc;
       }
-  simulated offers s (Hosted h) up (Offer payload actions again) l k room z a q o f = elim a [ ]
-  simulated offers s Nobody up (UploadIt actions again) l k room z a q o f =
+  simulated offers s (Hosted h) up (Offers payload limits) l k room z a q o f = elim a [ ]
+  simulated offers s Nobody up (Uploads limits) l k room z a q o f =
       record {
         step = uploads refl;
         sound = q;
@@ -171,10 +172,10 @@ module _ (c : Profile) where
         fact = record { task_is = goes_by c ToFetch; on = tt; some = tt; fact = tt };
         done = λ e. cc;
       }
-  simulated offers s (Hosted h) up (UploadIt actions again) l k room z a q o f = elim a [ ]
-  simulated offers s Nobody up AbortIt l k room z a q o f = elim a [ ]
-  simulated offers s (Hosted h) up AbortIt l k room z a q o f =
-      subst (λ (x : HostState). Simulated c offers (record { device = s; session = Hosted h }) up (kind_of AbortIt)
+  simulated offers s (Hosted h) up (Uploads limits) l k room z a q o f = elim a [ ]
+  simulated offers s Nobody up Aborts l k room z a q o f = elim a [ ]
+  simulated offers s (Hosted h) up Aborts l k room z a q o f =
+      subst (λ (x : HostState). Simulated c offers (record { device = s; session = Hosted h }) up (kind_of Aborts)
       (record { link = record { device = s; session = Hosted x }; answer = silent }) offers) (sym (gives_up h h.phase f.on))
       (record {
         step = aborts;
@@ -188,14 +189,14 @@ module _ (c : Profile) where
         };
         done = λ e. cc;
       })
-  simulated offers s Nobody up (Go fate) l k room z a q o f = elim a [ ]
-  simulated offers s (Hosted h) up (Go fate) l k room z a q o f = go_simulated c z offers s h up fate l k room q o f
-  simulated offers s session up (Time ms) l k room z a q o f =
+  simulated offers s Nobody up (Goes fate harm) l k room z a q o f = elim a [ ]
+  simulated offers s (Hosted h) up (Goes fate harm) l k room z a q o f = go_simulated c z offers s h up fate l k room q o f
+  simulated offers s session up (Passes ms) l k room z a q o f =
       let t = time_steps c offers s.image ms s.stage (live_of session) up q in
       record { step = t.0; sound = t.1; offer = o; fact = time_fact c offers s ms session f; done = λ e. cc }
-  simulated offers s session up ResetBus l k room z a q o f =
+  simulated offers s session up Resets l k room z a q o f =
       restart_simulated c offers s (reset_stage s.stage) session up (nothing_pends c offers s.stage) (nothing_closed c offers s.stage) o f
-  simulated offers s session up Cut l k room z a q o f = restart_simulated c offers s InAppIdle session up refl tt o f
+  simulated offers s session up Cuts l k room z a q o f = restart_simulated c offers s InAppIdle session up refl tt o f
 
   -- A machine that agrees is the one that is shown.
   is_shown : (w : Link) (up : List ℕ) (m : Machine) → Agrees w up m
@@ -208,7 +209,7 @@ module _ (c : Profile) where
     up = sym a.up_is i;
   }
 
-  shown_follows : (w : Link) (up : List ℕ) (offers offers' : List (List ℕ)) (event : Event) (r : Played)
+  shown_follows : (w : Link) (up : List ℕ) (offers offers' : List (List ℕ)) (event : Happening) (r : Played)
       → Simulated c offers w up (kind_of event) r offers' → Follows c
       (shown offers w.device.image (pending_of w.device.stage) (live_of w.session) up) event r.link (given r.answer.gave up) r.answer.report
   shown_follows w up offers offers' event r s =
@@ -221,7 +222,7 @@ module _ (c : Profile) where
       }
 
   -- The session machine follows a play that knows the transfer size.
-  pub follows_sized : (w w' : Link) (up : List ℕ) (m : Machine) (event : Event) (answer : Answered) → Sizes c w.session event
+  pub follows_sized : (w w' : Link) (up : List ℕ) (m : Machine) (event : Happening) (answer : Answered) → Sizes c w.session event
       → SessionFact c w.device w.session → Agrees w up m → Play c w event w' answer
       → Follows c m event w' (given answer.gave up) answer.report
   follows_sized w w' up m event answer z f a p =
@@ -233,12 +234,12 @@ module _ (c : Profile) where
 
 module _ (c : Profile) (sized : 0 < c.transfer) where
   -- The session machine follows each play of a device with a transfer size.
-  pub follows : (w w' : Link) (up : List ℕ) (m : Machine) (event : Event) (answer : Answered) → SessionFact c w.device w.session
+  pub follows : (w w' : Link) (up : List ℕ) (m : Machine) (event : Happening) (answer : Answered) → SessionFact c w.device w.session
       → Agrees w up m → Play c w event w' answer → Follows c m event w' (given answer.gave up) answer.report
   follows w w' up m event answer f a p = follows_sized c w w' up m event answer (all_sized c w.session event sized) f a p
 
   -- It follows plays one after the other.
-  pub follows_all : {w w' : Link} {up up' : List ℕ} {events : List Event} {reports : List Report} (m : Machine)
+  pub follows_all : {w w' : Link} {up up' : List ℕ} {events : List Happening} {reports : List Report} (m : Machine)
       → SessionFact c w.device w.session → Agrees w up m → Plays c w up events reports w' up' → FollowsAll c m events reports w' up'
   follows_all m f a ends = record { after = m; legal = stops; agrees = a; fact = f }
   follows_all {w = w} {up = up} m f a (plays {mid = mid} {event = event} {answer = answer} p r) =

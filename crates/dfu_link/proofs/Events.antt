@@ -18,7 +18,7 @@ use Rattle.dfu_link.specs.declared.fault.LinkFault.TheVariants as fault
 use Rattle.dfu_link.specs.declared.fault.OfferFault.{OfferFault}
 use Rattle.dfu_link.specs.declared.fault.OfferFault.TheVariants as offer_fault
 use Rattle.dfu_link.specs.Happening.{Fate, Harm, Offers, Goes, Passes, Resets, Cuts}
-use Rattle.dfu_link.specs.Play.{Offer, Go, Time, ResetBus, Cut, given, silent, told, took, settled, IsAllowed}
+use Rattle.dfu_link.specs.Play.{given, silent, told, took, settled, IsAllowed}
 use Rattle.dfu_link.specs.Bench.{Session, Nobody, Hosted}
 use Rattle.dfu_link.specs.Bytes.{powered_up, bus_was_reset}
 use Rattle.dfu_link.specs.Refusing.{IsOffered, IsBadOffer}
@@ -27,15 +27,15 @@ use Rattle.dfu_link.specs.Standing.{session_of, given_by, bench_of, link_state, 
 use Rattle.dfu_link.specs.Acting.{HasGone, ended, HasBegun}
 use Rattle.dfu_link.proofs.Counted.{took_whole, told_whole}
 
-time_allowed : (s : Session) (ms : ℕ) → IsAllowed s (Time ms)
+time_allowed : (s : Session) (ms : ℕ) → IsAllowed s (Passes ms)
 time_allowed Nobody ms = tt
 time_allowed (Hosted h) ms = tt
 
-reset_allowed : (s : Session) → IsAllowed s ResetBus
+reset_allowed : (s : Session) → IsAllowed s Resets
 reset_allowed Nobody = tt
 reset_allowed (Hosted h) = tt
 
-cut_allowed : (s : Session) → IsAllowed s Cut
+cut_allowed : (s : Session) → IsAllowed s Cuts
 cut_allowed Nobody = tt
 cut_allowed (Hosted h) = tt
 
@@ -46,7 +46,7 @@ time_comes ms w w' host gave e row = record {
   answer = Ok silent;
   whole = tt;
   up_is = refl;
-  comes = happens {event = Time ms} refl (record { allowed = time_allowed (session_of host) ms; unarmed = e; happens = (row, refl, refl) });
+  comes = happens {event = Passes ms} refl (record { allowed = time_allowed (session_of host) ms; unarmed = e; happens = (row, refl, refl) });
   told = refl;
 }
 
@@ -60,7 +60,7 @@ reset_comes w w' host host' gave gave' report sized counted e device session kep
   answer = Ok (told (session_of host)).answer;
   whole = told_whole (session_of host) sized counted;
   up_is = kept;
-  comes = happens {event = ResetBus} tt (record {
+  comes = happens {event = Resets} refl (record {
     allowed = reset_allowed (session_of host);
     unarmed = e;
     happens = ((λ i. record { device = device i; session = session i }), refl);
@@ -77,7 +77,7 @@ cut_comes w w' host host' gave gave' report sized counted e device session kept 
   answer = Ok (told (session_of host)).answer;
   whole = told_whole (session_of host) sized counted;
   up_is = kept;
-  comes = happens {event = Cut} tt (record {
+  comes = happens {event = Cuts} refl (record {
     allowed = cut_allowed (session_of host);
     unarmed = e;
     happens = ((λ i. record { device = device i; session = session i }), refl);
@@ -95,7 +95,7 @@ go_comes fate harm w w' h h' host' gave gave' report sized counted e gone sessio
   answer = Ok (took h gone.acted.heard).answer;
   whole = took_whole h gone.acted.heard sized counted;
   up_is = kept ∙ ap (λ (x : HostState). given (settled x x.phase).answer.gave (given_by gave)) gone.acted.same;
-  comes = happens {event = Go fate} refl (record {
+  comes = happens {event = Goes fate harm} refl (record {
     allowed = tt;
     unarmed = e;
     happens = record {
@@ -177,7 +177,7 @@ offer_comes file limits w None h n e begun up = record {
   answer = Ok silent;
   whole = tt;
   up_is = refl;
-  comes = happens {event = Offer begun.content.payload limits.actions limits.restarts} (begun.offered, refl, refl) (record {
+  comes = happens {event = Offers begun.content.payload limits} (begun.content.payload, begun.offered, refl) (record {
     allowed = bytes_of begun.offered;
     unarmed = e;
     happens = ((λ i. record { device = w; session = Hosted (begun.host i) }), refl);

@@ -8,8 +8,8 @@ use Rattle.dfu_device.specs.Outcome.{Situation, Luck, Works, Outcome, elapsed, p
 use Rattle.dfu_device.specs.Shown.{Shown, profile, situation}
 use Rattle.dfu_device.specs.Came.{time_came}
 use Rattle.dfu_host.specs.Table.{Deed, deed, Heard}
-use Rattle.dfu_link.specs.Happening.{Fate, CutIn, Harm}
-use Rattle.dfu_link.specs.Play.{Event, Offer, UploadIt, AbortIt, Go, Time, ResetBus, Cut, Answered, acted, took, told, played, Play, gone, IsAllowed}
+use Rattle.dfu_link.specs.Happening.{Fate, CutIn, Harm, Happening, Offers, Uploads, Aborts, Goes, Passes, Resets, Cuts}
+use Rattle.dfu_link.specs.Play.{Answered, acted, took, told, played, Play, gone, IsAllowed}
 use Rattle.dfu_link.specs.Bench.{Session, Bench}
 use Rattle.dfu_link.specs.Bytes.{fuse_of, armed, powered_up, after_fate, link_of, NextAction, Happens, BytePlay}
 use Rattle.dfu_link.specs.Understood.{Shows, BytesShow, BytePlays, byte_ends, byte_plays, BytesHeadline}
@@ -45,25 +45,25 @@ after_whole CutIn w = refl
 after_whole fate w = refl
 
 -- The fuse of the medium in an event: only an action can be harmed.
-abbrev pub fuse_in : Event → Harm → Fuse
-fuse_in (Go fate) harm = fuse_of fate harm
-fuse_in event harm = Whole
+abbrev pub fuse_in : Happening → Fuse
+fuse_in (Goes fate harm) = fuse_of fate harm
+fuse_in event = Whole
 
 -- What benches show of an event; where no write is harmed it goes at the luck that the medium works.
-record Showed (b : Bench) (event : Event) (fuse : Fuse) (b' : Bench) (answer : Answered) : Type 0 where
+record Showed (b : Bench) (event : Happening) (fuse : Fuse) (b' : Bench) (answer : Answered) : Type 0 where
   shown : Shows b event b' answer
   sure : fuse ≡ Whole → (room : Bool) × (played (profile b.device) (link_of b) event Works Works room
       ≡ record { link = link_of b'; answer = answer })
 
-goes_show : (fate : Fate) (harm : Harm) (b b' : Bench) (answer : Answered) → IsAllowed b.session (Go fate)
-    → NextAction b.session fate harm b b' answer → Showed b (Go fate) (fuse_of fate harm) b' answer
+goes_show : (fate : Fate) (harm : Harm) (b b' : Bench) (answer : Answered) → IsAllowed b.session (Goes fate harm)
+    → NextAction b.session fate harm b b' answer → Showed b (Goes fate harm) (fuse_of fate harm) b' answer
 goes_show fate harm b b' answer allowed g =
     let d = deed g.host.task g.host.phase in
     let x = armed_goes d fate (fuse_of fate harm) b.device g.last g.heard
     (acts_go d fate (armed b.device (fuse_of fate harm)) g.last g.heard (hosts_deed g.host.task g.host.phase) g.acts) in
     let there : (acted (profile b.device) (situation b.device) d fate x.first x.second).device ≡ situation b'.device = x.device
     ∙ sym (after_situation fate g.last) ∙ sym (ap situation g.device) in
-    let same : played (profile b.device) (link_of b) (Go fate) x.first x.second x.room ≡ record { link = link_of b'; answer = answer } =
+    let same : played (profile b.device) (link_of b) (Goes fate harm) x.first x.second x.room ≡ record { link = link_of b'; answer = answer } =
     ap (λ (z : Session). gone (profile b.device) (link_of b) z fate x.first x.second x.room) g.live
     ∙ (λ i. record {
       link = record { device = there i; session = (ap (λ (h : Heard). (took g.host h).session) (sym x.hears) ∙ sym g.session) i };
@@ -77,15 +77,15 @@ goes_show fate harm b b' answer allowed g =
       };
       sure = λ whole. (
         x.room,
-        subst (λ (k : Luck). played (profile b.device) (link_of b) (Go fate) Works k x.room ≡ record { link = link_of b'; answer = answer })
+        subst (λ (k : Luck). played (profile b.device) (link_of b) (Goes fate harm) Works k x.room ≡ record { link = link_of b'; answer = answer })
             (x.lucky whole).1
-            (subst (λ (l : Luck). played (profile b.device) (link_of b) (Go fate) l x.second x.room
+            (subst (λ (l : Luck). played (profile b.device) (link_of b) (Goes fate harm) l x.second x.room
             ≡ record { link = link_of b'; answer = answer }) (x.lucky whole).0 same),
       );
     }
 
 -- An event that comes at once to this bench, whatever the medium does.
-at_once : (b b' now : Bench) (event : Event) (answer said : Answered) → IsAllowed b.session event → b.device.slots.medium.fuse ≡ Whole
+at_once : (b b' now : Bench) (event : Happening) (answer said : Answered) → IsAllowed b.session event → b.device.slots.medium.fuse ≡ Whole
     → played (profile b.device) (link_of b) event Works Works true ≡ record { link = link_of now; answer = said }
     → profile now.device ≡ profile b.device → now.device.slots.medium.fuse ≡ Whole
     → b' ≡ now → answer ≡ said → Showed b event Whole b' answer
@@ -101,21 +101,21 @@ at_once b b' now event answer said allowed unarmed same fixed whole e f =
       sure = λ whole. (true, there);
     }
 
-shows : (event : Event) (b b' : Bench) (harm : Harm) (answer : Answered) → IsAllowed b.session event → b.device.slots.medium.fuse ≡ Whole
-    → Happens event harm b b' answer → Showed b event (fuse_in event harm) b' answer
-shows (Offer payload actions restarts) b b' harm answer allowed unarmed (e, f) =
-    at_once b b' _ (Offer payload actions restarts) answer _ allowed unarmed refl refl unarmed e f
-shows (UploadIt actions restarts) b b' harm answer allowed unarmed (e, f) =
-    at_once b b' _ (UploadIt actions restarts) answer _ allowed unarmed refl refl unarmed e f
-shows AbortIt b b' harm answer allowed unarmed (e, f) = at_once b b' _ AbortIt answer _ allowed unarmed refl refl unarmed e f
-shows (Go fate) b b' harm answer allowed unarmed g = goes_show fate harm b b' answer allowed g
-shows (Time ms) b b' harm answer allowed unarmed (e, s, n) =
+shows : (event : Happening) (b b' : Bench) (answer : Answered) → IsAllowed b.session event → b.device.slots.medium.fuse ≡ Whole
+    → Happens event b b' answer → Showed b event (fuse_in event) b' answer
+shows (Offers payload limits) b b' answer allowed unarmed (e, f) =
+    at_once b b' _ (Offers payload limits) answer _ allowed unarmed refl refl unarmed e f
+shows (Uploads limits) b b' answer allowed unarmed (e, f) =
+    at_once b b' _ (Uploads limits) answer _ allowed unarmed refl refl unarmed e f
+shows Aborts b b' answer allowed unarmed (e, f) = at_once b b' _ Aborts answer _ allowed unarmed refl refl unarmed e f
+shows (Goes fate harm) b b' answer allowed unarmed g = goes_show fate harm b b' answer allowed g
+shows (Passes ms) b b' answer allowed unarmed (e, s, n) =
     let y = time_came ms b.device b'.device e in
     let works = y.unarmed unarmed in
     let there : elapsed (profile b.device) (situation b.device) ms Works
     ≡ situation b'.device = ap (λ (l : Luck). elapsed (profile b.device) (situation b.device) ms l) (sym works.0)
     ∙ ap (λ (o : Outcome). o.after) y.same in
-    let same : played (profile b.device) (link_of b) (Time ms) Works Works true
+    let same : played (profile b.device) (link_of b) (Passes ms) Works Works true
     ≡ record { link = link_of b'; answer = answer } = λ i. record {
       link = record { device = there i; session = sym s i };
       answer = sym n i;
@@ -128,27 +128,27 @@ shows (Time ms) b b' harm answer allowed unarmed (e, s, n) =
       };
       sure = λ whole. (true, same);
     }
-shows ResetBus b b' harm answer allowed unarmed (e, f) = at_once b b' _ ResetBus answer _ allowed unarmed refl refl unarmed e f
-shows Cut b b' harm answer allowed unarmed (e, f) =
-    at_once b b' _ Cut answer _ allowed unarmed (λ i. let t = told b.session in
+shows Resets b b' answer allowed unarmed (e, f) = at_once b b' _ Resets answer _ allowed unarmed refl refl unarmed e f
+shows Cuts b b' answer allowed unarmed (e, f) =
+    at_once b b' _ Cuts answer _ allowed unarmed (λ i. let t = told b.session in
     record { link = record { device = sym (powered_situation b.device) i; session = t.session }; answer = t.answer })
     (powered_profile b.device) refl e f
 
 -- Each play with its bytes is a play of the links that are shown.
 pub bytes_show : BytesShow
-bytes_show b b' event harm answer p = (shows event b b' harm answer p.allowed p.unarmed p.happens).shown
+bytes_show b b' event answer p = (shows event b b' answer p.allowed p.unarmed p.happens).shown
 
 -- Where no write is harmed, the play is the one at the luck that the medium works.
-pub bytes_sure : (b b' : Bench) (event : Event) (harm : Harm) (answer : Answered) → BytePlay b event harm b' answer
-    → fuse_in event harm ≡ Whole
+pub bytes_sure : (b b' : Bench) (event : Happening) (answer : Answered) → BytePlay b event b' answer
+    → fuse_in event ≡ Whole
     → (room : Bool) × (played (profile b.device) (link_of b) event Works Works room ≡ record { link = link_of b'; answer = answer })
-bytes_sure b b' event harm answer p whole = (shows event b b' harm answer p.allowed p.unarmed p.happens).sure whole
+bytes_sure b b' event answer p whole = (shows event b b' answer p.allowed p.unarmed p.happens).sure whole
 
-shows_all : {b b' : Bench} {up up' : List ℕ} {events : List Event} {reports : List Report} (c : Profile) → profile b.device ≡ c
+shows_all : {b b' : Bench} {up up' : List ℕ} {events : List Happening} {reports : List Report} (c : Profile) → profile b.device ≡ c
     → BytePlays b up events reports b' up' → Plays c (link_of b) up events reports (link_of b') up'
 shows_all c e byte_ends = ends
-shows_all {b = b} c e (byte_plays {mid = mid} {event = event} {answer = answer} harm p more) =
-    let one = bytes_show b mid event harm answer p in
+shows_all {b = b} c e (byte_plays {mid = mid} {event = event} {answer = answer} p more) =
+    let one = bytes_show b mid event answer p in
     plays (subst (λ (x : Profile). Play x (link_of b) event (link_of mid) answer) e one.play) (shows_all c (one.fixed ∙ e) more)
 
 -- So plays with their bytes are a legal run.

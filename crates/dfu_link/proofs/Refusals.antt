@@ -6,11 +6,12 @@ use Rattle.dfu_suffix.specs.Grammar.{Content}
 use Rattle.dfu_suffix.proofs.ForCallers.{never_both, one_reading}
 use Rattle.dfu_host.specs.declared.fault.HostFault.{HostFault}
 use Rattle.dfu_host.specs.Download.{first_download_fault}
+use Rattle.dfu_host.specs.declared.limits.Limits.{Limits}
 use Rattle.dfu_device.specs.Setting.{Setting}
 use Rattle.dfu_link.specs.declared.fault.LinkFault.TheVariants as fault
 use Rattle.dfu_link.specs.declared.fault.OfferFault.{OfferFault}
 use Rattle.dfu_link.specs.declared.fault.OfferFault.TheVariants as offer_fault
-use Rattle.dfu_link.specs.Play.{Offer, UploadIt, AbortIt, Go, Time, ResetBus, Cut, IsAllowed}
+use Rattle.dfu_link.specs.Play.{IsAllowed}
 use Rattle.dfu_link.specs.Bench.{Session, Nobody, Hosted}
 use Rattle.dfu_link.specs.Happening.{Offers, Uploads, Aborts, Goes, Passes, Resets, Cuts}
 use Rattle.dfu_link.specs.Refusing.{IsOffered, IsBadOffer, CanGive, IsBadUpload, IsLive}
@@ -85,62 +86,34 @@ one_refusal b Cuts why other x y = elim x [ ]
 
 -- No play.
 
-busy_no_offer : (s : Session) (payload : List ℕ) (actions again : ℕ) → IsLive s → IsAllowed s (Offer payload actions again) → ⊥
-busy_no_offer Nobody payload actions again live a = live
-busy_no_offer (Hosted h) payload actions again live a = a
+busy_no_offer : (s : Session) (payload : List ℕ) (limits : Limits) → IsLive s → IsAllowed s (Offers payload limits) → ⊥
+busy_no_offer Nobody payload limits live a = live
+busy_no_offer (Hosted h) payload limits live a = a
 
-busy_no_upload : (s : Session) (actions again : ℕ) → IsLive s → IsAllowed s (UploadIt actions again) → ⊥
-busy_no_upload Nobody actions again live a = live
-busy_no_upload (Hosted h) actions again live a = a
+busy_no_upload : (s : Session) (limits : Limits) → IsLive s → IsAllowed s (Uploads limits) → ⊥
+busy_no_upload Nobody limits live a = live
+busy_no_upload (Hosted h) limits live a = a
 
 -- An event that is refused is no play.
 pub refused_no_play : RefusedIsNoPlay
-refused_no_play b (Offers file limits) fault.HostBusy (Offer payload actions again) x m a =
-    busy_no_offer b.session payload actions again x a
-refused_no_play b (Offers file limits) fault.HostBusy event x m a = elim m [ ]
-refused_no_play b (Offers file limits) (fault.BadOffer f) (Offer payload actions again) x m a =
-    offered_not_bad b.device.config file payload f m.0 x.1
-refused_no_play b (Offers file limits) (fault.BadOffer f) event x m a = elim m [ ]
-refused_no_play b (Offers file limits) why event x m a = elim x [ ]
-refused_no_play b (Uploads limits) fault.HostBusy (UploadIt actions again) x m a = busy_no_upload b.session actions again x a
-refused_no_play b (Uploads limits) fault.HostBusy event x m a = elim m [ ]
-refused_no_play b (Uploads limits) (fault.BadOffer f) (UploadIt actions again) x m a = bad_or_given b.device.config f x.1 m.0
-refused_no_play b (Uploads limits) (fault.BadOffer f) event x m a = elim m [ ]
-refused_no_play b (Uploads limits) why event x m a = elim x [ ]
-refused_no_play b Aborts fault.NoHost AbortIt x m a = subst (λ (s : Session). IsAllowed s AbortIt) x a
-refused_no_play b Aborts fault.NoHost event x m a = elim m [ ]
-refused_no_play b Aborts why event x m a = elim x [ ]
-refused_no_play b (Goes fate harm) fault.NoHost (Go g) x m a = subst (λ (s : Session). IsAllowed s (Go g)) x a
-refused_no_play b (Goes fate harm) fault.NoHost event x m a = elim m [ ]
-refused_no_play b (Goes fate harm) why event x m a = elim x [ ]
-refused_no_play b (Passes ms) why event x m a = elim x [ ]
-refused_no_play b Resets why event x m a = elim x [ ]
-refused_no_play b Cuts why event x m a = elim x [ ]
+refused_no_play b (Offers file limits) fault.HostBusy event x m a =
+    busy_no_offer b.session m.0 limits x (subst (IsAllowed b.session) m.2 a)
+refused_no_play b (Offers file limits) (fault.BadOffer f) event x m a = offered_not_bad b.device.config file m.0 f m.1 x.1
+refused_no_play b (Uploads limits) fault.HostBusy event x m a =
+    busy_no_upload b.session limits x (subst (IsAllowed b.session) m.1 a)
+refused_no_play b (Uploads limits) (fault.BadOffer f) event x m a = bad_or_given b.device.config f x.1 m.0
+refused_no_play b Aborts fault.NoHost event x m a =
+    subst (λ (s : Session). IsAllowed s Aborts) x (subst (IsAllowed b.session) m a)
+refused_no_play b (Goes fate harm) fault.NoHost event x m a =
+    subst (λ (s : Session). IsAllowed s (Goes fate harm)) x (subst (IsAllowed b.session) m a)
+refused_no_play b h why event x m a = elim x [ ]
 
 -- One event.
 
 -- What happens means one event.
 pub one_event : OneEvent
-one_event s (Offers file limits) (Offer p actions again) (Offer q others more) m n =
-    let same : p ≡ q = (one_reading file p q _ _ _ _ _ _ m.0.reads n.0.reads).0 in
-    λ i. Offer (same i) ((m.1 ∙ sym n.1) i) ((m.2 ∙ sym n.2) i)
-one_event s (Offers file limits) (Offer p actions again) other m n = elim n [ ]
-one_event s (Offers file limits) event other m n = elim m [ ]
-one_event s (Uploads limits) (UploadIt actions again) (UploadIt others more) m n = λ i. UploadIt ((m.1 ∙ sym n.1) i) ((m.2 ∙ sym n.2) i)
-one_event s (Uploads limits) (UploadIt actions again) other m n = elim n [ ]
-one_event s (Uploads limits) event other m n = elim m [ ]
-one_event s Aborts AbortIt AbortIt m n = refl
-one_event s Aborts AbortIt other m n = elim n [ ]
-one_event s Aborts event other m n = elim m [ ]
-one_event s (Goes fate harm) (Go f) (Go g) m n = ap Go (m ∙ sym n)
-one_event s (Goes fate harm) (Go f) other m n = elim n [ ]
-one_event s (Goes fate harm) event other m n = elim m [ ]
-one_event s (Passes ms) (Time k) (Time l) m n = ap Time (m ∙ sym n)
-one_event s (Passes ms) (Time k) other m n = elim n [ ]
-one_event s (Passes ms) event other m n = elim m [ ]
-one_event s Resets ResetBus ResetBus m n = refl
-one_event s Resets ResetBus other m n = elim n [ ]
-one_event s Resets event other m n = elim m [ ]
-one_event s Cuts Cut Cut m n = refl
-one_event s Cuts Cut other m n = elim n [ ]
-one_event s Cuts event other m n = elim m [ ]
+one_event s (Offers file limits) event other m n =
+    let same : m.0 ≡ n.0 = (one_reading file m.0 n.0 _ _ _ _ _ _ m.1.reads n.1.reads).0 in
+    m.2 ∙ (ap (λ (p : List ℕ). Offers p limits) same ∙ sym n.2)
+one_event s (Uploads limits) event other m n = m.1 ∙ sym n.1
+one_event s h event other m n = m ∙ sym n

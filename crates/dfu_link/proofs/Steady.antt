@@ -8,22 +8,22 @@ use Rattle.dfu_host.specs.declared.report.Report.TheVariants.{Uploaded}
 use Rattle.dfu_device.specs.Setting.{Setting}
 use Rattle.dfu_link.specs.declared.fault.LinkFault.{LinkFault}
 use Rattle.dfu_link.specs.Session.{Machine, Loading}
-use Rattle.dfu_link.specs.Play.{kind_of, Event, Offer, UploadIt, AbortIt, Go, Time, ResetBus, Cut, Answered, given, IsAllowed}
-use Rattle.dfu_link.specs.Happening.{Pass, CutIn, Fail, Harm, Happening, Offers, Uploads, Aborts, Goes, Passes, Resets, Cuts}
+use Rattle.dfu_link.specs.Play.{kind_of, Answered, given, IsAllowed}
+use Rattle.dfu_link.specs.Happening.{CutIn, Fail, Happening, Offers, Uploads, Goes, Passes, Resets, Cuts}
 use Rattle.dfu_link.specs.Bench.{Session, Nobody, Hosted, Bench, ShowsActive, LinkState, linked}
 use Rattle.dfu_link.specs.LinkAgreement.{Agrees}
 use Rattle.dfu_link.specs.Fact.{SessionFact}
 use Rattle.dfu_link.specs.Headline.{Follows}
 use Rattle.dfu_link.specs.Bytes.{link_of, Happens, BytePlay}
 use Rattle.dfu_link.specs.Understood.{Shows, ImageShown}
-use Rattle.dfu_link.specs.Comes.{harm_of, Means, Comes, refuses, happens, shown_as, gave_of, HasCome}
+use Rattle.dfu_link.specs.Comes.{Means, Comes, refuses, happens, shown_as, gave_of, HasCome}
 use Rattle.dfu_link.specs.Standing.{SendsBytes, IsSteady}
 use Rattle.dfu_link.specs.Following.{IsOfKind, AllFollow}
 use Rattle.dfu_link.specs.Giving.{Gives, UploadsGive, RestIsSteady}
 use Rattle.dfu_link.specs.Sure.{IsHarmless, IsAsPlayed, AllSure}
 use Rattle.dfu_link.proofs.Config.{happens_config}
 use Rattle.dfu_link.proofs.Projected.{fuse_in, bytes_show, bytes_sure}
-use Rattle.dfu_link.proofs.EachEvent.{Sizes, follows_sized}
+use Rattle.dfu_link.proofs.EachEvent.{Sizes, all_sized, follows_sized}
 use Rattle.dfu_link.proofs.Saying.{step_up}
 use Rattle.dfu_link.proofs.Counted.{FitsIn, happens_counted, happens_fits}
 use Rattle.dfu_link.proofs.Events.{has_transfer}
@@ -31,45 +31,42 @@ use Rattle.dfu_link.proofs.Uploads.{gives_transfer}
 use Rattle.dfu_link.proofs.Agreeing.{machine_of, machine_agrees, agrees_on, link_agrees}
 
 -- What happens is of the kind that its event is of.
-kind_is : (s : Setting) (h : Happening) (event : Event) → Means s h event → IsOfKind h (kind_of event)
-kind_is s (Offers file limits) (Offer payload actions restarts) m =
-    (m.0.ids, m.0.dfu, m.0.extra, m.0.reads)
-kind_is s (Uploads limits) (UploadIt actions restarts) m = tt
-kind_is s Aborts AbortIt m = tt
-kind_is s (Goes f harm) (Go g) m = tt
-kind_is s (Passes ms) (Time n) m = tt
-kind_is s Resets ResetBus m = tt
-kind_is s Cuts Cut m = tt
-kind_is s h event m = elim m [ ]
+kind_is : (s : Setting) (h event : Happening) → Means s h event → IsOfKind h (kind_of event)
+kind_is s (Offers file limits) event m = (m.0, m.1.ids, m.1.dfu, m.1.extra, m.1.reads, ap kind_of m.2)
+kind_is s (Uploads limits) event m = ap kind_of m.1
+kind_is s h event m = ap kind_of m
 
 -- The transfer size, where it is needed.
 
-sizes : (w : Shown) (session : Session) (h : Happening) (event : Event) → Means w.config h event
+-- An event with which a session begins knows the transfer size.
+abbrev BeginsSized : (t : ℕ) → Happening → Type 0
+BeginsSized t (Offers payload limits) = 0 < t
+BeginsSized t (Uploads limits) = 0 < t
+BeginsSized t event = Unit {0}
+
+begins_sized : (s : Setting) (h event : Happening) → Means s h event → BeginsSized s.functional.transfer event
+begins_sized s (Offers file limits) event m = subst (BeginsSized s.functional.transfer) (sym m.2) (has_transfer m.1)
+begins_sized s (Uploads limits) event m = subst (BeginsSized s.functional.transfer) (sym m.1) (gives_transfer s m.0)
+begins_sized s h event m = subst (BeginsSized s.functional.transfer) (sym m) tt
+
+sizes : (w : Shown) (session : Session) (event : Happening) → BeginsSized w.config.functional.transfer event
     → SessionFact (profile w) (situation w) session → SendsBytes session → Sizes (profile w) session event
-sizes w Nobody (Offers file limits) (Offer payload actions restarts) m f z = has_transfer m.0
-sizes w Nobody (Goes fate harm) (Offer payload actions restarts) m f z = elim m [ ]
-sizes w Nobody (Passes ms) (Offer payload actions restarts) m f z = elim m [ ]
-sizes w Nobody Resets (Offer payload actions restarts) m f z = elim m [ ]
-sizes w Nobody Cuts (Offer payload actions restarts) m f z = elim m [ ]
-sizes w Nobody (Uploads limits) (Offer payload actions restarts) m f z = elim m [ ]
-sizes w Nobody Aborts (Offer payload actions restarts) m f z = elim m [ ]
-sizes w (Hosted host) h (Go fate) m f z = subst (λ (n : ℕ). 0 < n) f.task_is.transfer z
-sizes w session h event m f z = tt
+sizes w (Hosted host) event begins f z = all_sized (profile w) (Hosted host) event (subst (λ (n : ℕ). 0 < n) f.task_is.transfer z)
+sizes w Nobody (Offers payload limits) begins f z = begins
+sizes w Nobody event begins f z = tt
 
 -- After an event no session is live, or the transfer size is known.
-sized_or_none : (w : Shown) (session : Session) (h : Happening) (event : Event) (harm : Harm) (b' : Bench) (answer : Answered)
-    → Means w.config h event → SessionFact (profile w) (situation w) session → SendsBytes session
-    → IsAllowed session event → Happens event harm (record { device = w; session = session }) b' answer
+sized_or_none : (w : Shown) (session : Session) (event : Happening) (b' : Bench) (answer : Answered)
+    → BeginsSized w.config.functional.transfer event → SessionFact (profile w) (situation w) session → SendsBytes session
+    → IsAllowed session event → Happens event (record { device = w; session = session }) b' answer
     → (0 < (profile w).transfer) ⊎ (b'.session ≡ Nobody)
-sized_or_none w (Hosted host) h event harm b' answer m f z a x = inl (subst (λ (n : ℕ). 0 < n) f.task_is.transfer z)
-sized_or_none w Nobody (Offers file limits) (Offer payload actions restarts) harm b' answer m f z a x = inl (has_transfer m.0)
-sized_or_none w Nobody (Uploads limits) (UploadIt actions restarts) harm b' answer m f z a x = inl (gives_transfer w.config m.0)
-sized_or_none w Nobody Aborts AbortIt harm b' answer m f z a x = elim a [ ]
-sized_or_none w Nobody (Passes ms) (Time n) harm b' answer m f z a x = inr x.1
-sized_or_none w Nobody Resets ResetBus harm b' answer m f z a x = inr (ap (λ (b : Bench). b.session) x.0)
-sized_or_none w Nobody Cuts Cut harm b' answer m f z a x = inr (ap (λ (b : Bench). b.session) x.0)
-sized_or_none w Nobody (Goes fate harm2) (Go g) harm b' answer m f z a x = elim a [ ]
-sized_or_none w Nobody h event harm b' answer m f z a x = elim m [ ]
+sized_or_none w (Hosted host) event b' answer begins f z a x = inl (subst (λ (n : ℕ). 0 < n) f.task_is.transfer z)
+sized_or_none w Nobody (Offers payload limits) b' answer begins f z a x = inl begins
+sized_or_none w Nobody (Uploads limits) b' answer begins f z a x = inl begins
+sized_or_none w Nobody (Passes ms) b' answer begins f z a x = inr x.1
+sized_or_none w Nobody Resets b' answer begins f z a x = inr (ap (λ (b : Bench). b.session) x.0)
+sized_or_none w Nobody Cuts b' answer begins f z a x = inr (ap (λ (b : Bench). b.session) x.0)
+sized_or_none w Nobody event b' answer begins f z a x = elim a [ ]
 
 sized_by : (c : Profile) (w : Shown) (session : Session) → SessionFact c (situation w) session → (0 < c.transfer) ⊎ (session ≡ Nobody)
     → SendsBytes session
@@ -79,30 +76,30 @@ sized_by c w (Hosted host) f (inr e) = absurd cc
 
 -- One event.
 
-follows_play : (b b' : Bench) (h : Happening) (event : Event) (harm : Harm) (answer : Answered) (up : List ℕ) (m : Machine) → IsSteady b
-    → Means b.device.config h event → BytePlay b event harm b' answer → Agrees (link_of b) up m
+follows_play : (b b' : Bench) (event : Happening) (answer : Answered) (up : List ℕ) (m : Machine) → IsSteady b
+    → BeginsSized b.device.config.functional.transfer event → BytePlay b event b' answer → Agrees (link_of b) up m
     → Follows (profile b.device) m event (link_of b') (given answer.gave up) answer.report
-follows_play b b' h event harm answer up m steady means play agrees =
+follows_play b b' event answer up m steady begins play agrees =
     follows_sized (profile b.device) (link_of b) (link_of b') up m event answer
-    (sizes b.device b.session h event means steady.fact steady.sized) steady.fact agrees (bytes_show b b' event harm answer play).play
+    (sizes b.device b.session event begins steady.fact steady.sized) steady.fact agrees (bytes_show b b' event answer play).play
 
-play_steady : (b b' : Bench) (h : Happening) (event : Event) (harm : Harm) (answer : Answered) → IsSteady b → Means b.device.config h event
-    → BytePlay b event harm b' answer → IsSteady b'
-play_steady b b' h event harm answer steady means play =
-    let s : Shows b event b' answer = bytes_show b b' event harm answer play in
-    let f = follows_play b b' h event harm answer [] (machine_of (link_of b) []) steady means play (machine_agrees (link_of b) []) in
+play_steady : (b b' : Bench) (event : Happening) (answer : Answered) → IsSteady b → BeginsSized b.device.config.functional.transfer event
+    → BytePlay b event b' answer → IsSteady b'
+play_steady b b' event answer steady begins play =
+    let s : Shows b event b' answer = bytes_show b b' event answer play in
+    let f = follows_play b b' event answer [] (machine_of (link_of b) []) steady begins play (machine_agrees (link_of b) []) in
     record {
       fact = subst (λ (c : Profile). SessionFact c (situation b'.device) b'.session) (sym s.fixed) f.fact;
       unarmed = s.unarmed;
-      counted = happens_counted event harm b b' answer steady.sized steady.counted play.happens;
+      counted = happens_counted event b b' answer steady.sized steady.counted play.happens;
       sized = sized_by (profile b.device) b'.device b'.session f.fact
-          (sized_or_none b.device b.session h event harm b' answer means steady.fact steady.sized play.allowed play.happens);
+          (sized_or_none b.device b.session event b' answer begins steady.fact steady.sized play.allowed play.happens);
     }
 
 comes_steady : {b b' : Bench} {h : Happening} {answer : Result Answered LinkFault} → IsSteady b → Comes b h b' answer → IsSteady b'
 comes_steady steady (refuses why) = steady
 comes_steady {b = b} {b' = b'} {h = h} steady (happens {event = event} {answer = answer} means play) =
-    play_steady b b' h event (harm_of h) answer steady means play
+    play_steady b b' event answer steady (begins_sized b.device.config h event means) play
 
 -- What holds of a link between events holds after each event that comes.
 pub come_steady : {w w' : LinkState} {h : Happening} {result : Result (Option Report) LinkFault} → IsSteady w.bench → HasCome w h w' result
@@ -114,7 +111,8 @@ pub comes_follow : ImageShown → {b b' : Bench} {h : Happening} {answer : Resul
     → Comes b h b' answer → AllFollow (linked b up) h (linked b' (given (gave_of answer) up)) (shown_as answer)
 comes_follow shown up steady shows (refuses why) = refl
 comes_follow shown {b = b} {b' = b'} {h = h} up steady shows (happens {event = event} {answer = answer} means play) = λ m agrees.
-    let f = follows_play b b' h event (harm_of h) answer up m steady means play (link_agrees shown b up m agrees) in
+    let f = follows_play b b' event answer up m steady (begins_sized b.device.config h event means) play
+    (link_agrees shown b up m agrees) in
     record {
       kind = kind_of event;
       is = kind_is b.device.config h event means;
@@ -136,11 +134,11 @@ come_follow shown {w = w} {w' = w'} {h = h} {result = result} steady shows x =
 -- What an upload gives.
 
 -- The active image, where Uploaded is reported.
-image_given : (b b' : Bench) (h : Happening) (event : Event) (harm : Harm) (answer : Answered) (up : List ℕ) → IsSteady b
-    → Means b.device.config h event → BytePlay b event harm b' answer → answer.report ≡ Some Uploaded
+image_given : (b b' : Bench) (event : Happening) (answer : Answered) (up : List ℕ) → IsSteady b
+    → BeginsSized b.device.config.functional.transfer event → BytePlay b event b' answer → answer.report ≡ Some Uploaded
     → given answer.gave up ≡ (link_of b').device.image
-image_given b b' h event harm answer up steady means play e =
-    let f = follows_play b b' h event harm answer up (machine_of (link_of b) up) steady means play (machine_agrees (link_of b) up) in
+image_given b b' event answer up steady begins play e =
+    let f = follows_play b b' event answer up (machine_of (link_of b) up) steady begins play (machine_agrees (link_of b) up) in
     sym f.agrees.up_is ∙ (step_up f.step e ∙ f.agrees.cur)
 
 gives_in : (b' : Bench) (up : List ℕ) (report : Option Report) (gave : Option (List ℕ)) (w : LinkState) → w.up ≡ up
@@ -155,12 +153,12 @@ comes_give : {b b' : Bench} {h : Happening} {answer : Result Answered LinkFault}
     → Gives (linked b up) (linked b' (given (gave_of answer) up)) (shown_as answer)
 comes_give up steady (refuses why) = refl
 comes_give {b = b} {b' = b'} {h = h} up steady (happens {event = event} {answer = answer} means play) =
-    let fits = happens_fits (profile b.device) (situation b.device) event (harm_of h) b b' answer steady.fact steady.sized steady.counted
+    let fits = happens_fits (profile b.device) (situation b.device) event b b' answer steady.fact steady.sized steady.counted
     play.happens in
     let same : b.device.config.functional.transfer ≡ b'.device.config.functional.transfer = ap (λ (s : Setting). s.functional.transfer)
-    (sym (happens_config event (harm_of h) b b' answer play.happens)) in
+    (sym (happens_config event b b' answer play.happens)) in
     gives_in b' up answer.report answer.gave (linked b up) refl (subst (λ (n : ℕ). FitsIn n answer.report answer.gave) same fits)
-    (image_given b b' h event (harm_of h) answer up steady means play)
+    (image_given b b' event answer up steady (begins_sized b.device.config h event means) play)
 
 -- Each event that comes gives what it should.
 pub come_gives : {w w' : LinkState} {h : Happening} {result : Result (Option Report) LinkFault} → IsSteady w.bench → HasCome w h w' result
@@ -183,9 +181,9 @@ gives_then : {b b' : Bench} {h : Happening} {result : Result Answered LinkFault}
 gives_then steady (refuses why) = tt
 gives_then {b = b} {b' = b'} {h = h} steady (happens {event = event} {answer = answer} means play) = λ e.
     gave_image (profile b.device).transfer [] (link_of b').device.image answer.report answer.gave
-    (happens_fits (profile b.device) (situation b.device) event (harm_of h) b b' answer steady.fact steady.sized steady.counted
+    (happens_fits (profile b.device) (situation b.device) event b b' answer steady.fact steady.sized steady.counted
     play.happens)
-    (image_given b b' h event (harm_of h) answer [] steady means play e) e
+    (image_given b b' event answer [] steady (begins_sized b.device.config h event means) play e) e
 
 -- With Uploaded come the bytes of the active image.
 pub uploads_give : UploadsGive
@@ -197,17 +195,16 @@ rest_is_steady device unarmed = record { fact = tt; unarmed = unarmed; sized = t
 
 -- Nothing is cut and nothing fails.
 
-harmless_whole : (event : Event) (harm : Harm) → IsHarmless event → fuse_in event harm ≡ Whole
-harmless_whole (Go Pass) harm h = refl
-harmless_whole (Go CutIn) harm h = elim h [ ]
-harmless_whole (Go Fail) harm h = elim h [ ]
-harmless_whole (Go fate) harm h = refl
-harmless_whole event harm h = refl
+harmless_whole : (event : Happening) → IsHarmless event → fuse_in event ≡ Whole
+harmless_whole (Goes CutIn harm) h = elim h [ ]
+harmless_whole (Goes Fail harm) h = elim h [ ]
+harmless_whole (Goes fate harm) h = refl
+harmless_whole event h = refl
 
-as_played : (b b' : Bench) (event : Event) (harm : Harm) (answer : Answered) → BytePlay b event harm b' answer → IsHarmless event
+as_played : (b b' : Bench) (event : Happening) (answer : Answered) → BytePlay b event b' answer → IsHarmless event
     → IsAsPlayed b event b' answer.report
-as_played b b' event harm answer play h =
-    let s = bytes_sure b b' event harm answer play (harmless_whole event harm h) in
+as_played b b' event answer play h =
+    let s = bytes_sure b b' event answer play (harmless_whole event h) in
     record { room = s.0; answer = answer; same = s.1; told = refl }
 
 -- What comes of an event goes as the table of fates says, where no write is harmed.
@@ -217,10 +214,10 @@ comes_sure {b = b} {b' = b'} {h = h} (happens {event = event} {answer = answer} 
   event = event;
   means = means;
   kept = record {
-    config = happens_config event (harm_of h) b b' answer play.happens;
-    room = ap (λ (c : Profile). c.capacity) (bytes_show b b' event (harm_of h) answer play).fixed;
+    config = happens_config event b b' answer play.happens;
+    room = ap (λ (c : Profile). c.capacity) (bytes_show b b' event answer play).fixed;
   };
-  works = as_played b b' event (harm_of h) answer play;
+  works = as_played b b' event answer play;
 }
 
 -- Each event that comes goes as the table of fates says, where no write is harmed.

@@ -14,7 +14,7 @@ use Rattle.dfu_host.specs.Table.{ToFetch}
 use Rattle.dfu_link.specs.declared.fault.LinkFault.{LinkFault}
 use Rattle.dfu_link.specs.declared.fault.LinkFault.TheVariants as fault
 use Rattle.dfu_link.specs.declared.fault.OfferFault.TheVariants as offer_fault
-use Rattle.dfu_link.specs.Play.{UploadIt, AbortIt, silent, aborted}
+use Rattle.dfu_link.specs.Play.{silent, aborted}
 use Rattle.dfu_link.specs.Bench.{Session, Hosted}
 use Rattle.dfu_link.specs.Happening.{Uploads, Aborts}
 use Rattle.dfu_link.specs.Refusing.{CanGive}
@@ -61,7 +61,7 @@ upload_comes limits w None h f n e k none is up =
       answer = Ok silent;
       whole = tt;
       up_is = refl;
-      comes = happens {event = UploadIt limits.actions limits.restarts} (gives, refl, refl) (record {
+      comes = happens {event = Uploads limits} (gives, refl) (record {
         allowed = tt;
         unarmed = e;
         happens = ((λ i. record { device = w; session = Hosted (begun i) }), refl);
@@ -86,7 +86,7 @@ abort_comes w (Some h) host' gave result e session says = record {
   answer = Ok silent;
   whole = tt;
   up_is = refl;
-  comes = happens {event = AbortIt} tt (record {
+  comes = happens {event = Aborts} refl (record {
     allowed = tt;
     unarmed = e;
     happens = ((λ i. record { device = w; session = session i }), refl);

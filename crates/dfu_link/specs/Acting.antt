@@ -18,7 +18,7 @@ use Rattle.dfu_link.specs.declared.fault.LinkFault.TheVariants.{NoHost}
 use Rattle.dfu_link.specs.Happening.{Fate, Harm}
 use Rattle.dfu_link.specs.Bench.{Session, Nobody, Hosted}
 use Rattle.dfu_link.specs.Play.{silent, Took, settled}
-use Rattle.dfu_link.specs.Bytes.{fuse_of, armed, HearsAnswer, Sends, Waits, Resets, Acts, after_fate}
+use Rattle.dfu_link.specs.Bytes.{fuse_of, armed, HearsAnswer, Sends, Waits, ResetsBus, Acts, after_fate}
 use Rattle.dfu_link.specs.Refusing.{IsOffered}
 
 -- What is heard of what comes back of a request.
@@ -37,7 +37,7 @@ pub record HasWaited (ms : ℕ) (fate : Fate) (w : Shown) (seen : Seen) (w' : Sh
 
 -- A reset of the bus by the host went by its fate, and the host sees this of it.
 pub record HasReset (fate : Fate) (w : Shown) (seen : Seen) (w' : Shown) : Type 0 where
-  pub resets : (d : Deed) (heard : Heard) → Hears d seen heard → Resets fate w w' heard
+  pub resets : (d : Deed) (heard : Heard) → Hears d seen heard → ResetsBus fate w w' heard
 
 -- A host took what it heard of what came back.
 pub record HasHeard (h : HostState) (b : Back) (out : List ℕ) (h' : HostState) : Type 0 where

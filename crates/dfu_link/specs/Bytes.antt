@@ -13,9 +13,9 @@ use Rattle.dfu_device.specs.Rows.{Handles, Elapses}
 use Rattle.dfu_host.specs.Table.{ToLoad, ToFetch, Deed, Send, Wait, Reset, Done, deed, Heard, Acked, Stalled, Nothing, Waited, WasReset, Restarted}
 use Rattle.dfu_host.specs.Host.{HostState}
 use Rattle.dfu_host.specs.Wire.{IsAsked, HearsBytes}
-use Rattle.dfu_link.specs.Happening.{Fate, Pass, LostOut, LostBack, Twice, TwiceLostBack, Slip, CutIn, Fail, Harm}
+use Rattle.dfu_link.specs.Happening.{Fate, Pass, LostOut, LostBack, Twice, TwiceLostBack, Slip, CutIn, Fail, Harm, Happening, Offers, Uploads, Aborts, Goes, Passes, Resets, Cuts}
 use Rattle.dfu_link.specs.Bench.{Bench, Session, Hosted}
-use Rattle.dfu_link.specs.Play.{Event, Offer, UploadIt, AbortIt, Go, Time, ResetBus, Cut, Link, Answered, silent, opened, took, told, aborted, IsAllowed}
+use Rattle.dfu_link.specs.Play.{Link, Answered, silent, opened, took, told, aborted, IsAllowed}
 
 -- The fuse of the medium in an action: a cut stops all writes after the harmed one, a failure only that one.
 abbrev pub fuse_of : Fate → Harm → Fuse
@@ -69,16 +69,16 @@ Waits ms CutIn w w' heard = Elapses ms w w' × (heard ≡ Restarted)
 Waits ms fate w w' heard = Elapses ms w w' × (heard ≡ Waited)
 
 -- A reset of the bus by the host, by its fate.
-abbrev pub Resets : Fate → Shown → Shown → Heard → Type 0
-Resets (Slip ms) w w' heard = Elapses ms (bus_was_reset w) w' × (heard ≡ WasReset)
-Resets CutIn w w' heard = (w' ≡ bus_was_reset w) × (heard ≡ Restarted)
-Resets fate w w' heard = (w' ≡ bus_was_reset w) × (heard ≡ WasReset)
+abbrev pub ResetsBus : Fate → Shown → Shown → Heard → Type 0
+ResetsBus (Slip ms) w w' heard = Elapses ms (bus_was_reset w) w' × (heard ≡ WasReset)
+ResetsBus CutIn w w' heard = (w' ≡ bus_was_reset w) × (heard ≡ Restarted)
+ResetsBus fate w w' heard = (w' ≡ bus_was_reset w) × (heard ≡ WasReset)
 
 -- An action of the host, by its fate: a request goes as the bytes of a setup that asks for it. A live host is not done.
 abbrev pub Acts : Deed → Fate → Shown → Shown → Heard → Type 0
 Acts (Send q body) fate w w' heard = (setup : List ℕ) × IsAsked q setup × Sends q setup body fate w w' heard
 Acts (Wait ms) fate w w' heard = Waits ms fate w w' heard
-Acts Reset fate w w' heard = Resets fate w w' heard
+Acts Reset fate w w' heard = ResetsBus fate w w' heard
 Acts (Done report) fate w w' heard = ⊥
 
 -- The device once the action is over: not armed any more, and in appIDLE where its power was cut.
@@ -102,21 +102,22 @@ pub record NextAction (h : Session) (fate : Fate) (harm : Harm) (b b' : Bench) (
   pub answered : answer ≡ (took host heard).answer
 
 -- Each event on a bench.
-abbrev pub Happens : Event → Harm → Bench → Bench → Answered → Type 0
-Happens (Offer payload actions restarts) harm b b' answer =
-    (b' ≡ record { device = b.device; session = opened (profile b.device) (ToLoad payload) actions restarts }) × (answer ≡ silent)
-Happens (UploadIt actions restarts) harm b b' answer =
-    (b' ≡ record { device = b.device; session = opened (profile b.device) ToFetch actions restarts }) × (answer ≡ silent)
-Happens AbortIt harm b b' answer = (b' ≡ record { device = b.device; session = aborted b.session }) × (answer ≡ silent)
-Happens (Go fate) harm b b' answer = NextAction b.session fate harm b b' answer
-Happens (Time ms) harm b b' answer = Elapses ms b.device b'.device × (b'.session ≡ b.session) × (answer ≡ silent)
-Happens ResetBus harm b b' answer = let t = told b.session in
+abbrev pub Happens : Happening → Bench → Bench → Answered → Type 0
+Happens (Offers payload limits) b b' answer =
+    (b' ≡ record { device = b.device; session = opened (profile b.device) (ToLoad payload) limits.actions limits.restarts })
+    × (answer ≡ silent)
+Happens (Uploads limits) b b' answer =
+    (b' ≡ record { device = b.device; session = opened (profile b.device) ToFetch limits.actions limits.restarts }) × (answer ≡ silent)
+Happens Aborts b b' answer = (b' ≡ record { device = b.device; session = aborted b.session }) × (answer ≡ silent)
+Happens (Goes fate harm) b b' answer = NextAction b.session fate harm b b' answer
+Happens (Passes ms) b b' answer = Elapses ms b.device b'.device × (b'.session ≡ b.session) × (answer ≡ silent)
+Happens Resets b b' answer = let t = told b.session in
     (b' ≡ record { device = bus_was_reset b.device; session = t.session }) × (answer ≡ t.answer)
-Happens Cut harm b b' answer = let t = told b.session in
+Happens Cuts b b' answer = let t = told b.session in
     (b' ≡ record { device = powered_up b.device; session = t.session }) × (answer ≡ t.answer)
 
 -- A play with its bytes: an event that is not refused, on a bench whose medium is not armed.
-pub record BytePlay (b : Bench) (event : Event) (harm : Harm) (b' : Bench) (answer : Answered) : Type 0 where
+pub record BytePlay (b : Bench) (event : Happening) (b' : Bench) (answer : Answered) : Type 0 where
   pub allowed : IsAllowed b.session event
   pub unarmed : b.device.slots.medium.fuse ≡ Whole
-  pub happens : Happens event harm b b' answer
+  pub happens : Happens event b b' answer

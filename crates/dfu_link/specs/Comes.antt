@@ -5,38 +5,26 @@ use Rattle.dfu_host.specs.declared.report.Report.TheVariants.{Uploaded}
 use Rattle.dfu_host.specs.Counting.{GivesNothing}
 use Rattle.dfu_device.specs.Setting.{Setting}
 use Rattle.dfu_link.specs.declared.fault.LinkFault.{LinkFault}
-use Rattle.dfu_link.specs.Play.{Event, Offer, UploadIt, AbortIt, Go, Time, ResetBus, Cut, Answered, given}
-use Rattle.dfu_link.specs.Happening.{Harm, Happening, Offers, Uploads, Aborts, Goes, Passes, Resets, Cuts, unharmed}
+use Rattle.dfu_link.specs.Play.{Answered, given}
+use Rattle.dfu_link.specs.Happening.{Happening, Offers, Uploads, Aborts, Goes, Passes, Resets, Cuts}
 use Rattle.dfu_link.specs.Bench.{Bench, LinkState, linked}
 use Rattle.dfu_link.specs.Bytes.{BytePlay}
 use Rattle.dfu_link.specs.Refusing.{IsOffered, CanGive, IsRefused}
 
--- How a write is harmed in what happens.
-abbrev pub harm_of : Happening → Harm
-harm_of (Goes f harm) = harm
-harm_of (Offers file limits) = unharmed
-harm_of (Uploads limits) = unharmed
-harm_of Aborts = unharmed
-harm_of (Passes ms) = unharmed
-harm_of Resets = unharmed
-harm_of Cuts = unharmed
-
--- What happens, as an event of a device of these settings: an offer is that of the file's payload.
-abbrev pub Means : Setting → Happening → Event → Type 0
-Means s (Offers file limits) (Offer payload actions restarts) =
-    IsOffered s file payload × (actions ≡ limits.actions) × (restarts ≡ limits.restarts)
-Means s (Uploads limits) (UploadIt actions restarts) = CanGive s × (actions ≡ limits.actions) × (restarts ≡ limits.restarts)
-Means s Aborts AbortIt = Unit {0}
-Means s (Goes f harm) (Go g) = g ≡ f
-Means s (Passes ms) (Time n) = n ≡ ms
-Means s Resets ResetBus = Unit {0}
-Means s Cuts Cut = Unit {0}
-Means s h e = ⊥
+-- What happens, as the event of a device of these settings: an offer is that of the file's payload, and all else is what it is.
+abbrev pub Means : Setting → Happening → Happening → Type 0
+Means s (Offers file limits) e = (payload : List ℕ) × IsOffered s file payload × (e ≡ Offers payload limits)
+Means s (Uploads limits) e = CanGive s × (e ≡ Uploads limits)
+Means s Aborts e = e ≡ Aborts
+Means s (Goes fate harm) e = e ≡ Goes fate harm
+Means s (Passes ms) e = e ≡ Passes ms
+Means s Resets e = e ≡ Resets
+Means s Cuts e = e ≡ Cuts
 
 -- What comes of an event: it is refused and nothing changes, or it is a play with its bytes.
 pub data Comes (b : Bench) (h : Happening) : Bench → Result Answered LinkFault → Type 0 where
   refuses : {fault : LinkFault} → IsRefused b h fault → Comes b h b (Err fault)
-  happens : {event : Event} {b' : Bench} {answer : Answered} → Means b.device.config h event → BytePlay b event (harm_of h) b' answer
+  happens : {event : Happening} {b' : Bench} {answer : Answered} → Means b.device.config h event → BytePlay b event b' answer
       → Comes b h b' (Ok answer)
 
 -- What a caller is told of it: the report.

@@ -13,14 +13,14 @@ use Rattle.dfu_link.specs.Bench.{LinkState}
 
 -- What happens is of this kind for the session machine: a file that is offered is an offer of its payload.
 abbrev pub IsOfKind : Happening → Kind → Type 0
-IsOfKind (Offers file limits) (AnOffer payload) = (ids : Ids) × (dfu : ℕ) × (extra : List ℕ) × IsFile payload ids dfu extra file
-IsOfKind (Uploads limits) AnUpload = Unit {0}
-IsOfKind Aborts AnAbort = Unit {0}
-IsOfKind (Goes fate harm) AGo = Unit {0}
-IsOfKind (Passes ms) ATime = Unit {0}
-IsOfKind Resets ARestart = Unit {0}
-IsOfKind Cuts ARestart = Unit {0}
-IsOfKind h kind = ⊥
+IsOfKind (Offers file limits) kind =
+    (payload : List ℕ) × (ids : Ids) × (dfu : ℕ) × (extra : List ℕ) × IsFile payload ids dfu extra file × (kind ≡ AnOffer payload)
+IsOfKind (Uploads limits) kind = kind ≡ AnUpload
+IsOfKind Aborts kind = kind ≡ AnAbort
+IsOfKind (Goes fate harm) kind = kind ≡ AGo
+IsOfKind (Passes ms) kind = kind ≡ ATime
+IsOfKind Resets kind = kind ≡ ARestart
+IsOfKind Cuts kind = kind ≡ ARestart
 
 -- The session machine follows what happened: it makes one legal step with the report, and agrees again, so that its active image is that of
 -- the medium's bytes; and where Installed is reported, the device is in appIDLE and the payload of the session that was live is that image.

@@ -23,7 +23,7 @@ pub record Harm : Type 0 where
   pub writes : ℕ
   pub tear : List ℕ
 
--- An event, as its caller gives it.
+-- An event, as its caller gives it; in a play the bytes of an offer are the payload.
 pub data Happening : Type 0 where
   Offers : (file : List ℕ) → Limits → Happening
   Uploads : Limits → Happening

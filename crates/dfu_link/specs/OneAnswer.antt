@@ -2,7 +2,7 @@
 use Rattle.std.specs.Prelude.{◌≡◌}
 use Rattle.dfu_device.specs.Setting.{Setting}
 use Rattle.dfu_link.specs.declared.fault.LinkFault.{LinkFault}
-use Rattle.dfu_link.specs.Play.{Event, IsAllowed}
+use Rattle.dfu_link.specs.Play.{IsAllowed}
 use Rattle.dfu_link.specs.Bench.{Bench}
 use Rattle.dfu_link.specs.Happening.{Happening}
 use Rattle.dfu_link.specs.Refusing.{IsRefused}
@@ -14,9 +14,9 @@ OneRefusal = (b : Bench) (h : Happening) (fault other : LinkFault) → IsRefused
 
 -- And it is no play.
 abbrev pub RefusedIsNoPlay : Type 0
-RefusedIsNoPlay = (b : Bench) (h : Happening) (fault : LinkFault) (event : Event) → IsRefused b h fault → Means b.device.config h event
+RefusedIsNoPlay = (b : Bench) (h : Happening) (fault : LinkFault) (event : Happening) → IsRefused b h fault → Means b.device.config h event
     → IsAllowed b.session event → ⊥
 
 -- What happens means one event; so a file that is offered has one payload.
 abbrev pub OneEvent : Type 0
-OneEvent = (s : Setting) (h : Happening) (event other : Event) → Means s h event → Means s h other → event ≡ other
+OneEvent = (s : Setting) (h event other : Happening) → Means s h event → Means s h other → event ≡ other

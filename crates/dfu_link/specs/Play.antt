@@ -10,31 +10,20 @@ use Rattle.dfu_device.specs.Rows.{meant}
 use Rattle.dfu_host.specs.Table.{Goal, ToLoad, ToFetch, Task, Phase, Over, OverUploaded, Deed, Send, Wait, Reset, Done, deed, Heard, Acked, Status, StateIs, Part, NoRoom, Stalled, Nothing, Waited, WasReset, Restarted}
 use Rattle.dfu_host.specs.Host.{HostState, begun, after, aborted as host_aborted, task_for as host_task_for}
 use Rattle.dfu_link.specs.Session.{Kind, AnOffer, AnUpload, AnAbort, ATime, ARestart, AGo}
-use Rattle.dfu_link.specs.Happening.{Fate, Pass, LostOut, LostBack, Twice, TwiceLostBack, Slip, CutIn, Fail}
+use Rattle.dfu_link.specs.Happening.{Fate, Pass, LostOut, LostBack, Twice, TwiceLostBack, Slip, CutIn, Fail, Happening, Offers, Uploads, Aborts, Goes, Passes, Resets, Cuts}
 use Rattle.dfu_link.specs.Bench.{Session, Nobody, Hosted}
 
--- The events.
-
--- What happens to the link: a payload is offered, an upload begins, the session is aborted, the host takes its next action, time passes,
--- the bus is reset, or the power is cut.
-pub data Event : Type 0 where
-  Offer : (payload : List ℕ) (actions restarts : ℕ) → Event
-  UploadIt : (actions restarts : ℕ) → Event
-  AbortIt : Event
-  Go : Fate → Event
-  Time : (ms : ℕ) → Event
-  ResetBus : Event
-  Cut : Event
+-- The events, in which the bytes of an offer are its payload.
 
 -- What an event is to the session machine.
-abbrev pub kind_of : Event → Kind
-kind_of (Offer payload actions restarts) = AnOffer payload
-kind_of (UploadIt actions restarts) = AnUpload
-kind_of AbortIt = AnAbort
-kind_of (Go fate) = AGo
-kind_of (Time ms) = ATime
-kind_of ResetBus = ARestart
-kind_of Cut = ARestart
+abbrev pub kind_of : Happening → Kind
+kind_of (Offers payload limits) = AnOffer payload
+kind_of (Uploads limits) = AnUpload
+kind_of Aborts = AnAbort
+kind_of (Goes fate harm) = AGo
+kind_of (Passes ms) = ATime
+kind_of Resets = ARestart
+kind_of Cuts = ARestart
 
 -- The link.
 
@@ -178,38 +167,39 @@ gone c w (Hosted h) fate l k room =
 abbrev pub restarted_to : Situation → Session → Played
 restarted_to s session = let t = told session in record { link = record { device = s; session = t.session }; answer = t.answer }
 
--- Each event. Between actions the medium is not armed, so that it works while time passes.
-abbrev pub played : Profile → Link → Event → (first second : Luck) → (room : Bool) → Played
-played c w (Offer payload actions restarts) l k room =
-    record { link = record { device = w.device; session = opened c (ToLoad payload) actions restarts }; answer = silent }
-played c w (UploadIt actions restarts) l k room =
-    record { link = record { device = w.device; session = opened c ToFetch actions restarts }; answer = silent }
-played c w AbortIt l k room = record { link = record { device = w.device; session = aborted w.session }; answer = silent }
-played c w (Go fate) l k room = gone c w w.session fate l k room
-played c w (Time ms) l k room = record { link = record { device = elapsed c w.device ms Works; session = w.session }; answer = silent }
-played c w ResetBus l k room = restarted_to (was_reset w.device) w.session
-played c w Cut l k room = restarted_to (powered w.device) w.session
+-- Each event. The harm that an action does to a write is in the luck of the medium. Between actions the medium is not armed, so that it
+-- works while time passes.
+abbrev pub played : Profile → Link → Happening → (first second : Luck) → (room : Bool) → Played
+played c w (Offers payload limits) l k room =
+    record { link = record { device = w.device; session = opened c (ToLoad payload) limits.actions limits.restarts }; answer = silent }
+played c w (Uploads limits) l k room =
+    record { link = record { device = w.device; session = opened c ToFetch limits.actions limits.restarts }; answer = silent }
+played c w Aborts l k room = record { link = record { device = w.device; session = aborted w.session }; answer = silent }
+played c w (Goes fate harm) l k room = gone c w w.session fate l k room
+played c w (Passes ms) l k room = record { link = record { device = elapsed c w.device ms Works; session = w.session }; answer = silent }
+played c w Resets l k room = restarted_to (was_reset w.device) w.session
+played c w Cuts l k room = restarted_to (powered w.device) w.session
 
 -- An event that is not refused: a session begins only where none is live, and no offer is empty; an abort and an action need a live
 -- session.
-abbrev pub IsAllowed : Session → Event → Type 0
-IsAllowed Nobody (Offer payload actions restarts) = 0 < length payload
-IsAllowed Nobody (UploadIt actions restarts) = Unit {0}
-IsAllowed Nobody AbortIt = ⊥
-IsAllowed Nobody (Go fate) = ⊥
-IsAllowed Nobody (Time ms) = Unit {0}
-IsAllowed Nobody ResetBus = Unit {0}
-IsAllowed Nobody Cut = Unit {0}
-IsAllowed (Hosted h) (Offer payload actions restarts) = ⊥
-IsAllowed (Hosted h) (UploadIt actions restarts) = ⊥
-IsAllowed (Hosted h) AbortIt = Unit {0}
-IsAllowed (Hosted h) (Go fate) = Unit {0}
-IsAllowed (Hosted h) (Time ms) = Unit {0}
-IsAllowed (Hosted h) ResetBus = Unit {0}
-IsAllowed (Hosted h) Cut = Unit {0}
+abbrev pub IsAllowed : Session → Happening → Type 0
+IsAllowed Nobody (Offers payload limits) = 0 < length payload
+IsAllowed Nobody (Uploads limits) = Unit {0}
+IsAllowed Nobody Aborts = ⊥
+IsAllowed Nobody (Goes fate harm) = ⊥
+IsAllowed Nobody (Passes ms) = Unit {0}
+IsAllowed Nobody Resets = Unit {0}
+IsAllowed Nobody Cuts = Unit {0}
+IsAllowed (Hosted h) (Offers payload limits) = ⊥
+IsAllowed (Hosted h) (Uploads limits) = ⊥
+IsAllowed (Hosted h) Aborts = Unit {0}
+IsAllowed (Hosted h) (Goes fate harm) = Unit {0}
+IsAllowed (Hosted h) (Passes ms) = Unit {0}
+IsAllowed (Hosted h) Resets = Unit {0}
+IsAllowed (Hosted h) Cuts = Unit {0}
 
 -- A play: an event that is not refused, at some luck of the medium and with or without memory for a part of an upload.
-pub record Play (c : Profile) (w : Link) (event : Event) (w' : Link) (answer : Answered) : Type 0 where
+pub record Play (c : Profile) (w : Link) (event : Happening) (w' : Link) (answer : Answered) : Type 0 where
   pub allowed : IsAllowed w.session event
   pub first : Luck
   pub second : Luck

@@ -5,8 +5,8 @@ use Rattle.dfu_device.specs.Outcome.{Works}
 use Rattle.dfu_device.specs.Shown.{Shown, profile}
 use Rattle.dfu_host.specs.declared.report.Report.{Report}
 use Rattle.dfu_link.specs.declared.fault.LinkFault.{LinkFault}
-use Rattle.dfu_link.specs.Happening.{Fate, Pass, LostOut, LostBack, Twice, TwiceLostBack, Slip, CutIn, Fail, Happening}
-use Rattle.dfu_link.specs.Play.{Event, Offer, UploadIt, AbortIt, Go, Time, ResetBus, Cut, Answered, played}
+use Rattle.dfu_link.specs.Happening.{Fate, Pass, LostOut, LostBack, Twice, TwiceLostBack, Slip, CutIn, Fail, Happening, Offers, Uploads, Aborts, Goes, Passes, Resets, Cuts}
+use Rattle.dfu_link.specs.Play.{Answered, played}
 use Rattle.dfu_link.specs.Bench.{Bench}
 use Rattle.dfu_link.specs.Bytes.{link_of}
 use Rattle.dfu_link.specs.Comes.{Means}
@@ -28,17 +28,17 @@ HarmsNothing CutIn = ⊥
 HarmsNothing Fail = ⊥
 
 -- The event is no action of the host in which a write is harmed.
-abbrev pub IsHarmless : Event → Type 0
-IsHarmless (Go fate) = HarmsNothing fate
-IsHarmless (Offer payload actions restarts) = Unit {0}
-IsHarmless (UploadIt actions restarts) = Unit {0}
-IsHarmless AbortIt = Unit {0}
-IsHarmless (Time ms) = Unit {0}
-IsHarmless ResetBus = Unit {0}
-IsHarmless Cut = Unit {0}
+abbrev pub IsHarmless : Happening → Type 0
+IsHarmless (Goes fate harm) = HarmsNothing fate
+IsHarmless (Offers payload limits) = Unit {0}
+IsHarmless (Uploads limits) = Unit {0}
+IsHarmless Aborts = Unit {0}
+IsHarmless (Passes ms) = Unit {0}
+IsHarmless Resets = Unit {0}
+IsHarmless Cuts = Unit {0}
 
 -- The link is the one that the table of fates gives where the medium works, and so is the report.
-pub record IsAsPlayed (b : Bench) (event : Event) (b' : Bench) (report : Option Report) : Type 0 where
+pub record IsAsPlayed (b : Bench) (event : Happening) (b' : Bench) (report : Option Report) : Type 0 where
   pub room : Bool
   pub answer : Answered
   pub same : played (profile b.device) (link_of b) event Works Works room ≡ record { link = link_of b'; answer = answer }
@@ -47,7 +47,7 @@ pub record IsAsPlayed (b : Bench) (event : Event) (b' : Bench) (report : Option 
 -- What happened is an event of the device, which stays what it is set up as; where the event does no harm, all goes as the table of fates
 -- says of a medium that works.
 pub record IsSure (b : Bench) (h : Happening) (b' : Bench) (report : Option Report) : Type 0 where
-  pub event : Event
+  pub event : Happening
   pub means : Means b.device.config h event
   pub kept : IsSame b.device b'.device
   pub works : IsHarmless event → IsAsPlayed b event b' report

@@ -12,12 +12,12 @@ use Rattle.dfu_wire.specs.declared.requests.Request.{Request as Asked}
 use Rattle.dfu_host.specs.Table.{Task, Phase, Send, deed, Heard}
 use Rattle.dfu_host.specs.declared.report.Report.{Report}
 use Rattle.dfu_link.specs.Session.{Machine, said}
-use Rattle.dfu_link.specs.Play.{Event, Answered, given, Play, heard_as, remembered}
+use Rattle.dfu_link.specs.Play.{Answered, given, Play, heard_as, remembered}
 use Rattle.dfu_link.specs.LinkAgreement.{Agrees}
 use Rattle.dfu_link.specs.Fact.{SessionFact}
 use Rattle.dfu_link.specs.Headline.{FollowsAll}
 use Rattle.dfu_link.specs.Bytes.{HearsAnswer, link_of, BytePlay}
-use Rattle.dfu_link.specs.Happening.{Harm}
+use Rattle.dfu_link.specs.Happening.{Happening}
 use Rattle.dfu_link.specs.Bench.{Bench, ShowsActive}
 
 -- What a device answers to a request of a host, in bytes, is heard as what the device meant; a part of an upload may find no memory.
@@ -30,26 +30,25 @@ Understood = (task : Task) (phase : Phase) (q : Asked) (body : List ℕ) (c : Pr
 
 -- A play with its bytes is a play of the links that the benches show; the device stays what it is set up as, and its medium is not armed
 -- again.
-pub record Shows (b : Bench) (event : Event) (b' : Bench) (answer : Answered) : Type 0 where
+pub record Shows (b : Bench) (event : Happening) (b' : Bench) (answer : Answered) : Type 0 where
   pub play : Play (profile b.device) (link_of b) event (link_of b') answer
   pub fixed : profile b'.device ≡ profile b.device
   pub unarmed : b'.device.slots.medium.fuse ≡ Whole
 
 -- Each play with its bytes is one of the links.
 abbrev pub BytesShow : Type 0
-BytesShow = (b b' : Bench) (event : Event) (harm : Harm) (answer : Answered) → BytePlay b event harm b' answer → Shows b event b' answer
+BytesShow = (b b' : Bench) (event : Happening) (answer : Answered) → BytePlay b event b' answer → Shows b event b' answer
 
--- Plays with their bytes one after the other, whatever harm each event does to a write.
-pub data BytePlays : Bench → List ℕ → List Event → List Report → Bench → List ℕ → Type 0 where
+-- Plays with their bytes one after the other.
+pub data BytePlays : Bench → List ℕ → List Happening → List Report → Bench → List ℕ → Type 0 where
   byte_ends : {b : Bench} {up : List ℕ} → BytePlays b up [] [] b up
-  byte_plays : {b mid b' : Bench} {up up' : List ℕ} {event : Event} {events : List Event} {answer : Answered} {reports : List Report}
-      (harm : Harm)
-      → BytePlay b event harm mid answer → BytePlays mid (given answer.gave up) events reports b' up'
+  byte_plays : {b mid b' : Bench} {up up' : List ℕ} {event : Happening} {events : List Happening} {answer : Answered} {reports : List Report}
+      → BytePlay b event mid answer → BytePlays mid (given answer.gave up) events reports b' up'
       → BytePlays b up (event ∷ events) (said answer.report ++ reports) b' up'
 
 -- Whatever list of events comes to a device on a medium, it is a legal run of every session machine that the bench agrees with.
 abbrev pub BytesHeadline : Type 0
-BytesHeadline = (b b' : Bench) (up up' : List ℕ) (m : Machine) (events : List Event) (reports : List Report)
+BytesHeadline = (b b' : Bench) (up up' : List ℕ) (m : Machine) (events : List Happening) (reports : List Report)
     → 0 < (profile b.device).transfer
     → SessionFact (profile b.device) (situation b.device) b.session → Agrees (link_of b) up m → BytePlays b up events reports b' up'
     → FollowsAll (profile b.device) m events reports (link_of b') up'
