@@ -1,22 +1,21 @@
--- Each event of the link is a step of the session machine, and a list of events is a legal run.
+-- Each event of the link is a step of the session machine.
 use Rattle.std.proofs.Common.{◌≡◌, ℕ, ◌+◌, ◌<◌, ◌==◌, nat_le, max, Bool, List, ◌∷◌, ◌++◌, length, Some, None, refl, sym, subst, arith, inl, inr}
 use Rattle.dfu_device.specs.Stage.{Ack, Profile, Stage, InAppIdle, InAppDetach, InDfuIdle, InDownloadBusy, InManifestSync, InManifestSyncComplete, InManifest, InManifestWaitReset, InUploadIdle}
 use Rattle.dfu_device.specs.Table.{Plan, Commits, time_plan, reset_stage}
 use Rattle.dfu_device.specs.Outcome.{Situation, Luck, Works, outcome, elapsed}
 use Rattle.dfu_device.specs.Cases.{either_way}
-use Rattle.dfu_host.specs.declared.report.Report.{Report}
 use Rattle.dfu_host.specs.Blocks.{blocks}
 use Rattle.dfu_host.specs.BlockLaws.{block_counts}
 use Rattle.dfu_host.specs.Table.{Goal, ToLoad, ToFetch, Phase, Fetch, LastUploaded, GiveUp, Over, OverUploaded, Restarted}
 use Rattle.dfu_host.specs.Host.{HostState, IsOn, aborted_in}
-use Rattle.dfu_link.specs.Session.{Machine, Live, NoOne, Says, says_not, ATime, ARestart, Step, offered, uploads, aborts, passes, passes_installed, restarts, stops, and_then}
+use Rattle.dfu_link.specs.Session.{Machine, Live, NoOne, Says, says_not, ATime, ARestart, Step, offered, uploads, aborts, passes, passes_installed, restarts}
 use Rattle.dfu_link.specs.Happening.{Happening, Offers, Uploads, Aborts, Goes, Passes, Resets, Cuts}
 use Rattle.dfu_link.specs.Play.{kind_of, Link, Answered, silent, given, Played, took, restarted_to, played, IsAllowed, Play}
 use Rattle.dfu_link.specs.Bench.{Session, Nobody, Hosted}
 use Rattle.dfu_link.specs.LinkAgreement.{pending_of, IsSound, Agrees}
 use Rattle.dfu_link.specs.Agreement.{live_goal, live_of, IsLiveOffer}
 use Rattle.dfu_link.specs.Fact.{IsIdle, Fetches, FetchFact, GoalFact, SessionFact}
-use Rattle.dfu_link.specs.Headline.{Follows, Plays, ends, plays, FollowsAll}
+use Rattle.dfu_link.specs.Headline.{Follows}
 use Rattle.dfu_link.proofs.Kept.{fact_time}
 use Rattle.dfu_link.proofs.Taking.{shown, restart_taken, restart_plain, stop_fact, goes_by}
 use Rattle.dfu_link.proofs.Saying.{step_live}
@@ -237,12 +236,3 @@ module _ (c : Profile) (sized : 0 < c.transfer) where
   pub follows : (w w' : Link) (up : List ℕ) (m : Machine) (event : Happening) (answer : Answered) → SessionFact c w.device w.session
       → Agrees w up m → Play c w event w' answer → Follows c m event w' (given answer.gave up) answer.report
   follows w w' up m event answer f a p = follows_sized c w w' up m event answer (all_sized c w.session event sized) f a p
-
-  -- It follows plays one after the other.
-  pub follows_all : {w w' : Link} {up up' : List ℕ} {events : List Happening} {reports : List Report} (m : Machine)
-      → SessionFact c w.device w.session → Agrees w up m → Plays c w up events reports w' up' → FollowsAll c m events reports w' up'
-  follows_all m f a ends = record { after = m; legal = stops; agrees = a; fact = f }
-  follows_all {w = w} {up = up} m f a (plays {mid = mid} {event = event} {answer = answer} p r) =
-      let one = follows w mid up m event answer f a p in
-      let rest = follows_all one.after one.fact one.agrees r in
-      record { after = rest.after; legal = and_then one.step rest.legal; agrees = rest.agrees; fact = rest.fact }

@@ -14,11 +14,12 @@ use Rattle.dfu_device.specs.Came.{row_of}
 use Rattle.dfu_host.specs.Table.{Deed, Send, Wait, Reset, Done as IsDone, deed, Heard, Waited, WasReset, Restarted}
 use Rattle.dfu_host.specs.Host.{HostState}
 use Rattle.dfu_host.specs.Wire.{IsAsked}
-use Rattle.dfu_link.specs.Happening.{Fate, CutIn, Fail, Harm}
+use Rattle.dfu_link.specs.Happening.{Fate, CutIn, Fail, Harm, Happening}
 use Rattle.dfu_link.specs.Bench.{Hosted, Bench}
 use Rattle.dfu_link.specs.Play.{Answered, took, heard_as, remembered}
-use Rattle.dfu_link.specs.Bytes.{fuse_of, armed, powered_up, Sends, cuts, fails, Acts, after_fate, NextAction}
-use Rattle.dfu_link.specs.OneResult.{SameDevice, AreOne, HarmsAWrite}
+use Rattle.dfu_link.specs.Bytes.{fuse_of, armed, powered_up, Sends, cuts, fails, Acts, after_fate, NextAction, Happens}
+use Rattle.dfu_link.specs.Comes.{happens}
+use Rattle.dfu_link.specs.OneResult.{SameDevice, AreOne, HarmsAWrite, OneResult}
 use Rattle.dfu_link.proofs.Replies.{IsHosts, HostsDeed, hosts_deed, plan_heard, served}
 
 -- Devices that are the same.
@@ -184,7 +185,7 @@ hosted_one : (h k : HostState) → Hosted h ≡ Hosted k → k ≡ h
 hosted_one h k e = sym cc
 
 -- The host's next action, where a write is harmed in it.
-pub action_once : (fate : Fate) (harm : Harm) (b c d : Bench) (x y : Answered) → HarmsAWrite fate
+action_once : (fate : Fate) (harm : Harm) (b c d : Bench) (x y : Answered) → HarmsAWrite fate
     → NextAction b.session fate harm b c x → NextAction b.session fate harm b d y → AreOne c d x y
 action_once fate harm b c d x y harms g k =
     let w = armed b.device (fuse_of fate harm) in
@@ -208,3 +209,9 @@ action_once fate harm b c d x y harms g k =
             ∙ ap (λ (h : HostState). (took h k.heard).answer) (sym same) ∙ sym k.answered) i;
       });
     }
+
+-- An action in which a write is harmed has one result.
+pub one_result : OneResult
+one_result b c d fate harm x y harms (happens {event = event} means play) (happens {event = other} same again) =
+    action_once fate harm b c d x y harms
+    (subst (λ (e : Happening). Happens e b c x) means play.happens) (subst (λ (e : Happening). Happens e b d y) same again.happens)

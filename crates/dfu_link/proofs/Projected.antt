@@ -1,5 +1,5 @@
 -- A play with its bytes is a play of what the benches show.
-use Rattle.std.proofs.Common.{◌≡◌, ℕ, Bool, true, List, refl, sym, ap, ◌∙◌, subst}
+use Rattle.std.proofs.Common.{◌≡◌, Bool, true, refl, sym, ap, ◌∙◌, subst}
 use Rattle.dfu_slots.specs.Medium.{Fuse}
 use Rattle.dfu_slots.specs.Medium.Fuse.{Whole}
 use Rattle.dfu_slots.specs.Seen.{image_restarted, room_restarted}
@@ -9,13 +9,10 @@ use Rattle.dfu_device.specs.Shown.{Shown, profile, situation}
 use Rattle.dfu_device.specs.Came.{time_came}
 use Rattle.dfu_host.specs.Table.{Deed, deed, Heard}
 use Rattle.dfu_link.specs.Happening.{Fate, CutIn, Harm, Happening, Offers, Uploads, Aborts, Goes, Passes, Resets, Cuts}
-use Rattle.dfu_link.specs.Play.{Answered, acted, took, told, played, Play, gone, IsAllowed}
+use Rattle.dfu_link.specs.Play.{Answered, acted, took, told, played, gone, IsAllowed}
 use Rattle.dfu_link.specs.Bench.{Session, Bench}
 use Rattle.dfu_link.specs.Bytes.{fuse_of, armed, powered_up, after_fate, link_of, NextAction, Happens, BytePlay}
-use Rattle.dfu_link.specs.Understood.{Shows, BytesShow, BytePlays, byte_ends, byte_plays, BytesHeadline}
-use Rattle.dfu_host.specs.declared.report.Report.{Report}
-use Rattle.dfu_link.specs.Headline.{Plays, ends, plays}
-use Rattle.dfu_link.proofs.EachEvent.{follows_all}
+use Rattle.dfu_link.specs.Understood.{Shows, BytesShow}
 use Rattle.dfu_link.proofs.Replies.{hosts_deed}
 use Rattle.dfu_link.proofs.Actions.{armed_profile, armed_situation, ending, Went, acts_go}
 
@@ -143,15 +140,3 @@ pub bytes_sure : (b b' : Bench) (event : Happening) (answer : Answered) → Byte
     → fuse_in event ≡ Whole
     → (room : Bool) × (played (profile b.device) (link_of b) event Works Works room ≡ record { link = link_of b'; answer = answer })
 bytes_sure b b' event answer p whole = (shows event b b' answer p.allowed p.unarmed p.happens).sure whole
-
-shows_all : {b b' : Bench} {up up' : List ℕ} {events : List Happening} {reports : List Report} (c : Profile) → profile b.device ≡ c
-    → BytePlays b up events reports b' up' → Plays c (link_of b) up events reports (link_of b') up'
-shows_all c e byte_ends = ends
-shows_all {b = b} c e (byte_plays {mid = mid} {event = event} {answer = answer} p more) =
-    let one = bytes_show b mid event answer p in
-    plays (subst (λ (x : Profile). Play x (link_of b) event (link_of mid) answer) e one.play) (shows_all c (one.fixed ∙ e) more)
-
--- So plays with their bytes are a legal run.
-pub bytes_headline : BytesHeadline
-bytes_headline b b' up up' m events reports sized f a run = follows_all (profile b.device) sized m f a
-    (shows_all (profile b.device) refl run)

@@ -1,21 +1,16 @@
 -- What ties the bytes to the values, as statements.
-use Rattle.std.specs.Prelude.{◌≡◌, ◌<◌, ℕ, List, [], ◌∷◌, ◌++◌, Bool}
+use Rattle.std.specs.Prelude.{◌≡◌, ℕ, List, Bool}
 use Rattle.dfu_slots.specs.Medium.Fuse.{Whole}
 use Rattle.dfu_slots.specs.Image.{Active, HasImage}
 use Rattle.dfu_device.specs.declared.answer.Answer.{Answer}
 use Rattle.dfu_device.specs.Table.{plan}
 use Rattle.dfu_device.specs.Outcome.{Luck, outcome}
 use Rattle.dfu_device.specs.Stage.{Profile, Stage}
-use Rattle.dfu_device.specs.Shown.{profile, situation}
+use Rattle.dfu_device.specs.Shown.{profile}
 use Rattle.dfu_device.specs.Rows.{meant, asked_length, Answers}
 use Rattle.dfu_wire.specs.declared.requests.Request.{Request as Asked}
 use Rattle.dfu_host.specs.Table.{Task, Phase, Send, deed, Heard}
-use Rattle.dfu_host.specs.declared.report.Report.{Report}
-use Rattle.dfu_link.specs.Session.{Machine, said}
-use Rattle.dfu_link.specs.Play.{Answered, given, Play, heard_as, remembered}
-use Rattle.dfu_link.specs.LinkAgreement.{Agrees}
-use Rattle.dfu_link.specs.Fact.{SessionFact}
-use Rattle.dfu_link.specs.Headline.{FollowsAll}
+use Rattle.dfu_link.specs.Play.{Answered, Play, heard_as, remembered}
 use Rattle.dfu_link.specs.Bytes.{HearsAnswer, link_of, BytePlay}
 use Rattle.dfu_link.specs.Happening.{Happening}
 use Rattle.dfu_link.specs.Bench.{Bench, ShowsActive}
@@ -38,20 +33,6 @@ pub record Shows (b : Bench) (event : Happening) (b' : Bench) (answer : Answered
 -- Each play with its bytes is one of the links.
 abbrev pub BytesShow : Type 0
 BytesShow = (b b' : Bench) (event : Happening) (answer : Answered) → BytePlay b event b' answer → Shows b event b' answer
-
--- Plays with their bytes one after the other.
-pub data BytePlays : Bench → List ℕ → List Happening → List Report → Bench → List ℕ → Type 0 where
-  byte_ends : {b : Bench} {up : List ℕ} → BytePlays b up [] [] b up
-  byte_plays : {b mid b' : Bench} {up up' : List ℕ} {event : Happening} {events : List Happening} {answer : Answered} {reports : List Report}
-      → BytePlay b event mid answer → BytePlays mid (given answer.gave up) events reports b' up'
-      → BytePlays b up (event ∷ events) (said answer.report ++ reports) b' up'
-
--- Whatever list of events comes to a device on a medium, it is a legal run of every session machine that the bench agrees with.
-abbrev pub BytesHeadline : Type 0
-BytesHeadline = (b b' : Bench) (up up' : List ℕ) (m : Machine) (events : List Happening) (reports : List Report)
-    → 0 < (profile b.device).transfer
-    → SessionFact (profile b.device) (situation b.device) b.session → Agrees (link_of b) up m → BytePlays b up events reports b' up'
-    → FollowsAll (profile b.device) m events reports (link_of b') up'
 
 -- The image of the link that a bench shows is the active image of the bytes of its medium, where they have one; and they have no other.
 abbrev pub ImageShown : Type 0

@@ -6,10 +6,11 @@ ghost use Rattle.dfu_link.specs.CleanRun.{CleanRun};
 ghost use Rattle.dfu_link.specs.CleanSteps.{StepsInstall, StepsStand};
 ghost use Rattle.dfu_link.specs.NextSession.{SessionsGoOn};
 ghost use Rattle.dfu_link.specs.Giving.{UploadsGive, RestIsSteady};
-ghost use Rattle.dfu_link.specs.Headline.{Headline, OnlyOffered, Simulation};
+ghost use Rattle.dfu_link.specs.Headline.{OnlyOffered, Simulation};
 ghost use Rattle.dfu_link.specs.OneAnswer.{OneEvent, OneRefusal, RefusedIsNoPlay};
+ghost use Rattle.dfu_link.specs.OneResult.{OneResult};
 ghost use Rattle.dfu_link.specs.Power.{PowerComesBack};
-ghost use Rattle.dfu_link.specs.Understood.{ImageShown, BytesHeadline, BytesShow, Understood};
+ghost use Rattle.dfu_link.specs.Understood.{ImageShown, BytesShow, Understood};
 
 use dfu_slots::{refused_has_no_image, shown_image_is_active};
 
@@ -18,12 +19,6 @@ use dfu_slots::{refused_has_no_image, shown_image_is_active};
 /// that session's payload active.
 pub fn simulation()
     ensures { Simulation }
-{}
-
-/// Whatever list of events comes, its plays are a legal run of the session machine that says the
-/// reports in order.
-pub fn headline()
-    ensures { Headline }
 {}
 
 /// A download in which nothing is lost and nothing fails is installed after exactly the clean count
@@ -67,19 +62,20 @@ pub fn understood()
     ensures { Understood }
 {}
 
-/// A play with its bytes, over a device on a medium, is a play of the values that it shows. So any
-/// list of them is a legal run.
+/// A play with its bytes, over a device on a medium, is a play of the values that it shows.
 pub fn bytes_show()
-    ensures plays { BytesShow }
-    ensures headline { BytesHeadline }
+    ensures { BytesShow }
 {}
 
 /// An event has one meaning: it is refused as one fault and is then no play, or it means one event.
-/// What a play leads to is said by `sure` of `World::step`.
+/// What a play leads to is said by `sure` of `World::step` where no write is harmed, and where one
+/// is, by `result`: one device but for the count of failed writes, and one session and one answer by
+/// whether there was memory for a part of an upload.
 pub fn one_answer()
     ensures fault { OneRefusal }
     ensures no_play { RefusedIsNoPlay }
     ensures event { OneEvent }
+    ensures result { OneResult }
 {}
 
 /// Whatever comes to a link that began with a device at rest, the bytes that come with Uploaded
