@@ -1,4 +1,5 @@
-//! Laws of the rows of a device: each function has an empty body, and its contract is the law.
+//! Laws of the rows of a device. Each is the contract of a function with an empty body, which is proved
+//! and not to be called.
 
 ghost use Rattle.dfu_device.specs.Came.{PlanCame, RowOf, AskedCame, NotServed, TimeCame, StatusWhole};
 ghost use Rattle.dfu_device.specs.TakenHistory.{AskedTook, TimeTook, RowTakes, StepTakes, HistoryTakes, StartTakes, OneTaken};

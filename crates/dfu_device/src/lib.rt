@@ -8,7 +8,7 @@ mod config;
 mod device;
 mod effects;
 mod fault;
-mod laws;
+pub mod laws;
 mod machine;
 mod mode;
 mod states;
@@ -19,7 +19,6 @@ pub use answer::Answer;
 pub use config::Config;
 pub use device::Device;
 pub use fault::ConfigFault;
-pub use laws::{rows_come_to_outcomes, rows_keep, rows_send, rows_take, rows_tell};
 
 #[cfg(test)]
 mod tests;

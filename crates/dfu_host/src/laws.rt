@@ -1,4 +1,5 @@
-//! Laws of the definitions: each function has an empty body, and its contract is the law.
+//! Laws of sessions. Each is the contract of a function with an empty body, which is proved and not to
+//! be called.
 
 ghost use Rattle.dfu_host.specs.Aborting.{EndsAborted, SpendsNothing};
 ghost use Rattle.dfu_host.specs.BlockLaws.{OneCut};

@@ -14,7 +14,7 @@ mod finding;
 mod goal;
 mod heard;
 mod host;
-mod laws;
+pub mod laws;
 mod limits;
 mod phase;
 mod progress;
@@ -28,10 +28,6 @@ mod task;
 pub use action::Action;
 pub use fault::HostFault;
 pub use host::Host;
-pub use laws::{
-    abort_ends_the_session, done_in_time, installed_once_confirmed, one_cut, understood_as_meant,
-    upload_counts_its_parts,
-};
 pub use limits::Limits;
 pub use report::Report;
 pub use seen::Seen;

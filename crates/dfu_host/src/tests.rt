@@ -7,10 +7,7 @@ mod phases;
 mod played;
 mod uploads;
 
-use crate::{
-    Action, Host, HostFault, Limits, Report, Seen, abort_ends_the_session, done_in_time,
-    installed_once_confirmed, one_cut, understood_as_meant, upload_counts_its_parts,
-};
+use crate::{Action, Host, HostFault, Limits, Report, Seen};
 use dfu_suffix::read;
 use dfu_wire::{Code, Functional};
 use dialogue::{
@@ -220,14 +217,4 @@ fn faults_have_their_texts(rt: HostRuntime) -> Result<(), Fail> {
         assert_eq!(rt; format!(in rt.alloc(); "{fault}")?.as_str(), text);
     }
     Ok(())
-}
-
-#[test]
-fn laws_are_functions() {
-    one_cut();
-    done_in_time();
-    installed_once_confirmed();
-    understood_as_meant();
-    abort_ends_the_session();
-    upload_counts_its_parts();
 }

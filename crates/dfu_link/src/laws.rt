@@ -12,7 +12,7 @@ ghost use Rattle.dfu_link.specs.OneResult.{OneResult};
 ghost use Rattle.dfu_link.specs.Power.{PowerComesBack};
 ghost use Rattle.dfu_link.specs.Understood.{ImageShown, BytesShow, Understood};
 
-use dfu_slots::{refused_has_no_image, shown_image_is_active};
+use dfu_slots::laws::{refused_has_no_image, shown_image_is_active};
 
 /// Each play of an event, from a link that agrees with a session machine, is one legal step of it.
 /// Agreement and the phase fact hold again, and Installed is reported only in appIDLE with exactly

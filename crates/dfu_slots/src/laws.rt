@@ -1,4 +1,6 @@
-//! Laws over the definitions, each as the contract of a function with an empty body.
+//! Laws of the slot store. Each is the contract of a function with an empty body, which is proved and
+//! not to be called for what it does. A function above calls one for its law alone, as dfu_link does.
+
 ghost use Rattle.std.specs.Prelude.{◌≡◌, ℕ, Bool, true, false, List};
 ghost use Rattle.dfu_slots.specs.Medium.{MediumState, Write, AllWrites, BrokenWrites};
 ghost use Rattle.dfu_slots.specs.Medium.Fuse.{Whole};

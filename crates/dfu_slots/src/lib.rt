@@ -5,7 +5,7 @@
 mod changes;
 mod fault;
 mod format;
-mod laws;
+pub mod laws;
 mod layout;
 mod medium;
 mod open;
@@ -18,10 +18,6 @@ mod unit;
 mod writes;
 
 pub use fault::{FormatFault, OpenFault, PutFault};
-pub use laws::{
-    active_image_is_one, refused_has_no_image, same_bytes_same_end, shown_image_is_active,
-    unarmed_never_fails,
-};
 pub use medium::{Failed, Faulty, Medium};
 pub use sim::{NoMemory, SimMedium};
 pub use slots::Slots;

@@ -7,13 +7,14 @@ ghost use Rattle.dfu_suffix.specs.declared.fault.SuffixFault.TheVariants.{NoMemo
 use crate::crc::Crc;
 use crate::fault::SuffixFault;
 use crate::judging::judge;
-use crate::limits::{MAX_FILE, MAX_READS};
+use crate::limits::{MAX_FILE, MAX_READS, PIECE};
 use crate::summary::Summary;
 use crate::window::slide;
 use std::io::Read;
 
 /// Checks all that a reader gives, as `read` of those bytes. Of these it keeps the register over
-/// them, their count and the last 16, and takes no memory, however many they are.
+/// them, their count and the last 16, and takes no memory, however many they are. It reads up to
+/// 65,536 bytes at a time, into a buffer on the stack.
 ///
 /// # Errors
 ///
@@ -29,7 +30,7 @@ pub fn check<R: Read + Drop>(mut reader: R) -> Result<Summary, SuffixFault>
     let mut crc = Crc::new();
     let mut count: u32 = 0;
     let mut window = [0u8; 16];
-    let mut buffer = [0u8; 4096];
+    let mut buffer = [0u8; PIECE];
     for turn in 0..MAX_READS {
         match reader.read(&mut buffer) {
             Ok(0) => return judge(&window, count, crc.value()),

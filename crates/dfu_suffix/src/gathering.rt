@@ -3,7 +3,7 @@
 ghost use Rattle.std.specs.Prelude.{◌≤◌, length, IfOk, IfSome};
 ghost use Rattle.dfu_suffix.specs.Gathering.{Gathers};
 
-use crate::limits::MAX_READS;
+use crate::limits::{MAX_READS, PIECE};
 use std::alloc::Global;
 use std::io::Read;
 
@@ -18,7 +18,7 @@ pub enum GatherFault {
     Read,
 }
 
-/// All that the reader gives, which is at most `limit` bytes.
+/// All that the reader gives, which is at most `limit` bytes. It reads up to 65,536 bytes at a time.
 ///
 /// # Errors
 ///
@@ -36,7 +36,7 @@ pub fn gather<R: Read + Drop>(
     ensures len { IfOk result (λ v. length v.items ≤ limit) }
 {
     let mut bytes = Vec::new(alloc);
-    let mut buffer = [0u8; 4096];
+    let mut buffer = [0u8; PIECE];
     for turn in 0..MAX_READS {
         match reader.read(&mut buffer) {
             Ok(0) => return Ok(bytes),

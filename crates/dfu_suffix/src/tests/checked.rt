@@ -45,8 +45,8 @@ fn files_in_pieces(rt: HostRuntime) {
 #[test]
 fn long_file_in_pieces(rt: HostRuntime) -> Result<(), Fail> {
     let mut file = Vec::new(rt.alloc());
-    add(rt.alloc(), &[0x5a; 9000][..], UNSET, &mut file)?;
-    for step in [1usize, 3, 15, 16, 17, 4095, 4096, 4097, 9016] {
+    add(rt.alloc(), &[0x5a; 70_000][..], UNSET, &mut file)?;
+    for step in [1usize, 3, 15, 16, 17, 65_535, 65_536, 65_537, 70_016] {
         let pieces = Pieces { left: &file, step };
         assert_eq!(rt; check(pieces), summary_by_read(&file), "{step} at a time");
     }
@@ -83,7 +83,7 @@ fn reader_that_fails_at_each_call(rt: HostRuntime) {
 
 #[test]
 fn no_second_try(rt: HostRuntime) {
-    for left in [0usize, 1, 4096, 5000] {
+    for left in [0usize, 1, 65_536, 70_000] {
         let mut zeros = Zeros {
             left,
             calls_after: 0,
