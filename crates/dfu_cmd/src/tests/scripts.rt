@@ -108,6 +108,54 @@ fn scripts_print_what_comes_of_them(rt: HostRuntime) -> Result<(), Fail> {
 
 #[rattlefmt::skip]
 #[test]
+fn scripts_lose_power_and_writes(rt: HostRuntime) -> Result<(), Fail> {
+    let rows = [
+        ("offer W / go pass 10 / go cut 1 a5", "report restarts-spent / image ffffffff"),
+        ("offer W / go pass 10 / go cut 1 00", "report restarts-spent / image 00"),
+        ("offer W / go pass 10 / go cut 0 ffff", "report restarts-spent / image 00"),
+        ("offer W / go pass 10 / go cut 2 -", "report restarts-spent / image ffffffff"),
+        ("limits 100 1 / offer W / go pass 6 / go cut 0 aabb / go pass 13", "report installed / image ffffffff"),
+        ("offer W / go pass 13 / offer N / go pass 6 / go cut 0 a5", "report installed / report restarts-spent / image ffffffff"),
+        ("limits 100 1 / upload / go pass 4 / go cut 0 - / go pass 6", "report uploaded 00 / image 00"),
+        ("limits 100 1 / offer W / go pass 7 / cut / go pass 13", "report installed / image ffffffff"),
+        ("offer W / go pass 10 / cut", "report restarts-spent / image 00"),
+        ("cut / show / go cut 0 a5 / offer W / go pass 12 / cut / cut",
+         "state appIDLE status OK image 00 / refused NoHost / report restarts-spent / image ffffffff"),
+        ("offer W / go pass 10 / go fail 1 a5 / go pass 1", "report refused errPROG / image ffffffff"),
+        ("offer W / go pass 10 / go fail 1 00 / go pass 1", "report refused errPROG / image 00"),
+        ("offer W / go pass 6 / go fail 0 aa / go pass 1 / offer W / go pass 12",
+         "report refused errWRITE / report installed / image ffffffff"),
+        ("offer W / go pass 5 / go fail 0 00 / go pass 7", "report installed / image ffffffff"),
+        ("go fail 0 -", "refused NoHost / image 00"),
+    ];
+    for (script, printed) in rows {
+        prints(&rt, rt.alloc(), script, printed, Exit::Done)?;
+    }
+    Ok(())
+}
+
+#[rattlefmt::skip]
+#[test]
+fn scripts_write_whole_units(rt: HostRuntime) -> Result<(), Fail> {
+    let rows = [
+        ("unit 64 / offer W / go pass 13", "report installed / image ffffffff"),
+        ("unit 16 / offer N / go pass 17", "report installed / image 313233343536373839"),
+        ("unit 256 / capacity 256 / image 0001 / offer N / go pass 3 / show / go pass 14",
+         "state dfuIDLE status OK image 0001 / report installed / image 313233343536373839"),
+        ("unit 64 / unit 1 / capacity 4 / offer W / go pass 13", "report installed / image ffffffff"),
+        ("unit 16 / offer N / go pass 14 / go cut 1 a5", "report restarts-spent / image 00"),
+        ("unit 16 / offer N / go pass 14 / go cut 2 a5", "report restarts-spent / image 313233343536373839"),
+        ("unit 16 / limits 100 1 / offer N / go pass 10 / cut / go pass 17", "report installed / image 313233343536373839"),
+        ("unit 16 / offer N / go pass 14 / go fail 0 aa / go pass 1", "report refused errPROG / image 00"),
+    ];
+    for (script, printed) in rows {
+        prints(&rt, rt.alloc(), script, printed, Exit::Done)?;
+    }
+    Ok(())
+}
+
+#[rattlefmt::skip]
+#[test]
 fn scripts_stop_at_a_fault(rt: HostRuntime) -> Result<(), Fail> {
     let rows = [
         ("show / capacity 8", "state appIDLE status OK image 00 / refused LateConfig 2"),
