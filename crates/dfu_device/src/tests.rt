@@ -9,6 +9,7 @@ use std::process::Abort;
 use std::test::Fail;
 
 mod all_setups;
+mod many_pieces;
 mod restart;
 mod rows;
 mod sizes;
@@ -76,41 +77,16 @@ enum Cause {
     Reset,
 }
 
-/// A cause with what is answered (Ack and no bytes where nothing is), and the state after it.
-#[derive(Clone, Copy)]
-struct Row {
-    cause: Cause,
-    answer: Answer,
-    bytes: &'static [u8],
-    after: State,
-}
-
-#[rattlefmt::skip]
-fn ask(setup: [u8; 8], answer: Answer, bytes: &'static [u8], after: State) -> Row {
-    Row { cause: Cause::Ask(setup, &[]), answer, bytes, after }
-}
-
-#[rattlefmt::skip]
-fn send(setup: [u8; 8], body: &'static [u8], answer: Answer, after: State) -> Row {
-    Row { cause: Cause::Ask(setup, body), answer, bytes: &[], after }
-}
-
-#[rattlefmt::skip]
-fn wait(ms: u32, after: State) -> Row {
-    Row { cause: Cause::Wait(ms), answer: Answer::Ack, bytes: &[], after }
-}
-
-#[rattlefmt::skip]
-fn reset(after: State) -> Row {
-    Row { cause: Cause::Reset, answer: Answer::Ack, bytes: &[], after }
-}
+/// A cause, what is answered (Ack and no bytes where nothing is), the bytes, and the state after it.
+type Row = (Cause, Answer, &'static [u8], State);
 
 /// Carries out the rows one after the other.
 fn play(rt: &impl Abort, device: &mut Device<SimMedium>, rows: &[Row]) {
     let mut out = ArrayVec::new();
     for (number, row) in rows.iter().enumerate() {
+        let (cause, wanted, bytes, after) = *row;
         out.clear();
-        let answer = match row.cause {
+        let answer = match cause {
             Cause::Ask(setup, body) => device.handle(&setup, body, &mut out),
             Cause::Wait(ms) => {
                 device.elapse(ms);
@@ -121,9 +97,11 @@ fn play(rt: &impl Abort, device: &mut Device<SimMedium>, rows: &[Row]) {
                 Answer::Ack
             }
         };
-        assert_eq!(rt; answer, row.answer, "the answer of row {number}");
-        assert_eq!(rt; out.as_slice(), row.bytes, "the bytes of row {number}");
-        assert_eq!(rt; device.state(), row.after, "the state after row {number}");
+        assert_eq!(rt;
+            (answer, out.as_slice(), device.state()),
+            (wanted, bytes, after),
+            "row {number}"
+        );
     }
 }
 

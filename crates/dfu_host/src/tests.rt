@@ -15,57 +15,55 @@ use dialogue::{
     SILENT, TOLERANT, WRITTEN,
 };
 use files::{ALL_ONES, EMPTY, FOR_ZERO, NINE, zeros};
-use played::{play, told};
+use played::{Step, follow, play, shows, told, wants};
 use std::test::Fail;
+
+/// A clean download to a tolerant device.
+static CLEAN: [Step; 13] = [
+    (GET_STATUS, APP_IDLE),
+    (DETACH, Seen::Ack),
+    (Action::Reset, Seen::WasReset),
+    (GET_STATUS, DFU_IDLE),
+    (BLOCK, Seen::Ack),
+    (GET_STATUS, BUSY),
+    (Action::Wait(5), Seen::Waited),
+    (GET_STATUS, WRITTEN),
+    (CLOSE, Seen::Ack),
+    (GET_STATUS, MANIFEST),
+    (Action::Wait(10), Seen::Waited),
+    (GET_STATUS, DFU_IDLE),
+    (Action::Reset, Seen::WasReset),
+];
 
 #[test]
 fn clean_download_takes_thirteen_actions(rt: HostRuntime) -> Result<(), Fail> {
     let file = read(&ALL_ONES)?;
     let mut host = Host::download(&file, &TOLERANT, DEVICE, AMPLE)?;
-    let dialogue = [
-        (GET_STATUS, APP_IDLE),
-        (DETACH, Seen::Ack),
-        (Action::Reset, Seen::WasReset),
-        (GET_STATUS, DFU_IDLE),
-        (BLOCK, Seen::Ack),
-        (GET_STATUS, BUSY),
-        (Action::Wait(5), Seen::Waited),
-        (GET_STATUS, WRITTEN),
-        (CLOSE, Seen::Ack),
-        (GET_STATUS, MANIFEST),
-        (Action::Wait(10), Seen::Waited),
-        (GET_STATUS, DFU_IDLE),
-        (Action::Reset, Seen::WasReset),
-    ];
-    for (action, seen) in dialogue {
-        assert_eq!(rt; host.next(), action);
-        host.take(seen);
-    }
-    assert_eq!(rt; host.next(), Action::Done(Report::Installed));
+    follow(&rt, &mut host, &CLEAN);
+    wants(&rt, &host, Action::Done(Report::Installed));
     Ok(())
 }
+
+/// A download to a device that detaches by itself and is not tolerant.
+static UNCONFIRMED: [Step; 10] = [
+    (GET_STATUS, APP_IDLE),
+    (DETACH, Seen::Ack),
+    (Action::Wait(255), Seen::Waited),
+    (GET_STATUS, DFU_IDLE),
+    (BLOCK, Seen::Ack),
+    (GET_STATUS, WRITTEN),
+    (CLOSE, Seen::Ack),
+    (GET_STATUS, MANIFEST),
+    (Action::Wait(10), Seen::Waited),
+    (Action::Reset, Seen::WasReset),
+];
 
 #[test]
 fn device_that_is_not_tolerant_ends_unconfirmed(rt: HostRuntime) -> Result<(), Fail> {
     let file = read(&ALL_ONES)?;
     let mut host = Host::download(&file, &SILENT, DEVICE, AMPLE)?;
-    let dialogue = [
-        (GET_STATUS, APP_IDLE),
-        (DETACH, Seen::Ack),
-        (Action::Wait(255), Seen::Waited),
-        (GET_STATUS, DFU_IDLE),
-        (BLOCK, Seen::Ack),
-        (GET_STATUS, WRITTEN),
-        (CLOSE, Seen::Ack),
-        (GET_STATUS, MANIFEST),
-        (Action::Wait(10), Seen::Waited),
-        (Action::Reset, Seen::WasReset),
-    ];
-    for (action, seen) in dialogue {
-        assert_eq!(rt; host.next(), action);
-        host.take(seen);
-    }
-    assert_eq!(rt; host.next(), Action::Done(Report::Unconfirmed));
+    follow(&rt, &mut host, &UNCONFIRMED);
+    wants(&rt, &host, Action::Done(Report::Unconfirmed));
     Ok(())
 }
 
@@ -110,11 +108,11 @@ fn block_number_wraps(rt: HostRuntime) -> Result<(), Fail> {
     for number in 0..65_537u32 {
         let [low, high] = ((number % 65_536) as u16).to_le_bytes();
         let setup = [0x21, 1, low, high, 0, 0, 1, 0];
-        assert_eq!(rt; host.next(), Action::Send { setup, body: &[0] });
+        wants(&rt, &host, Action::Send { setup, body: &[0] });
         host.take(Seen::Ack);
         host.take(WRITTEN);
     }
-    assert_eq!(rt; host.next(), CLOSE);
+    wants(&rt, &host, CLOSE);
     Ok(())
 }
 
@@ -156,13 +154,13 @@ fn restarts_are_counted(rt: HostRuntime) -> Result<(), Fail> {
     };
     let mut host = Host::download(&file, &TOLERANT, DEVICE, once)?;
     told(&mut host, &[DFU_IDLE, Seen::Ack, WRITTEN]);
-    assert_eq!(rt; host.next(), CLOSE);
+    wants(&rt, &host, CLOSE);
     host.take(Seen::Restarted);
-    assert_eq!(rt; host.next(), GET_STATUS);
+    wants(&rt, &host, GET_STATUS);
     host.take(DFU_IDLE);
-    assert_eq!(rt; host.next(), BLOCK);
+    wants(&rt, &host, BLOCK);
     host.take(Seen::Restarted);
-    assert_eq!(rt; host.next(), Action::Done(Report::RestartsSpent));
+    wants(&rt, &host, Action::Done(Report::RestartsSpent));
     Ok(())
 }
 
@@ -171,9 +169,9 @@ fn refusal_of_a_block_is_reported_with_its_code(rt: HostRuntime) -> Result<(), F
     let file = read(&ALL_ONES)?;
     let mut host = Host::download(&file, &TOLERANT, DEVICE, AMPLE)?;
     told(&mut host, &[DFU_IDLE, Seen::Stall]);
-    assert_eq!(rt; host.next(), GET_STATUS);
+    wants(&rt, &host, GET_STATUS);
     host.take(Seen::Bytes(&[8, 0, 0, 0, 10, 0]));
-    assert_eq!(rt; host.next(), Action::Done(Report::Refused(Code::Address)));
+    wants(&rt, &host, Action::Done(Report::Refused(Code::Address)));
     Ok(())
 }
 
@@ -187,19 +185,19 @@ fn given_up_download_ends_aborted(rt: HostRuntime) -> Result<(), Fail> {
     for seen in [Seen::Ack, Seen::Stall, Seen::Nothing, Seen::Restarted] {
         let mut host = Host::download(&file, &TOLERANT, DEVICE, once)?;
         host.abort();
-        assert_eq!(rt; host.next(), ABORT);
+        wants(&rt, &host, ABORT);
         host.take(seen);
-        assert_eq!(rt; host.next(), Action::Done(Report::Aborted));
-        assert!(rt; host.uploaded().is_empty());
+        wants(&rt, &host, Action::Done(Report::Aborted));
+        shows(&rt, &host, &[]);
         let mut host = Host::download(&file, &TOLERANT, DEVICE, AMPLE)?;
         told(
             &mut host,
             &[DFU_IDLE, Seen::Ack, WRITTEN, Seen::Ack, DFU_IDLE],
         );
         host.abort();
-        assert_eq!(rt; host.next(), ABORT);
+        wants(&rt, &host, ABORT);
         host.take(seen);
-        assert_eq!(rt; host.next(), Action::Done(Report::Aborted));
+        wants(&rt, &host, Action::Done(Report::Aborted));
     }
     Ok(())
 }

@@ -1,108 +1,139 @@
 //! Downloads row by row, with bytes worked out by hand.
 
+use super::Cause::{Ask, Reset, Wait};
 use super::restart::restarted;
 use super::{
-    ABORT, BLOCK, CLOSE, CLR_STATUS, DETACH, FIRST, GET_STATE, GET_STATUS, IDS, SECOND, ask,
-    device, functional, play, reset, send, wait,
+    ABORT, BLOCK, CLOSE, CLR_STATUS, DETACH, FIRST, GET_STATE, GET_STATUS, IDS, Row, SECOND,
+    device, functional, play,
 };
 use crate::{Answer, Config, ConfigFault};
 use dfu_wire::{Code, Functional, State};
 use std::test::Fail;
 
+/// A whole download, with a detach that comes too late before it.
+#[rattlefmt::skip]
+static DOWNLOADED: [Row; 19] = [
+    (Ask(GET_STATUS, &[]), Answer::Bytes, &[0, 0, 0, 0, 0, 0], State::AppIdle),
+    (Ask([0x21, 0, 100, 0, 0, 0, 0, 0], &[]), Answer::Ack, &[], State::AppDetach),
+    (Wait(99), Answer::Ack, &[], State::AppDetach),
+    (Wait(1), Answer::Ack, &[], State::AppIdle),
+    (Ask(DETACH, &[]), Answer::Ack, &[], State::AppDetach),
+    (Reset, Answer::Ack, &[], State::DfuIdle),
+    (Ask(GET_STATUS, &[]), Answer::Bytes, &[0, 0, 0, 0, 2, 0], State::DfuIdle),
+    (Ask([0xa1, 3, 0, 0, 0, 0, 3, 0], &[]), Answer::Bytes, &[0, 0, 0], State::DfuIdle),
+    (Ask([0xa1, 3, 0, 0, 1, 0, 6, 0], &[]), Answer::Stall, &[], State::DfuIdle),
+    (Ask(FIRST, &[1, 2, 3]), Answer::Stall, &[], State::DfuIdle),
+    (Ask(FIRST, &BLOCK), Answer::Ack, &[], State::DownloadSync),
+    (Ask(GET_STATUS, &[]), Answer::Bytes, &[0, 5, 0, 0, 4, 0], State::DownloadBusy),
+    (Wait(4), Answer::Ack, &[], State::DownloadBusy),
+    (Wait(1), Answer::Ack, &[], State::DownloadSync),
+    (Ask(GET_STATUS, &[]), Answer::Bytes, &[0, 0, 0, 0, 5, 0], State::DownloadIdle),
+    (Ask(CLOSE, &[]), Answer::Ack, &[], State::ManifestSync),
+    (Ask(GET_STATUS, &[]), Answer::Bytes, &[0, 10, 0, 0, 7, 0], State::Manifest),
+    (Wait(10), Answer::Ack, &[], State::ManifestSync),
+    (Ask(GET_STATUS, &[]), Answer::Bytes, &[0, 0, 0, 0, 2, 0], State::DfuIdle),
+];
+
+/// Requests that are errors in dfuIDLE.
+#[rattlefmt::skip]
+static WRONG_REQUESTS: [Row; 6] = [
+    (Ask([0x21, 4, 0, 0, 0, 0, 1, 0], &[0]), Answer::Stall, &[], State::Error),
+    (Ask(GET_STATUS, &[]), Answer::Bytes, &[15, 0, 0, 0, 10, 0], State::Error),
+    (Ask(GET_STATE, &[]), Answer::Bytes, &[10], State::Error),
+    (Ask(CLR_STATUS, &[]), Answer::Ack, &[], State::DfuIdle),
+    (Ask(SECOND, &BLOCK), Answer::Stall, &[], State::Error),
+    (Ask(GET_STATUS, &[]), Answer::Bytes, &[8, 0, 0, 0, 10, 0], State::Error),
+];
+
 #[rattlefmt::skip]
 #[test]
 fn a_download_goes_by_the_table(rt: HostRuntime) -> Result<(), Fail> {
     let mut device = device(rt.alloc(), functional(0x07), 1, 5, 10)?;
-    play(&rt, &mut device, &[
-        ask(GET_STATUS, Answer::Bytes, &[0, 0, 0, 0, 0, 0], State::AppIdle),
-        ask([0x21, 0, 100, 0, 0, 0, 0, 0], Answer::Ack, &[], State::AppDetach),
-        wait(99, State::AppDetach),
-        wait(1, State::AppIdle),
-        ask(DETACH, Answer::Ack, &[], State::AppDetach),
-        reset(State::DfuIdle),
-        ask(GET_STATUS, Answer::Bytes, &[0, 0, 0, 0, 2, 0], State::DfuIdle),
-        ask([0xa1, 3, 0, 0, 0, 0, 3, 0], Answer::Bytes, &[0, 0, 0], State::DfuIdle),
-        ask([0xa1, 3, 0, 0, 1, 0, 6, 0], Answer::Stall, &[], State::DfuIdle),
-        send(FIRST, &[1, 2, 3], Answer::Stall, State::DfuIdle),
-        send(FIRST, &BLOCK, Answer::Ack, State::DownloadSync),
-        ask(GET_STATUS, Answer::Bytes, &[0, 5, 0, 0, 4, 0], State::DownloadBusy),
-        wait(4, State::DownloadBusy),
-        wait(1, State::DownloadSync),
-        ask(GET_STATUS, Answer::Bytes, &[0, 0, 0, 0, 5, 0], State::DownloadIdle),
-        ask(CLOSE, Answer::Ack, &[], State::ManifestSync),
-        ask(GET_STATUS, Answer::Bytes, &[0, 10, 0, 0, 7, 0], State::Manifest),
-        wait(10, State::ManifestSync),
-        ask(GET_STATUS, Answer::Bytes, &[0, 0, 0, 0, 2, 0], State::DfuIdle),
-    ]);
+    play(&rt, &mut device, &DOWNLOADED);
     assert_eq!(rt; device.slots().active_len(), 4);
     let mut image = [0; 4];
     device.slots().read_active(0, &mut image);
     assert_eq!(rt; image, BLOCK);
-    play(&rt, &mut device, &[
-        send([0x21, 4, 0, 0, 0, 0, 1, 0], &[0], Answer::Stall, State::Error),
-        ask(GET_STATUS, Answer::Bytes, &[15, 0, 0, 0, 10, 0], State::Error),
-        ask(GET_STATE, Answer::Bytes, &[10], State::Error),
-        ask(CLR_STATUS, Answer::Ack, &[], State::DfuIdle),
-        send(SECOND, &BLOCK, Answer::Stall, State::Error),
-        ask(GET_STATUS, Answer::Bytes, &[8, 0, 0, 0, 10, 0], State::Error),
-    ]);
+    play(&rt, &mut device, &WRONG_REQUESTS);
     assert_eq!(rt; device.code(), Code::Address);
     Ok(())
 }
+
+/// A download of four bytes that is closed.
+#[rattlefmt::skip]
+static TOO_SHORT: [Row; 6] = [
+    (Ask(DETACH, &[]), Answer::Ack, &[], State::AppDetach),
+    (Reset, Answer::Ack, &[], State::DfuIdle),
+    (Ask(FIRST, &BLOCK), Answer::Ack, &[], State::DownloadSync),
+    (Ask(GET_STATUS, &[]), Answer::Bytes, &[0, 0, 0, 0, 5, 0], State::DownloadIdle),
+    (Ask(CLOSE, &[]), Answer::Stall, &[], State::Error),
+    (Ask(GET_STATUS, &[]), Answer::Bytes, &[9, 0, 0, 0, 10, 0], State::Error),
+];
 
 #[rattlefmt::skip]
 #[test]
 fn an_image_that_is_too_short_is_a_fault(rt: HostRuntime) -> Result<(), Fail> {
     let mut device = device(rt.alloc(), functional(0x07), 5, 0, 10)?;
-    play(&rt, &mut device, &[
-        ask(DETACH, Answer::Ack, &[], State::AppDetach),
-        reset(State::DfuIdle),
-        send(FIRST, &BLOCK, Answer::Ack, State::DownloadSync),
-        ask(GET_STATUS, Answer::Bytes, &[0, 0, 0, 0, 5, 0], State::DownloadIdle),
-        ask(CLOSE, Answer::Stall, &[], State::Error),
-        ask(GET_STATUS, Answer::Bytes, &[9, 0, 0, 0, 10, 0], State::Error),
-    ]);
+    play(&rt, &mut device, &TOO_SHORT);
     Ok(())
 }
+
+/// A download to a device that waits for a reset at the end.
+#[rattlefmt::skip]
+static NOT_TOLERANT: [Row; 9] = [
+    (Ask(DETACH, &[]), Answer::Ack, &[], State::AppDetach),
+    (Reset, Answer::Ack, &[], State::DfuIdle),
+    (Ask(FIRST, &BLOCK), Answer::Ack, &[], State::DownloadSync),
+    (Ask(GET_STATUS, &[]), Answer::Bytes, &[0, 0, 0, 0, 5, 0], State::DownloadIdle),
+    (Ask(CLOSE, &[]), Answer::Ack, &[], State::ManifestSync),
+    (Ask(GET_STATUS, &[]), Answer::Bytes, &[0, 10, 0, 0, 7, 0], State::Manifest),
+    (Wait(10), Answer::Ack, &[], State::ManifestWaitReset),
+    (Ask(GET_STATUS, &[]), Answer::Stall, &[], State::ManifestWaitReset),
+    (Reset, Answer::Ack, &[], State::AppIdle),
+];
 
 #[rattlefmt::skip]
 #[test]
 fn a_device_that_is_not_tolerant_waits_for_a_reset(rt: HostRuntime) -> Result<(), Fail> {
     let mut device = device(rt.alloc(), functional(0x03), 1, 0, 10)?;
-    play(&rt, &mut device, &[
-        ask(DETACH, Answer::Ack, &[], State::AppDetach),
-        reset(State::DfuIdle),
-        send(FIRST, &BLOCK, Answer::Ack, State::DownloadSync),
-        ask(GET_STATUS, Answer::Bytes, &[0, 0, 0, 0, 5, 0], State::DownloadIdle),
-        ask(CLOSE, Answer::Ack, &[], State::ManifestSync),
-        ask(GET_STATUS, Answer::Bytes, &[0, 10, 0, 0, 7, 0], State::Manifest),
-        wait(10, State::ManifestWaitReset),
-        ask(GET_STATUS, Answer::Stall, &[], State::ManifestWaitReset),
-        reset(State::AppIdle),
-    ]);
+    play(&rt, &mut device, &NOT_TOLERANT);
     assert_eq!(rt; device.slots().active_len(), 4);
     Ok(())
 }
+
+/// The way to dfuDNLOAD-SYNC, with a block.
+#[rattlefmt::skip]
+static FIRST_TAKEN: [Row; 3] = [
+    (Ask(DETACH, &[]), Answer::Ack, &[], State::AppDetach),
+    (Reset, Answer::Ack, &[], State::DfuIdle),
+    (Ask(FIRST, &BLOCK), Answer::Ack, &[], State::DownloadSync),
+];
+
+/// The block is not written, and the next one is.
+#[rattlefmt::skip]
+static FAILED_BLOCK: [Row; 5] = [
+    (Ask(GET_STATUS, &[]), Answer::Bytes, &[3, 0, 0, 0, 10, 0], State::Error),
+    (Ask(CLR_STATUS, &[]), Answer::Ack, &[], State::DfuIdle),
+    (Ask(FIRST, &BLOCK), Answer::Ack, &[], State::DownloadSync),
+    (Ask(GET_STATUS, &[]), Answer::Bytes, &[0, 0, 0, 0, 5, 0], State::DownloadIdle),
+    (Ask(CLOSE, &[]), Answer::Ack, &[], State::ManifestSync),
+];
+
+/// The image is not put in place.
+#[rattlefmt::skip]
+static FAILED_IMAGE: [Row; 1] = [
+    (Ask(GET_STATUS, &[]), Answer::Bytes, &[6, 0, 0, 0, 10, 0], State::Error),
+];
 
 #[rattlefmt::skip]
 #[test]
 fn a_failed_write_is_told_in_the_same_answer(rt: HostRuntime) -> Result<(), Fail> {
     let mut device = device(rt.alloc(), functional(0x07), 1, 0, 0)?;
-    play(&rt, &mut device, &[
-        ask(DETACH, Answer::Ack, &[], State::AppDetach),
-        reset(State::DfuIdle),
-        send(FIRST, &BLOCK, Answer::Ack, State::DownloadSync),
-    ]);
+    play(&rt, &mut device, &FIRST_TAKEN);
     device.arm(0, &[0xaa], false);
-    play(&rt, &mut device, &[
-        ask(GET_STATUS, Answer::Bytes, &[3, 0, 0, 0, 10, 0], State::Error),
-        ask(CLR_STATUS, Answer::Ack, &[], State::DfuIdle),
-        send(FIRST, &BLOCK, Answer::Ack, State::DownloadSync),
-        ask(GET_STATUS, Answer::Bytes, &[0, 0, 0, 0, 5, 0], State::DownloadIdle),
-        ask(CLOSE, Answer::Ack, &[], State::ManifestSync),
-    ]);
+    play(&rt, &mut device, &FAILED_BLOCK);
     device.arm(0, &[0xaa], true);
-    play(&rt, &mut device, &[ask(GET_STATUS, Answer::Bytes, &[6, 0, 0, 0, 10, 0], State::Error)]);
+    play(&rt, &mut device, &FAILED_IMAGE);
     device.disarm();
     assert_eq!(rt; device.slots().active_len(), 1);
     let device = restarted(device);
@@ -111,69 +142,97 @@ fn a_failed_write_is_told_in_the_same_answer(rt: HostRuntime) -> Result<(), Fail
     Ok(())
 }
 
+/// Fewer bytes are asked for than a status or a state has.
+#[rattlefmt::skip]
+static SHORT_ANSWERS: [Row; 8] = [
+    (Ask(DETACH, &[]), Answer::Ack, &[], State::AppDetach),
+    (Reset, Answer::Ack, &[], State::DfuIdle),
+    (Ask(FIRST, &BLOCK), Answer::Ack, &[], State::DownloadSync),
+    (Ask([0xa1, 5, 0, 0, 0, 0, 0, 0], &[]), Answer::Bytes, &[], State::DownloadSync),
+    (Ask([0xa1, 3, 0, 0, 0, 0, 0, 0], &[]), Answer::Bytes, &[], State::DownloadBusy),
+    (Wait(5), Answer::Ack, &[], State::DownloadSync),
+    (Ask([0xa1, 3, 0, 0, 0, 0, 5, 0], &[]), Answer::Bytes, &[0, 0, 0, 0, 5], State::DownloadIdle),
+    (Ask(ABORT, &[]), Answer::Ack, &[], State::DfuIdle),
+];
+
 #[rattlefmt::skip]
 #[test]
 fn a_short_answer_makes_its_transition(rt: HostRuntime) -> Result<(), Fail> {
     let mut device = device(rt.alloc(), functional(0x07), 1, 5, 10)?;
-    play(&rt, &mut device, &[
-        ask(DETACH, Answer::Ack, &[], State::AppDetach),
-        reset(State::DfuIdle),
-        send(FIRST, &BLOCK, Answer::Ack, State::DownloadSync),
-        ask([0xa1, 5, 0, 0, 0, 0, 0, 0], Answer::Bytes, &[], State::DownloadSync),
-        ask([0xa1, 3, 0, 0, 0, 0, 0, 0], Answer::Bytes, &[], State::DownloadBusy),
-        wait(5, State::DownloadSync),
-        ask([0xa1, 3, 0, 0, 0, 0, 5, 0], Answer::Bytes, &[0, 0, 0, 0, 5], State::DownloadIdle),
-        ask(ABORT, Answer::Ack, &[], State::DfuIdle),
-    ]);
+    play(&rt, &mut device, &SHORT_ANSWERS);
     Ok(())
 }
+
+/// A device that detaches by itself.
+#[rattlefmt::skip]
+static WILLING: [Row; 3] = [
+    (Ask(DETACH, &[]), Answer::Ack, &[], State::AppDetach),
+    (Wait(0), Answer::Ack, &[], State::AppDetach),
+    (Wait(1), Answer::Ack, &[], State::DfuIdle),
+];
+
+/// A device with wDetachTimeOut 0.
+#[rattlefmt::skip]
+static AT_ONCE: [Row; 3] = [
+    (Ask(DETACH, &[]), Answer::Ack, &[], State::AppDetach),
+    (Wait(0), Answer::Ack, &[], State::AppDetach),
+    (Wait(1), Answer::Ack, &[], State::AppIdle),
+];
+
+/// A device with the longest wDetachTimeOut.
+#[rattlefmt::skip]
+static LATE: [Row; 5] = [
+    (Ask([0x21, 0, 0xff, 0xff, 0, 0, 0, 0], &[]), Answer::Ack, &[], State::AppDetach),
+    (Wait(65_534), Answer::Ack, &[], State::AppDetach),
+    (Wait(4_294_967_295), Answer::Ack, &[], State::AppIdle),
+    (Ask(DETACH, &[]), Answer::Ack, &[], State::AppDetach),
+    (Ask(DETACH, &[]), Answer::Stall, &[], State::AppIdle),
+];
 
 #[rattlefmt::skip]
 #[test]
 fn a_device_detaches_in_time(rt: HostRuntime) -> Result<(), Fail> {
     let mut willing = device(rt.alloc(), functional(0x0f), 1, 5, 10)?;
-    play(&rt, &mut willing, &[
-        ask(DETACH, Answer::Ack, &[], State::AppDetach),
-        wait(0, State::AppDetach),
-        wait(1, State::DfuIdle),
-    ]);
+    play(&rt, &mut willing, &WILLING);
     let mut at_once = device(rt.alloc(), Functional { detach_ms: 0, ..functional(0x07) }, 1, 5, 10)?;
-    play(&rt, &mut at_once, &[
-        ask(DETACH, Answer::Ack, &[], State::AppDetach),
-        wait(0, State::AppDetach),
-        wait(1, State::AppIdle),
-    ]);
+    play(&rt, &mut at_once, &AT_ONCE);
     let mut late = device(rt.alloc(), Functional { detach_ms: 65_535, ..functional(0x07) }, 1, 5, 10)?;
-    play(&rt, &mut late, &[
-        ask([0x21, 0, 0xff, 0xff, 0, 0, 0, 0], Answer::Ack, &[], State::AppDetach),
-        wait(65_534, State::AppDetach),
-        wait(4_294_967_295, State::AppIdle),
-        ask(DETACH, Answer::Ack, &[], State::AppDetach),
-        ask(DETACH, Answer::Stall, &[], State::AppIdle),
-    ]);
+    play(&rt, &mut late, &LATE);
     Ok(())
 }
 
-#[rattlefmt::skip]
+/// Arguments of `Config::new` with their first fault: the transfer size, bmAttributes, the fewest
+/// bytes, the busy time and the manifestation time.
+static REFUSED: [(u16, u8, u32, u32, u32, ConfigFault); 7] = [
+    (0, 0x07, 0, 0x100_0000, 0, ConfigFault::BadTransfer),
+    (4097, 0x07, 1, 5, 10, ConfigFault::BadTransfer),
+    (8, 0x07, 0, 0x100_0000, 10, ConfigFault::BadPoll),
+    (8, 0x07, 1, 5, 0x100_0000, ConfigFault::BadPoll),
+    (8, 0x03, 1, 5, 0, ConfigFault::BadPoll),
+    (8, 0x07, 0, 5, 0, ConfigFault::BadLeast),
+    (4096, 0x07, 0x100_0001, 5, 0, ConfigFault::BadLeast),
+];
+
 #[test]
-fn a_configuration_is_refused_by_its_first_fault(rt: HostRuntime) -> Result<(), Fail> {
-    let sized = |transfer| Functional { transfer, ..functional(0x07) };
-    for (functional, least, busy_ms, manifest_ms, fault) in [
-        (sized(0), 0, 0x100_0000, 0, ConfigFault::BadTransfer),
-        (sized(4097), 1, 5, 10, ConfigFault::BadTransfer),
-        (sized(8), 0, 0x100_0000, 10, ConfigFault::BadPoll),
-        (sized(8), 1, 5, 0x100_0000, ConfigFault::BadPoll),
-        (functional(0x03), 1, 5, 0, ConfigFault::BadPoll),
-        (sized(8), 0, 5, 0, ConfigFault::BadLeast),
-        (sized(4096), 0x100_0001, 5, 0, ConfigFault::BadLeast),
-    ] {
-        match Config::new(IDS, functional, least, busy_ms, manifest_ms) {
-            Ok(_) => assert!(rt; false),
-            Err(found) => assert_eq!(rt; found, fault),
-        }
+fn a_configuration_is_refused_by_its_first_fault(rt: HostRuntime) {
+    for (transfer, attributes, least, busy_ms, manifest_ms, fault) in &REFUSED {
+        let functional = Functional {
+            transfer: *transfer,
+            ..functional(*attributes)
+        };
+        let found = Config::new(IDS, functional, *least, *busy_ms, *manifest_ms).err();
+        assert_eq!(rt; found, Some(*fault));
     }
+}
+
+#[test]
+fn a_configuration_is_shown_with_version_0110(rt: HostRuntime) -> Result<(), Fail> {
     let device = device(rt.alloc(), functional(0x07), 0x100_0000, 0xff_ffff, 0)?;
     assert_eq!(rt; device.ids(), IDS);
-    assert_eq!(rt; device.functional(), Functional { version: 0x0110, ..functional(0x07) });
+    let shown = Functional {
+        version: 0x0110,
+        ..functional(0x07)
+    };
+    assert_eq!(rt; device.functional(), shown);
     Ok(())
 }

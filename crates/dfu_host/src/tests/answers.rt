@@ -5,7 +5,7 @@ use super::dialogue::{
     TOLERANT, WRITTEN,
 };
 use super::files::{ALL_ONES, NINE};
-use super::played::told;
+use super::played::{follow, told, wants};
 use crate::Seen::{Ack, Nothing, Stall, WasReset};
 use crate::{Action, Host, Report, Seen};
 use dfu_suffix::read;
@@ -29,27 +29,27 @@ const SECOND: Action<'static> = Action::Send {
 
 /// What is seen on the way to a phase, the code of a status with a poll time of 5 ms that comes
 /// there, and what is wanted then, by the status's state.
-type Told = (&'static [Seen<'static>], u8, [Action<'static>; 11]);
+type Told = (&'static [Seen<'static>], u8, &'static [Action<'static>; 11]);
 
 /// Find, Find again, Poll 0, Trouble and Manifest.
 #[rattlefmt::skip]
-const STATUSES: [Told; 9] = [
-    (&[], 0, [DETACH, RESET, BLOCK, WAIT, WAIT, ABORT, WAIT, WAIT, RESET, ABORT, CLEAR]),
-    (&[], 8, [DETACH, RESET, BLOCK, WAIT, WAIT, ABORT, WAIT, WAIT, RESET, ABORT, CLEAR]),
-    (&[Stall], 0, [DETACH, RESET, BLOCK, WAIT, WAIT, ABORT, WAIT, WAIT, RESET, ABORT, CLEAR]),
-    (&[DFU_IDLE, Ack], 0, [DETACH, RESET, BLOCK, WAIT, WAIT, CLOSE, WAIT, WAIT, RESET, ABORT, CLEAR]),
-    (&[DFU_IDLE, Ack], 8, [DETACH, RESET, BLOCK, WAIT, WAIT, CLOSE, WAIT, WAIT, RESET, ABORT, DENIED]),
-    (&[DFU_IDLE, Stall], 15, [DETACH, RESET, BLOCK, WAIT, WAIT, ABORT, WAIT, WAIT, RESET, ABORT, CLEAR]),
-    (&[DFU_IDLE, Stall], 8, [DETACH, RESET, BLOCK, WAIT, WAIT, ABORT, WAIT, WAIT, RESET, ABORT, DENIED]),
-    (&[DFU_IDLE, Ack, WRITTEN, Ack], 0, [DETACH, RESET, RESET, WAIT, WAIT, ABORT, WAIT, WAIT, RESET, ABORT, CLEAR]),
-    (&[DFU_IDLE, Ack, WRITTEN, Ack], 8, [DETACH, RESET, BLOCK, WAIT, WAIT, ABORT, WAIT, WAIT, RESET, ABORT, DENIED]),
+static STATUSES: [Told; 9] = [
+    (&[], 0, &[DETACH, RESET, BLOCK, WAIT, WAIT, ABORT, WAIT, WAIT, RESET, ABORT, CLEAR]),
+    (&[], 8, &[DETACH, RESET, BLOCK, WAIT, WAIT, ABORT, WAIT, WAIT, RESET, ABORT, CLEAR]),
+    (&[Stall], 0, &[DETACH, RESET, BLOCK, WAIT, WAIT, ABORT, WAIT, WAIT, RESET, ABORT, CLEAR]),
+    (&[DFU_IDLE, Ack], 0, &[DETACH, RESET, BLOCK, WAIT, WAIT, CLOSE, WAIT, WAIT, RESET, ABORT, CLEAR]),
+    (&[DFU_IDLE, Ack], 8, &[DETACH, RESET, BLOCK, WAIT, WAIT, CLOSE, WAIT, WAIT, RESET, ABORT, DENIED]),
+    (&[DFU_IDLE, Stall], 15, &[DETACH, RESET, BLOCK, WAIT, WAIT, ABORT, WAIT, WAIT, RESET, ABORT, CLEAR]),
+    (&[DFU_IDLE, Stall], 8, &[DETACH, RESET, BLOCK, WAIT, WAIT, ABORT, WAIT, WAIT, RESET, ABORT, DENIED]),
+    (&[DFU_IDLE, Ack, WRITTEN, Ack], 0, &[DETACH, RESET, RESET, WAIT, WAIT, ABORT, WAIT, WAIT, RESET, ABORT, CLEAR]),
+    (&[DFU_IDLE, Ack, WRITTEN, Ack], 8, &[DETACH, RESET, BLOCK, WAIT, WAIT, ABORT, WAIT, WAIT, RESET, ABORT, DENIED]),
 ];
 
 /// Manifest, with a device that detaches by itself and isn't tolerant.
 #[rattlefmt::skip]
-const SILENTLY: [Told; 2] = [
-    (&[DFU_IDLE, Ack, WRITTEN, Ack], 0, [DETACH, LONG, RESET, WAIT, WAIT, ABORT, WAIT, WAIT, RESET, ABORT, CLEAR]),
-    (&[DFU_IDLE, Ack, WRITTEN, Ack], 8, [DETACH, LONG, RESET, WAIT, WAIT, ABORT, WAIT, WAIT, RESET, ABORT, DENIED]),
+static SILENTLY: [Told; 2] = [
+    (&[DFU_IDLE, Ack, WRITTEN, Ack], 0, &[DETACH, LONG, RESET, WAIT, WAIT, ABORT, WAIT, WAIT, RESET, ABORT, CLEAR]),
+    (&[DFU_IDLE, Ack, WRITTEN, Ack], 8, &[DETACH, LONG, RESET, WAIT, WAIT, ABORT, WAIT, WAIT, RESET, ABORT, DENIED]),
 ];
 
 /// A status of each state in a phase.
@@ -60,7 +60,7 @@ fn try_statuses(rt: &impl Abort, device: &Functional, row: &Told) -> Result<(), 
         let mut host = Host::download(&file, device, DEVICE, AMPLE)?;
         told(&mut host, path);
         host.take(Seen::Bytes(&[*code, 5, 0, 0, state, 0]));
-        assert_eq!(rt; host.next(), wanted[state as usize]);
+        wants(rt, &host, wanted[state as usize]);
     }
     Ok(())
 }
@@ -88,21 +88,26 @@ fn try_states(
         let mut host = Host::download(&file, &TOLERANT, DEVICE, AMPLE)?;
         told(&mut host, path);
         host.take(Seen::Bytes(&[state]));
-        assert_eq!(rt; host.next(), wanted[state as usize]);
+        wants(rt, &host, wanted[state as usize]);
     }
     Ok(())
 }
 
-/// Ask 0, Ask 1 and Ask last. Where Poll, Manifest and Trouble follow, the status is asked for.
+/// What is wanted in Ask 0, Ask 1 and Ask last, by the state. Where Poll, Manifest and Trouble
+/// follow, the status is asked for.
 #[rattlefmt::skip]
+static STATES: [&[Action<'static>; 11]; 3] = [
+    &[STATUS, STATUS, BLOCK, STATUS, STATUS, STATUS, STATUS, STATUS, STATUS, STATUS, STATUS],
+    &[STATUS, STATUS, STATUS, STATUS, STATUS, SECOND, STATUS, STATUS, STATUS, STATUS, STATUS],
+    &[STATUS, STATUS, STATUS, STATUS, STATUS, CLOSE, STATUS, STATUS, STATUS, STATUS, STATUS],
+];
+
 #[test]
 fn state_of_each_kind_leads_on(rt: HostRuntime) -> Result<(), Fail> {
-    let first = [STATUS, STATUS, BLOCK, STATUS, STATUS, STATUS, STATUS, STATUS, STATUS, STATUS, STATUS];
-    let next = [STATUS, STATUS, STATUS, STATUS, STATUS, SECOND, STATUS, STATUS, STATUS, STATUS, STATUS];
-    let last = [STATUS, STATUS, STATUS, STATUS, STATUS, CLOSE, STATUS, STATUS, STATUS, STATUS, STATUS];
-    try_states(&rt, &ALL_ONES, &[DFU_IDLE, Nothing], &first)?;
-    try_states(&rt, &NINE, &[DFU_IDLE, Ack, WRITTEN, Nothing], &next)?;
-    try_states(&rt, &ALL_ONES, &[DFU_IDLE, Ack, WRITTEN, Nothing], &last)
+    let [first, next, last] = STATES;
+    try_states(&rt, &ALL_ONES, &[DFU_IDLE, Nothing], first)?;
+    try_states(&rt, &NINE, &[DFU_IDLE, Ack, WRITTEN, Nothing], next)?;
+    try_states(&rt, &ALL_ONES, &[DFU_IDLE, Ack, WRITTEN, Nothing], last)
 }
 
 #[test]
@@ -112,7 +117,7 @@ fn silent_device_ends_unconfirmed_in_two_states(rt: HostRuntime) -> Result<(), F
         let mut host = Host::download(&file, &SILENT, DEVICE, AMPLE)?;
         told(&mut host, &[DFU_IDLE, Ack, WRITTEN, Ack]);
         told(&mut host, &[Seen::Bytes(&[8, 0, 0, 0, state, 0]), WasReset]);
-        assert_eq!(rt; host.next(), Action::Done(Report::Unconfirmed));
+        wants(&rt, &host, Action::Done(Report::Unconfirmed));
     }
     Ok(())
 }

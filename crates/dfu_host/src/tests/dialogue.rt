@@ -9,7 +9,7 @@ pub(crate) const DEVICE: Ids = Ids {
     vendor: 0x1209,
 };
 
-pub(crate) const TOLERANT: Functional = Functional {
+pub(crate) static TOLERANT: Functional = Functional {
     can_download: true,
     can_upload: true,
     tolerant: true,
@@ -19,7 +19,7 @@ pub(crate) const TOLERANT: Functional = Functional {
     version: 0x0110,
 };
 
-pub(crate) const SILENT: Functional = Functional {
+pub(crate) static SILENT: Functional = Functional {
     can_download: true,
     can_upload: true,
     tolerant: false,

@@ -1,6 +1,7 @@
 //! Hosts that are told what was seen, and a session that is played to its end.
 
 use crate::{Action, Host, Report, Seen};
+use std::process::Abort;
 
 /// What carries out the actions of a host.
 pub(crate) trait Carrier {
@@ -21,6 +22,27 @@ pub(crate) fn play<C: Carrier>(host: &mut Host<'_>, carrier: &mut C) -> Report {
 /// Tells a host all of this.
 pub(crate) fn told(host: &mut Host<'_>, all: &[Seen<'_>]) {
     for seen in all {
+        host.take(*seen);
+    }
+}
+
+/// A host wants this.
+pub(crate) fn wants(rt: &impl Abort, host: &Host<'_>, action: Action<'_>) {
+    assert_eq!(rt; host.next(), action);
+}
+
+/// A host shows these bytes of an upload.
+pub(crate) fn shows(rt: &impl Abort, host: &Host<'_>, bytes: &[u8]) {
+    assert_eq!(rt; host.uploaded(), bytes);
+}
+
+/// What a host wants, and what it is told then.
+pub(crate) type Step = (Action<'static>, Seen<'static>);
+
+/// Goes through a dialogue with a host.
+pub(crate) fn follow(rt: &impl Abort, host: &mut Host<'_>, dialogue: &[Step]) {
+    for (action, seen) in dialogue {
+        wants(rt, host, *action);
         host.take(*seen);
     }
 }

@@ -3,12 +3,18 @@
 use super::dialogue::{
     ABORT, AMPLE, APP_IDLE, BUSY, DETACH, DFU_IDLE, GET_STATUS, OLD_ERROR, TOLERANT, WRITTEN, fetch,
 };
-use super::played::told;
+use super::played::{Step, follow, shows, told, wants};
 use crate::Seen::{Ack, Bytes, Nothing, Restarted, Stall, Waited, WasReset};
 use crate::{Action, Host, HostFault, Limits, Report, Seen};
 use dfu_wire::Functional;
 use std::process::Abort;
 use std::test::Fail;
+
+/// UPLOAD of part 0, of at most 8 bytes.
+const FETCH: Action<'static> = Action::Send {
+    setup: [0xa1, 2, 0, 0, 0, 0, 8, 0],
+    body: &[],
+};
 
 const UPLOADED: Action<'static> = Action::Done(Report::Uploaded);
 
@@ -22,27 +28,26 @@ const IMAGE: [u8; 19] = [
     0, 1, 2, 3, 4, 5, 6, 7, 8, 9, 10, 11, 12, 13, 14, 15, 16, 17, 18,
 ];
 
+/// An upload of one byte.
+static SHORT: [Step; 6] = [
+    (GET_STATUS, APP_IDLE),
+    (DETACH, Ack),
+    (Action::Reset, WasReset),
+    (GET_STATUS, DFU_IDLE),
+    (FETCH, Bytes(&[7])),
+    (Action::Reset, WasReset),
+];
+
 #[test]
 fn short_first_part_is_the_image(rt: HostRuntime) -> Result<(), Fail> {
     let mut host = Host::upload(rt.alloc(), &TOLERANT, AMPLE)?;
-    let dialogue = [
-        (GET_STATUS, APP_IDLE),
-        (DETACH, Ack),
-        (Action::Reset, WasReset),
-        (GET_STATUS, DFU_IDLE),
-        (fetch(0, 8), Bytes(&[7])),
-        (Action::Reset, WasReset),
-    ];
-    for (action, seen) in dialogue {
-        assert_eq!(rt; host.next(), action);
-        host.take(seen);
-    }
-    assert_eq!(rt; host.next(), UPLOADED);
-    assert_eq!(rt; host.uploaded(), [7].as_slice());
+    follow(&rt, &mut host, &SHORT);
+    wants(&rt, &host, UPLOADED);
+    shows(&rt, &host, &[7]);
     host.take(Restarted);
     host.abort();
-    assert_eq!(rt; host.next(), UPLOADED);
-    assert_eq!(rt; host.uploaded(), [7].as_slice());
+    wants(&rt, &host, UPLOADED);
+    shows(&rt, &host, &[7]);
     Ok(())
 }
 
@@ -51,13 +56,13 @@ fn full_parts_go_on_until_a_short_one(rt: HostRuntime) -> Result<(), Fail> {
     let mut host = Host::upload(rt.alloc(), &TOLERANT, AMPLE)?;
     host.take(DFU_IDLE);
     for (number, part) in [(0, FIRST), (1, SECOND), (2, THIRD)] {
-        assert_eq!(rt; host.next(), fetch(number, 8));
+        wants(&rt, &host, fetch(number, 8));
         host.take(part);
     }
-    assert_eq!(rt; host.next(), Action::Reset);
+    wants(&rt, &host, Action::Reset);
     host.take(WasReset);
-    assert_eq!(rt; host.next(), UPLOADED);
-    assert_eq!(rt; host.uploaded(), IMAGE.as_slice());
+    wants(&rt, &host, UPLOADED);
+    shows(&rt, &host, &IMAGE);
     Ok(())
 }
 
@@ -65,10 +70,10 @@ fn full_parts_go_on_until_a_short_one(rt: HostRuntime) -> Result<(), Fail> {
 fn empty_part_ends_an_image_of_full_parts(rt: HostRuntime) -> Result<(), Fail> {
     let mut host = Host::upload(rt.alloc(), &TOLERANT, AMPLE)?;
     told(&mut host, &[DFU_IDLE, FIRST]);
-    assert_eq!(rt; host.uploaded(), [0, 1, 2, 3, 4, 5, 6, 7].as_slice());
+    shows(&rt, &host, &[0, 1, 2, 3, 4, 5, 6, 7]);
     told(&mut host, &[Bytes(&[]), WasReset]);
-    assert_eq!(rt; host.next(), UPLOADED);
-    assert_eq!(rt; host.uploaded(), [0, 1, 2, 3, 4, 5, 6, 7].as_slice());
+    wants(&rt, &host, UPLOADED);
+    shows(&rt, &host, &[0, 1, 2, 3, 4, 5, 6, 7]);
     Ok(())
 }
 
@@ -81,17 +86,14 @@ fn what_is_no_part_begins_anew(rt: HostRuntime) -> Result<(), Fail> {
     for seen in [Nothing, Stall, long, Ack, Waited, WasReset] {
         let mut host = Host::upload(rt.alloc(), &TOLERANT, AMPLE)?;
         told(&mut host, &[DFU_IDLE, SECOND, seen]);
-        assert_eq!(rt; host.next(), GET_STATUS);
-        assert!(rt; host.uploaded().is_empty());
+        wants(&rt, &host, GET_STATUS);
+        shows(&rt, &host, &[]);
         told(&mut host, &[Bytes(&[0, 0, 0, 0, 9, 0]), Ack, DFU_IDLE]);
-        assert_eq!(rt; host.next(), fetch(0, 8));
-        assert!(rt; host.uploaded().is_empty());
+        wants(&rt, &host, fetch(0, 8));
+        shows(&rt, &host, &[]);
         told(&mut host, &[FIRST, THIRD, WasReset]);
-        assert_eq!(rt; host.next(), UPLOADED);
-        assert_eq!(rt;
-            host.uploaded(),
-            [0, 1, 2, 3, 4, 5, 6, 7, 16, 17, 18].as_slice()
-        );
+        wants(&rt, &host, UPLOADED);
+        shows(&rt, &host, &[0, 1, 2, 3, 4, 5, 6, 7, 16, 17, 18]);
     }
     Ok(())
 }
@@ -106,16 +108,16 @@ fn restart_throws_away_what_was_kept(rt: HostRuntime) -> Result<(), Fail> {
         let mut host = Host::upload(rt.alloc(), &TOLERANT, once)?;
         told(&mut host, path);
         host.take(Restarted);
-        assert_eq!(rt; host.next(), GET_STATUS);
-        assert!(rt; host.uploaded().is_empty());
+        wants(&rt, &host, GET_STATUS);
+        shows(&rt, &host, &[]);
         told(&mut host, &[DFU_IDLE, THIRD, WasReset]);
-        assert_eq!(rt; host.next(), UPLOADED);
-        assert_eq!(rt; host.uploaded(), [16, 17, 18].as_slice());
+        wants(&rt, &host, UPLOADED);
+        shows(&rt, &host, &[16, 17, 18]);
         let mut host = Host::upload(rt.alloc(), &TOLERANT, once)?;
         told(&mut host, path);
         told(&mut host, &[Restarted, DFU_IDLE, FIRST, Restarted]);
-        assert_eq!(rt; host.next(), Action::Done(Report::RestartsSpent));
-        assert!(rt; host.uploaded().is_empty());
+        wants(&rt, &host, Action::Done(Report::RestartsSpent));
+        shows(&rt, &host, &[]);
     }
     Ok(())
 }
@@ -124,7 +126,7 @@ fn restart_throws_away_what_was_kept(rt: HostRuntime) -> Result<(), Fail> {
 fn tell_parts(rt: &impl Abort, host: &mut Host<'_>, parts: u16) {
     host.take(DFU_IDLE);
     for number in 0..parts {
-        assert_eq!(rt; host.next(), fetch(number, 1));
+        wants(rt, host, fetch(number, 1));
         host.take(Bytes(&[5]));
     }
 }
@@ -138,12 +140,12 @@ fn image_has_less_than_65_535_full_parts(rt: HostRuntime) -> Result<(), Fail> {
     let mut host = Host::upload(rt.alloc(), &by_one, AMPLE)?;
     tell_parts(&rt, &mut host, 65_534);
     told(&mut host, &[Bytes(&[]), WasReset]);
-    assert_eq!(rt; host.next(), UPLOADED);
+    wants(&rt, &host, UPLOADED);
     assert_eq!(rt; host.uploaded().len(), 65_534);
     let mut host = Host::upload(rt.alloc(), &by_one, AMPLE)?;
     tell_parts(&rt, &mut host, 65_535);
-    assert_eq!(rt; host.next(), Action::Done(Report::TooManyBlocks));
-    assert!(rt; host.uploaded().is_empty());
+    wants(&rt, &host, Action::Done(Report::TooManyBlocks));
+    shows(&rt, &host, &[]);
     Ok(())
 }
 
@@ -175,7 +177,7 @@ fn refusals_of_an_upload_come_in_their_order(rt: HostRuntime) -> Result<(), Fail
 }
 
 /// Ways to the phases in which an upload can be given up.
-const WAYS: [&[Seen<'static>]; 10] = [
+static WAYS: [&[Seen<'static>]; 10] = [
     &[],
     &[Stall],
     &[APP_IDLE],
@@ -196,10 +198,10 @@ fn given_up_upload_ends_aborted(rt: HostRuntime) -> Result<(), Fail> {
             told(&mut host, way);
             host.abort();
             host.abort();
-            assert_eq!(rt; host.next(), ABORT);
-            assert!(rt; host.uploaded().is_empty());
+            wants(&rt, &host, ABORT);
+            shows(&rt, &host, &[]);
             host.take(seen);
-            assert_eq!(rt; host.next(), Action::Done(Report::Aborted));
+            wants(&rt, &host, Action::Done(Report::Aborted));
         }
     }
     Ok(())
@@ -215,7 +217,7 @@ fn part_is_kept_or_there_is_no_memory(rt: HostRuntime) -> Result<(), Fail> {
         Action::Done(Report::NoMemory) => assert!(rt; host.uploaded().is_empty()),
         action => {
             assert_eq!(rt; action, UPLOADED);
-            assert_eq!(rt; host.uploaded(), IMAGE.as_slice());
+            shows(&rt, &host, &IMAGE);
         }
     }
     Ok(())
