@@ -3,7 +3,8 @@ use Rattle.std.specs.Prelude.{ℕ, Bool, false, length, ◌==◌, List, [], ◌�
 use Rattle.dfu_wire.specs.Functional.{functional_of}
 use Rattle.dfu_slots.specs.declared.unit.Unit.{Unit as WriteUnit}
 use Rattle.dfu_slots.specs.declared.unit.Unit.TheVariants.{Byte, U16, U64, U256}
-use Rattle.dfu_link.specs.Words.{◌>>=◌, guard, bytes_of, number_of, quad_of, pair_of, first, ends, words_of}
+use Rattle.dfu_wire.specs.Identifier.{identifier_in}
+use Rattle.dfu_link.specs.Words.{◌>>=◌, guard, bytes_of, number_of, pair_of, first, ends, words_of}
 use Rattle.dfu_link.specs.Happening.{Fate, Pass, LostOut, LostBack, Twice, TwiceLostBack, Slip, CutIn, Fail, unharmed, harmed}
 use Rattle.dfu_link.specs.Said.{Said, Blank, Sets, LimitsTo, Does, Show, TheIds, TheDevice, TheUnit, TheCapacity, TheImage, Offer, Upload, Abort, Go, Time, Reset, Cut}
 use Rattle.dfu_link.specs.Keywords.{keyword_of, fate_keyword_of}
@@ -33,8 +34,8 @@ unfoldable pub hex_at : List (List ℕ) → Field (List ℕ)
 hex_at words = field bytes_of words
 
 -- Four hexadecimal digits.
-unfoldable pub quad_at : List (List ℕ) → Field ℕ
-quad_at words = field quad_of words
+unfoldable pub identifier_at : List (List ℕ) → Field ℕ
+identifier_at words = field identifier_in words
 
 -- Two hexadecimal digits, 00 to 0f.
 unfoldable pub attributes_at : List (List ℕ) → Field ℕ
@@ -43,9 +44,9 @@ attributes_at words = field pair_of words >>= λ n. guard (nat_le n.0 15) n
 -- After `ids`: the vendor, the product and the device.
 unfoldable pub ids_of : List (List ℕ) → Option Said
 ids_of words = do
-  vendor ← quad_at words
-  product ← quad_at vendor.1
-  device ← quad_at product.1
+  vendor ← identifier_at words
+  product ← identifier_at vendor.1
+  device ← identifier_at product.1
   ends (Sets (TheIds (record { device = device.0; product = product.0; vendor = vendor.0 }))) device.1
 
 -- After `device`: the attributes, the detach timeout, the transfer size, the fewest bytes of an image, and two times.

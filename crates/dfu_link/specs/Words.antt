@@ -77,10 +77,6 @@ ok_of (Err e) = None
 abbrev pub bytes_of : List ℕ → Option (List ℕ)
 bytes_of word = if bytes_eq word (codes "-") then Some [] else ok_of (decode_of word)
 
--- Four hexadecimal digits, the highest first.
-abbrev pub quad_of : List ℕ → Option ℕ
-quad_of word = ok_of (decode_sized word 2) >>= λ bytes. Some (from_be_bytes w16 bytes)
-
 -- Two hexadecimal digits, the higher first.
 abbrev pub pair_of : List ℕ → Option ℕ
 pair_of word = ok_of (decode_sized word 1) >>= λ bytes. Some (slice_index bytes 0)

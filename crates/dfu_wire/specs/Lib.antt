@@ -9,3 +9,4 @@ pub mod Request
 pub mod Setup
 pub mod State
 pub mod Status
+pub mod Identifier

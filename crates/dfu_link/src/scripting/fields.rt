@@ -4,11 +4,12 @@
 ghost use Rattle.std.specs.Prelude.{◌≤◌, Some, None, IfSome};
 ghost use Rattle.dfu_link.specs.Words.{Reads, words_of, ends};
 ghost use Rattle.dfu_link.specs.Said.{hex_bytes, said_of};
-ghost use Rattle.dfu_link.specs.Lines.{number_at, small_at, hex_at, quad_at, attributes_at};
+ghost use Rattle.dfu_link.specs.Lines.{number_at, small_at, hex_at, identifier_at, attributes_at};
 
 use crate::scripting::hex_text::HexText;
 use crate::scripting::line::Line;
-use crate::scripting::words::{hex_text, number, pair, quad, word_at};
+use crate::scripting::words::{hex_text, number, pair, word_at};
+use dfu_wire::identifier;
 
 /// A number.
 #[tactic(auto, unfolding(crate::specs::Lines::number_at))]
@@ -49,13 +50,13 @@ pub(crate) fn hex_at(line: &[u8]) -> Option<(HexText<'_>, &[u8])>
     Some((text, rest))
 }
 
-/// Four hexadecimal digits.
-#[tactic(auto, unfolding(crate::specs::Lines::quad_at))]
-pub(crate) fn quad_at(line: &[u8]) -> Option<(u16, &[u8])>
-    ensures { Reads (λ x. (x.0, words_of x.1.now)) result (quad_at (words_of line.now)) }
+/// An identifier: four hexadecimal digits.
+#[tactic(auto, unfolding(crate::specs::Lines::identifier_at))]
+pub(crate) fn identifier_at(line: &[u8]) -> Option<(u16, &[u8])>
+    ensures { Reads (λ x. (x.0, words_of x.1.now)) result (identifier_at (words_of line.now)) }
 {
     let (word, rest) = word_at(line)?;
-    let n = quad(word)?;
+    let n = identifier(word)?;
     Some((n, rest))
 }
 

@@ -8,7 +8,7 @@ ghost use Rattle.dfu_link.specs.Lines.{small_at, ids_of, device_of, unit_named, 
 
 use crate::fate::Fate;
 use crate::scripting::fields::{
-    attributes_at, ended, hex_at, number_at, quad_at, short_at, small_at,
+    attributes_at, ended, hex_at, identifier_at, number_at, short_at, small_at,
 };
 use crate::scripting::keywords::{FateKeyword, read_fate};
 use crate::scripting::line::{ConfigLine, EventLine, HarmKind, Line, Room};
@@ -21,9 +21,9 @@ use dfu_wire::{Functional, Ids};
 pub(crate) fn ids(line: &[u8]) -> Option<Line<'_>>
     ensures { Reads said_of result (ids_of (words_of line.now)) }
 {
-    let (vendor, rest) = quad_at(line)?;
-    let (product, rest) = quad_at(rest)?;
-    let (device, rest) = quad_at(rest)?;
+    let (vendor, rest) = identifier_at(line)?;
+    let (product, rest) = identifier_at(rest)?;
+    let (device, rest) = identifier_at(rest)?;
     let ids = Ids {
         device,
         product,

@@ -3,7 +3,7 @@
 ghost use Rattle.std.specs.Prelude.{◌≡◌, ◌↔◌, ◌+◌, ◌*◌, Some, None, IsTrue, is_some};
 ghost use Rattle.std.specs.List.{position, AllPass};
 ghost use Rattle.hex.specs.Hex.{is_hex_digit};
-ghost use Rattle.dfu_link.specs.Words.{Reads, is_space, is_no_space, words_of, first, number_of, bytes_of, quad_of, pair_of};
+ghost use Rattle.dfu_link.specs.Words.{Reads, is_space, is_no_space, words_of, first, number_of, bytes_of, pair_of};
 ghost use Rattle.dfu_link.specs.Said.{hex_bytes};
 
 use crate::scripting::hex_text::HexText;
@@ -84,17 +84,6 @@ pub(crate) fn hex_text(word: &[u8]) -> Option<HexText<'_>>
         Some(HexText { text: word })
     } else {
         None
-    }
-}
-
-/// Four hexadecimal digits.
-pub(crate) fn quad(word: &[u8]) -> Option<u16>
-    ensures { Reads (λ n. n) result (quad_of word.now) }
-{
-    let mut bytes = [0; 2];
-    match hex::decode_to_slice(word, &mut bytes) {
-        Ok(()) => Some(u16::from_be_bytes(bytes)),
-        Err(_) => None,
     }
 }
 

@@ -1,0 +1,16 @@
+//! Identifiers as text.
+
+ghost use Rattle.std.specs.Prelude.{◌≡◌};
+ghost use Rattle.dfu_wire.specs.Identifier.{identifier_in};
+
+/// The number that four hexadecimal digits of either case write, the highest first; nothing for any
+/// other text. So scripts and options write idVendor, idProduct and bcdDevice.
+pub fn identifier(digits: &[u8]) -> Option<u16>
+    ensures { result ≡ identifier_in digits.now }
+{
+    let mut bytes = [0u8; 2];
+    match hex::decode_to_slice(digits, &mut bytes) {
+        Ok(()) => Some(u16::from_be_bytes(bytes)),
+        Err(_error) => None,
+    }
+}
