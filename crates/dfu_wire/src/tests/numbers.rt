@@ -1,6 +1,6 @@
 //! The standard's numbers and names of states and codes.
 
-use crate::{Code, State, WireFault};
+use crate::{Code, State, WireFault, identifier};
 use std::test::Fail;
 
 const STATE_NAMES: [&str; 11] = [
@@ -62,6 +62,26 @@ fn every_byte_is_a_code_or_none(rt: HostRuntime) -> Result<(), Fail> {
             }
             None => assert_eq!(rt; Code::from_byte(byte), Err(WireFault::UnknownCode)),
         }
+    }
+    Ok(())
+}
+
+#[test]
+fn identifiers_have_four_digits(rt: HostRuntime) -> Result<(), Fail> {
+    let rows = [
+        ("1209", Some(0x1209)),
+        ("aBcD", Some(0xabcd)),
+        ("0000", Some(0)),
+        ("ffff", Some(0xffff)),
+        ("", None),
+        ("123", None),
+        ("12345", None),
+        ("0x12", None),
+        ("+123", None),
+        ("12 9", None),
+    ];
+    for (text, number) in rows {
+        assert_eq!(rt; identifier(text.as_bytes()), number, "{text}");
     }
     Ok(())
 }
