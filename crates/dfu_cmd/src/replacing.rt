@@ -47,7 +47,7 @@ fn new_part<R: Files + AllocGlobal>(rt: &R, place: &Place) -> io::Result<Part<R:
 
 /// The rights that a file has in place of one with this mode: the same; where it has another owner
 /// and group, that group has those of all others.
-fn rights_after(mode: u32, is_kept: bool) -> u32 {
+pub(crate) fn rights_after(mode: u32, is_kept: bool) -> u32 {
     if is_kept {
         return mode & 0o777;
     }
