@@ -62,6 +62,7 @@ pub fn entry_in<'f>(folder: &'f [Entry], name: &str) -> io::Result<&'f Entry> {
 }
 
 impl Machine {
+    /// A machine whose folder is empty.
     pub fn new(alloc: Global, input: &'static [u8], failing: &'static str) -> Machine {
         let state = State {
             folder: Vec::new(alloc),
