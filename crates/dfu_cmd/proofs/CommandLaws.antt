@@ -1,11 +1,13 @@
 -- The command line as clap reads it.
-use Rattle.std.proofs.Common.{◌≡◌, List, false, true, refl, ap, ◌∙◌}
-use Rattle.clap.specs.Words.{App, HasMatchesOf, IsParsedFrom, Text, app_of, has_subcommand, is_simple, subcommand_of, subcommand_rows_of}
+use Rattle.std.proofs.Common.{◌≡◌, List, [], false, true, refl, ap, subst, sym, ◌∙◌}
+use Rattle.clap.specs.Words.{App, HasKind, HasMatchesOf, IsParsedFrom, Text, app_of, fault_of, has_subcommand, is_simple, is_simple_and_free, subcommand_of, subcommand_rows_of}
 use Rattle.clap.specs.declared.builder.Command.{Command}
 use Rattle.clap.specs.declared.builder.Command.TheViews.{out-Command}
 use Rattle.clap.specs.declared.parser.matches.ArgMatches.{ArgMatches}
 use Rattle.clap.proofs.CallerLemmas.{subcommand_required}
+use Rattle.clap.specs.declared.error.Error.{Error}
 use Rattle.dfu_cmd.specs.CommandLine.{dfu_app}
+use Rattle.dfu_cmd.specs.Refusals.{word_faults}
 
 dfu_simple : is_simple dfu_app ≡ true
 unfolding dfu_app
@@ -24,3 +26,20 @@ stated app words m e h = (h (ap is_simple e ∙ dfu_simple)).1 ∙ ap (λ (a : A
 pub met : (command : Command) (m : ArgMatches) → app_of command ≡ dfu_app → (out-Command command).has_globals ≡ false →
     IsParsedFrom command m → has_subcommand m ≡ true
 met command m e globals parsed = subcommand_required command m parsed globals (ap (λ (a : App). a.top.subcommand_required) e ∙ dfu_requires)
+
+dfu_free : is_simple_and_free dfu_app ≡ true
+unfolding dfu_app
+dfu_free = refl
+
+-- A parse of this command succeeds only where clap states no fault of the words.
+pub faultless : (app : App) (words : List Text) → app ≡ dfu_app → (is_simple_and_free app ≡ true → fault_of app words ≡ []) →
+    word_faults words ≡ []
+unfolding word_faults
+faultless app words e free = ap (λ (a : App). fault_of a words) (sym e) ∙ free (ap is_simple_and_free e ∙ dfu_free)
+
+-- An error of a parse of this command has one of the kinds that clap states for the words, or it says that memory ran out.
+pub faulty : (app : App) (words : List Text) (error : Error) → app ≡ dfu_app →
+    (is_simple_and_free app ≡ true → HasKind (fault_of app words) error) → HasKind (word_faults words) error
+unfolding word_faults
+faulty app words error e free =
+    subst (λ (a : App). HasKind (fault_of a words) error) e (free (ap is_simple_and_free e ∙ dfu_free))

@@ -1,5 +1,5 @@
 -- What `dfu show` writes.
-use Rattle.std.specs.Prelude.{◌≡◌, ◌⊎◌, ℕ, List, slice_index, Option, Result, Ok, Err, IsOk}
+use Rattle.std.specs.Prelude.{◌≡◌, ◌⊎◌, ◌%◌, ℕ, List, length, slice_index, Option, Result, Ok, Err, IsOk}
 use Rattle.hex.specs.Hex.{decode_of}
 use Rattle.hex.specs.declared.error.FromHexError.{FromHexError}
 use Rattle.dfu_wire.specs.Functional.{IsFunctional, FirstFunctionalFault}
@@ -53,11 +53,11 @@ WritesStatus bytes old new result =
     × (Wrote old new (status_answer answer (slice_index bytes 5)) (read_exit answer) result
     ⊎ (IsOk answer × Wrote old new (fault_line NoMemory) Refused result))
 
--- The text is hexadecimal and its bytes are written so, or it isn't and the line says that, or there was no memory for the
--- bytes and the line says that.
+-- The text is hexadecimal and its bytes are written so, or it isn't and the line says that, or the count of its digits is
+-- even and there was no memory for the bytes, and the line says that.
 abbrev pub WritesBytes : ((bytes : List ℕ) (old new : Option (List ℕ)) → Exit → Type 0) →
     (text : List ℕ) (old new : Option (List ℕ)) → Exit → Type 0
 WritesBytes Writes text old new result =
     ((bytes : List ℕ) × (decode_of text ≡ Ok bytes) × Writes bytes old new result)
     ⊎ (((e : FromHexError) × (decode_of text ≡ Err e) × Wrote old new no_hex_line Refused result)
-    ⊎ Wrote old new (fault_line NoMemory) Refused result)
+    ⊎ ((length text % 2 ≡ 0) × Wrote old new (fault_line NoMemory) Refused result))

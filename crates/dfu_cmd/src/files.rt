@@ -5,14 +5,16 @@ use crate::checking::check_text;
 use crate::exit::Exit;
 use crate::faults::fault_text;
 use crate::output::write_out;
+use crate::owner::Owned;
+use crate::replacing::replace;
 use crate::running::run_text;
 use dfu_suffix::SuffixFault;
 use dfu_wire::Ids;
-use std::fs;
-use std::io::{self, Write};
+use std::rt::Files;
+use std::{fs, io};
 
 /// Checks a file, or standard input where the name is `-`.
-pub(crate) fn run_check(rt: &HostRuntime, file: &str) -> Exit {
+pub(crate) fn run_check<R: Files + Input + Print + AllocGlobal>(rt: &R, file: &str) -> Exit {
     let mut out = io::writer(rt);
     if file == "-" {
         return check_text(rt.alloc(), rt.reader(), &mut out);
@@ -24,7 +26,7 @@ pub(crate) fn run_check(rt: &HostRuntime, file: &str) -> Exit {
 }
 
 /// Runs a script, or that of standard input where the name is `-`.
-pub(crate) fn run_script(rt: &HostRuntime, script: &str) -> Exit {
+pub(crate) fn run_script<R: Files + Input + Print + AllocGlobal>(rt: &R, script: &str) -> Exit {
     let mut out = io::writer(rt);
     if script == "-" {
         return run_text(rt.alloc(), rt.reader(), &mut out);
@@ -35,27 +37,16 @@ pub(crate) fn run_script(rt: &HostRuntime, script: &str) -> Exit {
     }
 }
 
-/// Puts the bytes in place of a file, whole: they are written beside it and then take its name, so
-/// that a cut of the machine leaves the old file or the new one.
-fn replace(rt: &HostRuntime, path: &str, bytes: &[u8]) -> io::Result<()> {
-    let beside = format!(in rt.alloc(); "{path}.dfu-part")?;
-    let mut file = fs::create(rt, beside.as_str())?;
-    let written = match file.write_all(bytes) {
-        Ok(()) => file.sync_all(),
-        Err(error) => Err(error),
-    };
-    let renamed = match written {
-        Ok(()) => fs::rename(rt, beside.as_str(), path),
-        Err(error) => Err(error),
-    };
-    if renamed.is_err() {
-        let _ = fs::remove_file(rt, beside.as_str());
-    }
-    renamed
-}
-
 /// Adds a suffix to a file, and makes the other file only where that succeeded.
-pub(crate) fn run_add(rt: &HostRuntime, file: &str, to: &str, ids: Ids) -> Exit {
+pub(crate) fn run_add<R: Files + Print + AllocGlobal>(
+    rt: &R,
+    file: &str,
+    to: &str,
+    ids: Ids,
+) -> Exit
+where
+    R::File: Owned,
+{
     let mut out = io::writer(rt);
     let Ok(reader) = fs::open(rt, file) else {
         return fault_text(SuffixFault::Read, &mut out);

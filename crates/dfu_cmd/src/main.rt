@@ -12,6 +12,9 @@ mod help;
 mod identifiers;
 mod numbers;
 mod output;
+mod owner;
+mod place;
+mod replacing;
 mod running;
 mod show_lines;
 mod showing;
@@ -26,10 +29,12 @@ use faults::bad_words;
 pub use faults::fault_text;
 use files::{run_add, run_check, run_script};
 use identifiers::{IdTexts, ids_said};
+use owner::Owned;
 pub use running::run_text;
 pub use showing::show_text;
 use std::io::{self, ErrorKind};
 use std::process::ExitCode;
+use std::rt::Files;
 pub use task::{Job, JobFault};
 pub use words::job;
 
@@ -37,7 +42,10 @@ pub use words::job;
 mod tests;
 
 /// Does a job.
-fn perform(rt: &HostRuntime, job: Job) -> Exit {
+fn perform<R: Files + Input + Print + AllocGlobal>(rt: &R, job: Job) -> Exit
+where
+    R::File: Owned,
+{
     match job {
         Job::Check { file } => run_check(rt, &file),
         Job::Add {
@@ -63,14 +71,18 @@ fn perform(rt: &HostRuntime, job: Job) -> Exit {
 }
 
 /// The parser's text, which for a mistake ends with how to ask for help.
-fn explain(rt: &HostRuntime, error: &clap::Error) -> u8 {
+fn explain<R: Print>(rt: &R, error: &clap::Error) -> u8 {
     match rt.print(error) {
         Ok(()) => error.exit_code() as u8,
         Err(_error) => Exit::Fault.status(),
     }
 }
 
-fn run_words(rt: &HostRuntime, words: &[String]) -> u8 {
+/// Does what the words ask for, and answers the exit status.
+fn run_words<R: Files + Input + Print + AllocGlobal>(rt: &R, words: &[String]) -> u8
+where
+    R::File: Owned,
+{
     match job(rt.alloc(), words) {
         Ok(job) => perform(rt, job).status(),
         Err(fault) => match fault {
@@ -80,7 +92,7 @@ fn run_words(rt: &HostRuntime, words: &[String]) -> u8 {
     }
 }
 
-fn no_memory(rt: &HostRuntime) -> Exit {
+fn no_memory<R: Print>(rt: &R) -> Exit {
     fault_text(SuffixFault::NoMemory, &mut io::writer(rt))
 }
 

@@ -1,5 +1,8 @@
 //! The lines of known files, bytes and scripts, and the jobs of known words.
 
+mod files;
+mod host;
+mod machine;
 mod readers;
 mod scripts;
 mod streams;

@@ -1,9 +1,10 @@
 //! From the words of a command line to a job.
 
-ghost use Rattle.std.specs.Prelude.{◌≡◌, IfOk, Some, codes, map, true};
+ghost use Rattle.std.specs.Prelude.{◌≡◌, IfErr, IfOk, Some, codes, map, true};
 ghost use Rattle.std.specs.String.{string_bytes};
-ghost use Rattle.clap.specs.Words.{first_of, found_of, has_subcommand, rows_of, subcommand_of, subcommand_rows_of};
+ghost use Rattle.clap.specs.Words.{HasKind, Kinds, first_of, found_of, has_subcommand, rows_of, subcommand_of, subcommand_rows_of};
 ghost use Rattle.dfu_cmd.specs.CommandLine.{dfu_app, States};
+ghost use Rattle.dfu_cmd.specs.Refusals.{EndsBy, Tells, word_faults};
 
 use crate::command_line::dfu_command;
 use crate::task::{Job, JobFault};
@@ -13,7 +14,8 @@ use std::alloc::Global;
 
 /// The text of an argument.
 fn text_of(alloc: Global, found: &ArgMatches<'_>, id: &str) -> Result<String, JobFault>
-    ensures { IfOk result (λ t. first_of id.now (rows_of (found_of found.now)) ≡ Some (string_bytes t)) }
+    ensures memory { IfErr result (λ f. f ≡ JobFault.NoMemory) }
+    ensures text { IfOk result (λ t. first_of id.now (rows_of (found_of found.now)) ≡ Some (string_bytes t)) }
 {
     // Each argument of `dfu_command` is needed or has a default, so there is a text. That isn't
     // proved, and the answer is one that no words get.
@@ -30,6 +32,7 @@ fn text_of(alloc: Global, found: &ArgMatches<'_>, id: &str) -> Result<String, Jo
 fn matches_of<'a>(alloc: Global, words: &'a [String]) -> Result<ArgMatches<'a>, JobFault>
     ensures rows { IfOk result (λ m. subcommand_rows_of m ≡ subcommand_of dfu_app (map string_bytes words.now)) }
     ensures named { IfOk result (λ m. has_subcommand m ≡ true) }
+    ensures faults { EndsBy (word_faults (map string_bytes words.now)) result }
 {
     let command = match dfu_command(alloc) {
         Ok(command) => command,
@@ -42,7 +45,9 @@ fn matches_of<'a>(alloc: Global, words: &'a [String]) -> Result<ArgMatches<'a>, 
 }
 
 /// The parser's want of memory is our own.
-fn fault_of(error: clap::Error) -> JobFault {
+fn fault_of(error: clap::Error) -> JobFault
+    ensures { (kinds : Kinds) → HasKind kinds error → Tells kinds result }
+{
     match error.kind() {
         ErrorKind::OutOfMemory => JobFault::NoMemory,
         _ => JobFault::Words(error),
@@ -50,14 +55,16 @@ fn fault_of(error: clap::Error) -> JobFault {
 }
 
 fn check_job(alloc: Global, found: &ArgMatches<'_>) -> Result<Job, JobFault>
-    ensures { IfOk result (λ j. States (Some (codes "check", rows_of (found_of found.now))) j) }
+    ensures job { IfOk result (λ j. States (Some (codes "check", rows_of (found_of found.now))) j) }
+    ensures memory { IfErr result (λ f. f ≡ JobFault.NoMemory) }
 {
     let file = text_of(alloc, found, "file")?;
     Ok(Job::Check { file })
 }
 
 fn add_job(alloc: Global, found: &ArgMatches<'_>) -> Result<Job, JobFault>
-    ensures { IfOk result (λ j. States (Some (codes "add", rows_of (found_of found.now))) j) }
+    ensures job { IfOk result (λ j. States (Some (codes "add", rows_of (found_of found.now))) j) }
+    ensures memory { IfErr result (λ f. f ≡ JobFault.NoMemory) }
 {
     let file = text_of(alloc, found, "file")?;
     let to = text_of(alloc, found, "to")?;
@@ -74,7 +81,8 @@ fn add_job(alloc: Global, found: &ArgMatches<'_>) -> Result<Job, JobFault>
 }
 
 fn show_job(alloc: Global, found: &ArgMatches<'_>) -> Result<Job, JobFault>
-    ensures { IfOk result (λ j. States (Some (codes "show", rows_of (found_of found.now))) j) }
+    ensures job { IfOk result (λ j. States (Some (codes "show", rows_of (found_of found.now))) j) }
+    ensures memory { IfErr result (λ f. f ≡ JobFault.NoMemory) }
 {
     let kind = text_of(alloc, found, "kind")?;
     let hex = text_of(alloc, found, "hex")?;
@@ -82,14 +90,16 @@ fn show_job(alloc: Global, found: &ArgMatches<'_>) -> Result<Job, JobFault>
 }
 
 fn run_job(alloc: Global, found: &ArgMatches<'_>) -> Result<Job, JobFault>
-    ensures { IfOk result (λ j. States (Some (codes "run", rows_of (found_of found.now))) j) }
+    ensures job { IfOk result (λ j. States (Some (codes "run", rows_of (found_of found.now))) j) }
+    ensures memory { IfErr result (λ f. f ≡ JobFault.NoMemory) }
 {
     let script = text_of(alloc, found, "script")?;
     Ok(Job::Run { script })
 }
 
 fn named_job(alloc: Global, name: &str, found: &ArgMatches<'_>) -> Result<Job, JobFault>
-    ensures { IfOk result (λ j. States (Some (name.now, rows_of (found_of found.now))) j) }
+    ensures job { IfOk result (λ j. States (Some (name.now, rows_of (found_of found.now))) j) }
+    ensures memory { IfErr result (λ f. f ≡ JobFault.NoMemory) }
 {
     match name {
         "check" => check_job(alloc, found),
@@ -104,7 +114,8 @@ fn named_job(alloc: Global, name: &str, found: &ArgMatches<'_>) -> Result<Job, J
 
 fn chosen(alloc: Global, matches: &ArgMatches<'_>) -> Result<Job, JobFault>
     requires { has_subcommand matches.now ≡ true }
-    ensures { IfOk result (λ j. States (subcommand_rows_of matches.now) j) }
+    ensures job { IfOk result (λ j. States (subcommand_rows_of matches.now) j) }
+    ensures memory { IfErr result (λ f. f ≡ JobFault.NoMemory) }
 {
     match matches.subcommand() {
         Some((name, found)) => named_job(alloc, name, found),
@@ -120,7 +131,9 @@ fn chosen(alloc: Global, matches: &ArgMatches<'_>) -> Result<Job, JobFault>
 /// for help; NoMemory where an allocation was refused.
 pub fn job(alloc: Global, words: &[String]) -> Result<Job, JobFault>
     // The subcommand and its texts are those that clap states for these words and this command.
-    ensures { IfOk result (λ j. States (subcommand_of dfu_app (map string_bytes words.now)) j) }
+    ensures job { IfOk result (λ j. States (subcommand_of dfu_app (map string_bytes words.now)) j) }
+    // A job comes only where clap states no fault for them, and Words only with a kind that it states.
+    ensures faults { EndsBy (word_faults (map string_bytes words.now)) result }
 {
     let matches = matches_of(alloc, words)?;
     chosen(alloc, &matches)
