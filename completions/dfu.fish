@@ -22,7 +22,7 @@ complete -c dfu -s h -l help -d 'Print help'
 complete -c dfu -n __dfu_at -a check -d 'Check a DFU file and print what its suffix says'
 complete -c dfu -n __dfu_at -a add -d 'Write a raw image and a suffix for it to a new file'
 complete -c dfu -n __dfu_at -a show -d 'Print the fields of bytes that go over the wire'
-complete -c dfu -n __dfu_at -a run -d 'Play a script of events on a simulated link'
+complete -c dfu -n __dfu_at -a run -d 'Play a script of events on a simulated link of a host and a device'
 complete -c dfu -n __dfu_at -a help -d 'Print help'
 complete -c dfu -n '__dfu_at check; or __dfu_at run; or __dfu_at add; or __dfu_at add FILE' -F
 complete -c dfu -x -n '__fish_seen_subcommand_from add' -l vid -d 'Vendor, four hexadecimal digits'
