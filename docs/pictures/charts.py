@@ -37,7 +37,7 @@ CHARTS = {
         "The power is cut in the write that opens the gate",
         ENTER + [BLOCK] + POLL + CLOSE + [("a wait", "the power is cut", None, "header, gate torn")],
         ["The write of the gate was torn, and its first byte was written: the gate is open, and the new image is active, whole.",
-         "Where that byte is not written, the gate is closed and the image before stays active. There is no third case."],
+         "Where that byte is anything but a5, the gate is closed, and the image before stays active. There is no third case."],
     ),
 }
 
