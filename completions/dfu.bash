@@ -1,30 +1,38 @@
-# Completion of dfu for bash: source this file.
+# Completion of dfu for bash: source this file, or put it as `dfu` into a folder of bash-completion.
+
+# Names of files are left to readline, which knows how each has to be quoted.
 _dfu() {
-    local word=${COMP_WORDS[COMP_CWORD]}
-    local before=${COMP_WORDS[COMP_CWORD - 1]}
+    local word=${COMP_WORDS[COMP_CWORD]} command=${COMP_WORDS[1]} at=2 place=0 options='-h --help' is_value=
     COMPREPLY=()
     if [ "$COMP_CWORD" -eq 1 ]; then
-        COMPREPLY=($(compgen -W "check add show run help -h --help" -- "$word"))
+        case $word in
+        -*) COMPREPLY=($(compgen -W "$options" -- "$word")) ;;
+        *) COMPREPLY=($(compgen -W 'check add show run help' -- "$word")) ;;
+        esac
         return
     fi
-    case ${COMP_WORDS[1]} in
-    check | run)
-        COMPREPLY=($(compgen -W "-h --help" -- "$word") $(compgen -f -- "$word"))
-        ;;
-    add)
-        case $before in
-        --vid | --pid | --did) return ;;
+    [ "$command" != add ] || options='--vid --pid --did -h --help'
+    # How many words that are no options stand before this one. In `--vid=1209` readline takes the `=`
+    # for a word.
+    while [ "$at" -lt "$COMP_CWORD" ]; do
+        case ${COMP_WORDS[at]} in
+        --vid | --pid | --did)
+            at=$((at + 1))
+            [ "${COMP_WORDS[at]}" != = ] || [ "$at" -eq "$COMP_CWORD" ] || at=$((at + 1))
+            [ "$at" -lt "$COMP_CWORD" ] || is_value=1
+            ;;
+        -?*) ;;
+        *) place=$((place + 1)) ;;
         esac
-        COMPREPLY=($(compgen -W "--vid --pid --did -h --help" -- "$word") $(compgen -f -- "$word"))
-        ;;
-    show)
-        if [ "$COMP_CWORD" -eq 2 ]; then
-            COMPREPLY=($(compgen -W "functional status -h --help" -- "$word"))
-        fi
-        ;;
-    help)
-        COMPREPLY=($(compgen -W "check add show run help" -- "$word"))
-        ;;
+        at=$((at + 1))
+    done
+    [ -z "$is_value" ] || return
+    case $command:$place:$word in
+    help:*:-*) ;;
+    *:-?* | *:-) COMPREPLY=($(compgen -W "$options" -- "$word")) ;;
+    check:0:* | run:0:* | add:[01]:*) compopt -o default ;;
+    show:0:*) COMPREPLY=($(compgen -W 'functional status' -- "$word")) ;;
+    help:0:*) COMPREPLY=($(compgen -W 'check add show run help' -- "$word")) ;;
     esac
 }
-complete -o filenames -F _dfu dfu
+complete -F _dfu dfu

@@ -1,14 +1,32 @@
 # Completion of dfu for fish: put this file into a folder of fish_complete_path.
-set -l commands check add show run help
+
+# Whether the words before this one are dfu, the command, and as many further ones, but for options.
+function __dfu_at
+    set -l words
+    set -l is_value 0
+    for word in (commandline -opc)[2..]
+        if test $is_value -eq 1
+            set is_value 0
+        else if contains -- $word --vid --pid --did
+            set is_value 1
+        else if not string match -q -- '-?*' $word
+            set -a words $word
+        end
+    end
+    test (count $words) -eq (count $argv); or return 1
+    test (count $argv) -eq 0; or string match -q -- $argv[1] $words[1]
+end
+
+complete -c dfu -f
 complete -c dfu -s h -l help -d 'Print help'
-complete -c dfu -f -n "not __fish_seen_subcommand_from $commands" -a check -d 'Check a DFU file and print what its suffix says'
-complete -c dfu -f -n "not __fish_seen_subcommand_from $commands" -a add -d 'Write a raw image and a suffix for it to a new file'
-complete -c dfu -f -n "not __fish_seen_subcommand_from $commands" -a show -d 'Print the fields of bytes that go over the wire'
-complete -c dfu -f -n "not __fish_seen_subcommand_from $commands" -a run -d 'Play a script of events on a simulated link'
-complete -c dfu -f -n "not __fish_seen_subcommand_from $commands" -a help -d 'Print help'
-complete -c dfu -n '__fish_seen_subcommand_from check add run' -F
+complete -c dfu -n __dfu_at -a check -d 'Check a DFU file and print what its suffix says'
+complete -c dfu -n __dfu_at -a add -d 'Write a raw image and a suffix for it to a new file'
+complete -c dfu -n __dfu_at -a show -d 'Print the fields of bytes that go over the wire'
+complete -c dfu -n __dfu_at -a run -d 'Play a script of events on a simulated link of a host and a device'
+complete -c dfu -n __dfu_at -a help -d 'Print help'
+complete -c dfu -n '__dfu_at check; or __dfu_at run; or __dfu_at add; or __dfu_at add FILE' -F
 complete -c dfu -x -n '__fish_seen_subcommand_from add' -l vid -d 'Vendor, four hexadecimal digits'
 complete -c dfu -x -n '__fish_seen_subcommand_from add' -l pid -d 'Product, four hexadecimal digits'
 complete -c dfu -x -n '__fish_seen_subcommand_from add' -l did -d 'Device release, four hexadecimal digits'
-complete -c dfu -f -n '__fish_seen_subcommand_from show' -a 'functional status'
-complete -c dfu -f -n '__fish_seen_subcommand_from help' -a 'check add show run'
+complete -c dfu -n '__dfu_at show' -a 'functional status'
+complete -c dfu -n '__dfu_at help' -a 'check add show run help'
