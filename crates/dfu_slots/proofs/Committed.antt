@@ -4,7 +4,7 @@ use Rattle.std.proofs.lemmas.List.{length-take-le, take-append-le, append_assoc}
 use Rattle.dfu_slots.specs.declared.unit.Unit.{Unit as WriteUnit}
 use Rattle.dfu_slots.specs.Units.{fill_size, filled}
 use Rattle.dfu_slots.specs.Medium.{MediumState, Write, AllWrites, BrokenWrites, written}
-use Rattle.dfu_slots.specs.Layout.{slot_size, capacity, Slot, slot, generation, next_generation, IsOpen}
+use Rattle.dfu_slots.specs.Layout.{slot_size, capacity, Slot, slot, generation, next_generation}
 use Rattle.dfu_slots.specs.Image.{Counts, active_at, spare_at, spare}
 use Rattle.dfu_slots.specs.Writes.{part_writes, open_writes, commit_writes}
 use Rattle.dfu_slots.proofs.Stands.{ActiveAt}

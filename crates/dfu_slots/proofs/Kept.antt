@@ -1,7 +1,7 @@
 -- The active image stays while the spare slot is changed.
 use Rattle.std.proofs.Common.{◌≡◌, ◌⊎◌, inl, inr, ⊎_elim, ℕ, ◌+◌, ◌*◌, ◌≤◌, ◌<◌, List, length, take, slice_index, sym, ◌∙◌, ap, subst, arith}
 use Rattle.dfu_slots.specs.Medium.{KeepsOutside}
-use Rattle.dfu_slots.specs.Layout.{slot_size, Slot, slot, generation, next_generation, IsOpen, HasHeader}
+use Rattle.dfu_slots.specs.Layout.{slot_size, Slot, slot, generation, next_generation, HasHeader}
 use Rattle.dfu_slots.specs.Image.{Counts, IsNewest}
 use Rattle.dfu_slots.proofs.Stands.{ActiveAt}
 use Rattle.dfu_slots.proofs.Parts.{gate_outside, header_outside, slot_outside, size_kept, sized_kept}

@@ -1,16 +1,15 @@
 -- Places and lengths that are whole in a unit.
-use Rattle.std.proofs.Common.{◌≡◌, ⊎_elim, ℕ, ◌+◌, ◌-◌, ◌*◌, ◌/◌, ◌%◌, ◌≤◌, ◌<◌, List, length, replicate, sym, ◌∙◌, ap, subst, arith, length-append}
+use Rattle.std.proofs.Common.{◌≡◌, ℕ, ◌+◌, ◌-◌, ◌*◌, ◌/◌, ◌%◌, ◌≤◌, ◌<◌, List, length, replicate, sym, ◌∙◌, ap, subst, arith, length-append}
 use Rattle.std.proofs.lemmas.List.{length-replicate}
 use Rattle.dfu_slots.specs.declared.unit.Unit.{Unit as WriteUnit}
 use Rattle.dfu_slots.specs.declared.unit.Unit.TheVariants.{Byte, U16, U64, U256}
 use Rattle.dfu_slots.specs.Units.{unit_size, gate_size, IsMultiple, whole_part, fill_size, filled}
 use Rattle.dfu_slots.specs.Medium.{MediumState}
-use Rattle.dfu_slots.specs.Layout.{slot_size}
-use Rattle.dfu_slots.specs.Image.{gate_of, capacity_of, IsSized, Active, spare_at}
+use Rattle.dfu_slots.specs.Image.{gate_of, capacity_of, IsSized}
 use Rattle.dfu_slots.specs.Seen.{SlotsState, held_at, data_place}
 use Rattle.dfu_slots.specs.inside.Store.{HasPuts}
 use Rattle.dfu_slots.proofs.Stands.{two_slots}
-use Rattle.dfu_slots.proofs.Newest.{tested_places, spare_end}
+use Rattle.dfu_slots.proofs.Newest.{spare_end}
 
 -- The size of a unit.
 

@@ -1,7 +1,7 @@
 -- A medium with an active image is not refused.
 use Rattle.std.proofs.Common.{⊎_elim, ℕ, length, Result, Ok, Err, OnErr, IfErr, sym, ◌∙◌, subst}
 use Rattle.dfu_slots.specs.Medium.{MediumState}
-use Rattle.dfu_slots.specs.Layout.{HasHeader, IsOpen}
+use Rattle.dfu_slots.specs.Layout.{HasHeader}
 use Rattle.dfu_slots.specs.Image.{Counts, gate_of, slot_of, HasImage}
 use Rattle.dfu_slots.specs.Changes.{IsOpenFault}
 use Rattle.dfu_slots.specs.declared.fault.OpenFault.{OpenFault}

@@ -2,7 +2,6 @@
 use Rattle.std.proofs.Common.{◌≡◌, ◌==◌, not, true, false, ℕ, ◌-◌, ◌*◌, ◌/◌, ◌^◌, ◌≤◌, nat_le, List, [], length, take, drop, refl, sym, ◌∙◌, ap, subst, arith}
 use Rattle.std.proofs.lemmas.Nat.{from_le_bytes-to_le_bytes_4}
 use Rattle.std.proofs.lemmas.Bool.{and_from, le-leb, ne_eqb, eqb-true, eqb-false, not_from_false, not_from_true, not-true, not-false, eq-eqb}
-use Rattle.std.proofs.lemmas.List.{nil_from_length}
 use Rattle.std.specs.Int.{w32, from_le_bytes}
 use Rattle.dfu_slots.specs.declared.unit.Unit.{Unit as WriteUnit}
 use Rattle.dfu_slots.specs.Units.{gate_size, IsMultiple}

@@ -1,5 +1,5 @@
 -- Opening the spare: what is held is written, then the header, then the gate.
-use Rattle.std.proofs.Common.{◌≡◌, ℕ, ◌+◌, ◌-◌, ◌*◌, ◌≤◌, List, ◌++◌, length, Result, sym, ◌∙◌, ap, subst, arith}
+use Rattle.std.proofs.Common.{◌≡◌, ℕ, ◌+◌, ◌-◌, ◌*◌, ◌≤◌, List, length, Result, sym, ◌∙◌, ap, subst, arith}
 use Rattle.dfu_slots.specs.Units.{gate_size, filled}
 use Rattle.dfu_slots.specs.Medium.{MediumState, Write, AllWrites}
 use Rattle.dfu_slots.specs.Layout.{generation, next_generation}

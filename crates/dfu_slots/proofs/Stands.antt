@@ -1,5 +1,5 @@
 -- What stands on a medium, by its bytes and by how many bytes a gate unit has.
-use Rattle.std.proofs.Common.{◌≡◌, ℕ, ◌-◌, ◌*◌, ◌/◌, ◌^◌, ◌≤◌, ◌<◌, List, length, take}
+use Rattle.std.proofs.Common.{◌≡◌, ℕ, ◌*◌, ◌^◌, ◌≤◌, ◌<◌, List, length, take}
 use Rattle.dfu_slots.specs.Units.{IsMultiple}
 use Rattle.dfu_slots.specs.Medium.{MediumState}
 use Rattle.dfu_slots.specs.Layout.{slot_size, capacity, ArePlaces, slot, HasHeader}
