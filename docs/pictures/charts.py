@@ -14,7 +14,12 @@ HOST, WIRE_FROM, WIRE_TO, DEVICE, MEDIUM, WIDTH, ROW, TOP = 20, 130, 490, 590, 7
 
 # An action: the host's phase, what it sends, what comes back, and what the medium gets.
 FIND = ("Find", "GETSTATUS", "OK, appIDLE", "")
-ENTER = [FIND, ("Detach", "DETACH 255", "acknowledged", ""), ("Enter", "reset of the bus", None, ""), ("Find", "GETSTATUS", "OK, dfuIDLE", "")]
+ENTER = [
+    FIND,
+    ("Detach", "DETACH 255", "acknowledged", ""),
+    ("Enter", "reset of the bus", None, ""),
+    ("Find", "GETSTATUS", "OK, dfuIDLE", ""),
+]
 BLOCK = ("Block 0", "DNLOAD 0, 4 bytes", "acknowledged", "")
 POLL = [
     ("Poll 0", "GETSTATUS", "OK, dfuDNBUSY, 5 ms", ""),
@@ -90,6 +95,35 @@ def without_answer(picture, y, what, fate):
     picture.words((WIRE_FROM + WIRE_TO) / 2, y + 4.5, what, "bad" if fate == "cut" else "", "middle")
 
 
+def heads(picture, title, bottom):
+    """The title, a word above each lane, and the lines between the lanes."""
+    picture.words(20, 26, title, "head")
+    middle = (WIRE_FROM + WIRE_TO) / 2
+    picture.words(HOST, 56, "host", "head")
+    for x, word in ((middle, "wire"), (DEVICE, "device is then in"), (MEDIUM, "medium")):
+        picture.words(x, 56, word, "head", "middle")
+    for x in (WIRE_FROM, WIRE_TO, MEDIUM - 96):
+        picture.line(x, 67, x, bottom, "lane")
+
+
+def draw(picture, number, action, fate, state, image):
+    """One action; the image is given where it is another one than before."""
+    phase, request, answer, medium = action
+    y = TOP + ROW * number + 8
+    picture.line(20, y - 29, WIDTH - 20, y - 29, "rule")
+    picture.words(HOST, y + 4.5, f"{number + 1}", "small")
+    picture.words(HOST + 26, y + 4.5, phase)
+    if answer is None:
+        without_answer(picture, y, request, fate)
+    else:
+        transfer(picture, y, request, answer, fate)
+    picture.box(DEVICE, y, 150, state, "idle" if state.startswith("app") else "box")
+    if medium:
+        picture.box(MEDIUM, y - (10 if image else 0), 150, medium, "error" if fate == "cut" else "write", 20)
+    if image:
+        picture.words(MEDIUM, y + (17 if medium else 4.5), f"image {image} is active", "small", "middle")
+
+
 def chart(name):
     title, actions, notes = CHARTS[name]
     states, fates, reports = seen(name)
@@ -97,32 +131,15 @@ def chart(name):
         raise SystemExit(f"{name}: {len(actions)} actions are drawn, and the program made {len(states)}")
     if name == "clean-run":
         compare(actions, states)
-    height = TOP + ROW * len(actions) + 26 + 22 * len(notes)
-    picture = Picture(WIDTH, height, f"{title}: {len(actions)} actions of the host")
-    picture.words(20, 26, title, "head")
-    for x, word, anchor in ((HOST, "host", "start"), ((WIRE_FROM + WIRE_TO) / 2, "wire", "middle"), (DEVICE, "device is then in", "middle"), (MEDIUM, "medium", "middle")):
-        picture.words(x, 56, word, "head", anchor)
     bottom = TOP + ROW * len(actions) - 21
-    for x in (WIRE_FROM, WIRE_TO, MEDIUM - 96):
-        picture.line(x, 67, x, bottom, "lane")
+    picture = Picture(WIDTH, bottom + 47 + 22 * len(notes), f"{title}: {len(actions)} actions of the host")
+    heads(picture, title, bottom)
     image = None
-    for number, (phase, request, answer, medium) in enumerate(actions):
-        y = TOP + ROW * number + 8
-        state, now = states[number]
-        picture.line(20, y - 29, WIDTH - 20, y - 29, "rule")
-        picture.words(HOST, y + 4.5, f"{number + 1}", "small")
-        picture.words(HOST + 26, y + 4.5, phase)
-        if answer is None:
-            without_answer(picture, y, request, fates[number])
-        else:
-            if fates[number] == "pass" and state not in answer and answer != "acknowledged" and answer.startswith("OK"):
-                raise SystemExit(f"{name}, action {number + 1}: the answer tells {answer}, and the device is in {state}")
-            transfer(picture, y, request, answer, fates[number])
-        picture.box(DEVICE, y, 150, state, "idle" if state.startswith("app") else "box")
-        if medium:
-            picture.box(MEDIUM, y - (10 if now != image else 0), 150, medium, "error" if fates[number] == "cut" else "write", 20)
-        if now != image:
-            picture.words(MEDIUM, y + (17 if medium else 4.5), f"image {now} is active", "small", "middle")
+    for number, (action, fate, (state, now)) in enumerate(zip(actions, fates, states)):
+        told = re.match(r"OK, (\w+-?\w*)", action[2] or "")
+        if told and told[1] != state:
+            raise SystemExit(f"{name}, action {number + 1}: the answer tells {told[1]}, and the device is in {state}")
+        draw(picture, number, action, fate, state, now if now != image else None)
         image = now
     picture.line(20, bottom, WIDTH - 20, bottom, "rule")
     picture.words(HOST, bottom + 28, f"The host reports: {reports[-1]}", "head")

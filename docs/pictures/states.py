@@ -48,7 +48,8 @@ JOINS = [
 
 def name_of(number):
     """What the program calls the state with this number."""
-    run = subprocess.run([os.path.join(ROOT, "dfu"), "show", "status", f"00000000{number:02x}00"], capture_output=True, text=True, check=True)
+    words = [os.path.join(ROOT, "dfu"), "show", "status", f"00000000{number:02x}00"]
+    run = subprocess.run(words, capture_output=True, text=True, check=True)
     return run.stdout.split("state ")[1].split()[0]
 
 
@@ -63,5 +64,6 @@ def diagram():
         name = name_of(number)
         kind = "idle" if name.startswith("app") else "error" if name == "dfuERROR" else "box"
         picture.box(x, y, width, f"{number} {name}" + (f"\n{below}" if below else ""), kind, 40 if below else 24)
-    picture.words(20, 830, "An UPLOAD in dfuIDLE that is answered short stays in dfuIDLE. What is stalled, and where, is in the table.", "small")
+    note = "An UPLOAD in dfuIDLE that is answered short stays in dfuIDLE. What is stalled, and where, is in the table."
+    picture.words(20, 830, note, "small")
     return picture.text()
