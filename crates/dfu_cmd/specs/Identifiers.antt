@@ -1,5 +1,5 @@
 -- The identifiers that the options of `dfu add` give.
-use Rattle.std.specs.Prelude.{ℕ, List, Option, Some}
+use Rattle.std.specs.Prelude.{ℕ, List, Option, Some, None}
 use Rattle.dfu_wire.specs.declared.ids.Ids.{Ids}
 use Rattle.dfu_wire.specs.Identifier.{identifier_in}
 
