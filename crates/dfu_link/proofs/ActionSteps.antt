@@ -8,6 +8,7 @@ use Rattle.dfu_host.specs.Table.{Goal, ToLoad, ToFetch, Task, Phase, deed}
 use Rattle.dfu_host.specs.Host.{HostState, IsOn}
 use Rattle.dfu_link.specs.Session.{Machine, Live, Loading, Fetching, IsFirst, Begins, begins_not, takes, installs, Ends, ends_not, drops, Kind, AGo, Step, goes}
 use Rattle.dfu_link.specs.Happening.{Fate}
+use Rattle.dfu_link.specs.Course.{course_of}
 use Rattle.dfu_link.specs.Play.{Link, given, Played, task_for, acted, gone}
 use Rattle.dfu_link.specs.Bench.{Hosted}
 use Rattle.dfu_link.specs.LinkAgreement.{pending_of, IsSound}
@@ -71,14 +72,14 @@ module _ (c : Profile) (sized : 0 < c.transfer) (offers : List (List ℕ)) where
         });
       } in Simulated c offers w up AGo (gone c w w.session fate l k room) offers
   goal_simulated s (ToLoad p) phase left again up fate l k room q o on f some =
-      let d = acted c s (deed (task_for c (ToLoad p)) phase) fate l k in
-      let g = go c offers p some sized phase s on f q o fate l k in
+      let d = acted c s (deed (task_for c (ToLoad p)) phase) (course_of fate) l k in
+      let g = go c offers p some sized phase s on f q o (course_of fate) l k in
       let m = moved up g.moves in
       let t = load_taken c offers s d.device p up phase left again room d.heard on o some f g.next in
       record { step = goes m.first_part m.last_part t.says; sound = g.sound; offer = t.offer; fact = t.fact; done = t.done }
   goal_simulated s ToFetch phase left again up fate l k room q o on f some =
-      let d = acted c s (deed (task_for c ToFetch) phase) fate l k in
-      let g = go_up c offers phase s on f q fate l k in
+      let d = acted c s (deed (task_for c ToFetch) phase) (course_of fate) l k in
+      let g = go_up c offers phase s on f q (course_of fate) l k in
       let m = moved_quiet Fetching up g.moves in
       let t = fetch_taken c offers d.device up phase left again room d.heard on g.next in
       record { step = goes m.first_part m.last_part t.says; sound = g.sound; offer = t.offer; fact = t.fact; done = t.done }

@@ -1,134 +1,99 @@
 -- The parts of an action, put together.
-use Rattle.std.proofs.Common.{◌≡◌, ℕ, List, refl, sym, subst}
+use Rattle.std.proofs.Common.{◌≡◌, ℕ, List, sym, subst}
 use Rattle.std.specs.Borrow.{Bor}
 use Rattle.dfu_slots.specs.Medium.Fuse.{Whole}
-use Rattle.dfu_device.specs.declared.answer.Answer.{Answer}
 use Rattle.dfu_device.specs.Shown.{Shown}
-use Rattle.dfu_device.specs.Rows.{Handles, Elapses}
+use Rattle.dfu_device.specs.Rows.{Elapses}
 use Rattle.dfu_host.specs.declared.action.Action.TheVariants as action
+use Rattle.dfu_host.specs.declared.seen.Seen.{Seen}
 use Rattle.dfu_host.specs.declared.seen.Seen.TheVariants as seen
-use Rattle.dfu_host.specs.Table.{Deed, Wait, Reset, Heard}
-use Rattle.dfu_host.specs.Wire.{Spells}
-use Rattle.dfu_link.specs.declared.fate.Fate.{Fate as GivenFate}
-use Rattle.dfu_link.specs.declared.fate.Fate.TheVariants as fate
-use Rattle.dfu_link.specs.declared.back.Back.TheVariants as back
-use Rattle.dfu_link.specs.Happening.{Fate, Pass, LostOut, LostBack, Twice, TwiceLostBack, Slip, CutIn, Fail, fate_of, harm_in}
-use Rattle.dfu_link.specs.Bytes.{fuse_of, armed, bus_was_reset, Sends, passes, goes_lost, comes_lost, repeats, repeats_lost, slips, cuts, fails, Waits, ResetsBus, Acts, after_fate}
-use Rattle.dfu_link.specs.Acting.{HasSent, HasWaited, HasReset}
+use Rattle.dfu_host.specs.Host.{HostState}
+use Rattle.dfu_host.specs.Table.{Deed, Send, Wait, Reset, Heard, Waited, WasReset}
+use Rattle.dfu_host.specs.Wire.{Spells, Hears}
+use Rattle.dfu_link.specs.declared.back.Back.{Back}
+use Rattle.dfu_link.specs.declared.course.Harming.{Harming}
+use Rattle.dfu_link.specs.declared.course.Harming.TheVariants.{NoWrite, CutsPower, FailsWrite}
+use Rattle.dfu_link.specs.Course.{Course}
+use Rattle.dfu_link.specs.Happening.{Harm}
+use Rattle.dfu_link.specs.Play.{heard_over, waits_for}
+use Rattle.dfu_link.specs.Bytes.{fuse_of, armed, bus_was_reset, HearsBack, Reaches, came_back, ended_back, Waits, Slips, ResetsBus, Acts, left_by}
+use Rattle.dfu_link.specs.Acting.{seen_over, HasSent, HasWaited, HasReset, HasActed, HasGone}
 
--- A request, by its fate.
+-- A request whose rows these are, and of which this comes back.
+pub sends_by : {setup body out : List ℕ} {w w' : Shown} (course : Course) {came b : Back} → Reaches setup body course.handling w came out w'
+    → b ≡ ended_back course.harming (came_back course.back came) → HasSent setup body course w b out w'
+sends_by {body = body} {out = out} course {came = came} h e = record {
+  sends = λ q heard r. record {
+    came = came;
+    out = out;
+    reaches = h;
+    hears = subst (λ (x : Back). HearsBack (Send q body) x out heard) e r;
+  };
+}
 
--- A request that passes: its answer comes back.
-pub sent_out : {setup body out : List ℕ} {w w' : Shown} {a : Answer} → Handles setup body w a out w'
-    → HasSent setup body Pass w (back.Answered a) out w'
-sent_out h = record { sends = λ q heard r. passes h r }
+waited_heard : (harming : Harming) (d : Deed) (heard : Heard) → Hears d (seen_over harming seen.Waited) heard
+    → heard ≡ heard_over harming Waited
+waited_heard NoWrite d heard h = h
+waited_heard CutsPower d heard h = h
+waited_heard FailsWrite d heard h = h
 
--- A request that is lost: nothing comes back, and the device stays as it is.
-pub sent_lost : (setup body out : List ℕ) (w : Shown) → HasSent setup body LostOut w back.Lost out w
-sent_lost setup body out w = record { sends = λ q heard r. subst (λ (x : Heard). Sends q setup body LostOut w w x) (sym r) goes_lost }
+reset_heard : (harming : Harming) (d : Deed) (heard : Heard) → Hears d (seen_over harming seen.WasReset) heard
+    → heard ≡ heard_over harming WasReset
+reset_heard NoWrite d heard h = h
+reset_heard CutsPower d heard h = h
+reset_heard FailsWrite d heard h = h
 
--- A request whose answer is lost: the device handled it, and nothing comes back.
-pub sent_unheard : {setup body out : List ℕ} {w w' : Shown} {a : Answer} (last : List ℕ) → Handles setup body w a out w'
-    → HasSent setup body LostBack w back.Lost last w'
-sent_unheard {setup = setup} {body = body} {w = w} {w' = w'} last h =
-    record { sends = λ q heard r. subst (λ (x : Heard). Sends q setup body LostBack w w' x) (sym r) (comes_lost h) }
+-- A wait in which this time passes, and of which this is seen.
+pub waits_by : {ms time : ℕ} {w w' : Shown} (course : Course) {seen_is : Seen} → Elapses time w w' → time ≡ waits_for course.handling ms
+    → seen_is ≡ seen_over course.harming seen.Waited → HasWaited ms course w seen_is w'
+waits_by {w = w} {w' = w'} course e t k = record {
+  waits = λ d heard h. (
+    subst (λ (n : ℕ). Elapses n w w') t e,
+    waited_heard course.harming d heard (subst (λ (x : Seen). Hears d x heard) k h),
+  );
+}
 
--- A request that is handled twice: the second answer comes back.
-pub sent_twice : {setup body out last : List ℕ} {w mid w' : Shown} {a b : Answer} → Handles setup body w a out mid
-    → Handles setup body mid b last w' → HasSent setup body Twice w (back.Answered b) last w'
-sent_twice h k = record { sends = λ q heard r. repeats h k r }
+-- A reset of the bus after which time may slip in, and of which this is seen.
+pub resets_by : {w mid w' : Shown} (course : Course) {seen_is : Seen} → mid ≡ bus_was_reset w → Slips course.handling mid w'
+    → seen_is ≡ seen_over course.harming seen.WasReset → HasReset course w seen_is w'
+resets_by {w' = w'} course r e k = record {
+  resets = λ d heard h. (
+    subst (λ (x : Shown). Slips course.handling x w') r e,
+    reset_heard course.harming d heard (subst (λ (x : Seen). Hears d x heard) k h),
+  );
+}
 
--- A request that is handled twice, and whose answers are lost.
-pub sent_twice_unheard : {setup body out end : List ℕ} {w mid w' : Shown} {a b : Answer} (last : List ℕ) → Handles setup body w a out mid
-    → Handles setup body mid b end w' → HasSent setup body TwiceLostBack w back.Lost last w'
-sent_twice_unheard {setup = setup} {body = body} {w = w} {w' = w'} last h k =
-    record { sends = λ q heard r. subst (λ (x : Heard). Sends q setup body TwiceLostBack w w' x) (sym r) (repeats_lost h k) }
+-- A request, a wait and a reset that a host asks for.
 
--- A request after which time passes: its answer comes back.
-pub sent_late : {setup body out : List ℕ} {w mid w' : Shown} {a : Answer} {ms : ℕ} → Handles setup body w a out mid → Elapses ms mid w'
-    → HasSent setup body (Slip ms) w (back.Answered a) out w'
-sent_late h e = record { sends = λ q heard r. slips h r e }
-
--- A request in which the power is cut: the host hears of a restart.
-pub sent_cut : {setup body out : List ℕ} {w w' : Shown} {a : Answer} (last : List ℕ) → Handles setup body w a out w'
-    → HasSent setup body CutIn w back.Restarted last w'
-sent_cut {setup = setup} {body = body} {w = w} {w' = w'} last h =
-    record { sends = λ q heard r. subst (λ (x : Heard). Sends q setup body CutIn w w' x) (sym r) (cuts h) }
-
--- A request in which a write fails: its answer comes back.
-pub sent_failing : {setup body out : List ℕ} {w w' : Shown} {a : Answer} → Handles setup body w a out w'
-    → HasSent setup body Fail w (back.Answered a) out w'
-sent_failing h = record { sends = λ q heard r. fails h r }
-
--- Fates that are not these.
-
-abbrev NoSlip : GivenFate → Type 0
-NoSlip f = (ms : ℕ) → f ≡ fate.Slip ms → ⊥
-
-abbrev NoCut : GivenFate → Type 0
-NoCut f = (writes : ℕ) (tear : Bor (List ℕ)) → f ≡ fate.Cut writes tear → ⊥
-
-abbrev NoFail : GivenFate → Type 0
-NoFail f = (writes : ℕ) (tear : Bor (List ℕ)) → f ≡ fate.Fail writes tear → ⊥
-
--- A wait, by its fate.
-
--- A wait in whose place another time passes.
-pub waited_other : {ms other : ℕ} {w w' : Shown} → Elapses other w w' → HasWaited ms (Slip other) w seen.Waited w'
-waited_other e = record { waits = λ d heard h. (e, h) }
-
--- A wait in which the power is cut.
-pub waited_cut : {ms : ℕ} {w w' : Shown} → Elapses ms w w' → HasWaited ms CutIn w seen.Restarted w'
-waited_cut e = record { waits = λ d heard h. (e, h) }
-
--- A wait of any other fate passes.
-pub waited_out : (f : GivenFate) {ms : ℕ} {w w' : Shown} → NoSlip f → NoCut f → Elapses ms w w' → HasWaited ms (fate_of f) w seen.Waited w'
-waited_out (fate.Slip ms) slip cut e = absurd (slip ms refl)
-waited_out (fate.Cut writes tear) slip cut e = absurd (cut writes tear refl)
-waited_out f slip cut e = record { waits = λ d heard h. (e, h) }
-
--- A reset of the bus by the host, by its fate.
-
--- A reset of the bus after which time passes.
-pub reset_late : {ms : ℕ} {w mid w' : Shown} → mid ≡ bus_was_reset w → Elapses ms mid w' → HasReset (Slip ms) w seen.WasReset w'
-reset_late {ms = ms} {w' = w'} e k = record { resets = λ d heard h. (subst (λ (x : Shown). Elapses ms x w') e k, h) }
-
--- A reset of the bus in which the power is cut.
-pub reset_cut : {w w' : Shown} → w' ≡ bus_was_reset w → HasReset CutIn w seen.Restarted w'
-reset_cut e = record { resets = λ d heard h. (e, h) }
-
--- A reset of the bus of any other fate is done.
-pub reset_done : (f : GivenFate) {w w' : Shown} → NoSlip f → NoCut f → w' ≡ bus_was_reset w → HasReset (fate_of f) w seen.WasReset w'
-reset_done (fate.Slip ms) slip cut e = absurd (slip ms refl)
-reset_done (fate.Cut writes tear) slip cut e = absurd (cut writes tear refl)
-reset_done f slip cut e = record { resets = λ d heard h. (e, h) }
-
--- A wait and a reset that a host asks for.
+-- What the code does as a request is a request of the table.
+pub acts_send : (d : Deed) (course : Course) (setup : List ℕ) (given : Bor (List ℕ)) (heard : Heard) {out last : List ℕ} {b : Back}
+    {w w' : Shown} → Spells d (action.Send setup given) → HasSent setup given.now course w b out w' → last ≡ out → HearsBack d b last heard
+    → Acts d course w w' heard
+acts_send (Send q body) course setup given heard {out = out} {b = b} {w = w} {w' = w'} e s same h =
+    let sent = subst (λ (x : List ℕ). HasSent setup x course w b out w') e.1 s in
+    (setup, e.0, sent.sends q heard (subst (λ (x : List ℕ). HearsBack (Send q body) b x heard) same h))
+acts_send d course setup given heard e s same h = elim e [ ]
 
 -- What the code does as a wait is a wait of the table.
-pub acts_wait : (d : Deed) (f : Fate) (given : ℕ) (w w' : Shown) (heard : Heard) → Spells d (action.Wait given) → Waits given f w w' heard
+pub acts_wait : (d : Deed) (f : Course) (given : ℕ) (w w' : Shown) (heard : Heard) → Spells d (action.Wait given) → Waits given f w w' heard
     → Acts d f w w' heard
 acts_wait (Wait ms) f given w w' heard e h = subst (λ (n : ℕ). Waits n f w w' heard) e h
 acts_wait d f given w w' heard e h = elim e [ ]
 
 -- What the code does as a reset is a reset of the table.
-pub acts_reset : (d : Deed) (f : Fate) (w w' : Shown) (heard : Heard) → Spells d action.Reset → ResetsBus f w w' heard → Acts d f w w' heard
+pub acts_reset : (d : Deed) (f : Course) (w w' : Shown) (heard : Heard) → Spells d action.Reset → ResetsBus f w w' heard → Acts d f w w' heard
 acts_reset Reset f w w' heard e h = h
 acts_reset d f w w' heard e h = elim e [ ]
 
 -- The medium before an action and after it.
 
-unarmed_is : (w : Shown) → w.slots.medium.fuse ≡ Whole → armed w Whole ≡ w
+-- A device that is not armed stays so.
+pub unarmed_is : (w : Shown) → w.slots.medium.fuse ≡ Whole → armed w Whole ≡ w
 unarmed_is w e = λ i. record w { slots = record w.slots { medium = record w.slots.medium { fuse = sym e i } } }
 
--- It is armed for a cut and for a failure alone.
-pub stays_unarmed : (f : GivenFate) (w : Shown) → NoCut f → NoFail f → w.slots.medium.fuse ≡ Whole
-    → w ≡ armed w (fuse_of (fate_of f) (harm_in f))
-stays_unarmed (fate.Cut writes tear) w cut fail e = absurd (cut writes tear refl)
-stays_unarmed (fate.Fail writes tear) w cut fail e = absurd (fail writes tear refl)
-stays_unarmed f w cut fail e = sym (unarmed_is w e)
-
--- And disarmed after any action but one that is cut.
-pub disarms : (f : GivenFate) (w : Shown) → NoCut f → armed w Whole ≡ after_fate (fate_of f) w
-disarms (fate.Cut writes tear) w cut = absurd (cut writes tear refl)
-disarms f w cut = refl
+-- An action by the course of its fate, on a medium that is armed for it.
+pub gone_by : {course c : Course} {harm x : Harm} {h h' : HostState} {w start last w' : Shown} → c ≡ course → x ≡ harm
+    → start ≡ armed w (fuse_of c.harming x) → HasActed h c start last h' → w' ≡ left_by c.harming last → HasGone h course harm w w' h'
+gone_by {c = c} {harm = harm} {x = x} {h = h} {h' = h'} {w = w} {last = last} {w' = w'} e k start acted left =
+    subst (λ (d : Course). HasGone h d harm w w' h') e (subst (λ (y : Harm). HasGone h c y w w' h') k
+    (record { last = last; acted = subst (λ (z : Shown). HasActed h c z last h') start acted; device = left }))

@@ -1,5 +1,5 @@
 -- The phases that send a block, or the empty one that closes.
-use Rattle.std.proofs.Common.{◌≡◌, ℕ, suc, ◌+◌, ◌%◌, ◌<◌, ◌==◌, nat_lt, nat_le, not, false, cond, List, [], ◌∷◌, ◌++◌, length, slice_index_or, Option, Some, None, refl, sym, ap, ◌∙◌, subst, arith}
+use Rattle.std.proofs.Common.{◌≡◌, ℕ, suc, ◌+◌, ◌%◌, ◌<◌, ◌==◌, nat_lt, nat_le, not, Bool, true, false, cond, List, [], ◌∷◌, ◌++◌, length, slice_index_or, Option, Some, None, refl, sym, ap, ◌∙◌, subst, arith}
 use Rattle.dfu_wire.specs.declared.codes.Code.{Code}
 use Rattle.dfu_wire.specs.declared.codes.Code.TheVariants.{StalledPkt as ErrStalledPkt, Address as ErrAddress, NotDone as ErrNotDone}
 use Rattle.dfu_device.specs.Stage.{Dnload, Ack, Profile, Stage, InDfuIdle, InDownloadSync, InDownloadIdle, InManifestSync}
@@ -8,14 +8,18 @@ use Rattle.dfu_device.specs.Outcome.{Situation, Luck}
 use Rattle.dfu_device.specs.Cases.{either_way}
 use Rattle.dfu_host.specs.Blocks.{blocks, first}
 use Rattle.dfu_host.specs.BlockLaws.{first_suc, full_block}
-use Rattle.dfu_host.specs.Table.{ToLoad, Phase, Block, Ask, Close, AskLast, row}
+use Rattle.dfu_host.specs.Table.{ToLoad, Phase, Block, Ask, Close, AskLast, Nothing, row}
 use Rattle.dfu_link.specs.Session.{IsOneOf, IsFirst}
-use Rattle.dfu_link.specs.Happening.{Fate, Pass, LostOut, LostBack, Twice, TwiceLostBack, Slip, CutIn, Fail}
-use Rattle.dfu_link.specs.Play.{task_for, Passed, sent_by, sent}
+use Rattle.dfu_link.specs.declared.course.Handling.{Handling}
+use Rattle.dfu_link.specs.declared.course.Handling.TheVariants.{Unseen, Once, Again, Late}
+use Rattle.dfu_link.specs.declared.course.Harming.{Harming}
+use Rattle.dfu_link.specs.declared.course.Harming.TheVariants.{NoWrite, CutsPower, FailsWrite}
+use Rattle.dfu_link.specs.Course.{Course}
+use Rattle.dfu_link.specs.Play.{task_for, Passed, reached, heard_back, ends_by, sent}
 use Rattle.dfu_link.specs.LinkAgreement.{pending_of, IsSound}
 use Rattle.dfu_link.specs.Fact.{Begun, AllTaken, Fact}
-use Rattle.dfu_link.proofs.Quiet.{Quiet, stays, forgets}
-use Rattle.dfu_link.proofs.Fates.{IfHeard}
+use Rattle.dfu_link.proofs.Quiet.{Quiet, stays, forgets, quiet_on}
+use Rattle.dfu_link.proofs.Fates.{IfHeard, if_some}
 
 -- What an action does to the image and the pending bytes.
 pub data ImageMoves (offers : List (List ℕ)) (p : List ℕ) (t : ℕ) : List ℕ → Option (List ℕ) → List ℕ → Option (List ℕ) → Type 0 where
@@ -30,59 +34,73 @@ pub is_one : (offers : List (List ℕ)) {x y : List ℕ} → x ≡ y → IsOneOf
 is_one offers e h = subst (λ z. IsOneOf z offers) (sym e) h
 
 module _ (c : Profile) (offers : List (List ℕ)) (p : List ℕ) where
-  -- A request of this phase goes well by its fate: the image and the pending bytes move as they may, bytes that were closed stay an offer,
+  -- A request of this phase goes well by its course: the image and the pending bytes move as they may, bytes that were closed stay an offer,
   -- and the fact of the next phase holds.
   pub record GoesWell (phase : Phase) (s : Situation) (d : Passed) : Type 0 where
     pub moves : ImageMoves offers p c.transfer s.image (pending_of s.stage) d.device.image (pending_of d.device.stage)
     pub sound : IsSound offers d.device.stage
     pub next : IfHeard d.heard (λ heard. Fact c p (row (task_for c (ToLoad p)) phase heard) d.device)
 
+  -- What a request of this phase comes to where its answer comes back, and where it is lost.
+  record Reached (phase : Phase) (s : Situation) (d : Passed) : Type 0 where
+    moves : ImageMoves offers p c.transfer s.image (pending_of s.stage) d.device.image (pending_of d.device.stage)
+    sound : IsSound offers d.device.stage
+    next : Fact c p (row (task_for c (ToLoad p)) phase d.heard) d.device
+    lost : Fact c p (row (task_for c (ToLoad p)) phase Nothing) d.device
+
+  -- Where the power is cut, what is pending is forgotten.
+  cut_moves : {i j : List ℕ} {q r : Option (List ℕ)} → ImageMoves offers p c.transfer i q j r → ImageMoves offers p c.transfer i q j None
+  cut_moves (quietly m) = quietly (quiet_on m forgets)
+  cut_moves (takes_block n more b f e) = loses_block n more b f e
+  cut_moves (loses_block n more b f e) = loses_block n more b f e
+
+  ended_well : (phase : Phase) (s : Situation) (harming : Harming) (d : Passed)
+      → ImageMoves offers p c.transfer s.image (pending_of s.stage) d.device.image (pending_of d.device.stage)
+      → IsSound offers d.device.stage
+      → Fact c p (row (task_for c (ToLoad p)) phase d.heard) d.device → GoesWell phase s (ends_by harming d)
+  ended_well phase s NoWrite d m h n = record { moves = m; sound = h; next = if_some d.heard _ n }
+  ended_well phase s CutsPower d m h n = record { moves = cut_moves m; sound = tt; next = tt }
+  ended_well phase s FailsWrite d m h n = record { moves = m; sound = h; next = if_some d.heard _ n }
+
+  goes_well : (phase : Phase) (s : Situation) (harming : Harming) (back : Bool) (d : Passed) → Reached phase s d
+      → GoesWell phase s (ends_by harming (record { device = d.device; heard = heard_back back d.heard }))
+  goes_well phase s harming true d r = ended_well phase s harming d r.moves r.sound r.next
+  goes_well phase s harming false d r =
+      ended_well phase s harming (record { device = d.device; heard = Nothing }) r.moves r.sound r.lost
+
   block_fault : (n num : ℕ) (body : List ℕ) (s : Situation) (code : Code) → n < length (blocks p c.transfer) → Fact c p (Ask n) s
-      → IsSound offers s.stage → (fate : Fate) (l k : Luck) → GoesWell (Block n) s (sent_by c s (Dnload num body) (error code) fate l k)
-  block_fault n num body s code b a h Pass l k = record { moves = quietly forgets; sound = tt; next = tt }
-  block_fault n num body s code b a h LostOut l k = record { moves = quietly stays; sound = h; next = a }
-  block_fault n num body s code b a h LostBack l k = record { moves = quietly forgets; sound = tt; next = (b, tt) }
-  block_fault n num body s code b a h Twice l k = record { moves = quietly forgets; sound = tt; next = tt }
-  block_fault n num body s code b a h TwiceLostBack l k = record { moves = quietly forgets; sound = tt; next = (b, tt) }
-  block_fault n num body s code b a h (Slip ms) l k = record { moves = quietly forgets; sound = tt; next = tt }
-  block_fault n num body s code b a h CutIn l k = record { moves = quietly forgets; sound = tt; next = tt }
-  block_fault n num body s code b a h Fail l k = record { moves = quietly forgets; sound = tt; next = tt }
+      → IsSound offers s.stage → (how : Handling) (l k : Luck) → Reached (Block n) s (reached c s (Dnload num body) (error code) how l k)
+  block_fault n num body s code b a h Unseen l k = record { moves = quietly stays; sound = h; next = a; lost = a }
+  block_fault n num body s code b a h Once l k = record { moves = quietly forgets; sound = tt; next = tt; lost = (b, tt) }
+  block_fault n num body s code b a h Again l k = record { moves = quietly forgets; sound = tt; next = tt; lost = (b, tt) }
+  block_fault n num body s code b a h (Late ms) l k = record { moves = quietly forgets; sound = tt; next = tt; lost = (b, tt) }
 
   block_taken : (n num : ℕ) (before body : List ℕ) (number : ℕ) (s : Situation) → n < length (blocks p c.transfer) → Fact c p (Ask n) s
       → IsSound offers s.stage → IsFirst p c.transfer n (pending_of s.stage) → before ++ body ≡ first p c.transfer (suc n)
-      → (fate : Fate) (l k : Luck) → GoesWell (Block n) s
-      (sent_by c s (Dnload num body) (Sure Ack (InDownloadSync before body number)) fate l k)
-  block_taken n num before body number s b a h f e Pass l k = record { moves = takes_block n _ b f e; sound = tt; next = (b, e) }
-  block_taken n num before body number s b a h f e LostOut l k = record { moves = quietly stays; sound = h; next = a }
-  block_taken n num before body number s b a h f e LostBack l k = record { moves = takes_block n _ b f e; sound = tt; next = (b, e) }
-  block_taken n num before body number s b a h f e Twice l k = record { moves = loses_block n _ b f e; sound = tt; next = tt }
-  block_taken n num before body number s b a h f e TwiceLostBack l k = record { moves = loses_block n _ b f e; sound = tt; next = (b, tt) }
-  block_taken n num before body number s b a h f e (Slip ms) l k = record { moves = takes_block n _ b f e; sound = tt; next = (b, e) }
-  block_taken n num before body number s b a h f e CutIn l k = record { moves = loses_block n _ b f e; sound = tt; next = tt }
-  block_taken n num before body number s b a h f e Fail l k = record { moves = takes_block n _ b f e; sound = tt; next = (b, e) }
+      → (how : Handling) (l k : Luck) → Reached (Block n) s
+      (reached c s (Dnload num body) (Sure Ack (InDownloadSync before body number)) how l k)
+  block_taken n num before body number s b a h f e Unseen l k = record { moves = quietly stays; sound = h; next = a; lost = a }
+  block_taken n num before body number s b a h f e Once l k =
+      record { moves = takes_block n _ b f e; sound = tt; next = (b, e); lost = (b, e) }
+  block_taken n num before body number s b a h f e Again l k =
+      record { moves = loses_block n _ b f e; sound = tt; next = tt; lost = (b, tt) }
+  block_taken n num before body number s b a h f e (Late ms) l k =
+      record { moves = takes_block n _ b f e; sound = tt; next = (b, e); lost = (b, e) }
 
-  close_fault : (num : ℕ) (s : Situation) (code : Code) → Fact c p AskLast s → IsSound offers s.stage → (fate : Fate) (l k : Luck)
-      → GoesWell Close s (sent_by c s (Dnload num []) (error code) fate l k)
-  close_fault num s code a h Pass l k = record { moves = quietly forgets; sound = tt; next = tt }
-  close_fault num s code a h LostOut l k = record { moves = quietly stays; sound = h; next = a }
-  close_fault num s code a h LostBack l k = record { moves = quietly forgets; sound = tt; next = tt }
-  close_fault num s code a h Twice l k = record { moves = quietly forgets; sound = tt; next = tt }
-  close_fault num s code a h TwiceLostBack l k = record { moves = quietly forgets; sound = tt; next = tt }
-  close_fault num s code a h (Slip ms) l k = record { moves = quietly forgets; sound = tt; next = tt }
-  close_fault num s code a h CutIn l k = record { moves = quietly forgets; sound = tt; next = tt }
-  close_fault num s code a h Fail l k = record { moves = quietly forgets; sound = tt; next = tt }
+  close_fault : (num : ℕ) (s : Situation) (code : Code) → Fact c p AskLast s → IsSound offers s.stage → (how : Handling) (l k : Luck)
+      → Reached Close s (reached c s (Dnload num []) (error code) how l k)
+  close_fault num s code a h Unseen l k = record { moves = quietly stays; sound = h; next = a; lost = a }
+  close_fault num s code a h Once l k = record { moves = quietly forgets; sound = tt; next = tt; lost = tt }
+  close_fault num s code a h Again l k = record { moves = quietly forgets; sound = tt; next = tt; lost = tt }
+  close_fault num s code a h (Late ms) l k = record { moves = quietly forgets; sound = tt; next = tt; lost = tt }
 
-  close_taken : (num : ℕ) (image taken : List ℕ) (number : ℕ) → taken ≡ p → IsOneOf taken offers → (fate : Fate) (l k : Luck)
+  close_taken : (num : ℕ) (image taken : List ℕ) (number : ℕ) → taken ≡ p → IsOneOf taken offers → (how : Handling) (l k : Luck)
       → let s : Situation = record { image = image; stage = InDownloadIdle taken number } in
-      GoesWell Close s (sent_by c s (Dnload num []) (Sure Ack (InManifestSync taken)) fate l k)
-  close_taken num image taken number e o Pass l k = record { moves = quietly stays; sound = o; next = e }
-  close_taken num image taken number e o LostOut l k = record { moves = quietly stays; sound = tt; next = e }
-  close_taken num image taken number e o LostBack l k = record { moves = quietly stays; sound = o; next = e }
-  close_taken num image taken number e o Twice l k = record { moves = quietly forgets; sound = tt; next = tt }
-  close_taken num image taken number e o TwiceLostBack l k = record { moves = quietly forgets; sound = tt; next = tt }
-  close_taken num image taken number e o (Slip ms) l k = record { moves = quietly stays; sound = o; next = e }
-  close_taken num image taken number e o CutIn l k = record { moves = quietly forgets; sound = tt; next = tt }
-  close_taken num image taken number e o Fail l k = record { moves = quietly stays; sound = o; next = e }
+      Reached Close s (reached c s (Dnload num []) (Sure Ack (InManifestSync taken)) how l k)
+  close_taken num image taken number e o Unseen l k = record { moves = quietly stays; sound = tt; next = e; lost = e }
+  close_taken num image taken number e o Once l k = record { moves = quietly stays; sound = o; next = e; lost = e }
+  close_taken num image taken number e o Again l k = record { moves = quietly forgets; sound = tt; next = tt; lost = tt }
+  close_taken num image taken number e o (Late ms) l k = record { moves = quietly stays; sound = o; next = e; lost = e }
 
 -- Cases on the plan of a block.
 block_cases : (P : Plan → Type 0) (c : Profile) (before : List ℕ) (expected number : ℕ) (body : List ℕ) → ((code : Code) → P (error code))
@@ -115,35 +133,36 @@ module _ (c : Profile) (sized : 0 < c.transfer) (offers : List (List ℕ)) (p : 
       → [] ++ slice_index_or (blocks p c.transfer) n [] ≡ first p c.transfer (suc n)
   first_body n b e = sym (first_suc p c.transfer n b ∙ ap (λ m. first p c.transfer m ++ slice_index_or (blocks p c.transfer) n []) e)
 
-  -- The phase that sends block n goes well by each fate.
+  -- The phase that sends block n goes well by each course.
   pub go_block : (n : ℕ) (i : List ℕ) (stage : Stage) → n < length (blocks p c.transfer) → Begun p c.transfer n stage → IsSound offers stage
-      → (fate : Fate) (l k : Luck) → let s : Situation = record { image = i; stage = stage } in
-      GoesWell c offers p (Block n) s (sent c s (Dnload (n % 65536) (slice_index_or (blocks p c.transfer) n [])) fate l k)
-  go_block n i InDfuIdle b g h fate l k =
+      → (course : Course) (l k : Luck) → let s : Situation = record { image = i; stage = stage } in
+      GoesWell c offers p (Block n) s (sent c s (Dnload (n % 65536) (slice_index_or (blocks p c.transfer) n [])) course l k)
+  go_block n i InDfuIdle b g h course l k =
       let body = slice_index_or (blocks p c.transfer) n [] in
       let s : Situation = record { image = i; stage = InDfuIdle } in
-      let P : Plan → Type 0 = λ q. GoesWell c offers p (Block n) s (sent_by c s (Dnload (n % 65536) body) q fate l k) in
-      first_cases P c (n % 65536) body
-      (λ code. block_fault c offers p n (n % 65536) body s code b (b, g) h fate l k)
-      (block_taken c offers p n (n % 65536) [] body _ s b (b, g) h g (first_body n b g) fate l k)
-  go_block n i (InDownloadIdle taken number) b g h fate l k =
+      let P : Plan → Type 0 = λ q. Reached c offers p (Block n) s (reached c s (Dnload (n % 65536) body) q course.handling l k) in
+      goes_well c offers p (Block n) s course.harming course.back _ (first_cases P c (n % 65536) body
+      (λ code. block_fault c offers p n (n % 65536) body s code b (b, g) h course.handling l k)
+      (block_taken c offers p n (n % 65536) [] body _ s b (b, g) h g (first_body n b g) course.handling l k))
+  go_block n i (InDownloadIdle taken number) b g h course l k =
       let body = slice_index_or (blocks p c.transfer) n [] in
       let s : Situation = record { image = i; stage = InDownloadIdle taken number } in
-      let P : Plan → Type 0 = λ q. GoesWell c offers p (Block n) s (sent_by c s (Dnload (n % 65536) body) q fate l k) in
-      further_cases P c taken number (n % 65536) body (not_empty _ (full_block p c.transfer n sized b))
-      (λ code. block_fault c offers p n (n % 65536) body s code b (b, g) h fate l k)
-      (block_taken c offers p n (n % 65536) taken body _ s b (b, g) h g (ap (λ x. x ++ body) g.1 ∙ sym (first_suc p c.transfer n b)) fate l
-      k)
-  go_block n i stage b g h fate l k = elim g [ ]
+      let P : Plan → Type 0 = λ q. Reached c offers p (Block n) s (reached c s (Dnload (n % 65536) body) q course.handling l k) in
+      goes_well c offers p (Block n) s course.harming course.back _
+      (further_cases P c taken number (n % 65536) body (not_empty _ (full_block p c.transfer n sized b))
+      (λ code. block_fault c offers p n (n % 65536) body s code b (b, g) h course.handling l k)
+      (block_taken c offers p n (n % 65536) taken body _ s b (b, g) h g (ap (λ x. x ++ body) g.1 ∙ sym (first_suc p c.transfer n b))
+      course.handling l k))
+  go_block n i stage b g h course l k = elim g [ ]
 
-  -- The phase that closes the download goes well by each fate.
+  -- The phase that closes the download goes well by each course.
   pub go_close : (num : ℕ) (i : List ℕ) (stage : Stage) → AllTaken p stage → IsSound offers stage → IsOneOf p offers
-      → (fate : Fate) (l k : Luck) → let s : Situation = record { image = i; stage = stage } in
-      GoesWell c offers p Close s (sent c s (Dnload num []) fate l k)
-  go_close num i (InDownloadIdle taken number) w h o fate l k =
+      → (course : Course) (l k : Luck) → let s : Situation = record { image = i; stage = stage } in
+      GoesWell c offers p Close s (sent c s (Dnload num []) course l k)
+  go_close num i (InDownloadIdle taken number) w h o course l k =
       let s : Situation = record { image = i; stage = InDownloadIdle taken number } in
-      let P : Plan → Type 0 = λ q. GoesWell c offers p Close s (sent_by c s (Dnload num []) q fate l k) in
-      either_way P (nat_le c.least (length taken)) _ _
-      (close_taken c offers p num i taken number w (is_one offers w o) fate l k)
-      (close_fault c offers p num s ErrNotDone w h fate l k)
-  go_close num i stage w h o fate l k = elim w [ ]
+      let P : Plan → Type 0 = λ q. Reached c offers p Close s (reached c s (Dnload num []) q course.handling l k) in
+      goes_well c offers p Close s course.harming course.back _ (either_way P (nat_le c.least (length taken)) _ _
+      (close_taken c offers p num i taken number w (is_one offers w o) course.handling l k)
+      (close_fault c offers p num s ErrNotDone w h course.handling l k))
+  go_close num i stage w h o course l k = elim w [ ]

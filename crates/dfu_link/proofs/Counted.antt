@@ -8,7 +8,8 @@ use Rattle.dfu_host.specs.Counting.{IsCounted}
 use Rattle.dfu_host.specs.CountingLaws.{after_stays, after_same_task}
 use Rattle.dfu_device.specs.Stage.{Profile}
 use Rattle.dfu_device.specs.Outcome.{Situation}
-use Rattle.dfu_link.specs.Happening.{Fate, Happening, Offers, Uploads, Aborts, Goes, Passes, Resets, Cuts}
+use Rattle.dfu_link.specs.Course.{Course}
+use Rattle.dfu_link.specs.Happening.{Happening, Offers, Uploads, Aborts, Goes, Passes, Resets, Cuts}
 use Rattle.dfu_link.specs.Play.{Answered, settled, took, told, aborted}
 use Rattle.dfu_link.specs.Bench.{Session, Nobody, Hosted, Bench}
 use Rattle.dfu_link.specs.Fact.{SessionFact}
@@ -93,9 +94,9 @@ told_whole Nobody some c = tt
 told_whole (Hosted h) some c = took_whole h Restarted some c
 
 -- A host that took the answer of its action.
-pub acted_counted : (fate : Fate) (w w' : Shown) (h h' : HostState) → SendsBytes (Hosted h) → IsCountedIn (Hosted h)
-    → HasActed h fate w w' h' → IsCountedIn (Hosted h')
-acted_counted fate w w' h h' some c acted = subst (λ (x : HostState). IsCountedIn (Hosted x)) (sym acted.same)
+pub acted_counted : (course : Course) (w w' : Shown) (h h' : HostState) → SendsBytes (Hosted h) → IsCountedIn (Hosted h)
+    → HasActed h course w w' h' → IsCountedIn (Hosted h')
+acted_counted course w w' h h' some c acted = subst (λ (x : HostState). IsCountedIn (Hosted x)) (sym acted.same)
     (after_counted_in h acted.heard some c)
 
 -- Each event.

@@ -17,6 +17,7 @@ use Rattle.dfu_host.specs.Table.{ToLoad}
 use Rattle.dfu_link.specs.declared.fault.LinkFault.TheVariants as fault
 use Rattle.dfu_link.specs.declared.fault.OfferFault.{OfferFault}
 use Rattle.dfu_link.specs.declared.fault.OfferFault.TheVariants as offer_fault
+use Rattle.dfu_link.specs.Course.{course_of}
 use Rattle.dfu_link.specs.Happening.{Fate, Harm, Offers, Goes, Passes, Resets, Cuts}
 use Rattle.dfu_link.specs.Play.{given, silent, told, took, settled, IsAllowed}
 use Rattle.dfu_link.specs.Bench.{Session, Nobody, Hosted}
@@ -87,7 +88,7 @@ cut_comes w w' host host' gave gave' report sized counted e device session kept 
 
 -- The host's next action.
 pub go_comes : (fate : Fate) (harm : Harm) (w w' : Shown) (h h' : HostState) (host' gave gave' : Option HostState) (report : Option Report)
-    → SendsBytes (Hosted h) → IsCountedIn (Hosted h) → w.slots.medium.fuse ≡ Whole → HasGone h fate harm w w' h'
+    → SendsBytes (Hosted h) → IsCountedIn (Hosted h) → w.slots.medium.fuse ≡ Whole → HasGone h (course_of fate) harm w w' h'
     → session_of host' ≡ (ended (Hosted h')).session → given_by gave' ≡ given (ended (Hosted h')).answer.gave (given_by gave)
     → report ≡ (ended (Hosted h')).answer.report
     → HasCome (link_state w (Some h) gave) (Goes fate harm) (link_state w' host' gave') (Ok report)

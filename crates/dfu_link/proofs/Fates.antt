@@ -1,11 +1,15 @@
 -- What an action that asks, waits or resets does to the device, whatever its fate.
-use Rattle.std.proofs.Common.{ℕ, List}
-use Rattle.dfu_device.specs.Stage.{Request, GetStatus, GetState, Reply, Ack, Profile}
-use Rattle.dfu_device.specs.Table.{reset_stage}
-use Rattle.dfu_device.specs.Outcome.{Situation, Luck, handled, elapsed, was_reset, powered}
-use Rattle.dfu_host.specs.Table.{Phase, Heard, Waited, WasReset, Restarted}
-use Rattle.dfu_link.specs.Happening.{Fate, Pass, LostOut, LostBack, Twice, TwiceLostBack, Slip, CutIn, Fail}
-use Rattle.dfu_link.specs.Play.{heard_as, Passed, sent, waited, bus_reset}
+use Rattle.std.proofs.Common.{ℕ, Bool, true, false, List}
+use Rattle.dfu_device.specs.Stage.{Request, GetStatus, GetState, Profile}
+use Rattle.dfu_device.specs.Table.{plan, reset_stage}
+use Rattle.dfu_device.specs.Outcome.{Situation, Luck, handled, was_reset, powered}
+use Rattle.dfu_host.specs.Table.{Phase, Heard, Nothing, Waited, WasReset, Restarted}
+use Rattle.dfu_link.specs.declared.course.Handling.{Handling}
+use Rattle.dfu_link.specs.declared.course.Handling.TheVariants.{Unseen, Once, Again, Late}
+use Rattle.dfu_link.specs.declared.course.Harming.{Harming}
+use Rattle.dfu_link.specs.declared.course.Harming.TheVariants.{NoWrite, CutsPower, FailsWrite}
+use Rattle.dfu_link.specs.Course.{Course}
+use Rattle.dfu_link.specs.Play.{heard_as, Passed, reached, heard_back, over, ends_by, slipped, waits_for, sent, waited, bus_reset}
 use Rattle.dfu_link.specs.LinkAgreement.{IsSound}
 use Rattle.dfu_link.specs.Fact.{Fact}
 use Rattle.dfu_link.proofs.Quiet.{stays, forgets, IsQuiet, IsPolite, quiet_polite, quiet_time, quiet_reset, quiet_then}
@@ -27,10 +31,17 @@ abbrev pub IsReset : Heard → Type 0
 IsReset WasReset = Unit {0}
 IsReset heard = ⊥
 
--- A reply is no restart.
-pub heard_some : (reply : Reply) (P : Heard → Type 0) → P (heard_as reply) → IfHeard (heard_as reply) P
-heard_some Ack P h = h
-heard_some reply P h = h
+-- What holds of what is heard holds also where that is no restart.
+pub if_some : (heard : Heard) (P : Heard → Type 0) → P heard → IfHeard heard P
+if_some Restarted P h = tt
+if_some heard P h = h
+
+-- What holds before the end of an action holds after it, where the host hears of no restart.
+pub if_ended : (harming : Harming) (d : Passed) (P : Heard → Situation → Type 0) → P d.heard d.device
+    → IfHeard (ends_by harming d).heard (λ heard. P heard (ends_by harming d).device)
+if_ended CutsPower d P h = tt
+if_ended NoWrite d P h = if_some d.heard (λ heard. P heard d.device) h
+if_ended FailsWrite d P h = if_some d.heard (λ heard. P heard d.device) h
 
 -- What holds of what is heard may be weakened.
 pub if_heard : {P Q : Heard → Type 0} (heard : Heard) → ((x : Heard) → P x → Q x) → IfHeard heard P → IfHeard heard Q
@@ -51,34 +62,40 @@ module _ (c : Profile) (offers : List (List ℕ)) where
   pub quiet_none : (s : Situation) → IsSound offers s.stage → IsQuiet offers s s
   quiet_none s h = record { moves = stays; sound = h }
 
-  -- A request that is polite is quiet by each fate.
-  pub sent_quiet : (s : Situation) (r : Request) (fate : Fate) (l k : Luck) → IsPolite r → IsSound offers s.stage
-      → IsQuiet offers s (sent c s r fate l k).device
-  sent_quiet s r Pass l k p h = quiet_polite c offers s.image r s.stage p h l
-  sent_quiet s r LostOut l k p h = quiet_none s h
-  sent_quiet s r LostBack l k p h = quiet_polite c offers s.image r s.stage p h l
-  sent_quiet s r Twice l k p h = let q = quiet_polite c offers s.image r s.stage p h l in let o = (handled c s r l).after in
+  -- The end of an action is quiet.
+  ended_quiet : (s d : Situation) (harming : Harming) → IsQuiet offers s d → IsQuiet offers s (over harming d)
+  ended_quiet s d NoWrite q = q
+  ended_quiet s d CutsPower q = quiet_then q (quiet_power _)
+  ended_quiet s d FailsWrite q = q
+
+  reached_quiet : (s : Situation) (r : Request) (how : Handling) (l k : Luck) → IsPolite r → IsSound offers s.stage
+      → IsQuiet offers s (reached c s r (plan c s.image s.stage r) how l k).device
+  reached_quiet s r Unseen l k p h = quiet_none s h
+  reached_quiet s r Once l k p h = quiet_polite c offers s.image r s.stage p h l
+  reached_quiet s r Again l k p h = let q = quiet_polite c offers s.image r s.stage p h l in let o = (handled c s r l).after in
       quiet_then q (quiet_polite c offers o.image r o.stage p q.sound k)
-  sent_quiet s r TwiceLostBack l k p h = let q = quiet_polite c offers s.image r s.stage p h l in let o = (handled c s r l).after in
-      quiet_then q (quiet_polite c offers o.image r o.stage p q.sound k)
-  sent_quiet s r (Slip ms) l k p h = let q = quiet_polite c offers s.image r s.stage p h l in let o = (handled c s r l).after in
+  reached_quiet s r (Late ms) l k p h = let q = quiet_polite c offers s.image r s.stage p h l in let o = (handled c s r l).after in
       quiet_then q (quiet_time c offers o.image ms o.stage q.sound k)
-  sent_quiet s r CutIn l k p h = quiet_then (quiet_polite c offers s.image r s.stage p h l) (quiet_power _)
-  sent_quiet s r Fail l k p h = quiet_polite c offers s.image r s.stage p h l
 
-  -- A wait is quiet by each fate.
-  pub waited_quiet : (s : Situation) (ms : ℕ) (fate : Fate) (l : Luck) → IsSound offers s.stage
-      → IsQuiet offers s (waited c s ms fate l).device
-  waited_quiet s ms (Slip other) l h = quiet_time c offers s.image other s.stage h l
-  waited_quiet s ms CutIn l h = quiet_then (quiet_time c offers s.image ms s.stage h l) (quiet_power _)
-  waited_quiet s ms fate l h = quiet_time c offers s.image ms s.stage h l
-
-  -- A reset of the bus is quiet by each fate.
-  pub bus_reset_quiet : (s : Situation) (fate : Fate) (l : Luck) → IsQuiet offers s (bus_reset c s fate l).device
-  bus_reset_quiet s (Slip ms) l = let q = quiet_reset c offers s.image s.stage in let o = was_reset s in
+  slipped_quiet : (s : Situation) (how : Handling) (l : Luck) → IsQuiet offers s (slipped c (was_reset s) how l)
+  slipped_quiet s (Late ms) l = let q = quiet_reset c offers s.image s.stage in let o = was_reset s in
       quiet_then q (quiet_time c offers o.image ms o.stage q.sound l)
-  bus_reset_quiet s CutIn l = quiet_then (quiet_reset c offers s.image s.stage) (quiet_power _)
-  bus_reset_quiet s fate l = quiet_reset c offers s.image s.stage
+  slipped_quiet s how l = quiet_reset c offers s.image s.stage
+
+  -- A request that is polite is quiet by each course.
+  pub sent_quiet : (s : Situation) (r : Request) (course : Course) (l k : Luck) → IsPolite r → IsSound offers s.stage
+      → IsQuiet offers s (sent c s r course l k).device
+  sent_quiet s r course l k p h = ended_quiet s _ course.harming (reached_quiet s r course.handling l k p h)
+
+  -- A wait is quiet by each course.
+  pub waited_quiet : (s : Situation) (ms : ℕ) (course : Course) (l : Luck) → IsSound offers s.stage
+      → IsQuiet offers s (waited c s ms course l).device
+  waited_quiet s ms course l h =
+      ended_quiet s _ course.harming (quiet_time c offers s.image (waits_for course.handling ms) s.stage h l)
+
+  -- A reset of the bus is quiet by each course.
+  pub bus_reset_quiet : (s : Situation) (course : Course) (l : Luck) → IsQuiet offers s (bus_reset c s course l).device
+  bus_reset_quiet s course l = ended_quiet s _ course.harming (slipped_quiet s course.handling l)
 
   -- What an asking phase knows of the device and of what was seen.
   pub record Knows (p : List ℕ) (phase : Phase) (d : Situation) (heard : Heard) : Type 0 where
@@ -89,66 +106,73 @@ module _ (c : Profile) (offers : List (List ℕ)) where
   abbrev pub KnowsIf : List ℕ → Phase → Passed → Type 0
   KnowsIf p phase d = IfHeard d.heard (λ heard. Knows p phase d.device heard)
 
-  knows_reply : (p : List ℕ) (phase : Phase) (d : Situation) (reply : Reply) → Fact c p phase d → ToldBy (heard_as reply) d.stage
-      → IfHeard (heard_as reply) (λ heard. Knows p phase d heard)
-  knows_reply p phase d reply f t = heard_some reply (λ heard. Knows p phase d heard) (record { fact = f; told = t })
+  sent_knows : (p : List ℕ) (phase : Phase) (harming : Harming) (back : Bool) (d : Passed) → Knows p phase d.device d.heard
+      → KnowsIf p phase (ends_by harming (record { device = d.device; heard = heard_back back d.heard }))
+  sent_knows p phase harming true d k = if_ended harming d (λ heard x. Knows p phase x heard) k
+  sent_knows p phase harming false d k = if_ended harming (record { device = d.device; heard = Nothing })
+      (λ heard x. Knows p phase x heard) (record { fact = k.fact; told = tt })
 
-  -- GETSTATUS keeps what is known, by each fate.
-  pub status_knows : (p : List ℕ) (phase : Phase) (s : Situation) (fate : Fate) (l k : Luck) → AsksStatus c s.image phase → Fact c p phase s
-      → KnowsIf p phase (sent c s GetStatus fate l k)
-  status_knows p phase s Pass l k a h = let o = handled c s GetStatus l in
-      knows_reply p phase o.after o.reply (fact_status c s.image p phase s.stage a h l) (status_told c s.image s.stage l)
-  status_knows p phase s LostOut l k a h = record { fact = h; told = tt }
-  status_knows p phase s LostBack l k a h = record { fact = fact_status c s.image p phase s.stage a h l; told = tt }
-  status_knows p phase s Twice l k a h =
-      let o = (handled c s GetStatus l).after in
-      let q = handled c o GetStatus k in
-      knows_reply p phase q.after q.reply (fact_status c o.image p phase o.stage a (fact_status c s.image p phase s.stage a h l) k)
-      (status_told c o.image o.stage k)
-  status_knows p phase s TwiceLostBack l k a h = let o = (handled c s GetStatus l).after in
-      record { fact = fact_status c o.image p phase o.stage a (fact_status c s.image p phase s.stage a h l) k; told = tt }
-  status_knows p phase s (Slip ms) l k a h =
-      let o = handled c s GetStatus l in
-      knows_reply p phase (elapsed c o.after ms k) o.reply (fact_time c o.after.image p phase ms o.after.stage
-      (fact_status c s.image p phase s.stage a h l) k)
-      (told_time c o.after.image (heard_as o.reply) o.after.stage ms k (status_told c s.image s.stage l))
-  status_knows p phase s CutIn l k a h = tt
-  status_knows p phase s Fail l k a h = let o = handled c s GetStatus l in
-      knows_reply p phase o.after o.reply (fact_status c s.image p phase s.stage a h l) (status_told c s.image s.stage l)
+  status_reached : (p : List ℕ) (phase : Phase) (s : Situation) (how : Handling) (l k : Luck) → AsksStatus c s.image phase → Fact c p phase s
+      → let d = reached c s GetStatus (plan c s.image s.stage GetStatus) how l k in Knows p phase d.device d.heard
+  status_reached p phase s Unseen l k a h = record { fact = h; told = tt }
+  status_reached p phase s Once l k a h = record {
+    fact = fact_status c s.image p phase s.stage a h l;
+    told = status_told c s.image s.stage l;
+  }
+  status_reached p phase s Again l k a h = let o = (handled c s GetStatus l).after in
+      record {
+        fact = fact_status c o.image p phase o.stage a (fact_status c s.image p phase s.stage a h l) k;
+        told = status_told c o.image o.stage k;
+      }
+  status_reached p phase s (Late ms) l k a h = let o = handled c s GetStatus l in
+      record {
+        fact = fact_time c o.after.image p phase ms o.after.stage (fact_status c s.image p phase s.stage a h l) k;
+        told = told_time c o.after.image (heard_as o.reply) o.after.stage ms k (status_told c s.image s.stage l);
+      }
 
-  -- GETSTATE keeps what is known, by each fate.
-  pub state_knows : (p : List ℕ) (phase : Phase) (s : Situation) (fate : Fate) (l k : Luck) → AsksState c s.image phase → Fact c p phase s
-      → KnowsIf p phase (sent c s GetState fate l k)
-  state_knows p phase s Pass l k a h = let o = handled c s GetState l in
-      knows_reply p phase o.after o.reply (fact_state c s.image p phase s.stage a h l) (state_told c s.image s.stage l)
-  state_knows p phase s LostOut l k a h = record { fact = h; told = tt }
-  state_knows p phase s LostBack l k a h = record { fact = fact_state c s.image p phase s.stage a h l; told = tt }
-  state_knows p phase s Twice l k a h =
-      let o = (handled c s GetState l).after in
-      let q = handled c o GetState k in
-      knows_reply p phase q.after q.reply (fact_state c o.image p phase o.stage a (fact_state c s.image p phase s.stage a h l) k)
-      (state_told c o.image o.stage k)
-  state_knows p phase s TwiceLostBack l k a h = let o = (handled c s GetState l).after in
-      record { fact = fact_state c o.image p phase o.stage a (fact_state c s.image p phase s.stage a h l) k; told = tt }
-  state_knows p phase s (Slip ms) l k a h =
-      let o = handled c s GetState l in
-      knows_reply p phase (elapsed c o.after ms k) o.reply (fact_time c o.after.image p phase ms o.after.stage
-      (fact_state c s.image p phase s.stage a h l) k)
-      (told_time c o.after.image (heard_as o.reply) o.after.stage ms k (state_told c s.image s.stage l))
-  state_knows p phase s CutIn l k a h = tt
-  state_knows p phase s Fail l k a h = let o = handled c s GetState l in
-      knows_reply p phase o.after o.reply (fact_state c s.image p phase s.stage a h l) (state_told c s.image s.stage l)
+  -- GETSTATUS keeps what is known, by each course.
+  pub status_knows : (p : List ℕ) (phase : Phase) (s : Situation) (course : Course) (l k : Luck) → AsksStatus c s.image phase
+      → Fact c p phase s → KnowsIf p phase (sent c s GetStatus course l k)
+  status_knows p phase s course l k a h =
+      sent_knows p phase course.harming course.back _ (status_reached p phase s course.handling l k a h)
+
+  state_reached : (p : List ℕ) (phase : Phase) (s : Situation) (how : Handling) (l k : Luck) → AsksState c s.image phase → Fact c p phase s
+      → let d = reached c s GetState (plan c s.image s.stage GetState) how l k in Knows p phase d.device d.heard
+  state_reached p phase s Unseen l k a h = record { fact = h; told = tt }
+  state_reached p phase s Once l k a h = record {
+    fact = fact_state c s.image p phase s.stage a h l;
+    told = state_told c s.image s.stage l;
+  }
+  state_reached p phase s Again l k a h = let o = (handled c s GetState l).after in
+      record {
+        fact = fact_state c o.image p phase o.stage a (fact_state c s.image p phase s.stage a h l) k;
+        told = state_told c o.image o.stage k;
+      }
+  state_reached p phase s (Late ms) l k a h = let o = handled c s GetState l in
+      record {
+        fact = fact_time c o.after.image p phase ms o.after.stage (fact_state c s.image p phase s.stage a h l) k;
+        told = told_time c o.after.image (heard_as o.reply) o.after.stage ms k (state_told c s.image s.stage l);
+      }
+
+  -- GETSTATE keeps what is known, by each course.
+  pub state_knows : (p : List ℕ) (phase : Phase) (s : Situation) (course : Course) (l k : Luck) → AsksState c s.image phase
+      → Fact c p phase s → KnowsIf p phase (sent c s GetState course l k)
+  state_knows p phase s course l k a h =
+      sent_knows p phase course.harming course.back _ (state_reached p phase s course.handling l k a h)
 
   -- A wait keeps what is known.
-  pub waited_keeps : (p : List ℕ) (phase : Phase) (s : Situation) (ms : ℕ) (fate : Fate) (l : Luck) → Fact c p phase s
-      → IfHeard (waited c s ms fate l).heard (λ heard. IsWaited heard × Fact c p phase (waited c s ms fate l).device)
-  waited_keeps p phase s ms (Slip other) l h = (tt, fact_time c s.image p phase other s.stage h l)
-  waited_keeps p phase s ms CutIn l h = tt
-  waited_keeps p phase s ms fate l h = (tt, fact_time c s.image p phase ms s.stage h l)
+  pub waited_keeps : (p : List ℕ) (phase : Phase) (s : Situation) (ms : ℕ) (course : Course) (l : Luck) → Fact c p phase s
+      → IfHeard (waited c s ms course l).heard (λ heard. IsWaited heard × Fact c p phase (waited c s ms course l).device)
+  waited_keeps p phase s ms course l h = if_ended course.harming _ (λ heard x. IsWaited heard × Fact c p phase x)
+      (tt, fact_time c s.image p phase (waits_for course.handling ms) s.stage h l)
+
+  slipped_fact : (p : List ℕ) (phase : Phase) (s : Situation) (how : Handling) (l : Luck) → Fact c p phase (was_reset s)
+      → Fact c p phase (slipped c (was_reset s) how l)
+  slipped_fact p phase s (Late ms) l h = fact_time c s.image p phase ms (reset_stage s.stage) h l
+  slipped_fact p phase s how l h = h
 
   -- After a reset.
-  pub reset_keeps : (p : List ℕ) (phase : Phase) (s : Situation) (fate : Fate) (l : Luck) → Fact c p phase (was_reset s)
-      → IfHeard (bus_reset c s fate l).heard (λ heard. IsReset heard × Fact c p phase (bus_reset c s fate l).device)
-  reset_keeps p phase s (Slip ms) l h = (tt, fact_time c s.image p phase ms (reset_stage s.stage) h l)
-  reset_keeps p phase s CutIn l h = tt
-  reset_keeps p phase s fate l h = (tt, h)
+  pub reset_keeps : (p : List ℕ) (phase : Phase) (s : Situation) (course : Course) (l : Luck) → Fact c p phase (was_reset s)
+      → IfHeard (bus_reset c s course l).heard (λ heard. IsReset heard × Fact c p phase (bus_reset c s course l).device)
+  reset_keeps p phase s course l h = if_ended course.harming _ (λ heard x. IsReset heard × Fact c p phase x)
+      (tt, slipped_fact p phase s course.handling l h)

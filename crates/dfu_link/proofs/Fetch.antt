@@ -5,34 +5,51 @@ use Rattle.dfu_wire.specs.declared.codes.Code.{Code}
 use Rattle.dfu_wire.specs.declared.codes.Code.TheVariants.{StalledPkt as ErrStalledPkt, Address as ErrAddress}
 use Rattle.dfu_device.specs.Stage.{Upload, Data, Profile, Stage, InDfuIdle, InUploadIdle}
 use Rattle.dfu_device.specs.Table.{Plan, Sure, error, plan, upload_plan, next_number}
-use Rattle.dfu_device.specs.Outcome.{Situation, Luck, outcome, handled}
+use Rattle.dfu_device.specs.Outcome.{Situation, Luck, outcome}
 use Rattle.dfu_device.specs.Cases.{either_way}
 use Rattle.dfu_host.specs.declared.report.Report.TheVariants.{TooManyBlocks}
-use Rattle.dfu_host.specs.Table.{Find, Fetch, LastUploaded, Over, fetched, on_part}
-use Rattle.dfu_link.specs.Happening.{Fate, Pass, LostOut, LostBack, Twice, TwiceLostBack, Slip, CutIn, Fail}
-use Rattle.dfu_link.specs.Play.{heard_as, Passed, sent_by, sent}
+use Rattle.dfu_host.specs.Table.{Find, Fetch, LastUploaded, Over, Nothing, fetched, on_part}
+use Rattle.dfu_link.specs.declared.course.Handling.{Handling}
+use Rattle.dfu_link.specs.declared.course.Handling.TheVariants.{Unseen, Once, Again, Late}
+use Rattle.dfu_link.specs.declared.course.Harming.{Harming}
+use Rattle.dfu_link.specs.declared.course.Harming.TheVariants.{NoWrite, CutsPower, FailsWrite}
+use Rattle.dfu_link.specs.Course.{Course}
+use Rattle.dfu_link.specs.Play.{heard_as, Passed, reached, heard_back, ends_by, sent}
 use Rattle.dfu_link.specs.LinkAgreement.{pending_of, IsSound}
 use Rattle.dfu_link.specs.Fact.{Fetches, FetchFact}
 use Rattle.dfu_link.proofs.Quiet.{Quiet, stays, forgets, quiet_on}
-use Rattle.dfu_link.proofs.Fates.{IfHeard, heard_some}
+use Rattle.dfu_link.proofs.Fates.{IfHeard, if_some}
 
 module _ (c : Profile) (offers : List (List ℕ)) (k : ℕ) (kept : List ℕ) where
-  -- A request for part k goes well by its fate: the image moves quietly, and the fact of the next phase holds.
+  -- A request for part k goes well by its course: the image moves quietly, and the fact of the next phase holds.
   pub record Fetched (s : Situation) (d : Passed) : Type 0 where
     pub moves : Quiet offers s.image (pending_of s.stage) d.device.image (pending_of d.device.stage)
     pub sound : IsSound offers d.device.stage
     pub next : IfHeard d.heard (λ heard. FetchFact (on_part c.transfer k kept heard) d.device)
 
-  fetch_fault : (number size : ℕ) (s : Situation) (code : Code) → IsSound offers s.stage → (fate : Fate) (l r : Luck)
-      → Fetched s (sent_by c s (Upload number size) (error code) fate l r)
-  fetch_fault number size s code h Pass l r = record { moves = forgets; sound = tt; next = tt }
-  fetch_fault number size s code h LostOut l r = record { moves = stays; sound = h; next = tt }
-  fetch_fault number size s code h LostBack l r = record { moves = forgets; sound = tt; next = tt }
-  fetch_fault number size s code h Twice l r = record { moves = forgets; sound = tt; next = tt }
-  fetch_fault number size s code h TwiceLostBack l r = record { moves = forgets; sound = tt; next = tt }
-  fetch_fault number size s code h (Slip ms) l r = record { moves = forgets; sound = tt; next = tt }
-  fetch_fault number size s code h CutIn l r = record { moves = forgets; sound = tt; next = tt }
-  fetch_fault number size s code h Fail l r = record { moves = forgets; sound = tt; next = tt }
+  -- What such a request comes to where its answer comes back; where it is lost, the host looks for the device.
+  record Reached (s : Situation) (d : Passed) : Type 0 where
+    moves : Quiet offers s.image (pending_of s.stage) d.device.image (pending_of d.device.stage)
+    sound : IsSound offers d.device.stage
+    next : FetchFact (on_part c.transfer k kept d.heard) d.device
+
+  ended_fetch : (s : Situation) (harming : Harming) (d : Passed) → Reached s d → Fetched s (ends_by harming d)
+  ended_fetch s NoWrite d r = record { moves = r.moves; sound = r.sound; next = if_some d.heard _ r.next }
+  ended_fetch s CutsPower d r = record { moves = quiet_on r.moves forgets; sound = tt; next = tt }
+  ended_fetch s FailsWrite d r = record { moves = r.moves; sound = r.sound; next = if_some d.heard _ r.next }
+
+  fetched_by : (s : Situation) (harming : Harming) (back : Bool) (d : Passed) → Reached s d
+      → Fetched s (ends_by harming (record { device = d.device; heard = heard_back back d.heard }))
+  fetched_by s harming true d r = ended_fetch s harming d r
+  fetched_by s harming false d r = ended_fetch s harming (record { device = d.device; heard = Nothing })
+      (record { moves = r.moves; sound = r.sound; next = tt })
+
+  fetch_fault : (number size : ℕ) (s : Situation) (code : Code) → IsSound offers s.stage → (how : Handling) (l r : Luck)
+      → Reached s (reached c s (Upload number size) (error code) how l r)
+  fetch_fault number size s code h Unseen l r = record { moves = stays; sound = h; next = tt }
+  fetch_fault number size s code h Once l r = record { moves = forgets; sound = tt; next = tt }
+  fetch_fault number size s code h Again l r = record { moves = forgets; sound = tt; next = tt }
+  fetch_fault number size s code h (Late ms) l r = record { moves = forgets; sound = tt; next = tt }
 
   -- The end of the image.
   part_ends : (image : List ℕ) (place t : ℕ) → length (take t (drop place image)) < t → kept ≡ take place image
@@ -124,41 +141,21 @@ module _ (c : Profile) (offers : List (List ℕ)) (k : ℕ) (kept : List ℕ) wh
 
   sent_part : (part : List ℕ) (s : Situation) → IsSound offers s.stage
       → FetchFact (fetched c.transfer k kept part) (record { image = s.image; stage = InDfuIdle })
-      → Second s.image (plan c s.image InDfuIdle (Upload (k % 65536) c.transfer)) → (fate : Fate) (l r : Luck)
-      → Fetched s (sent_by c s (Upload (k % 65536) c.transfer) (Sure (Data part) InDfuIdle) fate l r)
-  sent_part part s h n q Pass l r = record { moves = forgets; sound = tt; next = n }
-  sent_part part s h n q LostOut l r = record { moves = stays; sound = h; next = tt }
-  sent_part part s h n q LostBack l r = record { moves = forgets; sound = tt; next = tt }
-  sent_part part s h n q Twice l r =
-      let o = handled c (record { image = s.image; stage = InDfuIdle }) (Upload (k % 65536) c.transfer) r in
-      record {
-        moves = quiet_on forgets (q.moves r);
-        sound = q.sound r;
-        next = heard_some o.reply (λ heard. FetchFact (on_part c.transfer k kept heard) o.after) (q.next r);
-      }
-  sent_part part s h n q TwiceLostBack l r = record { moves = quiet_on forgets (q.moves r); sound = q.sound r; next = tt }
-  sent_part part s h n q (Slip ms) l r = record { moves = forgets; sound = tt; next = n }
-  sent_part part s h n q CutIn l r = record { moves = forgets; sound = tt; next = tt }
-  sent_part part s h n q Fail l r = record { moves = forgets; sound = tt; next = n }
+      → Second s.image (plan c s.image InDfuIdle (Upload (k % 65536) c.transfer)) → (how : Handling) (l r : Luck)
+      → Reached s (reached c s (Upload (k % 65536) c.transfer) (Sure (Data part) InDfuIdle) how l r)
+  sent_part part s h n q Unseen l r = record { moves = stays; sound = h; next = tt }
+  sent_part part s h n q Once l r = record { moves = forgets; sound = tt; next = n }
+  sent_part part s h n q Again l r = record { moves = quiet_on forgets (q.moves r); sound = q.sound r; next = q.next r }
+  sent_part part s h n q (Late ms) l r = record { moves = forgets; sound = tt; next = n }
 
   sent_full : (part : List ℕ) (place number : ℕ) (s : Situation) → IsSound offers s.stage
       → FetchFact (fetched c.transfer k kept part) (record { image = s.image; stage = InUploadIdle place number })
-      → Second s.image (plan c s.image (InUploadIdle place number) (Upload (k % 65536) c.transfer)) → (fate : Fate) (l r : Luck)
-      → Fetched s (sent_by c s (Upload (k % 65536) c.transfer) (Sure (Data part) (InUploadIdle place number)) fate l r)
-  sent_full part place number s h n q Pass l r = record { moves = forgets; sound = tt; next = n }
-  sent_full part place number s h n q LostOut l r = record { moves = stays; sound = h; next = tt }
-  sent_full part place number s h n q LostBack l r = record { moves = forgets; sound = tt; next = tt }
-  sent_full part place number s h n q Twice l r =
-      let o = handled c (record { image = s.image; stage = InUploadIdle place number }) (Upload (k % 65536) c.transfer) r in
-      record {
-        moves = quiet_on forgets (q.moves r);
-        sound = q.sound r;
-        next = heard_some o.reply (λ heard. FetchFact (on_part c.transfer k kept heard) o.after) (q.next r);
-      }
-  sent_full part place number s h n q TwiceLostBack l r = record { moves = quiet_on forgets (q.moves r); sound = q.sound r; next = tt }
-  sent_full part place number s h n q (Slip ms) l r = record { moves = forgets; sound = tt; next = n }
-  sent_full part place number s h n q CutIn l r = record { moves = forgets; sound = tt; next = tt }
-  sent_full part place number s h n q Fail l r = record { moves = forgets; sound = tt; next = n }
+      → Second s.image (plan c s.image (InUploadIdle place number) (Upload (k % 65536) c.transfer)) → (how : Handling) (l r : Luck)
+      → Reached s (reached c s (Upload (k % 65536) c.transfer) (Sure (Data part) (InUploadIdle place number)) how l r)
+  sent_full part place number s h n q Unseen l r = record { moves = stays; sound = h; next = tt }
+  sent_full part place number s h n q Once l r = record { moves = forgets; sound = tt; next = n }
+  sent_full part place number s h n q Again l r = record { moves = quiet_on forgets (q.moves r); sound = q.sound r; next = q.next r }
+  sent_full part place number s h n q (Late ms) l r = record { moves = forgets; sound = tt; next = n }
 
   -- A second time, where the number is past.
   past : (image : List ℕ) (place number : ℕ) → number ≡ k % 65536
@@ -167,26 +164,30 @@ module _ (c : Profile) (offers : List (List ℕ)) (k : ℕ) (kept : List ℕ) wh
       upload_cases (Second image) image place (next_number number) (k % 65536) (second_fault image)
       (λ n h. absurd (omega arith)) (λ n h. absurd (omega arith))
 
-  -- The phase that fetches part k goes well by each fate.
+  -- The phase that fetches part k goes well by each course.
   pub go_fetch : (image : List ℕ) (stage : Stage) → k < 65535 → Fetches k kept image stage → IsSound offers stage
-      → (fate : Fate) (l r : Luck) → let s : Situation = record { image = image; stage = stage } in
-      Fetched s (sent c s (Upload (k % 65536) c.transfer) fate l r)
-  go_fetch image InDfuIdle b f h fate l r =
+      → (course : Course) (l r : Luck) → let s : Situation = record { image = image; stage = stage } in
+      Fetched s (sent c s (Upload (k % 65536) c.transfer) course l r)
+  go_fetch image InDfuIdle b f h course l r =
       let s : Situation = record { image = image; stage = InDfuIdle } in
-      let P : Plan → Type 0 = λ p. Fetched s (sent_by c s (Upload (k % 65536) c.transfer) p fate l r) in
-      either_way P c.can_upload _ _
-      (upload_cases P image 0 0 (k % 65536) (λ code. fetch_fault (k % 65536) c.transfer s code h fate l r)
-      (λ n g. sent_part _ s h (short_after image _ g (part_ends image 0 c.transfer g f.1)) (from_idle image b (λ e. f.1)) fate l r)
+      let how = course.handling in
+      let P : Plan → Type 0 = λ p. Reached s (reached c s (Upload (k % 65536) c.transfer) p how l r) in
+      fetched_by s course.harming course.back _
+      (either_way P c.can_upload _ _
+      (upload_cases P image 0 0 (k % 65536) (λ code. fetch_fault (k % 65536) c.transfer s code h how l r)
+      (λ n g. sent_part _ s h (short_after image _ g (part_ends image 0 c.transfer g f.1)) (from_idle image b (λ e. f.1)) how l r)
       (λ n g. sent_full _ _ _ s h (full_after image _ _ _ b g (omega (arith, f.0))
-      (ap (λ x. x ++ take c.transfer (drop 0 image)) f.1 ∙ sym (take-add 0 c.transfer image))) (past image _ 0 (sym n)) fate l r))
-      (fetch_fault (k % 65536) c.transfer s ErrStalledPkt h fate l r)
-  go_fetch image (InUploadIdle place number) b f h fate l r =
+      (ap (λ x. x ++ take c.transfer (drop 0 image)) f.1 ∙ sym (take-add 0 c.transfer image))) (past image _ 0 (sym n)) how l r))
+      (fetch_fault (k % 65536) c.transfer s ErrStalledPkt h how l r))
+  go_fetch image (InUploadIdle place number) b f h course l r =
       let s : Situation = record { image = image; stage = InUploadIdle place number } in
-      let P : Plan → Type 0 = λ p. Fetched s (sent_by c s (Upload (k % 65536) c.transfer) p fate l r) in
-      upload_cases P image place number (k % 65536) (λ code. fetch_fault (k % 65536) c.transfer s code h fate l r)
+      let how = course.handling in
+      let P : Plan → Type 0 = λ p. Reached s (reached c s (Upload (k % 65536) c.transfer) p how l r) in
+      fetched_by s course.harming course.back _
+      (upload_cases P image place number (k % 65536) (λ code. fetch_fault (k % 65536) c.transfer s code h how l r)
       (λ n g. sent_part _ s h (short_after image _ g (part_ends image place c.transfer g f.2))
-      (from_idle image b (λ e. absurd (omega (arith, f.0)))) fate l r)
+      (from_idle image b (λ e. absurd (omega (arith, f.0)))) how l r)
       (λ n g. sent_full _ _ _ s h (full_after image _ _ _ b g (omega (arith, f.1))
       (ap (λ x. x ++ take c.transfer (drop place image)) f.2 ∙ sym (take-add place c.transfer image))) (past image _ number (sym n))
-      fate l r)
-  go_fetch image stage b f h fate l r = elim f [ ]
+      how l r))
+  go_fetch image stage b f h course l r = elim f [ ]

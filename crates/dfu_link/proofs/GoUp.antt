@@ -6,17 +6,19 @@ use Rattle.dfu_wire.specs.declared.states.State.{State}
 use Rattle.dfu_wire.specs.declared.states.State.TheVariants.{DfuIdle, Error as InError}
 use Rattle.dfu_device.specs.Stage.{Request, Detach as AskDetach, GetStatus, ClrStatus, Abort, Profile, Stage, InAppDetach, InDfuIdle}
 use Rattle.dfu_device.specs.Table.{reset_stage}
-use Rattle.dfu_device.specs.Outcome.{Situation, Luck, elapsed}
+use Rattle.dfu_device.specs.Outcome.{Situation, Luck, elapsed, was_reset}
 use Rattle.dfu_device.specs.Cases.{either_way}
 use Rattle.dfu_host.specs.Table.{ToFetch, Phase, Find, FindAgain, Detach, Enter, Clear, Quit, WaitFind, ResetFind, Trouble, Fetch, LastUploaded, GiveUp, Over, OverUploaded, Wait, Reset, deed, Heard, Acked, Status, Stalled, Waited, WasReset, listed, troubled, on_status, on_ack, on_waited, on_reset, row}
 use Rattle.dfu_host.specs.Host.{IsOn}
-use Rattle.dfu_link.specs.Happening.{Fate, Slip, CutIn}
-use Rattle.dfu_link.specs.Play.{task_for, Passed, sent, waited, bus_reset, acted}
+use Rattle.dfu_link.specs.declared.course.Handling.{Handling}
+use Rattle.dfu_link.specs.declared.course.Handling.TheVariants.{Late}
+use Rattle.dfu_link.specs.Course.{Course}
+use Rattle.dfu_link.specs.Play.{task_for, Passed, slipped, sent, waited, bus_reset, acted}
 use Rattle.dfu_link.specs.LinkAgreement.{pending_of, IsSound}
 use Rattle.dfu_link.specs.Fact.{Fetches, FetchFact}
 use Rattle.dfu_link.proofs.Quiet.{Quiet, IsQuiet, IsPolite}
 use Rattle.dfu_link.proofs.Tells.{Tells, ToldBy}
-use Rattle.dfu_link.proofs.Fates.{IfHeard, IsReset, if_heard, any_heard, Knows, sent_quiet, waited_quiet, bus_reset_quiet, status_knows}
+use Rattle.dfu_link.proofs.Fates.{IfHeard, if_ended, if_heard, any_heard, Knows, sent_quiet, waited_quiet, bus_reset_quiet, status_knows}
 use Rattle.dfu_link.proofs.Fetch.{go_fetch}
 
 up_begun : (s : Situation) (stage : Stage) → Tells DfuIdle stage → Fetches 0 [] s.image stage
@@ -68,31 +70,31 @@ module _ (c : Profile) (offers : List (List ℕ)) where
       → IfHeard d.heard (λ heard. FetchFact (row (task_for c ToFetch) phase heard) d.device) → GoesUp phase s d
   up_of phase s d q n = record { moves = q.moves; sound = q.sound; next = n }
 
-  go_status : (phase : Phase) (s : Situation) → IsSound offers s.stage → (fate : Fate) (l k : Luck)
+  go_status : (phase : Phase) (s : Situation) → IsSound offers s.stage → (course : Course) (l k : Luck)
       → ((d : Situation) (heard : Heard) → ToldBy heard d.stage → FetchFact (row (task_for c ToFetch) phase heard) d)
-      → GoesUp phase s (sent c s GetStatus fate l k)
-  go_status phase s q fate l k f =
-      let d = sent c s GetStatus fate l k in
-      up_of phase s d (sent_quiet c offers s GetStatus fate l k tt q)
+      → GoesUp phase s (sent c s GetStatus course l k)
+  go_status phase s q course l k f =
+      let d = sent c s GetStatus course l k in
+      up_of phase s d (sent_quiet c offers s GetStatus course l k tt q)
       (if_heard {P = Knows c offers [] Find d.device} {Q = λ heard. FetchFact (row (task_for c ToFetch) phase heard) d.device} d.heard
-      (λ heard w. f d.device heard w.told) (status_knows c offers [] Find s fate l k tt tt))
+      (λ heard w. f d.device heard w.told) (status_knows c offers [] Find s course l k tt tt))
 
-  go_any : (phase : Phase) (s : Situation) (r : Request) → IsPolite r → IsSound offers s.stage → (fate : Fate) (l k : Luck)
-      → ((d : Situation) (heard : Heard) → FetchFact (row (task_for c ToFetch) phase heard) d) → GoesUp phase s (sent c s r fate l k)
-  go_any phase s r a q fate l k f = let d = sent c s r fate l k in
-      up_of phase s d (sent_quiet c offers s r fate l k a q) (any_heard d.heard
+  go_any : (phase : Phase) (s : Situation) (r : Request) → IsPolite r → IsSound offers s.stage → (course : Course) (l k : Luck)
+      → ((d : Situation) (heard : Heard) → FetchFact (row (task_for c ToFetch) phase heard) d) → GoesUp phase s (sent c s r course l k)
+  go_any phase s r a q course l k f = let d = sent c s r course l k in
+      up_of phase s d (sent_quiet c offers s r course l k a q) (any_heard d.heard
       (λ heard. FetchFact (row (task_for c ToFetch) phase heard) d.device) (f d.device))
 
-  go_wait : (phase : Phase) (s : Situation) (ms : ℕ) → IsSound offers s.stage → (fate : Fate) (l : Luck)
-      → ((d : Situation) (heard : Heard) → FetchFact (row (task_for c ToFetch) phase heard) d) → GoesUp phase s (waited c s ms fate l)
-  go_wait phase s ms q fate l f = let d = waited c s ms fate l in
-      up_of phase s d (waited_quiet c offers s ms fate l q) (any_heard d.heard
+  go_wait : (phase : Phase) (s : Situation) (ms : ℕ) → IsSound offers s.stage → (course : Course) (l : Luck)
+      → ((d : Situation) (heard : Heard) → FetchFact (row (task_for c ToFetch) phase heard) d) → GoesUp phase s (waited c s ms course l)
+  go_wait phase s ms q course l f = let d = waited c s ms course l in
+      up_of phase s d (waited_quiet c offers s ms course l q) (any_heard d.heard
       (λ heard. FetchFact (row (task_for c ToFetch) phase heard) d.device) (f d.device))
 
-  go_reset : (phase : Phase) (s : Situation) → (fate : Fate) (l : Luck)
-      → ((d : Situation) (heard : Heard) → FetchFact (row (task_for c ToFetch) phase heard) d) → GoesUp phase s (bus_reset c s fate l)
-  go_reset phase s fate l f = let d = bus_reset c s fate l in
-      up_of phase s d (bus_reset_quiet c offers s fate l) (any_heard d.heard
+  go_reset : (phase : Phase) (s : Situation) → (course : Course) (l : Luck)
+      → ((d : Situation) (heard : Heard) → FetchFact (row (task_for c ToFetch) phase heard) d) → GoesUp phase s (bus_reset c s course l)
+  go_reset phase s course l f = let d = bus_reset c s course l in
+      up_of phase s d (bus_reset_quiet c offers s course l) (any_heard d.heard
       (λ heard. FetchFact (row (task_for c ToFetch) phase heard) d.device) (f d.device))
 
   time_image : (image : List ℕ) (stage : Stage) (ms : ℕ) (l : Luck)
@@ -100,58 +102,44 @@ module _ (c : Profile) (offers : List (List ℕ)) where
   time_image image (InAppDetach timer passed) ms l = refl
   time_image image stage ms l = refl
 
-  reset_image : (s : Situation) (fate : Fate) (l : Luck) → (bus_reset c s fate l).device.image ≡ s.image
-  reset_image s (Slip ms) l = time_image s.image s.stage ms l
-  reset_image s CutIn l = refl
-  reset_image s fate l = refl
+  slipped_image : (s : Situation) (how : Handling) (l : Luck) → (slipped c (was_reset s) how l).image ≡ s.image
+  slipped_image s (Late ms) l = time_image s.image s.stage ms l
+  slipped_image s how l = refl
 
-  reset_seen : (s : Situation) (fate : Fate) (l : Luck) → IfHeard (bus_reset c s fate l).heard IsReset
-  reset_seen s (Slip ms) l = tt
-  reset_seen s CutIn l = tt
-  reset_seen s fate l = tt
+  go_last : (kept : List ℕ) (s : Situation) → kept ≡ s.image → (course : Course) (l : Luck)
+      → GoesUp (LastUploaded kept) s (bus_reset c s course l)
+  go_last kept s e course l = up_of (LastUploaded kept) s (bus_reset c s course l) (bus_reset_quiet c offers s course l)
+      (if_ended course.harming _ (λ heard x. FetchFact (row (task_for c ToFetch) (LastUploaded kept) heard) x)
+      (e ∙ sym (slipped_image s course.handling l)))
 
-  was_over : (kept : List ℕ) (d : Situation) (heard : Heard) → kept ≡ d.image → IsReset heard
-      → FetchFact (on_reset heard (OverUploaded kept) (LastUploaded kept)) d
-  was_over kept d WasReset e h = e
-  was_over kept d heard e h = elim h [ ]
-
-  go_last : (kept : List ℕ) (s : Situation) → kept ≡ s.image → (fate : Fate) (l : Luck)
-      → GoesUp (LastUploaded kept) s (bus_reset c s fate l)
-  go_last kept s e fate l =
-      let d = bus_reset c s fate l in
-      let f = e ∙ sym (reset_image s fate l) in
-      up_of (LastUploaded kept) s d (bus_reset_quiet c offers s fate l)
-      (if_heard {P = IsReset} {Q = λ heard. FetchFact (row (task_for c ToFetch) (LastUploaded kept) heard) d.device} d.heard
-      (λ heard w. was_over kept d.device heard f w) (reset_seen s fate l))
-
-  -- Each phase of an upload's host that is not done goes well by each fate.
-  pub go_up : (phase : Phase) (s : Situation) → IsOn phase → FetchFact phase s → IsSound offers s.stage → (fate : Fate) (l k : Luck)
-      → GoesUp phase s (acted c s (deed (task_for c ToFetch) phase) fate l k)
-  go_up Find s on h q fate l k = go_status Find s q fate l k (λ d heard w. up_status heard _ FindAgain Find d
+  -- Each phase of an upload's host that is not done goes well by each course.
+  pub go_up : (phase : Phase) (s : Situation) → IsOn phase → FetchFact phase s → IsSound offers s.stage → (course : Course) (l k : Luck)
+      → GoesUp phase s (acted c s (deed (task_for c ToFetch) phase) course l k)
+  go_up Find s on h q course l k = go_status Find s q course l k (λ d heard w. up_status heard _ FindAgain Find d
       (λ code poll state. up_listed state poll d) tt tt w)
-  go_up FindAgain s on h q fate l k = go_status FindAgain s q fate l k
+  go_up FindAgain s on h q course l k = go_status FindAgain s q course l k
       (λ d heard w. up_status heard _ ResetFind FindAgain d (λ code poll state. up_listed state poll d) tt tt w)
-  go_up Trouble s on h q fate l k = go_status Trouble s q fate l k
+  go_up Trouble s on h q course l k = go_status Trouble s q course l k
       (λ d heard w. up_status heard _ FindAgain Trouble d (λ code poll state. up_troubled code poll state d) tt tt w)
-  go_up Detach s on h q fate l k = go_any Detach s (AskDetach c.detach_ms) tt q fate l k
+  go_up Detach s on h q course l k = go_any Detach s (AskDetach c.detach_ms) tt q course l k
       (λ d heard. up_ack heard Enter Find Find d tt tt tt)
-  go_up Enter s on h q fate l k =
-      let d = acted c s (cond c.will_detach (Wait (max 1 c.detach_ms)) Reset) fate l k in
+  go_up Enter s on h q course l k =
+      let d = acted c s (cond c.will_detach (Wait (max 1 c.detach_ms)) Reset) course l k in
       up_of Enter s d
-      (either_way (λ a. IsQuiet offers s (acted c s a fate l k).device) c.will_detach _ _
-      (waited_quiet c offers s (max 1 c.detach_ms) fate l q) (bus_reset_quiet c offers s fate l))
+      (either_way (λ a. IsQuiet offers s (acted c s a course l k).device) c.will_detach _ _
+      (waited_quiet c offers s (max 1 c.detach_ms) course l q) (bus_reset_quiet c offers s course l))
       (any_heard d.heard (λ heard. FetchFact (row (task_for c ToFetch) Enter heard) d.device)
       (λ heard. either_way (λ phase. FetchFact phase d.device) c.will_detach _ _ (up_waited heard Find Enter d.device tt tt)
       (up_reset heard Find Enter d.device tt tt)))
-  go_up Clear s on h q fate l k = go_any Clear s ClrStatus tt q fate l k (λ d heard. tt)
-  go_up Quit s on h q fate l k = go_any Quit s Abort tt q fate l k (λ d heard. tt)
-  go_up (WaitFind poll) s on h q fate l k = go_wait (WaitFind poll) s poll q fate l
+  go_up Clear s on h q course l k = go_any Clear s ClrStatus tt q course l k (λ d heard. tt)
+  go_up Quit s on h q course l k = go_any Quit s Abort tt q course l k (λ d heard. tt)
+  go_up (WaitFind poll) s on h q course l k = go_wait (WaitFind poll) s poll q course l
       (λ d heard. up_waited heard Find (WaitFind poll) d tt tt)
-  go_up ResetFind s on h q fate l k = go_reset ResetFind s fate l (λ d heard. up_reset heard Find ResetFind d tt tt)
-  go_up (Fetch n kept) s on h q fate l k = let f = go_fetch c offers n kept s.image s.stage h.0 h.1 q fate l k in
+  go_up ResetFind s on h q course l k = go_reset ResetFind s course l (λ d heard. up_reset heard Find ResetFind d tt tt)
+  go_up (Fetch n kept) s on h q course l k = let f = go_fetch c offers n kept s.image s.stage h.0 h.1 q course l k in
       record { moves = f.moves; sound = f.sound; next = f.next }
-  go_up (LastUploaded kept) s on h q fate l k = go_last kept s h.0 fate l
-  go_up GiveUp s on h q fate l k = go_any GiveUp s Abort tt q fate l k (λ d heard. tt)
-  go_up (Over report) s on h q fate l k = elim on [ ]
-  go_up (OverUploaded kept) s on h q fate l k = elim on [ ]
-  go_up phase s on h q fate l k = elim h [ ]
+  go_up (LastUploaded kept) s on h q course l k = go_last kept s h.0 course l
+  go_up GiveUp s on h q course l k = go_any GiveUp s Abort tt q course l k (λ d heard. tt)
+  go_up (Over report) s on h q course l k = elim on [ ]
+  go_up (OverUploaded kept) s on h q course l k = elim on [ ]
+  go_up phase s on h q course l k = elim h [ ]

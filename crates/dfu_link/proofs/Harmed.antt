@@ -14,10 +14,16 @@ use Rattle.dfu_device.specs.Came.{row_of}
 use Rattle.dfu_host.specs.Table.{Deed, Send, Wait, Reset, Done as IsDone, deed, Heard, Waited, WasReset, Restarted}
 use Rattle.dfu_host.specs.Host.{HostState}
 use Rattle.dfu_host.specs.Wire.{IsAsked}
+use Rattle.dfu_link.specs.declared.back.Back.{Back}
+use Rattle.dfu_link.specs.declared.back.Back.TheVariants as back
+use Rattle.dfu_link.specs.declared.course.Handling.TheVariants.{Once}
+use Rattle.dfu_link.specs.declared.course.Harming.{Harming}
+use Rattle.dfu_link.specs.declared.course.Harming.TheVariants.{NoWrite, CutsPower, FailsWrite}
+use Rattle.dfu_link.specs.Course.{course_of}
 use Rattle.dfu_link.specs.Happening.{Fate, CutIn, Fail, Harm, Happening}
 use Rattle.dfu_link.specs.Bench.{Hosted, Bench}
 use Rattle.dfu_link.specs.Play.{Answered, took, heard_as, remembered}
-use Rattle.dfu_link.specs.Bytes.{fuse_of, armed, powered_up, Sends, cuts, fails, Acts, after_fate, NextAction, Happens}
+use Rattle.dfu_link.specs.Bytes.{fuse_of, armed, powered_up, HearsBack, Reaches, once, Sends, Acts, left_by, NextAction, Happens}
 use Rattle.dfu_link.specs.Comes.{happens}
 use Rattle.dfu_link.specs.OneResult.{SameDevice, AreOne, HarmsAWrite, OneResult}
 use Rattle.dfu_link.proofs.Replies.{IsHosts, HostsDeed, hosts_deed, plan_heard, served}
@@ -121,6 +127,11 @@ record ActedOnce (w' v' : Shown) (heard other : Heard) : Type 0 where
   first : (room : Bool) × (heard ≡ remembered hears room)
   second : (room : Bool) × (other ≡ remembered hears room)
 
+-- A request that is handled once: there is one answer.
+reached_once : {setup body : List ℕ} {w w' : Shown} {came : Back} {out : List ℕ} → Reaches setup body Once w came out w'
+    → (a : Answer) × (came ≡ back.Answered a) × Handles setup body w a out w'
+reached_once (once {a = a} h) = (a, refl, h)
+
 module _ (q : Asked) (body : List ℕ) (is : IsHosts q body) (w : Shown) (known : IsKnown w.slots.medium.fuse) where
   -- A request goes by its plan, whatever bytes ask for it.
   goes_by : (setup : List ℕ) (w' : Shown) (a : Answer) (out : List ℕ) → IsAsked q setup → Handles setup body w a out w'
@@ -135,25 +146,33 @@ module _ (q : Asked) (body : List ℕ) (is : IsHosts q body) (w : Shown) (known 
       done_once (plan (profile w) (image_of w.slots) w.stage (meant q body)) (asked_length q) w w' v' a b out other known
       (goes_by setup w' a out asked h) (goes_by setup2 v' b other asked2 k)
 
-  sends_once : (fate : Fate) (setup setup2 : List ℕ) (w' v' : Shown) (heard heard2 : Heard) → HarmsAWrite fate → IsAsked q setup
-      → IsAsked q setup2 → Sends q setup body fate w w' heard → Sends q setup2 body fate w v' heard2 → ActedOnce w' v' heard heard2
-  sends_once CutIn setup setup2 w' v' heard heard2 harms asked asked2 (cuts {a = a} {out = out} h) (cuts {a = b} {out = other} k) =
-      let x = handled_once setup setup2 w' v' a b out other asked asked2 h k in
-      record { device = x.device; hears = Restarted; first = (true, refl); second = (true, refl) }
-  sends_once Fail setup setup2 w' v' heard heard2 harms asked asked2 (fails {a = a} {out = out} h r) (fails {a = b} {out = other} k s) =
-      let x = handled_once setup setup2 w' v' a b out other asked asked2 h k in
+  sends_once : (fate : Fate) (setup setup2 : List ℕ) (w' v' : Shown) (heard heard2 : Heard) → HarmsAWrite (course_of fate).harming
+      → IsAsked q setup → IsAsked q setup2 → Sends q setup body (course_of fate) w w' heard → Sends q setup2 body (course_of fate) w v' heard2
+      → ActedOnce w' v' heard heard2
+  sends_once CutIn setup setup2 w' v' heard heard2 harms asked asked2 h k =
+      let a = reached_once h.reaches in
+      let b = reached_once k.reaches in
+      let x = handled_once setup setup2 w' v' a.0 b.0 h.out k.out asked asked2 a.2 b.2 in
+      record { device = x.device; hears = Restarted; first = (true, h.hears); second = (true, k.hears) }
+  sends_once Fail setup setup2 w' v' heard heard2 harms asked asked2 h k =
+      let a = reached_once h.reaches in
+      let b = reached_once k.reaches in
+      let x = handled_once setup setup2 w' v' a.0 b.0 h.out k.out asked asked2 a.2 b.2 in
       let p = plan (profile w) (image_of w.slots) w.stage (meant q body) in
       record {
         device = x.device;
         hears = heard_as (outcome (image_of w.slots) p x.luck).reply;
-        first = plan_heard q body (profile w) (image_of w.slots) w.stage x.luck a out heard is x.first r;
-        second = plan_heard q body (profile w) (image_of w.slots) w.stage x.luck b other heard2 is x.second s;
+        first = plan_heard q body (profile w) (image_of w.slots) w.stage x.luck a.0 h.out heard is x.first
+            (subst (λ (c : Back). HearsBack (Send q body) c h.out heard) a.1 h.hears);
+        second = plan_heard q body (profile w) (image_of w.slots) w.stage x.luck b.0 k.out heard2 is x.second
+            (subst (λ (c : Back). HearsBack (Send q body) c k.out heard2) b.1 k.hears);
       }
   sends_once fate setup setup2 w' v' heard heard2 harms asked asked2 h k = elim harms [ ]
 
 -- An action in which a write is harmed, from one device.
-acts_once : (d : Deed) (fate : Fate) (w w' v' : Shown) (heard heard2 : Heard) → HostsDeed d → HarmsAWrite fate
-    → IsKnown w.slots.medium.fuse → Acts d fate w w' heard → Acts d fate w v' heard2 → ActedOnce w' v' heard heard2
+acts_once : (d : Deed) (fate : Fate) (w w' v' : Shown) (heard heard2 : Heard) → HostsDeed d
+    → HarmsAWrite (course_of fate).harming → IsKnown w.slots.medium.fuse → Acts d (course_of fate) w w' heard
+    → Acts d (course_of fate) w v' heard2 → ActedOnce w' v' heard heard2
 acts_once (Send q body) fate w w' v' heard heard2 is harms known (setup, asked, h) (setup2, asked2, k) =
     sends_once q body is w known fate setup setup2 w' v' heard heard2 harms asked asked2 h k
 acts_once (Wait ms) CutIn w w' v' heard heard2 is harms known (h, e) (k, f) =
@@ -171,32 +190,33 @@ acts_once Reset fate w w' v' heard heard2 is harms known h k = elim harms [ ]
 acts_once (IsDone report) fate w w' v' heard heard2 is harms known h k = absurd h
 
 -- The fuse of an action in which a write is harmed is known.
-fuse_known : (fate : Fate) (harm : Harm) → HarmsAWrite fate → IsKnown (fuse_of fate harm)
-fuse_known CutIn harm harms = tt
-fuse_known Fail harm harms = tt
-fuse_known fate harm harms = elim harms [ ]
+fuse_known : (harming : Harming) (harm : Harm) → HarmsAWrite harming → IsKnown (fuse_of harming harm)
+fuse_known NoWrite harm harms = elim harms [ ]
+fuse_known CutsPower harm harms = tt
+fuse_known FailsWrite harm harms = tt
 
-after_same : (fate : Fate) {w v : Shown} → HarmsAWrite fate → SameDevice w v → SameDevice (after_fate fate w) (after_fate fate v)
-after_same CutIn harms same = powered_same same
-after_same Fail harms same = disarmed_same same
-after_same fate harms same = elim harms [ ]
+left_same : (harming : Harming) {w v : Shown} → SameDevice w v → SameDevice (left_by harming w) (left_by harming v)
+left_same NoWrite same = disarmed_same same
+left_same CutsPower same = powered_same same
+left_same FailsWrite same = disarmed_same same
 
 hosted_one : (h k : HostState) → Hosted h ≡ Hosted k → k ≡ h
 hosted_one h k e = sym cc
 
 -- The host's next action, where a write is harmed in it.
-action_once : (fate : Fate) (harm : Harm) (b c d : Bench) (x y : Answered) → HarmsAWrite fate
+action_once : (fate : Fate) (harm : Harm) (b c d : Bench) (x y : Answered) → HarmsAWrite (course_of fate).harming
     → NextAction b.session fate harm b c x → NextAction b.session fate harm b d y → AreOne c d x y
 action_once fate harm b c d x y harms g k =
-    let w = armed b.device (fuse_of fate harm) in
+    let harming = (course_of fate).harming in
+    let w = armed b.device (fuse_of harming harm) in
     let same : k.host ≡ g.host = hosted_one g.host k.host (sym g.live ∙ k.live) in
-    let acts : Acts (deed g.host.task g.host.phase) fate w k.last k.heard = subst
-    (λ (h : HostState). Acts (deed h.task h.phase) fate w k.last k.heard) same k.acts in
+    let acts : Acts (deed g.host.task g.host.phase) (course_of fate) w k.last k.heard = subst
+    (λ (h : HostState). Acts (deed h.task h.phase) (course_of fate) w k.last k.heard) same k.acts in
     let one = acts_once (deed g.host.task g.host.phase) fate w g.last k.last g.heard k.heard (hosts_deed g.host.task g.host.phase) harms
-    (fuse_known fate harm harms) g.acts acts in
+    (fuse_known harming harm harms) g.acts acts in
     record {
       device = subst (λ (z : Shown). SameDevice z d.device) (sym g.device)
-          (subst (λ (z : Shown). SameDevice (after_fate fate g.last) z) (sym k.device) (after_same fate harms one.device));
+          (subst (λ (z : Shown). SameDevice (left_by harming g.last) z) (sym k.device) (left_same harming one.device));
       rule = λ room. took g.host (remembered one.hears room);
       first = (one.first.0, λ i. record {
         session = (ap (λ (z : Heard). (took g.host z).session) (sym one.first.1) ∙ sym g.session) i;

@@ -5,6 +5,7 @@ use Rattle.dfu_device.specs.Outcome.{Luck, Works}
 use Rattle.dfu_host.specs.Table.{ToLoad, Phase, Over, OverUploaded, deed, Heard}
 use Rattle.dfu_host.specs.Host.{HostState, IsOn, budgeted}
 use Rattle.dfu_link.specs.Happening.{Pass}
+use Rattle.dfu_link.specs.Course.{course_of}
 use Rattle.dfu_link.specs.Bench.{Hosted}
 use Rattle.dfu_link.specs.Play.{Link, silent, task_for, Took, settled, took, remembered, Passed, acted}
 use Rattle.dfu_link.specs.CleanRun.{PassesTo, Quietly, here, there}
@@ -72,7 +73,7 @@ module _ (c : Profile) (p : List ℕ) (again : ℕ) where
 
   -- One action: what the device does, what the host hears, and the phase to which it comes.
   pub one_by : {i j : List ℕ} {s t : Stage} {phase next : Phase} (heard : Heard) (mid : Phase)
-      → ((k : Luck) → acted c (record { image = i; stage = s }) (deed (task_for c (ToLoad p)) phase) Pass Works k
+      → ((k : Luck) → acted c (record { image = i; stage = s }) (deed (task_for c (ToLoad p)) phase) (course_of Pass) Works k
       ≡ record { device = record { image = j; stage = t }; heard = heard })
       → ((l : ℕ) (room : Bool) → took (host_at phase (suc (suc l))) (remembered heard room) ≡ comes_to mid l) → mid ≡ next → IsOn next
       → Leads i s phase 1 j t next

@@ -8,20 +8,23 @@ use Rattle.dfu_device.specs.Outcome.{Situation, Luck, Works, Outcome, elapsed, p
 use Rattle.dfu_device.specs.Shown.{Shown, profile, situation}
 use Rattle.dfu_device.specs.Came.{time_came}
 use Rattle.dfu_host.specs.Table.{Deed, deed, Heard}
-use Rattle.dfu_link.specs.Happening.{Fate, CutIn, Harm, Happening, Offers, Uploads, Aborts, Goes, Passes, Resets, Cuts}
-use Rattle.dfu_link.specs.Play.{Answered, acted, took, told, played, gone, IsAllowed}
+use Rattle.dfu_link.specs.Happening.{Fate, Harm, Happening, Offers, Uploads, Aborts, Goes, Passes, Resets, Cuts}
+use Rattle.dfu_link.specs.declared.course.Harming.{Harming}
+use Rattle.dfu_link.specs.declared.course.Harming.TheVariants.{NoWrite, CutsPower, FailsWrite}
+use Rattle.dfu_link.specs.Course.{Course, course_of}
+use Rattle.dfu_link.specs.Play.{Answered, over, acted, took, told, played, gone, IsAllowed}
 use Rattle.dfu_link.specs.Bench.{Session, Bench}
-use Rattle.dfu_link.specs.Bytes.{fuse_of, armed, powered_up, after_fate, link_of, NextAction, Happens, BytePlay}
+use Rattle.dfu_link.specs.Bytes.{fuse_of, armed, powered_up, left_by, link_of, NextAction, Happens, BytePlay}
 use Rattle.dfu_link.specs.Understood.{Shows, BytesShow}
 use Rattle.dfu_link.proofs.Replies.{hosts_deed}
-use Rattle.dfu_link.proofs.Actions.{armed_profile, armed_situation, ending, Went, acts_go}
+use Rattle.dfu_link.proofs.Actions.{armed_profile, armed_situation, Went, acts_go}
 
 -- An action on an armed medium.
-armed_goes : (d : Deed) (fate : Fate) (fuse : Fuse) (w w' : Shown) (heard : Heard)
-    → Went fuse (profile (armed w fuse)) (situation (armed w fuse)) d fate w' heard → Went fuse (profile w) (situation w) d fate w' heard
-armed_goes d fate fuse w w' heard x =
-    subst (λ (s : Situation). Went fuse (profile w) s d fate w' heard) (armed_situation w fuse)
-    (subst (λ (c : Profile). Went fuse c (situation (armed w fuse)) d fate w' heard) (armed_profile w fuse) x)
+armed_goes : (d : Deed) (course : Course) (fuse : Fuse) (w w' : Shown) (heard : Heard)
+    → Went fuse (profile (armed w fuse)) (situation (armed w fuse)) d course w' heard → Went fuse (profile w) (situation w) d course w' heard
+armed_goes d course fuse w w' heard x =
+    subst (λ (s : Situation). Went fuse (profile w) s d course w' heard) (armed_situation w fuse)
+    (subst (λ (c : Profile). Went fuse c (situation (armed w fuse)) d course w' heard) (armed_profile w fuse) x)
 
 powered_situation : (w : Shown) → situation (powered_up w) ≡ powered (situation w)
 powered_situation w = λ k. record { image = image_restarted w.slots Whole k; stage = InAppIdle }
@@ -29,21 +32,24 @@ powered_situation w = λ k. record { image = image_restarted w.slots Whole k; st
 powered_profile : (w : Shown) → profile (powered_up w) ≡ profile w
 powered_profile w = λ k. record (profile w) { capacity = room_restarted w.slots Whole k }
 
-after_situation : (fate : Fate) (w : Shown) → situation (after_fate fate w) ≡ ending fate w
-after_situation CutIn w = powered_situation w
-after_situation fate w = armed_situation w Whole
+after_situation : (harming : Harming) (w : Shown) → situation (left_by harming w) ≡ over harming (situation w)
+after_situation NoWrite w = armed_situation w Whole
+after_situation CutsPower w = powered_situation w
+after_situation FailsWrite w = armed_situation w Whole
 
-after_profile : (fate : Fate) (w : Shown) → profile (after_fate fate w) ≡ profile w
-after_profile CutIn w = powered_profile w
-after_profile fate w = armed_profile w Whole
+after_profile : (harming : Harming) (w : Shown) → profile (left_by harming w) ≡ profile w
+after_profile NoWrite w = armed_profile w Whole
+after_profile CutsPower w = powered_profile w
+after_profile FailsWrite w = armed_profile w Whole
 
-after_whole : (fate : Fate) (w : Shown) → (after_fate fate w).slots.medium.fuse ≡ Whole
-after_whole CutIn w = refl
-after_whole fate w = refl
+after_whole : (harming : Harming) (w : Shown) → (left_by harming w).slots.medium.fuse ≡ Whole
+after_whole NoWrite w = refl
+after_whole CutsPower w = refl
+after_whole FailsWrite w = refl
 
 -- The fuse of the medium in an event: only an action can be harmed.
 abbrev pub fuse_in : Happening → Fuse
-fuse_in (Goes fate harm) = fuse_of fate harm
+fuse_in (Goes fate harm) = fuse_of (course_of fate).harming harm
 fuse_in event = Whole
 
 -- What benches show of an event; where no write is harmed it goes at the luck that the medium works.
@@ -53,13 +59,14 @@ record Showed (b : Bench) (event : Happening) (fuse : Fuse) (b' : Bench) (answer
       ≡ record { link = link_of b'; answer = answer })
 
 goes_show : (fate : Fate) (harm : Harm) (b b' : Bench) (answer : Answered) → IsAllowed b.session (Goes fate harm)
-    → NextAction b.session fate harm b b' answer → Showed b (Goes fate harm) (fuse_of fate harm) b' answer
+    → NextAction b.session fate harm b b' answer → Showed b (Goes fate harm) (fuse_of (course_of fate).harming harm) b' answer
 goes_show fate harm b b' answer allowed g =
     let d = deed g.host.task g.host.phase in
-    let x = armed_goes d fate (fuse_of fate harm) b.device g.last g.heard
-    (acts_go d fate (armed b.device (fuse_of fate harm)) g.last g.heard (hosts_deed g.host.task g.host.phase) g.acts) in
-    let there : (acted (profile b.device) (situation b.device) d fate x.first x.second).device ≡ situation b'.device = x.device
-    ∙ sym (after_situation fate g.last) ∙ sym (ap situation g.device) in
+    let course = course_of fate in
+    let x = armed_goes d course (fuse_of course.harming harm) b.device g.last g.heard
+    (acts_go d course (armed b.device (fuse_of course.harming harm)) g.last g.heard (hosts_deed g.host.task g.host.phase) g.acts) in
+    let there : (acted (profile b.device) (situation b.device) d course x.first x.second).device ≡ situation b'.device = x.device
+    ∙ sym (after_situation course.harming g.last) ∙ sym (ap situation g.device) in
     let same : played (profile b.device) (link_of b) (Goes fate harm) x.first x.second x.room ≡ record { link = link_of b'; answer = answer } =
     ap (λ (z : Session). gone (profile b.device) (link_of b) z fate x.first x.second x.room) g.live
     ∙ (λ i. record {
@@ -69,8 +76,8 @@ goes_show fate harm b b' answer allowed g =
     record {
       shown = record {
         play = record { allowed = allowed; first = x.first; second = x.second; room = x.room; same = same };
-        fixed = ap profile g.device ∙ after_profile fate g.last ∙ x.fixed;
-        unarmed = ap (λ (w : Shown). w.slots.medium.fuse) g.device ∙ after_whole fate g.last;
+        fixed = ap profile g.device ∙ after_profile course.harming g.last ∙ x.fixed;
+        unarmed = ap (λ (w : Shown). w.slots.medium.fuse) g.device ∙ after_whole course.harming g.last;
       };
       sure = λ whole. (
         x.room,

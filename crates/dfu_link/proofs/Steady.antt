@@ -9,18 +9,21 @@ use Rattle.dfu_device.specs.Setting.{Setting}
 use Rattle.dfu_link.specs.declared.fault.LinkFault.{LinkFault}
 use Rattle.dfu_link.specs.Session.{Machine, Loading}
 use Rattle.dfu_link.specs.Play.{kind_of, Answered, given, IsAllowed}
-use Rattle.dfu_link.specs.Happening.{CutIn, Fail, Happening, Offers, Uploads, Goes, Passes, Resets, Cuts}
+use Rattle.dfu_link.specs.declared.course.Harming.{Harming}
+use Rattle.dfu_link.specs.declared.course.Harming.TheVariants.{NoWrite, CutsPower, FailsWrite}
+use Rattle.dfu_link.specs.Course.{course_of}
+use Rattle.dfu_link.specs.Happening.{Harm, Happening, Offers, Uploads, Goes, Passes, Resets, Cuts}
 use Rattle.dfu_link.specs.Bench.{Session, Nobody, Hosted, Bench, ShowsActive, LinkState, linked}
 use Rattle.dfu_link.specs.LinkAgreement.{Agrees}
 use Rattle.dfu_link.specs.Fact.{SessionFact}
 use Rattle.dfu_link.specs.Headline.{Follows}
-use Rattle.dfu_link.specs.Bytes.{link_of, Happens, BytePlay}
+use Rattle.dfu_link.specs.Bytes.{fuse_of, link_of, Happens, BytePlay}
 use Rattle.dfu_link.specs.Understood.{Shows, ImageShown}
 use Rattle.dfu_link.specs.Comes.{Means, Comes, refuses, happens, shown_as, gave_of, HasCome}
 use Rattle.dfu_link.specs.Standing.{SendsBytes, IsSteady}
 use Rattle.dfu_link.specs.Following.{IsOfKind, AllFollow}
 use Rattle.dfu_link.specs.Giving.{Gives, UploadsGive, RestIsSteady}
-use Rattle.dfu_link.specs.Sure.{IsHarmless, IsAsPlayed, AllSure}
+use Rattle.dfu_link.specs.Sure.{HarmsNothing, IsHarmless, IsAsPlayed, AllSure}
 use Rattle.dfu_link.proofs.Config.{happens_config}
 use Rattle.dfu_link.proofs.Projected.{fuse_in, bytes_show, bytes_sure}
 use Rattle.dfu_link.proofs.EachEvent.{Sizes, all_sized, follows_sized}
@@ -195,10 +198,13 @@ rest_is_steady device unarmed = record { fact = tt; unarmed = unarmed; sized = t
 
 -- Nothing is cut and nothing fails.
 
+unharmed_whole : (harming : Harming) (harm : Harm) → HarmsNothing harming → fuse_of harming harm ≡ Whole
+unharmed_whole NoWrite harm h = refl
+unharmed_whole CutsPower harm h = elim h [ ]
+unharmed_whole FailsWrite harm h = elim h [ ]
+
 harmless_whole : (event : Happening) → IsHarmless event → fuse_in event ≡ Whole
-harmless_whole (Goes CutIn harm) h = elim h [ ]
-harmless_whole (Goes Fail harm) h = elim h [ ]
-harmless_whole (Goes fate harm) h = refl
+harmless_whole (Goes fate harm) h = unharmed_whole (course_of fate).harming harm h
 harmless_whole event h = refl
 
 as_played : (b b' : Bench) (event : Happening) (answer : Answered) → BytePlay b event b' answer → IsHarmless event

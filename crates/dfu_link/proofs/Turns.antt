@@ -12,6 +12,7 @@ use Rattle.dfu_host.specs.BlockLaws.{first_suc}
 use Rattle.dfu_host.specs.Table.{Phase, Find, Detach, Enter, Block, Poll, WaitPoll, Close, Manifest, WaitManifest, Last, Acked, Status, Waited}
 use Rattle.dfu_host.specs.Host.{IsOn}
 use Rattle.dfu_link.specs.Happening.{Pass}
+use Rattle.dfu_link.specs.Course.{course_of}
 use Rattle.dfu_link.specs.Play.{heard_as, Passed, waited}
 use Rattle.dfu_link.proofs.Passes.{split, Leads, leads_on, none, one, one_by}
 
@@ -54,7 +55,7 @@ module _ (c : Profile) (p : List ℕ) (again : ℕ) where
           ≡ Writes before body Ack (InDownloadSyncWritten (before ++ body) number) Ack
       busy_plan f = let g : nat_le c.busy (0 + c.busy) ≡ true = grind (arith, nat_tests) in rw (f, g)
 
-      busy_wait : (c.busy == 0) ≡ false → waited c (record { image = i; stage = InDownloadBusy before body number 0 }) c.busy Pass Works
+      busy_wait : (c.busy == 0) ≡ false → waited c (record { image = i; stage = InDownloadBusy before body number 0 }) c.busy (course_of Pass) Works
           ≡ record { device = record { image = i; stage = InDownloadSyncWritten (before ++ body) number }; heard = Waited }
       busy_wait f = ap (λ q. record { device = (outcome i q Works).after; heard = Waited }) (busy_plan f)
 
@@ -73,7 +74,7 @@ module _ (c : Profile) (p : List ℕ) (again : ℕ) where
       manifest_plan : (c.manifest == 0) ≡ false → time_plan c (InManifest taken 0) c.manifest ≡ Commits taken Ack InManifestSyncComplete Ack
       manifest_plan f = let g : nat_le c.manifest (0 + c.manifest) ≡ true = grind (arith, nat_tests) in rw (f, g, tol)
 
-      manifest_wait : (c.manifest == 0) ≡ false → waited c (record { image = i; stage = InManifest taken 0 }) c.manifest Pass Works
+      manifest_wait : (c.manifest == 0) ≡ false → waited c (record { image = i; stage = InManifest taken 0 }) c.manifest (course_of Pass) Works
           ≡ record { device = record { image = taken; stage = InManifestSyncComplete }; heard = Waited }
       manifest_wait f = ap (λ q. record { device = (outcome i q Works).after; heard = Waited }) (manifest_plan f)
 

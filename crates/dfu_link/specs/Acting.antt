@@ -8,36 +8,48 @@ use Rattle.dfu_host.specs.declared.limits.Limits.{Limits}
 use Rattle.dfu_host.specs.declared.report.Report.{Report}
 use Rattle.dfu_host.specs.declared.report.Report.TheVariants.{Uploaded}
 use Rattle.dfu_host.specs.declared.seen.Seen.{Seen}
+use Rattle.dfu_host.specs.declared.seen.Seen.TheVariants as seen
 use Rattle.dfu_host.specs.Host.{HostState, after, started}
 use Rattle.dfu_host.specs.Wire.{Hears}
-use Rattle.dfu_host.specs.Table.{Phase, Over, OverUploaded, Deed, Send, deed, Heard, Nothing, Restarted, ToLoad}
+use Rattle.dfu_host.specs.Table.{Phase, Over, OverUploaded, Deed, Send, deed, Heard, ToLoad}
 use Rattle.dfu_link.specs.declared.back.Back.{Back}
-use Rattle.dfu_link.specs.declared.back.Back.TheVariants as back
+use Rattle.dfu_link.specs.declared.course.Course.{Course as GivenCourse}
+use Rattle.dfu_link.specs.declared.course.Harming.{Harming}
+use Rattle.dfu_link.specs.declared.course.Harming.TheVariants.{NoWrite, CutsPower, FailsWrite}
+use Rattle.dfu_link.specs.Course.{Course}
 use Rattle.dfu_link.specs.declared.fault.LinkFault.{LinkFault}
 use Rattle.dfu_link.specs.declared.fault.LinkFault.TheVariants.{NoHost}
-use Rattle.dfu_link.specs.Happening.{Fate, Harm}
+use Rattle.dfu_link.specs.Happening.{Harm, harmed}
 use Rattle.dfu_link.specs.Bench.{Session, Nobody, Hosted}
 use Rattle.dfu_link.specs.Play.{silent, Took, settled}
-use Rattle.dfu_link.specs.Bytes.{fuse_of, armed, HearsAnswer, Sends, Waits, ResetsBus, Acts, after_fate}
+use Rattle.dfu_link.specs.Bytes.{fuse_of, armed, HearsBack, Sends, Waits, ResetsBus, Acts, left_by}
 use Rattle.dfu_link.specs.Refusing.{IsOffered}
 
--- What is heard of what comes back of a request.
-abbrev pub HearsBack : Deed → Back → List ℕ → Heard → Type 0
-HearsBack d (back.Answered a) out heard = HearsAnswer d a out heard
-HearsBack d back.Lost out heard = heard ≡ Nothing
-HearsBack d back.Restarted out heard = heard ≡ Restarted
+-- The course that the code goes by.
+abbrev pub course_in : GivenCourse → Course
+course_in g = record { handling = g.handling; back = g.back; harming = g.harming }
 
--- A request went by its fate, and this comes back: whatever it asks for, and whatever is heard of that.
-pub record HasSent (setup body : List ℕ) (fate : Fate) (w : Shown) (b : Back) (out : List ℕ) (w' : Shown) : Type 0 where
-  pub sends : (q : Asked) (heard : Heard) → HearsBack (Send q body) b out heard → Sends q setup body fate w w' heard
+-- How a write is harmed in it.
+abbrev pub harm_at : GivenCourse → Harm
+harm_at g = harmed g.writes g.tear.now
 
--- A wait went by its fate, and the host sees this of it.
-pub record HasWaited (ms : ℕ) (fate : Fate) (w : Shown) (seen : Seen) (w' : Shown) : Type 0 where
-  pub waits : (d : Deed) (heard : Heard) → Hears d seen heard → Waits ms fate w w' heard
+-- What a host sees at the end of a wait or a reset: after a cut, that the device was restarted.
+abbrev pub seen_over : Harming → Seen → Seen
+seen_over NoWrite s = s
+seen_over CutsPower s = seen.Restarted
+seen_over FailsWrite s = s
 
--- A reset of the bus by the host went by its fate, and the host sees this of it.
-pub record HasReset (fate : Fate) (w : Shown) (seen : Seen) (w' : Shown) : Type 0 where
-  pub resets : (d : Deed) (heard : Heard) → Hears d seen heard → ResetsBus fate w w' heard
+-- A request went by its course, and this comes back: whatever it asks for, and whatever is heard of that.
+pub record HasSent (setup body : List ℕ) (course : Course) (w : Shown) (b : Back) (out : List ℕ) (w' : Shown) : Type 0 where
+  pub sends : (q : Asked) (heard : Heard) → HearsBack (Send q body) b out heard → Sends q setup body course w w' heard
+
+-- A wait went by its course, and the host sees this of it.
+pub record HasWaited (ms : ℕ) (course : Course) (w : Shown) (seen : Seen) (w' : Shown) : Type 0 where
+  pub waits : (d : Deed) (heard : Heard) → Hears d seen heard → Waits ms course w w' heard
+
+-- A reset of the bus by the host went by its course, and the host sees this of it.
+pub record HasReset (course : Course) (w : Shown) (seen : Seen) (w' : Shown) : Type 0 where
+  pub resets : (d : Deed) (heard : Heard) → Hears d seen heard → ResetsBus course w w' heard
 
 -- A host took what it heard of what came back.
 pub record HasHeard (h : HostState) (b : Back) (out : List ℕ) (h' : HostState) : Type 0 where
@@ -45,17 +57,17 @@ pub record HasHeard (h : HostState) (b : Back) (out : List ℕ) (h' : HostState)
   pub hears : HearsBack (deed h.task h.phase) b out heard
   pub same : h' ≡ after h heard
 
--- A host's action went by its fate, and the host took what it heard.
-pub record HasActed (h : HostState) (fate : Fate) (w w' : Shown) (h' : HostState) : Type 0 where
+-- A host's action went by its course, and the host took what it heard.
+pub record HasActed (h : HostState) (course : Course) (w w' : Shown) (h' : HostState) : Type 0 where
   pub heard : Heard
-  pub acts : Acts (deed h.task h.phase) fate w w' heard
+  pub acts : Acts (deed h.task h.phase) course w w' heard
   pub same : h' ≡ after h heard
 
--- A host's action went by its fate on a medium that was armed for it, and then the device was left as the fate has it.
-pub record HasGone (h : HostState) (fate : Fate) (harm : Harm) (w w' : Shown) (h' : HostState) : Type 0 where
+-- A host's action went by its course on a medium that was armed for it, and then the device was left as it has to be.
+pub record HasGone (h : HostState) (course : Course) (harm : Harm) (w w' : Shown) (h' : HostState) : Type 0 where
   pub last : Shown
-  pub acted : HasActed h fate (armed w (fuse_of fate harm)) last h'
-  pub device : w' ≡ after_fate fate last
+  pub acted : HasActed h course (armed w (fuse_of course.harming harm)) last h'
+  pub device : w' ≡ left_by course.harming last
 
 -- The report of a host that is done.
 abbrev pub report_of : Phase → Option Report

@@ -1,5 +1,5 @@
 -- A play with its bytes: requests and answers go as bytes, and the device stands on a medium.
-use Rattle.std.specs.Prelude.{◌≡◌, ℕ, true, false, List}
+use Rattle.std.specs.Prelude.{◌≡◌, ℕ, Bool, true, false, List}
 use Rattle.dfu_wire.specs.declared.requests.Request.{Request as Asked}
 use Rattle.dfu_slots.specs.Medium.{Fuse}
 use Rattle.dfu_slots.specs.Medium.Fuse.{Whole, Armed}
@@ -13,20 +13,22 @@ use Rattle.dfu_device.specs.Rows.{Handles, Elapses}
 use Rattle.dfu_host.specs.Table.{ToLoad, ToFetch, Deed, Send, Wait, Reset, Done, deed, Heard, Acked, Stalled, Nothing, Waited, WasReset, Restarted}
 use Rattle.dfu_host.specs.Host.{HostState}
 use Rattle.dfu_host.specs.Wire.{IsAsked, HearsBytes}
-use Rattle.dfu_link.specs.Happening.{Fate, Pass, LostOut, LostBack, Twice, TwiceLostBack, Slip, CutIn, Fail, Harm, Happening, Offers, Uploads, Aborts, Goes, Passes, Resets, Cuts}
+use Rattle.dfu_link.specs.declared.back.Back.{Back}
+use Rattle.dfu_link.specs.declared.back.Back.TheVariants as back
+use Rattle.dfu_link.specs.declared.course.Handling.{Handling}
+use Rattle.dfu_link.specs.declared.course.Handling.TheVariants.{Unseen, Once, Again, Late}
+use Rattle.dfu_link.specs.declared.course.Harming.{Harming}
+use Rattle.dfu_link.specs.declared.course.Harming.TheVariants.{NoWrite, CutsPower, FailsWrite}
+use Rattle.dfu_link.specs.Course.{Course, course_of}
+use Rattle.dfu_link.specs.Happening.{Fate, Harm, Happening, Offers, Uploads, Aborts, Goes, Passes, Resets, Cuts}
 use Rattle.dfu_link.specs.Bench.{Bench, Session, Hosted}
-use Rattle.dfu_link.specs.Play.{Link, Answered, silent, opened, took, told, aborted, IsAllowed}
+use Rattle.dfu_link.specs.Play.{heard_over, waits_for, Link, Answered, silent, opened, took, told, aborted, IsAllowed}
 
 -- The fuse of the medium in an action: a cut stops all writes after the harmed one, a failure only that one.
-abbrev pub fuse_of : Fate → Harm → Fuse
-fuse_of Pass harm = Whole
-fuse_of LostOut harm = Whole
-fuse_of LostBack harm = Whole
-fuse_of Twice harm = Whole
-fuse_of TwiceLostBack harm = Whole
-fuse_of (Slip ms) harm = Whole
-fuse_of CutIn harm = Armed harm.writes harm.tear true
-fuse_of Fail harm = Armed harm.writes harm.tear false
+abbrev pub fuse_of : Harming → Harm → Fuse
+fuse_of NoWrite harm = Whole
+fuse_of CutsPower harm = Armed harm.writes harm.tear true
+fuse_of FailsWrite harm = Armed harm.writes harm.tear false
 
 -- A device with this fuse in its medium.
 abbrev pub armed : Shown → Fuse → Shown
@@ -46,45 +48,66 @@ HearsAnswer d answer.Ack out heard = heard ≡ Acked
 HearsAnswer d answer.Stall out heard = heard ≡ Stalled
 HearsAnswer d answer.Bytes out heard = HearsBytes d out heard
 
--- A request goes to the device by its fate: which rows of the device it makes, and what the host hears.
-pub data Sends (q : Asked) (setup body : List ℕ) : Fate → Shown → Shown → Heard → Type 0 where
-  passes : {w w' : Shown} {a : Answer} {out : List ℕ} {heard : Heard} → Handles setup body w a out w'
-      → HearsAnswer (Send q body) a out heard → Sends q setup body Pass w w' heard
-  goes_lost : {w : Shown} → Sends q setup body LostOut w w Nothing
-  comes_lost : {w w' : Shown} {a : Answer} {out : List ℕ} → Handles setup body w a out w' → Sends q setup body LostBack w w' Nothing
-  repeats : {w mid w' : Shown} {a b : Answer} {out last : List ℕ} {heard : Heard} → Handles setup body w a out mid
-      → Handles setup body mid b last w' → HearsAnswer (Send q body) b last heard → Sends q setup body Twice w w' heard
-  repeats_lost : {w mid w' : Shown} {a b : Answer} {out last : List ℕ} → Handles setup body w a out mid → Handles setup body mid b last w'
-      → Sends q setup body TwiceLostBack w w' Nothing
-  slips : {w mid w' : Shown} {a : Answer} {out : List ℕ} {heard : Heard} {ms : ℕ} → Handles setup body w a out mid
-      → HearsAnswer (Send q body) a out heard → Elapses ms mid w' → Sends q setup body (Slip ms) w w' heard
-  cuts : {w w' : Shown} {a : Answer} {out : List ℕ} → Handles setup body w a out w' → Sends q setup body CutIn w w' Restarted
-  fails : {w w' : Shown} {a : Answer} {out : List ℕ} {heard : Heard} → Handles setup body w a out w' → HearsAnswer (Send q body) a out heard
-      → Sends q setup body Fail w w' heard
+-- What a host hears of what comes back of a request.
+abbrev pub HearsBack : Deed → Back → List ℕ → Heard → Type 0
+HearsBack d (back.Answered a) out heard = HearsAnswer d a out heard
+HearsBack d back.Lost out heard = heard ≡ Nothing
+HearsBack d back.Restarted out heard = heard ≡ Restarted
 
--- A wait, by its fate.
-abbrev pub Waits : ℕ → Fate → Shown → Shown → Heard → Type 0
-Waits ms (Slip other) w w' heard = Elapses other w w' × (heard ≡ Waited)
-Waits ms CutIn w w' heard = Elapses ms w w' × (heard ≡ Restarted)
-Waits ms fate w w' heard = Elapses ms w w' × (heard ≡ Waited)
+-- A request goes to the device: which rows of the device it makes, and the last answer.
+pub data Reaches (setup body : List ℕ) : Handling → Shown → Back → List ℕ → Shown → Type 0 where
+  unseen : {w : Shown} {out : List ℕ} → Reaches setup body Unseen w back.Lost out w
+  once : {w w' : Shown} {a : Answer} {out : List ℕ} → Handles setup body w a out w' → Reaches setup body Once w (back.Answered a) out w'
+  again : {w mid w' : Shown} {a b : Answer} {out last : List ℕ} → Handles setup body w a out mid → Handles setup body mid b last w'
+      → Reaches setup body Again w (back.Answered b) last w'
+  late : {w mid w' : Shown} {a : Answer} {out : List ℕ} {ms : ℕ} → Handles setup body w a out mid → Elapses ms mid w'
+      → Reaches setup body (Late ms) w (back.Answered a) out w'
 
--- A reset of the bus by the host, by its fate.
-abbrev pub ResetsBus : Fate → Shown → Shown → Heard → Type 0
-ResetsBus (Slip ms) w w' heard = Elapses ms (bus_was_reset w) w' × (heard ≡ WasReset)
-ResetsBus CutIn w w' heard = (w' ≡ bus_was_reset w) × (heard ≡ Restarted)
-ResetsBus fate w w' heard = (w' ≡ bus_was_reset w) × (heard ≡ WasReset)
+-- An answer that is lost does not come back.
+abbrev pub came_back : Bool → Back → Back
+came_back true b = b
+came_back false b = back.Lost
 
--- An action of the host, by its fate: a request goes as the bytes of a setup that asks for it. A live host is not done.
-abbrev pub Acts : Deed → Fate → Shown → Shown → Heard → Type 0
-Acts (Send q body) fate w w' heard = (setup : List ℕ) × IsAsked q setup × Sends q setup body fate w w' heard
-Acts (Wait ms) fate w w' heard = Waits ms fate w w' heard
-Acts Reset fate w w' heard = ResetsBus fate w w' heard
-Acts (Done report) fate w w' heard = ⊥
+-- Where the power was cut, no answer comes back.
+abbrev pub ended_back : Harming → Back → Back
+ended_back NoWrite b = b
+ended_back CutsPower b = back.Restarted
+ended_back FailsWrite b = b
+
+-- A request, by its course.
+pub record Sends (q : Asked) (setup body : List ℕ) (course : Course) (w w' : Shown) (heard : Heard) : Type 0 where
+  pub came : Back
+  pub out : List ℕ
+  pub reaches : Reaches setup body course.handling w came out w'
+  pub hears : HearsBack (Send q body) (ended_back course.harming (came_back course.back came)) out heard
+
+-- A wait, by its course.
+abbrev pub Waits : ℕ → Course → Shown → Shown → Heard → Type 0
+Waits ms course w w' heard = Elapses (waits_for course.handling ms) w w' × (heard ≡ heard_over course.harming Waited)
+
+-- The time that slips in after a reset of the bus, or none.
+abbrev pub Slips : Handling → Shown → Shown → Type 0
+Slips Unseen w w' = w' ≡ w
+Slips Once w w' = w' ≡ w
+Slips Again w w' = w' ≡ w
+Slips (Late ms) w w' = Elapses ms w w'
+
+-- A reset of the bus by the host, by its course.
+abbrev pub ResetsBus : Course → Shown → Shown → Heard → Type 0
+ResetsBus course w w' heard = Slips course.handling (bus_was_reset w) w' × (heard ≡ heard_over course.harming WasReset)
+
+-- An action of the host, by its course: a request goes as the bytes of a setup that asks for it. A live host is not done.
+abbrev pub Acts : Deed → Course → Shown → Shown → Heard → Type 0
+Acts (Send q body) course w w' heard = (setup : List ℕ) × IsAsked q setup × Sends q setup body course w w' heard
+Acts (Wait ms) course w w' heard = Waits ms course w w' heard
+Acts Reset course w w' heard = ResetsBus course w w' heard
+Acts (Done report) course w w' heard = ⊥
 
 -- The device once the action is over: not armed any more, and in appIDLE where its power was cut.
-abbrev pub after_fate : Fate → Shown → Shown
-after_fate CutIn w = powered_up w
-after_fate fate w = armed w Whole
+abbrev pub left_by : Harming → Shown → Shown
+left_by NoWrite w = armed w Whole
+left_by CutsPower w = powered_up w
+left_by FailsWrite w = armed w Whole
 
 -- The link that a bench shows: the image is read from the medium's bytes.
 abbrev pub link_of : Bench → Link
@@ -96,8 +119,8 @@ pub record NextAction (h : Session) (fate : Fate) (harm : Harm) (b b' : Bench) (
   pub live : h ≡ Hosted host
   pub last : Shown
   pub heard : Heard
-  pub acts : Acts (deed host.task host.phase) fate (armed b.device (fuse_of fate harm)) last heard
-  pub device : b'.device ≡ after_fate fate last
+  pub acts : Acts (deed host.task host.phase) (course_of fate) (armed b.device (fuse_of (course_of fate).harming harm)) last heard
+  pub device : b'.device ≡ left_by (course_of fate).harming last
   pub session : b'.session ≡ (took host heard).session
   pub answered : answer ≡ (took host heard).answer
 

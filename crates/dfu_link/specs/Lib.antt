@@ -1,5 +1,6 @@
 pub mod Session
 pub mod Happening
+pub mod Course
 pub mod Bench
 pub mod Play
 pub mod Agreement

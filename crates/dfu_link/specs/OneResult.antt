@@ -2,7 +2,10 @@
 use Rattle.std.specs.Prelude.{◌≡◌, Bool, Ok}
 use Rattle.dfu_slots.specs.Determined.{SameStore}
 use Rattle.dfu_device.specs.Shown.{Shown}
-use Rattle.dfu_link.specs.Happening.{Fate, Pass, LostOut, LostBack, Twice, TwiceLostBack, Slip, CutIn, Fail, Harm, Goes}
+use Rattle.dfu_link.specs.declared.course.Harming.{Harming}
+use Rattle.dfu_link.specs.declared.course.Harming.TheVariants.{NoWrite, CutsPower, FailsWrite}
+use Rattle.dfu_link.specs.Course.{course_of}
+use Rattle.dfu_link.specs.Happening.{Fate, Harm, Goes}
 use Rattle.dfu_link.specs.Play.{Answered, Took}
 use Rattle.dfu_link.specs.Bench.{Bench}
 use Rattle.dfu_link.specs.Comes.{Comes}
@@ -21,18 +24,13 @@ pub record AreOne (c d : Bench) (x y : Answered) : Type 0 where
   pub first : (room : Bool) × (rule room ≡ record { session = c.session; answer = x })
   pub second : (room : Bool) × (rule room ≡ record { session = d.session; answer = y })
 
--- A write is harmed in an action of this fate: by a cut, or by a failure.
-abbrev pub HarmsAWrite : Fate → Type 0
-HarmsAWrite CutIn = Unit {0}
-HarmsAWrite Fail = Unit {0}
-HarmsAWrite Pass = ⊥
-HarmsAWrite LostOut = ⊥
-HarmsAWrite LostBack = ⊥
-HarmsAWrite Twice = ⊥
-HarmsAWrite TwiceLostBack = ⊥
-HarmsAWrite (Slip ms) = ⊥
+-- A write is harmed: by a cut, or by a failure.
+abbrev pub HarmsAWrite : Harming → Type 0
+HarmsAWrite NoWrite = ⊥
+HarmsAWrite CutsPower = Unit {0}
+HarmsAWrite FailsWrite = Unit {0}
 
 -- An action in which a write is harmed has one result.
 abbrev pub OneResult : Type 0
-OneResult = (b c d : Bench) (fate : Fate) (harm : Harm) (x y : Answered) → HarmsAWrite fate → Comes b (Goes fate harm) c (Ok x)
-    → Comes b (Goes fate harm) d (Ok y) → AreOne c d x y
+OneResult = (b c d : Bench) (fate : Fate) (harm : Harm) (x y : Answered) → HarmsAWrite (course_of fate).harming
+    → Comes b (Goes fate harm) c (Ok x) → Comes b (Goes fate harm) d (Ok y) → AreOne c d x y

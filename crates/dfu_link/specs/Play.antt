@@ -1,5 +1,5 @@
 -- The table of fates: what an event of the link does to a device and a host, over the device table and the host table.
-use Rattle.std.specs.Prelude.{◌≡◌, ℕ, ◌<◌, Bool, false, List, length, Option, Some, None}
+use Rattle.std.specs.Prelude.{◌≡◌, ℕ, ◌<◌, Bool, true, false, List, length, Option, Some, None}
 use Rattle.dfu_wire.specs.declared.functionals.Functional.{Functional}
 use Rattle.dfu_host.specs.declared.report.Report.{Report}
 use Rattle.dfu_host.specs.declared.report.Report.TheVariants.{Uploaded}
@@ -10,7 +10,12 @@ use Rattle.dfu_device.specs.Rows.{meant}
 use Rattle.dfu_host.specs.Table.{Goal, ToLoad, ToFetch, Task, Phase, Over, OverUploaded, Deed, Send, Wait, Reset, Done, deed, Heard, Acked, Status, StateIs, Part, NoRoom, Stalled, Nothing, Waited, WasReset, Restarted}
 use Rattle.dfu_host.specs.Host.{HostState, begun, after, aborted as host_aborted, task_for as host_task_for}
 use Rattle.dfu_link.specs.Session.{Kind, AnOffer, AnUpload, AnAbort, ATime, ARestart, AGo}
-use Rattle.dfu_link.specs.Happening.{Fate, Pass, LostOut, LostBack, Twice, TwiceLostBack, Slip, CutIn, Fail, Happening, Offers, Uploads, Aborts, Goes, Passes, Resets, Cuts}
+use Rattle.dfu_link.specs.Happening.{Fate, Happening, Offers, Uploads, Aborts, Goes, Passes, Resets, Cuts}
+use Rattle.dfu_link.specs.declared.course.Handling.{Handling}
+use Rattle.dfu_link.specs.declared.course.Handling.TheVariants.{Unseen, Once, Again, Late}
+use Rattle.dfu_link.specs.declared.course.Harming.{Harming}
+use Rattle.dfu_link.specs.declared.course.Harming.TheVariants.{NoWrite, CutsPower, FailsWrite}
+use Rattle.dfu_link.specs.Course.{Course, course_of}
 use Rattle.dfu_link.specs.Bench.{Session, Nobody, Hosted}
 
 -- The events, in which the bytes of an offer are its payload.
@@ -118,40 +123,72 @@ pub record Passed : Type 0 where
   pub device : Situation
   pub heard : Heard
 
--- A request that the table answers by this plan, by its fate. The medium's luck is said for the first and for the second thing that the
--- device does.
-abbrev pub sent_by : Profile → Situation → Request → Plan → Fate → (first second : Luck) → Passed
-sent_by c s r p Pass l k = let o = outcome s.image p l in record { device = o.after; heard = heard_as o.reply }
-sent_by c s r p LostOut l k = record { device = s; heard = Nothing }
-sent_by c s r p LostBack l k = record { device = (outcome s.image p l).after; heard = Nothing }
-sent_by c s r p Twice l k = let o = handled c (outcome s.image p l).after r k in record { device = o.after; heard = heard_as o.reply }
-sent_by c s r p TwiceLostBack l k = record { device = (handled c (outcome s.image p l).after r k).after; heard = Nothing }
-sent_by c s r p (Slip ms) l k = let o = outcome s.image p l in record { device = elapsed c o.after ms k; heard = heard_as o.reply }
-sent_by c s r p CutIn l k = record { device = powered (outcome s.image p l).after; heard = Restarted }
-sent_by c s r p Fail l k = let o = outcome s.image p l in record { device = o.after; heard = heard_as o.reply }
+-- A request that the table answers by this plan: the device after it, and what its host hears where the answer comes back. The medium's
+-- luck is said for the first and for the second thing that the device does.
+abbrev pub reached : Profile → Situation → Request → Plan → Handling → (first second : Luck) → Passed
+reached c s r p Unseen l k = record { device = s; heard = Nothing }
+reached c s r p Once l k = let o = outcome s.image p l in record { device = o.after; heard = heard_as o.reply }
+reached c s r p Again l k = let o = handled c (outcome s.image p l).after r k in record { device = o.after; heard = heard_as o.reply }
+reached c s r p (Late ms) l k = let o = outcome s.image p l in record { device = elapsed c o.after ms k; heard = heard_as o.reply }
 
--- A request, by its fate.
-abbrev pub sent : Profile → Situation → Request → Fate → (first second : Luck) → Passed
-sent c s r fate l k = sent_by c s r (plan c s.image s.stage r) fate l k
+-- What is heard, or nothing where it does not come back.
+abbrev pub heard_back : Bool → Heard → Heard
+heard_back true heard = heard
+heard_back false heard = Nothing
 
--- A wait, by its fate: with Slip another time passes in its place.
-abbrev pub waited : Profile → Situation → ℕ → Fate → Luck → Passed
-waited c s ms (Slip other) l = record { device = elapsed c s other l; heard = Waited }
-waited c s ms CutIn l = record { device = powered (elapsed c s ms l); heard = Restarted }
-waited c s ms fate l = record { device = elapsed c s ms l; heard = Waited }
+-- What is heard once an action is over: where the power was cut, of the restart alone.
+abbrev pub heard_over : Harming → Heard → Heard
+heard_over NoWrite heard = heard
+heard_over CutsPower heard = Restarted
+heard_over FailsWrite heard = heard
 
--- A reset of the bus by the host, by its fate: with Slip a time passes after it.
-abbrev pub bus_reset : Profile → Situation → Fate → Luck → Passed
-bus_reset c s (Slip ms) l = record { device = elapsed c (was_reset s) ms l; heard = WasReset }
-bus_reset c s CutIn l = record { device = powered (was_reset s); heard = Restarted }
-bus_reset c s fate l = record { device = was_reset s; heard = WasReset }
+-- The device once an action is over: where the power was cut, it starts again.
+abbrev pub over : Harming → Situation → Situation
+over NoWrite s = s
+over CutsPower s = powered s
+over FailsWrite s = s
 
--- An action of the host, by its fate. A host that is done has none.
-abbrev pub acted : Profile → Situation → Deed → Fate → (first second : Luck) → Passed
-acted c s (Send q body) fate l k = sent c s (meant q body) fate l k
-acted c s (Wait ms) fate l k = waited c s ms fate l
-acted c s Reset fate l k = bus_reset c s fate l
-acted c s (Done report) fate l k = record { device = s; heard = Nothing }
+-- The end of an action.
+abbrev pub ends_by : Harming → Passed → Passed
+ends_by harming d = record { device = over harming d.device; heard = heard_over harming d.heard }
+
+-- The time that passes in a wait: another where one slips in.
+abbrev pub waits_for : Handling → ℕ → ℕ
+waits_for Unseen ms = ms
+waits_for Once ms = ms
+waits_for Again ms = ms
+waits_for (Late other) ms = other
+
+-- The time that slips in after a reset of the bus, or none.
+abbrev pub slipped : Profile → Situation → Handling → Luck → Situation
+slipped c s Unseen l = s
+slipped c s Once l = s
+slipped c s Again l = s
+slipped c s (Late ms) l = elapsed c s ms l
+
+-- A request by its course, where the table answers it by this plan.
+abbrev pub sent_by : Profile → Situation → Request → Plan → Course → (first second : Luck) → Passed
+sent_by c s r p course l k = let d = reached c s r p course.handling l k in
+    ends_by course.harming (record { device = d.device; heard = heard_back course.back d.heard })
+
+-- A request, by its course.
+abbrev pub sent : Profile → Situation → Request → Course → (first second : Luck) → Passed
+sent c s r course l k = sent_by c s r (plan c s.image s.stage r) course l k
+
+-- A wait, by its course.
+abbrev pub waited : Profile → Situation → ℕ → Course → Luck → Passed
+waited c s ms course l = ends_by course.harming (record { device = elapsed c s (waits_for course.handling ms) l; heard = Waited })
+
+-- A reset of the bus by the host, by its course.
+abbrev pub bus_reset : Profile → Situation → Course → Luck → Passed
+bus_reset c s course l = ends_by course.harming (record { device = slipped c (was_reset s) course.handling l; heard = WasReset })
+
+-- An action of the host, by its course. A host that is done has none.
+abbrev pub acted : Profile → Situation → Deed → Course → (first second : Luck) → Passed
+acted c s (Send q body) course l k = sent c s (meant q body) course l k
+acted c s (Wait ms) course l k = waited c s ms course l
+acted c s Reset course l k = bus_reset c s course l
+acted c s (Done report) course l k = record { device = s; heard = Nothing }
 
 -- The rows.
 
@@ -159,7 +196,7 @@ acted c s (Done report) fate l k = record { device = s; heard = Nothing }
 abbrev pub gone : Profile → Link → Session → Fate → (first second : Luck) → (room : Bool) → Played
 gone c w Nobody fate l k room = record { link = w; answer = silent }
 gone c w (Hosted h) fate l k room =
-    let d = acted c w.device (deed h.task h.phase) fate l k in
+    let d = acted c w.device (deed h.task h.phase) (course_of fate) l k in
     let t = took h (remembered d.heard room) in
     record { link = record { device = d.device; session = t.session }; answer = t.answer }
 

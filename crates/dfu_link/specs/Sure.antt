@@ -5,7 +5,10 @@ use Rattle.dfu_device.specs.Outcome.{Works}
 use Rattle.dfu_device.specs.Shown.{Shown, profile}
 use Rattle.dfu_host.specs.declared.report.Report.{Report}
 use Rattle.dfu_link.specs.declared.fault.LinkFault.{LinkFault}
-use Rattle.dfu_link.specs.Happening.{Fate, Pass, LostOut, LostBack, Twice, TwiceLostBack, Slip, CutIn, Fail, Happening, Offers, Uploads, Aborts, Goes, Passes, Resets, Cuts}
+use Rattle.dfu_link.specs.declared.course.Harming.{Harming}
+use Rattle.dfu_link.specs.declared.course.Harming.TheVariants.{NoWrite, CutsPower, FailsWrite}
+use Rattle.dfu_link.specs.Course.{course_of}
+use Rattle.dfu_link.specs.Happening.{Happening, Offers, Uploads, Aborts, Goes, Passes, Resets, Cuts}
 use Rattle.dfu_link.specs.Play.{Answered, played}
 use Rattle.dfu_link.specs.Bench.{Bench}
 use Rattle.dfu_link.specs.Bytes.{link_of}
@@ -16,20 +19,15 @@ pub record IsSame (w w' : Shown) : Type 0 where
   pub config : w'.config ≡ w.config
   pub room : room_of w'.slots ≡ room_of w.slots
 
--- No write is harmed in an action of this fate: the power is not cut, and no write fails.
-abbrev pub HarmsNothing : Fate → Type 0
-HarmsNothing Pass = Unit {0}
-HarmsNothing LostOut = Unit {0}
-HarmsNothing LostBack = Unit {0}
-HarmsNothing Twice = Unit {0}
-HarmsNothing TwiceLostBack = Unit {0}
-HarmsNothing (Slip ms) = Unit {0}
-HarmsNothing CutIn = ⊥
-HarmsNothing Fail = ⊥
+-- No write is harmed: the power is not cut, and no write fails.
+abbrev pub HarmsNothing : Harming → Type 0
+HarmsNothing NoWrite = Unit {0}
+HarmsNothing CutsPower = ⊥
+HarmsNothing FailsWrite = ⊥
 
 -- The event is no action of the host in which a write is harmed.
 abbrev pub IsHarmless : Happening → Type 0
-IsHarmless (Goes fate harm) = HarmsNothing fate
+IsHarmless (Goes fate harm) = HarmsNothing (course_of fate).harming
 IsHarmless (Offers payload limits) = Unit {0}
 IsHarmless (Uploads limits) = Unit {0}
 IsHarmless Aborts = Unit {0}

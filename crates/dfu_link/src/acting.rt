@@ -1,90 +1,115 @@
-//! One action of a host, by its fate.
+//! One action of a host, by its course.
 
 ghost use Rattle.std.specs.Prelude.{◌≡◌};
 ghost use Rattle.dfu_host.specs.Host.{IsOn};
-ghost use Rattle.dfu_link.specs.Happening.{fate_of};
-ghost use Rattle.dfu_link.specs.Acting.{HasSent, HasWaited, HasReset, HasHeard, HasActed};
+ghost use Rattle.dfu_link.specs.Play.{waits_for};
+ghost use Rattle.dfu_link.specs.Bytes.{Reaches, Slips, came_back, ended_back};
+ghost use Rattle.dfu_link.specs.Acting.{course_in, seen_over, HasSent, HasWaited, HasReset, HasHeard, HasActed};
 
 use crate::back::Back;
-use crate::fate::Fate;
+use crate::course::{Course, Handling, Harming};
 use crate::port::Port;
 use arrayvec::ArrayVec;
 use dfu_device::Answer;
 use dfu_host::{Action, Host, Seen};
 use dfu_slots::Faulty;
 
-/// A request goes to the device by its fate. Where an answer comes back, its bytes stand in `out`.
-fn send<M: Faulty>(
+/// The device handles a request, or doesn't see it. Where it does, its answer's bytes stand in
+/// `out`.
+fn reach<M: Faulty>(
     port: &mut Port<M>,
     setup: &[u8; 8],
     body: &[u8],
-    fate: Fate<'_>,
+    handling: Handling,
     out: &mut ArrayVec<u8, 4096>,
 ) -> Back
-    ensures { HasSent setup.now body.now (fate_of fate.entry) port.old result out.new.items port.new }
+    ensures { Reaches setup.now body.now handling port.old result out.new.items port.new }
 {
-    match fate {
-        Fate::Pass => Back::Answered(port.handle(setup, body, out)),
-        Fate::LostOut => Back::Lost,
-        Fate::LostBack => {
-            let _ = port.handle(setup, body, out);
-            Back::Lost
-        }
-        Fate::Twice => {
+    match handling {
+        Handling::Unseen => Back::Lost,
+        Handling::Once => Back::Answered(port.handle(setup, body, out)),
+        Handling::Again => {
             let _ = port.handle(setup, body, out);
             Back::Answered(port.handle(setup, body, out))
         }
-        Fate::TwiceLostBack => {
-            let _ = port.handle(setup, body, out);
-            let _ = port.handle(setup, body, out);
-            Back::Lost
-        }
-        Fate::Slip(ms) => {
+        Handling::Late(ms) => {
             let answer = port.handle(setup, body, out);
             port.elapse(ms);
             Back::Answered(answer)
         }
-        Fate::Cut { .. } => {
-            let _ = port.handle(setup, body, out);
-            Back::Restarted
-        }
-        Fate::Fail { .. } => Back::Answered(port.handle(setup, body, out)),
     }
 }
 
-/// A wait of the host: with Slip another time passes in its place.
-fn wait<M: Faulty>(port: &mut Port<M>, ms: u32, fate: Fate<'_>) -> Seen<'static>
-    ensures { HasWaited ms (fate_of fate.entry) port.old result port.new }
+/// What comes back of a request to the host.
+fn come_back(course: Course<'_>, back: Back) -> Back
+    ensures { result ≡ ended_back course.entry.harming (came_back course.entry.back back) }
 {
-    match fate {
-        Fate::Slip(other) => {
-            port.elapse(other);
-            Seen::Waited
-        }
-        Fate::Cut { .. } => {
-            port.elapse(ms);
-            Seen::Restarted
-        }
-        _ => {
-            port.elapse(ms);
-            Seen::Waited
-        }
+    match (course.harming, course.back) {
+        (Harming::CutsPower, _) => Back::Restarted,
+        (Harming::NoWrite | Harming::FailsWrite, true) => back,
+        (Harming::NoWrite | Harming::FailsWrite, false) => Back::Lost,
     }
 }
 
-/// A reset of the bus by the host: with Slip a time passes after it.
-fn reset_bus<M: Faulty>(port: &mut Port<M>, fate: Fate<'_>) -> Seen<'static>
-    ensures { HasReset (fate_of fate.entry) port.old result port.new }
+/// A request goes to the device by its course. Where an answer comes back, its bytes stand in `out`.
+fn send<M: Faulty>(
+    port: &mut Port<M>,
+    setup: &[u8; 8],
+    body: &[u8],
+    course: Course<'_>,
+    out: &mut ArrayVec<u8, 4096>,
+) -> Back
+    ensures { HasSent setup.now body.now (course_in course.entry) port.old result out.new.items port.new }
+{
+    let back = reach(port, setup, body, course.handling, out);
+    come_back(course, back)
+}
+
+/// The time that passes in a wait: another where one slips in.
+fn time_of(handling: Handling, ms: u32) -> u32
+    ensures { result ≡ waits_for handling ms }
+{
+    match handling {
+        Handling::Unseen | Handling::Once | Handling::Again => ms,
+        Handling::Late(other) => other,
+    }
+}
+
+/// What the host sees of a wait or a reset: after a cut that the device was restarted.
+fn seen_after(harming: Harming, seen: Seen<'static>) -> Seen<'static>
+    ensures { result ≡ seen_over harming seen.entry }
+{
+    match harming {
+        Harming::CutsPower => Seen::Restarted,
+        Harming::NoWrite | Harming::FailsWrite => seen,
+    }
+}
+
+/// A wait of the host: where a time slips in it passes in its place.
+fn wait<M: Faulty>(port: &mut Port<M>, ms: u32, course: Course<'_>) -> Seen<'static>
+    ensures { HasWaited ms (course_in course.entry) port.old result port.new }
+{
+    port.elapse(time_of(course.handling, ms));
+    seen_after(course.harming, Seen::Waited)
+}
+
+/// The time that slips in after a reset of the bus passes.
+fn slip<M: Faulty>(port: &mut Port<M>, handling: Handling)
+    ensures { Slips handling port.old port.new }
+{
+    match handling {
+        Handling::Unseen | Handling::Once | Handling::Again => {}
+        Handling::Late(ms) => port.elapse(ms),
+    }
+}
+
+/// A reset of the bus by the host, and the time that slips in after it.
+fn reset_bus<M: Faulty>(port: &mut Port<M>, course: Course<'_>) -> Seen<'static>
+    ensures { HasReset (course_in course.entry) port.old result port.new }
 {
     port.usb_reset();
-    match fate {
-        Fate::Slip(ms) => {
-            port.elapse(ms);
-            Seen::WasReset
-        }
-        Fate::Cut { .. } => Seen::Restarted,
-        _ => Seen::WasReset,
-    }
+    slip(port, course.handling);
+    seen_after(course.harming, Seen::WasReset)
 }
 
 /// Tells the host what came back of its request.
@@ -100,24 +125,24 @@ fn tell(host: &mut Host<'_>, back: Back, out: &[u8])
     }
 }
 
-/// The next action of a host that is not done, by its fate. Who cuts or fails a write has armed the
+/// The next action of a host that is not done, by its course. Who cuts or fails a write has armed the
 /// medium for it.
-pub(crate) fn act<M: Faulty>(port: &mut Port<M>, host: &mut Host<'_>, fate: Fate<'_>)
+pub(crate) fn act<M: Faulty>(port: &mut Port<M>, host: &mut Host<'_>, course: Course<'_>)
     requires { IsOn host.old.phase }
-    ensures { HasActed host.old (fate_of fate.entry) port.old port.new host.new }
+    ensures { HasActed host.old (course_in course.entry) port.old port.new host.new }
 {
     match host.next() {
         Action::Send { setup, body } => {
             let mut out = ArrayVec::new();
-            let back = send(port, &setup, body, fate, &mut out);
+            let back = send(port, &setup, body, course, &mut out);
             tell(host, back, out.as_slice());
         }
         Action::Wait(ms) => {
-            let seen = wait(port, ms, fate);
+            let seen = wait(port, ms, course);
             host.take(seen);
         }
         Action::Reset => {
-            let seen = reset_bus(port, fate);
+            let seen = reset_bus(port, course);
             host.take(seen);
         }
         Action::Done(_) => unreachable!(),

@@ -3,36 +3,38 @@
 ghost use Rattle.std.specs.Prelude.{◌≡◌};
 ghost use Rattle.dfu_host.specs.Host.{IsOn};
 ghost use Rattle.dfu_slots.specs.Medium.Fuse.{Whole};
-ghost use Rattle.dfu_link.specs.Bytes.{fuse_of, armed, after_fate};
+ghost use Rattle.dfu_link.specs.Bytes.{fuse_of, armed, left_by};
+ghost use Rattle.dfu_link.specs.Course.{course_of};
 ghost use Rattle.dfu_link.specs.Happening.{fate_of, harm_in};
-ghost use Rattle.dfu_link.specs.Acting.{HasGone};
+ghost use Rattle.dfu_link.specs.Acting.{harm_at, HasGone};
 
 use crate::acting::act;
+use crate::course::{Course, Harming, course_by};
 use crate::fate::Fate;
 use crate::port::Port;
 use dfu_host::Host;
 use dfu_slots::Faulty;
 
-/// Arms the medium for an action of this fate: with a cut no later write works, with a failure all
+/// Arms the medium for an action of this course: with a cut no later write works, with a failure all
 /// later ones do.
-fn arm<M: Faulty>(port: &mut Port<M>, fate: Fate<'_>)
+fn arm<M: Faulty>(port: &mut Port<M>, course: Course<'_>)
     requires { port.old.slots.medium.fuse ≡ Whole }
-    ensures { port.new ≡ armed port.old (fuse_of (fate_of fate.entry) (harm_in fate.entry)) }
+    ensures { port.new ≡ armed port.old (fuse_of course.entry.harming (harm_at course.entry)) }
 {
-    match fate {
-        Fate::Cut { writes, tear } => port.arm(writes, tear, true),
-        Fate::Fail { writes, tear } => port.arm(writes, tear, false),
-        _ => {}
+    match course.harming {
+        Harming::NoWrite => {}
+        Harming::CutsPower => port.arm(course.writes, course.tear, true),
+        Harming::FailsWrite => port.arm(course.writes, course.tear, false),
     }
 }
 
 /// The action is over: after a cut the power comes back, and in any case the medium is disarmed.
-fn settle<M: Faulty>(port: &mut Port<M>, fate: Fate<'_>)
-    ensures { port.new ≡ after_fate (fate_of fate.entry) port.old }
+fn settle<M: Faulty>(port: &mut Port<M>, harming: Harming)
+    ensures { port.new ≡ left_by harming port.old }
 {
-    match fate {
-        Fate::Cut { .. } => port.power_cycle(),
-        _ => port.disarm(),
+    match harming {
+        Harming::CutsPower => port.power_cycle(),
+        Harming::NoWrite | Harming::FailsWrite => port.disarm(),
     }
 }
 
@@ -40,9 +42,10 @@ fn settle<M: Faulty>(port: &mut Port<M>, fate: Fate<'_>)
 pub(crate) fn carry_out<M: Faulty>(port: &mut Port<M>, host: &mut Host<'_>, fate: Fate<'_>)
     requires on { IsOn host.old.phase }
     requires unarmed { port.old.slots.medium.fuse ≡ Whole }
-    ensures { HasGone host.old (fate_of fate.entry) (harm_in fate.entry) port.old port.new host.new }
+    ensures { HasGone host.old (course_of (fate_of fate.entry)) (harm_in fate.entry) port.old port.new host.new }
 {
-    arm(port, fate);
-    act(port, host, fate);
-    settle(port, fate);
+    let course = course_by(fate);
+    arm(port, course);
+    act(port, host, course);
+    settle(port, course.harming);
 }

@@ -7,6 +7,7 @@
 
 mod acting;
 mod back;
+mod course;
 mod event;
 mod fate;
 mod fault;

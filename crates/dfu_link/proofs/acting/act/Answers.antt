@@ -1,7 +1,17 @@
 use Rattle.dfu_host.specs.Table.{deed}
-use Rattle.dfu_link.specs.Happening.{fate_of}
-use Rattle.dfu_link.proofs.Acts.{acts_wait, acts_reset}
+use Rattle.dfu_link.specs.Acting.{course_in}
+use Rattle.dfu_link.proofs.Acts.{acts_send, acts_wait, acts_reset}
 use Rattle.dfu_link.proofs.acting.act.Goals as goal
+
+pub returns-in-Send : goal.returns-in-Send
+returns-in-Send g c =
+    let h = c.args.host.now in
+    record {
+      heard = c.tell.ensures.heard;
+      acts = acts_send (deed h.task h.phase) (course_in c.args.course) _ c.in-Send.body c.tell.ensures.heard c.in-Send.ensures.act
+          c.send-back.ensures c.as_slice.ensures.value c.tell.ensures.hears;
+      same = c.tell.ensures.same;
+    }
 
 pub returns-in-Wait : goal.returns-in-Wait
 returns-in-Wait g c =
@@ -9,7 +19,7 @@ returns-in-Wait g c =
     let row = c.take.ensures.row in
     record {
       heard = row.heard;
-      acts = acts_wait (deed h.task h.phase) (fate_of c.args.fate) c.in-Wait.ms c.args.port.now c.wait-seen.new.port row.heard
+      acts = acts_wait (deed h.task h.phase) (course_in c.args.course) c.in-Wait.ms c.args.port.now c.wait-seen.new.port row.heard
           c.in-Wait.ensures.act (c.wait-seen.ensures.waits _ _ row.hears);
       same = row.same;
     }
@@ -20,7 +30,7 @@ returns-in-Reset g c =
     let row = c.take-in-Reset.ensures.row in
     record {
       heard = row.heard;
-      acts = acts_reset (deed h.task h.phase) (fate_of c.args.fate) c.args.port.now c.reset_bus-seen.new.port row.heard
+      acts = acts_reset (deed h.task h.phase) (course_in c.args.course) c.args.port.now c.reset_bus-seen.new.port row.heard
           c.in-Reset.ensures.act (c.reset_bus-seen.ensures.resets _ _ row.hears);
       same = row.same;
     }

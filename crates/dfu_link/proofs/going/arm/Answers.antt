@@ -1,5 +1,6 @@
-use Rattle.dfu_link.proofs.Acts.{stays_unarmed}
+use Rattle.std.proofs.Common.{sym}
+use Rattle.dfu_link.proofs.Acts.{unarmed_is}
 use Rattle.dfu_link.proofs.going.arm.Goals as goal
 
-pub returns-in_default : goal.returns-in_default
-returns-in_default g c = stays_unarmed c.args.fate c.args.port.now c.in_default.not-Cut c.in_default.not-Fail c.requires
+pub returns-in-NoWrite : goal.returns-in-NoWrite
+returns-in-NoWrite g c = rw c.in-NoWrite.is (sym (unarmed_is c.args.port.now c.requires))

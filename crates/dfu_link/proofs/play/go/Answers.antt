@@ -1,5 +1,6 @@
 use Rattle.std.proofs.Common.{Option, subst}
 use Rattle.dfu_host.specs.Host.{HostState}
+use Rattle.dfu_link.specs.Course.{course_of}
 use Rattle.dfu_link.specs.Happening.{fate_of, harm_in}
 use Rattle.dfu_link.specs.Standing.{session_of, SendsBytes, IsCountedIn}
 use Rattle.dfu_link.proofs.Counted.{acted_counted}
@@ -11,7 +12,7 @@ returns-in-None g c = rw c.in-None.is (go_refused _ _ _ c.args.gave.now)
 
 pub end-requires : goal.end-requires
 end-requires g c =
-    acted_counted (fate_of c.args.fate) _ _ _ _ (subst (λ (h : Option HostState). SendsBytes (session_of h)) c.in-Some.is c.requires.sized)
+    acted_counted (course_of (fate_of c.args.fate)) _ _ _ _ (subst (λ (h : Option HostState). SendsBytes (session_of h)) c.in-Some.is c.requires.sized)
     (subst (λ (h : Option HostState). IsCountedIn (session_of h)) c.in-Some.is c.requires.counted) c.carry_out.ensures.acted
 
 pub returns : goal.returns
