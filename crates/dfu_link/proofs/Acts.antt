@@ -81,7 +81,8 @@ acts_wait (Wait ms) f given w w' heard e h = subst (λ (n : ℕ). Waits n f w w'
 acts_wait d f given w w' heard e h = elim e [ ]
 
 -- What the code does as a reset is a reset of the table.
-pub acts_reset : (d : Deed) (f : Course) (w w' : Shown) (heard : Heard) → Spells d action.Reset → ResetsBus f w w' heard → Acts d f w w' heard
+pub acts_reset : (d : Deed) (f : Course) (w w' : Shown) (heard : Heard) → Spells d action.Reset → ResetsBus f w w' heard
+    → Acts d f w w' heard
 acts_reset Reset f w w' heard e h = h
 acts_reset d f w w' heard e h = elim e [ ]
 

@@ -144,7 +144,8 @@ all_gone shown {factory = factory} {s = s} {before = before} {b = b} {m = m} bes
     record {
       reports = rest.reports ++ new;
       after = next.after;
-      go = subst (λ (text : List ℕ). EventsGo factory b m (events ++ event ∷ []) (rest.reports ++ new) (out ++ text) c' next.after) next.line
+      go = subst (λ (text : List ℕ). EventsGo factory b m (events ++ event ∷ []) (rest.reports ++ new) (out ++ text) c' next.after)
+          next.line
           (one_event event (shown_as answer) rest.go next.goes next.beside.vouches);
       beside = subst (λ (rs : List Report). Beside factory s rs c' next.after) (append_assoc before rest.reports new) next.beside;
     }

@@ -34,8 +34,8 @@ pub is_one : (offers : List (List ℕ)) {x y : List ℕ} → x ≡ y → IsOneOf
 is_one offers e h = subst (λ z. IsOneOf z offers) (sym e) h
 
 module _ (c : Profile) (offers : List (List ℕ)) (p : List ℕ) where
-  -- A request of this phase goes well by its course: the image and the pending bytes move as they may, bytes that were closed stay an offer,
-  -- and the fact of the next phase holds.
+  -- A request of this phase goes well by its course: the image and the pending bytes move as they may, bytes that were closed stay an
+  -- offer, and the fact of the next phase holds.
   pub record GoesWell (phase : Phase) (s : Situation) (d : Passed) : Type 0 where
     pub moves : ImageMoves offers p c.transfer s.image (pending_of s.stage) d.device.image (pending_of d.device.stage)
     pub sound : IsSound offers d.device.stage

@@ -47,7 +47,8 @@ time_comes ms w w' host gave e row = record {
   answer = Ok silent;
   whole = tt;
   up_is = refl;
-  comes = happens {event = Passes ms} refl (record { allowed = time_allowed (session_of host) ms; unarmed = e; happens = (row, refl, refl) });
+  comes = happens {event = Passes ms} refl
+      (record { allowed = time_allowed (session_of host) ms; unarmed = e; happens = (row, refl, refl) });
   told = refl;
 }
 

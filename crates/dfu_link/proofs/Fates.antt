@@ -112,7 +112,8 @@ module _ (c : Profile) (offers : List (List ℕ)) where
   sent_knows p phase harming false d k = if_ended harming (record { device = d.device; heard = Nothing })
       (λ heard x. Knows p phase x heard) (record { fact = k.fact; told = tt })
 
-  status_reached : (p : List ℕ) (phase : Phase) (s : Situation) (how : Handling) (l k : Luck) → AsksStatus c s.image phase → Fact c p phase s
+  status_reached : (p : List ℕ) (phase : Phase) (s : Situation) (how : Handling) (l k : Luck) → AsksStatus c s.image phase
+      → Fact c p phase s
       → let d = reached c s GetStatus (plan c s.image s.stage GetStatus) how l k in Knows p phase d.device d.heard
   status_reached p phase s Unseen l k a h = record { fact = h; told = tt }
   status_reached p phase s Once l k a h = record {

@@ -147,7 +147,8 @@ module _ (q : Asked) (body : List ℕ) (is : IsHosts q body) (w : Shown) (known 
       (goes_by setup w' a out asked h) (goes_by setup2 v' b other asked2 k)
 
   sends_once : (fate : Fate) (setup setup2 : List ℕ) (w' v' : Shown) (heard heard2 : Heard) → HarmsAWrite (course_of fate).harming
-      → IsAsked q setup → IsAsked q setup2 → Sends q setup body (course_of fate) w w' heard → Sends q setup2 body (course_of fate) w v' heard2
+      → IsAsked q setup → IsAsked q setup2 → Sends q setup body (course_of fate) w w' heard
+      → Sends q setup2 body (course_of fate) w v' heard2
       → ActedOnce w' v' heard heard2
   sends_once CutIn setup setup2 w' v' heard heard2 harms asked asked2 h k =
       let a = reached_once h.reaches in
@@ -218,16 +219,22 @@ action_once fate harm b c d x y harms g k =
       device = subst (λ (z : Shown). SameDevice z d.device) (sym g.device)
           (subst (λ (z : Shown). SameDevice (left_by harming g.last) z) (sym k.device) (left_same harming one.device));
       rule = λ room. took g.host (remembered one.hears room);
-      first = (one.first.0, λ i. record {
-        session = (ap (λ (z : Heard). (took g.host z).session) (sym one.first.1) ∙ sym g.session) i;
-        answer = (ap (λ (z : Heard). (took g.host z).answer) (sym one.first.1) ∙ sym g.answered) i;
-      });
-      second = (one.second.0, λ i. record {
-        session = (ap (λ (z : Heard). (took g.host z).session) (sym one.second.1)
-            ∙ ap (λ (h : HostState). (took h k.heard).session) (sym same) ∙ sym k.session) i;
-        answer = (ap (λ (z : Heard). (took g.host z).answer) (sym one.second.1)
-            ∙ ap (λ (h : HostState). (took h k.heard).answer) (sym same) ∙ sym k.answered) i;
-      });
+      first = (
+        one.first.0,
+        λ i. record {
+          session = (ap (λ (z : Heard). (took g.host z).session) (sym one.first.1) ∙ sym g.session) i;
+          answer = (ap (λ (z : Heard). (took g.host z).answer) (sym one.first.1) ∙ sym g.answered) i;
+        },
+      );
+      second = (
+        one.second.0,
+        λ i. record {
+          session = (ap (λ (z : Heard). (took g.host z).session) (sym one.second.1)
+              ∙ ap (λ (h : HostState). (took h k.heard).session) (sym same) ∙ sym k.session) i;
+          answer = (ap (λ (z : Heard). (took g.host z).answer) (sym one.second.1)
+              ∙ ap (λ (h : HostState). (took h k.heard).answer) (sym same) ∙ sym k.answered) i;
+        },
+      );
     }
 
 -- An action in which a write is harmed has one result.

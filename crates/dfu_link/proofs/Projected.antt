@@ -21,7 +21,8 @@ use Rattle.dfu_link.proofs.Actions.{armed_profile, armed_situation, Went, acts_g
 
 -- An action on an armed medium.
 armed_goes : (d : Deed) (course : Course) (fuse : Fuse) (w w' : Shown) (heard : Heard)
-    → Went fuse (profile (armed w fuse)) (situation (armed w fuse)) d course w' heard → Went fuse (profile w) (situation w) d course w' heard
+    → Went fuse (profile (armed w fuse)) (situation (armed w fuse)) d course w' heard
+    → Went fuse (profile w) (situation w) d course w' heard
 armed_goes d course fuse w w' heard x =
     subst (λ (s : Situation). Went fuse (profile w) s d course w' heard) (armed_situation w fuse)
     (subst (λ (c : Profile). Went fuse c (situation (armed w fuse)) d course w' heard) (armed_profile w fuse) x)
@@ -67,7 +68,8 @@ goes_show fate harm b b' answer allowed g =
     (acts_go d course (armed b.device (fuse_of course.harming harm)) g.last g.heard (hosts_deed g.host.task g.host.phase) g.acts) in
     let there : (acted (profile b.device) (situation b.device) d course x.first x.second).device ≡ situation b'.device = x.device
     ∙ sym (after_situation course.harming g.last) ∙ sym (ap situation g.device) in
-    let same : played (profile b.device) (link_of b) (Goes fate harm) x.first x.second x.room ≡ record { link = link_of b'; answer = answer } =
+    let same : played (profile b.device) (link_of b) (Goes fate harm) x.first x.second x.room
+        ≡ record { link = link_of b'; answer = answer } =
     ap (λ (z : Session). gone (profile b.device) (link_of b) z fate x.first x.second x.room) g.live
     ∙ (λ i. record {
       link = record { device = there i; session = (ap (λ (h : Heard). (took g.host h).session) (sym x.hears) ∙ sym g.session) i };
@@ -81,7 +83,8 @@ goes_show fate harm b b' answer allowed g =
       };
       sure = λ whole. (
         x.room,
-        subst (λ (k : Luck). played (profile b.device) (link_of b) (Goes fate harm) Works k x.room ≡ record { link = link_of b'; answer = answer })
+        subst (λ (k : Luck). played (profile b.device) (link_of b) (Goes fate harm) Works k x.room ≡ record
+        { link = link_of b'; answer = answer })
             (x.lucky whole).1
             (subst (λ (l : Luck). played (profile b.device) (link_of b) (Goes fate harm) l x.second x.room
             ≡ record { link = link_of b'; answer = answer }) (x.lucky whole).0 same),

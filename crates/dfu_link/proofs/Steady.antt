@@ -110,7 +110,8 @@ pub come_steady : {w w' : LinkState} {h : Happening} {result : Result (Option Re
 come_steady steady x = comes_steady steady x.comes
 
 -- The session machine follows what comes of an event.
-pub comes_follow : ImageShown → {b b' : Bench} {h : Happening} {answer : Result Answered LinkFault} (up : List ℕ) → IsSteady b → ShowsActive b'
+pub comes_follow : ImageShown → {b b' : Bench} {h : Happening} {answer : Result Answered LinkFault} (up : List ℕ) → IsSteady b
+    → ShowsActive b'
     → Comes b h b' answer → AllFollow (linked b up) h (linked b' (given (gave_of answer) up)) (shown_as answer)
 comes_follow shown up steady shows (refuses why) = refl
 comes_follow shown {b = b} {b' = b'} {h = h} up steady shows (happens {event = event} {answer = answer} means play) = λ m agrees.
@@ -214,7 +215,8 @@ as_played b b' event answer play h =
     record { room = s.0; answer = answer; same = s.1; told = refl }
 
 -- What comes of an event goes as the table of fates says, where no write is harmed.
-pub comes_sure : {b b' : Bench} {h : Happening} {answer : Result Answered LinkFault} → Comes b h b' answer → AllSure b h b' (shown_as answer)
+pub comes_sure : {b b' : Bench} {h : Happening} {answer : Result Answered LinkFault} → Comes b h b' answer
+    → AllSure b h b' (shown_as answer)
 comes_sure (refuses why) = tt
 comes_sure {b = b} {b' = b'} {h = h} (happens {event = event} {answer = answer} means play) = record {
   event = event;

@@ -55,7 +55,8 @@ module _ (c : Profile) (p : List ℕ) (again : ℕ) where
           ≡ Writes before body Ack (InDownloadSyncWritten (before ++ body) number) Ack
       busy_plan f = let g : nat_le c.busy (0 + c.busy) ≡ true = grind (arith, nat_tests) in rw (f, g)
 
-      busy_wait : (c.busy == 0) ≡ false → waited c (record { image = i; stage = InDownloadBusy before body number 0 }) c.busy (course_of Pass) Works
+      busy_wait : (c.busy == 0) ≡ false
+          → waited c (record { image = i; stage = InDownloadBusy before body number 0 }) c.busy (course_of Pass) Works
           ≡ record { device = record { image = i; stage = InDownloadSyncWritten (before ++ body) number }; heard = Waited }
       busy_wait f = ap (λ q. record { device = (outcome i q Works).after; heard = Waited }) (busy_plan f)
 
@@ -74,7 +75,8 @@ module _ (c : Profile) (p : List ℕ) (again : ℕ) where
       manifest_plan : (c.manifest == 0) ≡ false → time_plan c (InManifest taken 0) c.manifest ≡ Commits taken Ack InManifestSyncComplete Ack
       manifest_plan f = let g : nat_le c.manifest (0 + c.manifest) ≡ true = grind (arith, nat_tests) in rw (f, g, tol)
 
-      manifest_wait : (c.manifest == 0) ≡ false → waited c (record { image = i; stage = InManifest taken 0 }) c.manifest (course_of Pass) Works
+      manifest_wait : (c.manifest == 0) ≡ false
+          → waited c (record { image = i; stage = InManifest taken 0 }) c.manifest (course_of Pass) Works
           ≡ record { device = record { image = taken; stage = InManifestSyncComplete }; heard = Waited }
       manifest_wait f = ap (λ q. record { device = (outcome i q Works).after; heard = Waited }) (manifest_plan f)
 

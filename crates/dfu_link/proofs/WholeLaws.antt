@@ -86,7 +86,8 @@ gather_ends (Some all) old (BadLine n) h = absurd h
 gather_ends (Some all) old (LateConfig n) h = absurd h
 
 -- What holds of the text that was gathered holds of what was read.
-pub holds_of_read : (given : Option (List ℕ)) (v : Vec ℕ Global) (P : List ℕ → Type 0) → IfSome given (λ all. Gathers all (Ok v)) → P v.items
+pub holds_of_read : (given : Option (List ℕ)) (v : Vec ℕ Global) (P : List ℕ → Type 0) → IfSome given (λ all. Gathers all (Ok v))
+    → P v.items
     → IfSome given P
 holds_of_read None v P all h = tt
 holds_of_read (Some text) v P all h = subst P all.0 h

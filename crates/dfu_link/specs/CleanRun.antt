@@ -12,7 +12,8 @@ use Rattle.dfu_link.specs.Bench.{Nobody}
 
 -- A pass over a medium that works leads from one link to another with this answer, whatever the medium's second luck and the memory are.
 abbrev pub PassesTo : Profile → Link → Link → Answered → Type 0
-PassesTo c w w' answer = (other : Luck) (room : Bool) → played c w (Goes Pass unharmed) Works other room ≡ record { link = w'; answer = answer }
+PassesTo c w w' answer = (other : Luck) (room : Bool) → played c w (Goes Pass unharmed) Works other room
+    ≡ record { link = w'; answer = answer }
 
 -- So many passes without a report.
 pub data Quietly (c : Profile) : Link → ℕ → Link → Type 0 where

@@ -26,8 +26,8 @@ pub record Vouches (factory : List ℕ) (b : Bench) (m : Machine) : Type 0 where
   pub agrees : AgreesOn b m.up m
   pub known : (m.cur ≡ factory) ⊎ IsOneOf m.cur m.offers
 
--- The machine goes along with an event: where the caller is told a report, or none, it follows by one legal step with that report; where the
--- event is refused, nothing changes.
+-- The machine goes along with an event: where the caller is told a report, or none, it follows by one legal step with that report; where
+-- the event is refused, nothing changes.
 abbrev pub GoesWith : Bench → Machine → Happening → Result (Option Report) LinkFault → Bench → Machine → Type 0
 GoesWith b m h (Ok report) b' m' = (f : IsFollowed (linked b m.up) h (linked b' m'.up) report m) × (m' ≡ f.after)
 GoesWith b m h (Err fault) b' m' = IsRefused b h fault × (b' ≡ b) × (m' ≡ m)
@@ -37,8 +37,8 @@ abbrev pub reported : Result (Option Report) LinkFault → List Report
 reported (Ok report) = said report
 reported (Err fault) = []
 
--- Events one after the other: the machine goes along and vouches for the bench after each, these are the reports, and what is printed is the
--- line of each report or refusal; the line of an upload shows what the machine has as uploaded.
+-- Events one after the other: the machine goes along and vouches for the bench after each, these are the reports, and what is printed is
+-- the line of each report or refusal; the line of an upload shows what the machine has as uploaded.
 pub data EventsGo (factory : List ℕ) (b : Bench) (m : Machine) : List Happening → List Report → List ℕ → Bench → Machine → Type 0 where
   no_event : EventsGo factory b m [] [] [] b m
   one_event : {hs : List Happening} {reports : List Report} {out : List ℕ} {c c' : Bench} {n n' : Machine} (h : Happening)
@@ -100,8 +100,8 @@ pub data OutOfNext (factory : List ℕ) (p : Point) (m : Machine) : List (List �
       → OutOfNext factory p m (line ∷ lines) old new
   in_image : {old new : Option (List ℕ)} → IsOutInPart old new (line_of_image m.cur) → OutOfNext factory p m [] old new
 
--- A script that stopped: nothing is out, and no device was started; or the machine went along with the lines that were done, and what is out
--- is their text and what is out of the next.
+-- A script that stopped: nothing is out, and no device was started; or the machine went along with the lines that were done, and what is
+-- out is their text and what is out of the next.
 pub data StopsLegally (text : List ℕ) (old new : Option (List ℕ)) : Type 0 where
   before_start : new ≡ old → StopsLegally text old new
   after_start : {after done rest : List (List ℕ)} {shown : List ℕ} {end : Point} {m : Machine} {mid : Option (List ℕ)}

@@ -64,11 +64,7 @@ fn run_text<W: Write>(alloc: Global, text: &[u8], writer: &mut W) -> Result<(), 
 }
 
 /// The same, with the session machine beside it.
-fn run_legally<W: Write>(
-    alloc: Global,
-    text: &[u8],
-    writer: &mut W,
-) -> Result<(), ScriptFault>
+fn run_legally<W: Write>(alloc: Global, text: &[u8], writer: &mut W) -> Result<(), ScriptFault>
     requires { length text.now ≤ 16777216 }
     ensures ok { OnOk result (WroteRun text.now (W.contents writer.old) (W.contents writer.new)) }
     ensures fault { IfErr result (λ f. Falls text.now (W.contents writer.old) (W.contents writer.new) f) }
@@ -102,7 +98,8 @@ pub fn script<R: Read + Drop, W: Write>(
     // The session machine goes along: what was written is what it reports, and the image that it has active.
     ensures legal { IfSome (R.remaining reader) (λ text. OnOk result (WroteLegal text (W.contents writer.old) (W.contents writer.new))) }
     // It does so as far as a script goes that stops.
-    ensures stopped { IfSome (R.remaining reader) (λ text. OnErr result (StopsLegally text (W.contents writer.old) (W.contents writer.new))) }
+    ensures stopped { IfSome (R.remaining reader)
+        (λ text. OnErr result (StopsLegally text (W.contents writer.old) (W.contents writer.new))) }
 {
     let text = gather_text(alloc, reader)?;
     run_legally(alloc, &text, writer)

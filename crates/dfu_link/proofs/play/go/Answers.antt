@@ -12,7 +12,8 @@ returns-in-None g c = rw c.in-None.is (go_refused _ _ _ c.args.gave.now)
 
 pub end-requires : goal.end-requires
 end-requires g c =
-    acted_counted (course_of (fate_of c.args.fate)) _ _ _ _ (subst (λ (h : Option HostState). SendsBytes (session_of h)) c.in-Some.is c.requires.sized)
+    acted_counted (course_of (fate_of c.args.fate)) _ _ _ _
+    (subst (λ (h : Option HostState). SendsBytes (session_of h)) c.in-Some.is c.requires.sized)
     (subst (λ (h : Option HostState). IsCountedIn (session_of h)) c.in-Some.is c.requires.counted) c.carry_out.ensures.acted
 
 pub returns : goal.returns
