@@ -69,7 +69,7 @@ goes_show fate harm b b' answer allowed g =
     let there : (acted (profile b.device) (situation b.device) d course x.first x.second).device ≡ situation b'.device = x.device
     ∙ sym (after_situation course.harming g.last) ∙ sym (ap situation g.device) in
     let same : played (profile b.device) (link_of b) (Goes fate harm) x.first x.second x.room
-        ≡ record { link = link_of b'; answer = answer } =
+    ≡ record { link = link_of b'; answer = answer } =
     ap (λ (z : Session). gone (profile b.device) (link_of b) z fate x.first x.second x.room) g.live
     ∙ (λ i. record {
       link = record { device = there i; session = (ap (λ (h : Heard). (took g.host h).session) (sym x.hears) ∙ sym g.session) i };
@@ -84,7 +84,7 @@ goes_show fate harm b b' answer allowed g =
       sure = λ whole. (
         x.room,
         subst (λ (k : Luck). played (profile b.device) (link_of b) (Goes fate harm) Works k x.room ≡ record
-        { link = link_of b'; answer = answer })
+            { link = link_of b'; answer = answer })
             (x.lucky whole).1
             (subst (λ (l : Luck). played (profile b.device) (link_of b) (Goes fate harm) l x.second x.room
             ≡ record { link = link_of b'; answer = answer }) (x.lucky whole).0 same),
