@@ -1,61 +1,118 @@
--- Lines that fall after others were done.
-use Rattle.std.proofs.Common.{◌≡◌, ℕ, List, ◌∷◌, ◌++◌, Option, Some, None, refl, sym, ap, ◌∙◌, subst, append_assoc, arith, length-append}
+-- Where lines fall after others were done.
+use Rattle.std.proofs.Common.{◌≡◌, ℕ, ◌+◌, ◌<◌, List, [], ◌∷◌, Option, Some, None, refl, sym, ap, ◌∙◌, subst, arith, length}
+use Rattle.std.specs.Prelude.{IfSome}
+use Rattle.std.specs.Io.KnownBytes.{IsAtEnd}
+use Rattle.dfu_suffix.specs.Writing.{IsOutInPart}
+use Rattle.dfu_link.specs.Texts.{image_line}
+use Rattle.dfu_link.specs.Words.{lines_of}
 use Rattle.dfu_link.specs.Lines.{line_of}
 use Rattle.dfu_link.specs.ScriptRun.{Point, events_of}
 use Rattle.dfu_link.specs.Bench.{Nobody}
-use Rattle.dfu_link.specs.Said.{EventLine, Offer, ConfigLine, Does, Sets}
-use Rattle.dfu_link.specs.Falls.{HasBroken, BreaksIn, in_events, for_file, for_tear, LineFalls, NextFalls, RunFalls}
-use Rattle.dfu_link.specs.Moving.{Moves, FindsNoRoom, FindsNoTear}
+use Rattle.dfu_link.specs.Said.{EventLine, Offer, Does}
+use Rattle.dfu_link.specs.Falls.{HasBroken, in_events, for_file, for_tear, LineFalls, NextFalls}
+use Rattle.dfu_link.specs.TextLimit.{GoesOver, IsStopped, GivesNone}
+use Rattle.dfu_link.specs.Source.{SourceState, Took, Takes, GivesLine, StopsSource}
+use Rattle.dfu_link.specs.Moving.{Moves, FallsHere, MovesAndFalls, FindsNoRoom, FindsNoTear}
 use Rattle.dfu_link.specs.declared.scripting.fault.ScriptFault.{ScriptFault}
-use Rattle.dfu_link.specs.declared.scripting.fault.ScriptFault.TheVariants.{BadLine, LateConfig, NoMemory, Write}
-use Rattle.dfu_link.proofs.WriteLaws.{appends_more}
-use Rattle.dfu_link.proofs.MoveLaws.{moves_none, runs_more}
+use Rattle.dfu_link.specs.declared.scripting.fault.ScriptFault.TheVariants.{BadLine, LateConfig, BadConfig, TooLarge, NoMemory, Read, Write}
+use Rattle.dfu_link.proofs.MoveLaws.{moves_trans}
 
--- The next line falls.
-pub falls_next : (p q : Point) (k k1 : ℕ) (lines lines1 : List (List ℕ)) (old mid new : Option (List ℕ)) (f : ScriptFault)
-    → Moves p k lines old q k1 lines1 mid → NextFalls q k1 lines1 mid new f → RunFalls p k lines old new f
-falls_next p q k k1 lines lines1 old mid new f m falls =
-    record {
-      done = m.done;
-      rest = lines1;
-      split = m.split;
-      shown = m.shown;
-      end = q;
-      runs = m.runs;
-      mid = mid;
-      told = m.told;
-      falls = subst (λ (n : ℕ). NextFalls q n lines1 mid new f) m.count falls;
-    }
+-- A line that falls is within the limit of the text.
+line_stops : (p : Point) (k room : ℕ) (line left : List ℕ) (old new : Option (List ℕ)) (f : ScriptFault) → ¬ GoesOver room left
+    → LineFalls p k line old new f → IsStopped room left f
+line_stops p k room line left old new (BadLine n) ends falls = ends
+line_stops p k room line left old new (LateConfig n) ends falls = ends
+line_stops p k room line left old new NoMemory ends falls = ends
+line_stops p k room line left old new Write ends falls = ends
+line_stops p k room line left old new BadConfig ends falls = absurd falls
+line_stops p k room line left old new TooLarge ends falls = absurd falls
+line_stops p k room line left old new Read ends falls = absurd falls
 
--- The next line falls, which is taken from the front of them.
-pub taken_falls : (p q r : Point) (k k1 n : ℕ) (lines lines1 lines2 : List (List ℕ)) (line : List ℕ) (old mid new : Option (List ℕ))
-    (f : ScriptFault) → Moves p k lines old q k1 lines1 mid → lines1 ≡ line ∷ lines2 → n ≡ k1 → r ≡ q → LineFalls r n line mid new f
-    → RunFalls p k lines old new f
-taken_falls p q r k k1 n lines lines1 lines2 line old mid new f m e is same falls =
-    let there : LineFalls q k1 line mid new f = subst (λ (x : ℕ). LineFalls q x line mid new f) is
-    (subst (λ (x : Point). LineFalls x n line mid new f) same falls) in
-    falls_next p q k k1 lines lines1 old mid new f m (subst (λ (ls : List (List ℕ)). NextFalls q k1 ls mid new f) (sym e) there)
+line_is_next : (p : Point) (k : ℕ) (line : List ℕ) (lines : List (List ℕ)) (old new : Option (List ℕ)) (f : ScriptFault)
+    → LineFalls p k line old new f → NextFalls p k (line ∷ lines) old new f
+line_is_next p k line lines old new (BadLine n) falls = falls
+line_is_next p k line lines old new (LateConfig n) falls = falls
+line_is_next p k line lines old new NoMemory falls = falls
+line_is_next p k line lines old new Write falls = falls
+line_is_next p k line lines old new BadConfig falls = absurd falls
+line_is_next p k line lines old new TooLarge falls = absurd falls
+line_is_next p k line lines old new Read falls = absurd falls
 
--- The first line falls.
-pub falls_first : (p : Point) (k : ℕ) (line : List ℕ) (lines : List (List ℕ)) (old new : Option (List ℕ)) (f : ScriptFault)
-    → LineFalls p k line old new f → RunFalls p k (line ∷ lines) old new f
-falls_first p k line lines old new f falls = falls_next p p k k (line ∷ lines) (line ∷ lines) old old new f
-    (moves_none p k (line ∷ lines) old) falls
+taken_falls : (p : Point) (a b : Option (List ℕ)) (room room' k n : ℕ) (line : List ℕ) (old new : Option (List ℕ)) (f : ScriptFault)
+    → Takes a room (line ∷ []) b room' → IfSome a (λ left. ¬ GoesOver room left) → n ≡ k → LineFalls p n line old new f
+    → IfSome a (λ left. IsStopped room left f × NextFalls p k (lines_of left) old new f)
+taken_falls p None b room room' k n line old new f took ends is falls = tt
+taken_falls p (Some a) None room room' k n line old new f took ends is falls = absurd took
+taken_falls p (Some a) (Some b) room room' k n line old new f took ends is falls =
+    let there : NextFalls p k (line ∷ lines_of b) old new f =
+        line_is_next p k line (lines_of b) old new f (subst (λ (x : ℕ). LineFalls p x line old new f) is falls) in
+    (line_stops p n room line a old new f ends falls, subst (λ (ls : List (List ℕ)). NextFalls p k ls old new f) (sym took.are) there)
+
+-- The line that a source gave falls.
+pub given_falls : {p q : Point} {s t u : SourceState} {old mid new : Option (List ℕ)} (f : ScriptFault) → Moves p s old q t mid
+    → GivesLine t u → LineFalls q u.number u.line mid new f → MovesAndFalls p s old new f
+given_falls {q = q} {t = t} {u = u} {mid = mid} {new = new} f m given falls = record {
+  to = q;
+  at = t;
+  mid = mid;
+  moves = m;
+  falls = taken_falls q t.left u.left t.room u.room (t.number + 1) u.number u.line mid new f given.gives.takes given.ends given.gives.count
+      falls;
+}
+
+image_breaks : (p : Point) (a : Option (List ℕ)) (room k : ℕ) (old new : Option (List ℕ)) (f : ScriptFault) → IsAtEnd a
+    → f ≡ Write → IsOutInPart old new (image_line p.at.device)
+    → IfSome a (λ left. IsStopped room left f × NextFalls p k (lines_of left) old new f)
+image_breaks p None room k old new f ended is broke = tt
+image_breaks p (Some left) room k old new f ended is broke =
+    let short : (o : GoesOver room []) → ⊥ = λ o. absurd (omega (arith, o.over)) in
+    let there : IsStopped room [] Write × NextFalls p k [] old new Write = (short, (refl, broke)) in
+    subst (λ (xs : List ℕ). IsStopped room xs f × NextFalls p k (lines_of xs) old new f) (sym ended)
+    (subst (λ (g : ScriptFault). IsStopped room [] g × NextFalls p k [] old new g) (sym is) there)
+
+-- No line is left, and the line of the image falls.
+pub image_falls : {p q : Point} {s t : SourceState} {old mid new : Option (List ℕ)} (f : ScriptFault) → Moves p s old q t mid
+    → IsAtEnd t.left → f ≡ Write → IsOutInPart mid new (image_line q.at.device) → MovesAndFalls p s old new f
+image_falls {q = q} {t = t} {mid = mid} {new = new} f m ended is broke = record {
+  to = q;
+  at = t;
+  mid = mid;
+  moves = m;
+  falls = image_breaks q t.left t.room (t.number + 1) mid new f ended is broke;
+}
+
+none_falls : (p : Point) (k : ℕ) (lines : List (List ℕ)) (old : Option (List ℕ)) (f : ScriptFault) → GivesNone k lines f
+    → NextFalls p k lines old old f
+none_falls p k lines old TooLarge h = refl
+none_falls p k lines old Read h = refl
+none_falls p k (line ∷ lines) old (BadLine n) h = (h.0, h.1, refl)
+none_falls p k [] old (BadLine n) h = absurd h
+none_falls p k lines old (LateConfig n) h = absurd h
+none_falls p k lines old NoMemory h = absurd h
+none_falls p k lines old BadConfig h = absurd h
+none_falls p k lines old Write h = absurd h
+
+stops_here : (p : Point) (a : Option (List ℕ)) (room k : ℕ) (old : Option (List ℕ)) (f : ScriptFault)
+    → IfSome a (λ left. IsStopped room left f × GivesNone k (lines_of left) f)
+    → IfSome a (λ left. IsStopped room left f × NextFalls p k (lines_of left) old old f)
+stops_here p None room k old f h = tt
+stops_here p (Some left) room k old f h = (h.0, none_falls p k (lines_of left) old f h.1)
+
+-- The source gives no line.
+pub source_falls : {p q : Point} {s t : SourceState} {old mid : Option (List ℕ)} (f : ScriptFault) → Moves p s old q t mid
+    → StopsSource t f → MovesAndFalls p s old mid f
+source_falls {q = q} {t = t} {mid = mid} f m stops = record {
+  to = q;
+  at = t;
+  mid = mid;
+  moves = m;
+  falls = stops_here q t.left t.room (t.number + 1) mid f stops;
+}
 
 -- Lines were done, and those after them fall.
-pub falls_after : (p q : Point) (k k1 : ℕ) (lines lines1 : List (List ℕ)) (old mid new : Option (List ℕ)) (f : ScriptFault)
-    → Moves p k lines old q k1 lines1 mid → RunFalls q k1 lines1 mid new f → RunFalls p k lines old new f
-falls_after p q k k1 lines lines1 old mid new f m r = record {
-  done = m.done ++ r.done;
-  rest = r.rest;
-  split = m.split ∙ (ap (λ (ls : List (List ℕ)). m.done ++ ls) r.split ∙ sym (append_assoc m.done r.done r.rest));
-  shown = m.shown ++ r.shown;
-  end = r.end;
-  runs = runs_more p q r.end m.done r.done m.shown r.shown m.runs r.runs;
-  mid = r.mid;
-  told = appends_more old mid r.mid m.shown r.shown m.told r.told;
-  falls = subst (λ (n : ℕ). NextFalls r.end n r.rest r.mid new f) (omega (arith, m.count, length-append m.done r.done)) r.falls;
-}
+pub falls_after : {p q : Point} {s t : SourceState} {old mid new : Option (List ℕ)} (f : ScriptFault) → Moves p s old q t mid
+    → MovesAndFalls q t mid new f → MovesAndFalls p s old new f
+falls_after f m n = record { to = n.to; at = n.at; mid = n.mid; moves = moves_trans m n.moves; falls = n.falls }
 
 -- The writer fails among the events of a line.
 pub line_breaks : (p : Point) (k : ℕ) (line : List ℕ) (old new : Option (List ℕ)) (d : EventLine) (f : ScriptFault)
@@ -67,30 +124,9 @@ pub tear_falls : (p : Point) (k : ℕ) (line : List ℕ) (old : Option (List ℕ
     → line_of line ≡ Some (Does d) → FindsNoTear d f → LineFalls p k line old old f
 tear_falls p k line old d f e (has, is) = subst (λ (g : ScriptFault). LineFalls p k line old old g) (sym is) (for_tear e has, refl)
 
--- The first line is none of the language.
-pub bad_line_falls : (p : Point) (k : ℕ) (line : List ℕ) (lines : List (List ℕ)) (old : Option (List ℕ)) → line_of line ≡ None
-    → RunFalls p k (line ∷ lines) old old (BadLine k)
-bad_line_falls p k line lines old none = falls_first p k line lines old old (BadLine k) (refl, none, refl)
-
--- The first line sets something about the device.
-pub late_config_falls : (p : Point) (k : ℕ) (line : List ℕ) (lines : List (List ℕ)) (old : Option (List ℕ)) (s : ConfigLine)
-    → line_of line ≡ Some (Sets s) → RunFalls p k (line ∷ lines) old old (LateConfig k)
-late_config_falls p k line lines old s e = falls_first p k line lines old old (LateConfig k) (refl, record { setting = s; says = e }, refl)
-
--- There is no memory for the file that the first line offers.
-pub offer_falls : (p : Point) (k : ℕ) (line : List ℕ) (lines : List (List ℕ)) (old : Option (List ℕ)) (d : EventLine) (f : ScriptFault)
-    → line_of line ≡ Some (Does d) → p.at.session ≡ Nobody → FindsNoRoom d f → RunFalls p k (line ∷ lines) old old f
-offer_falls p k line lines old (Offer file) f e free is = subst (λ (g : ScriptFault). RunFalls p k (line ∷ lines) old old g) (sym is)
-    (falls_first p k line lines old old NoMemory (for_file (record { file = file; says = e }) free, refl))
-offer_falls p k line lines old d f e free is = elim is [ ]
-
--- The writer fails in the first line.
-pub write_falls : (p : Point) (k : ℕ) (line : List ℕ) (lines : List (List ℕ)) (old new : Option (List ℕ)) (f : ScriptFault)
-    → BreaksIn p line old new → f ≡ Write → RunFalls p k (line ∷ lines) old new f
-write_falls p k line lines old new f breaks is = subst (λ (g : ScriptFault). RunFalls p k (line ∷ lines) old new g) (sym is)
-    (falls_first p k line lines old new Write breaks)
-
--- There is no memory for the tear of the first line.
-pub first_tear_falls : (p : Point) (k : ℕ) (line : List ℕ) (lines : List (List ℕ)) (old : Option (List ℕ)) (d : EventLine) (f : ScriptFault)
-    → line_of line ≡ Some (Does d) → FindsNoTear d f → RunFalls p k (line ∷ lines) old old f
-first_tear_falls p k line lines old d f e is = falls_first p k line lines old old f (tear_falls p k line old d f e is)
+-- There is no memory for the file that a line offers.
+pub offer_falls : (p : Point) (k : ℕ) (line : List ℕ) (old : Option (List ℕ)) (d : EventLine) (f : ScriptFault)
+    → line_of line ≡ Some (Does d) → p.at.session ≡ Nobody → FindsNoRoom d f → LineFalls p k line old old f
+offer_falls p k line old (Offer file) f e free is = subst (λ (g : ScriptFault). LineFalls p k line old old g) (sym is)
+    (for_file (record { file = file; says = e }) free, refl)
+offer_falls p k line old d f e free is = elim is [ ]

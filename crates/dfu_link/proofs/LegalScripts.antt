@@ -1,6 +1,6 @@
 -- The session machine goes along with a whole script, to its end or to where it stopped.
-use Rattle.std.proofs.Common.{inl, ℕ, List, [], ◌∷◌, ◌++◌, Option, Result, Ok, Err, refl, sym, ap, ◌∙◌, subst}
-use Rattle.std.specs.Prelude.{OnOk, OnErr, IfErr}
+use Rattle.std.proofs.Common.{◌≡◌, inl, ℕ, List, [], ◌∷◌, ◌++◌, Option, Some, None, Result, Ok, Err, refl, sym, ap, ◌∙◌, subst}
+use Rattle.std.specs.Prelude.{OnOk, OnErr, IfErr, IfSome}
 use Rattle.dfu_slots.specs.Seen.{format_series}
 use Rattle.dfu_slots.specs.Unarmed.{all_whole}
 use Rattle.dfu_suffix.specs.Writing.{IsOutInPart}
@@ -13,7 +13,7 @@ use Rattle.dfu_link.specs.Agreement.{intake_of, pending_in, IsShutOffer}
 use Rattle.dfu_link.specs.Understood.{ImageShown}
 use Rattle.dfu_link.specs.Texts.{line_of_image, state_text}
 use Rattle.dfu_link.specs.ScriptRun.{Settings, at_rest, blank, Point, point, SetsUp, Starts, IsRun, WroteRun}
-use Rattle.dfu_link.specs.Falls.{BreaksIn, in_events as breaks_in_events, in_show as breaks_in_show, NextFalls, Falls, too_long, unread, no_memory, in_setting, at_start, in_run}
+use Rattle.dfu_link.specs.Falls.{BreaksIn, in_events as breaks_in_events, in_show as breaks_in_show, NextFalls, Falls, no_memory, in_setting, at_start, in_run}
 use Rattle.dfu_link.specs.declared.scripting.fault.ScriptFault.{ScriptFault}
 use Rattle.dfu_link.specs.declared.scripting.fault.ScriptFault.TheVariants.{BadLine, LateConfig, BadConfig, TooLarge, NoMemory, Read, Write}
 use Rattle.dfu_link.specs.ScriptLegal.{begun_with, RunsLegally, IsLegal, OutOfNext, nothing_out, in_events, in_show, in_image, StopsLegally, before_start, after_start, WroteLegal}
@@ -85,45 +85,52 @@ out_of_line shows {p = p} {m = m} lines {old = old} {new = new} beside (breaks_i
     in_show says (subst (λ (image : List ℕ). IsOutInPart old new (state_text p.at.device ++ line_of_image image))
     (sym (cur_shown shows p.at m beside.vouches)) broke)
 
+-- Nothing is out of what falls next.
+none_out : {factory : List ℕ} {p : Point} {m : Machine} {lines : List (List ℕ)} {old new : Option (List ℕ)} → new ≡ old
+    → OutOfNext factory p m lines old new
+none_out {factory = factory} {p = p} {m = m} {lines = lines} {old = old} e =
+    subst (λ (x : Option (List ℕ)). OutOfNext factory p m lines old x) (sym e) nothing_out
+
 -- What is out of what falls next.
 out_of_next : ImageShown → {factory : List ℕ} {s : Setting} {reports : List Report} (p : Point) (m : Machine) (k : ℕ)
     (lines : List (List ℕ)) (old new : Option (List ℕ)) (fault : ScriptFault)
     → Beside factory s reports p.at m → NextFalls p k lines old new fault → OutOfNext factory p m lines old new
-out_of_next shows p m k [] old new fault beside (is, broke) =
-    in_image (subst (λ (image : List ℕ). IsOutInPart old new (line_of_image image)) (sym (cur_shown shows p.at m beside.vouches)) broke)
-out_of_next shows {factory = factory} p m k (line ∷ lines) old new (BadLine n) beside (is, none, e) =
-    subst (λ (x : Option (List ℕ)). OutOfNext factory p m (line ∷ lines) old x) (sym e) nothing_out
-out_of_next shows {factory = factory} p m k (line ∷ lines) old new (LateConfig n) beside (is, late, e) =
-    subst (λ (x : Option (List ℕ)). OutOfNext factory p m (line ∷ lines) old x) (sym e) nothing_out
-out_of_next shows {factory = factory} p m k (line ∷ lines) old new NoMemory beside (needs, e) =
-    subst (λ (x : Option (List ℕ)). OutOfNext factory p m (line ∷ lines) old x) (sym e) nothing_out
+out_of_next shows p m k lines old new TooLarge beside e = none_out e
+out_of_next shows p m k lines old new Read beside e = none_out e
+out_of_next shows p m k (line ∷ lines) old new (BadLine n) beside (is, none, e) = none_out e
+out_of_next shows p m k (line ∷ lines) old new (LateConfig n) beside (is, late, e) = none_out e
+out_of_next shows p m k (line ∷ lines) old new NoMemory beside (needs, e) = none_out e
 out_of_next shows p m k (line ∷ lines) old new Write beside breaks = out_of_line shows lines beside breaks
 out_of_next shows p m k (line ∷ lines) old new BadConfig beside falls = absurd falls
-out_of_next shows p m k (line ∷ lines) old new TooLarge beside falls = absurd falls
-out_of_next shows p m k (line ∷ lines) old new Read beside falls = absurd falls
+out_of_next shows p m k [] old new Write beside (is, broke) =
+    in_image (subst (λ (image : List ℕ). IsOutInPart old new (line_of_image image)) (sym (cur_shown shows p.at m beside.vouches)) broke)
+out_of_next shows p m k [] old new (BadLine n) beside (is, broke) = cc
+out_of_next shows p m k [] old new (LateConfig n) beside (is, broke) = cc
+out_of_next shows p m k [] old new NoMemory beside (is, broke) = cc
+out_of_next shows p m k [] old new BadConfig beside (is, broke) = cc
 
 -- The machine goes along with a script that stops.
 falls_legal : ImageShown → {text : List ℕ} {old new : Option (List ℕ)} {fault : ScriptFault} → Falls text old new fault
     → StopsLegally text old new
 unfolding runs_legally
-falls_legal shows (too_long long e) = before_start e
-falls_legal shows (unread e) = before_start e
 falls_legal shows (no_memory e) = before_start e
-falls_legal shows (in_setting small falls e) = before_start e
-falls_legal shows (at_start sets_up cannot e) = before_start e
-falls_legal shows {new = new} (in_run {settings = settings} {first = first} {fault = fault} sets_up starts falls) =
+falls_legal shows (in_setting falls e) = before_start e
+falls_legal shows (at_start sets_up cannot there e) = before_start e
+falls_legal shows {new = new} (in_run {settings = settings} {first = first} {fault = fault} sets_up starts falls there) =
     let all = lines_gone shows {p = point settings.limits (at_rest first)} (starts_beside starts) falls.runs in
     after_start (runs_legally sets_up starts all) falls.split falls.told
     (out_of_next shows falls.end all.after _ falls.rest falls.mid new fault all.beside falls.falls)
 
 -- A script that was written is one with which the machine goes along.
-pub wrote_legal : ImageShown → (text : List ℕ) (old new : Option (List ℕ)) (r : Result Unit ScriptFault) → OnOk r (WroteRun text old new)
-    → OnOk r (WroteLegal text old new)
-wrote_legal shows text old new (Ok done) ok = record { out = ok.out; legal = run_legal shows ok.run; told = ok.told }
-wrote_legal shows text old new (Err f) ok = tt
+pub wrote_legal : ImageShown → (given : Option (List ℕ)) (old new : Option (List ℕ)) (r : Result Unit ScriptFault)
+    → IfSome given (λ text. OnOk r (WroteRun text old new)) → IfSome given (λ text. OnOk r (WroteLegal text old new))
+wrote_legal shows None old new r ok = tt
+wrote_legal shows (Some text) old new (Ok done) ok = record { out = ok.out; legal = run_legal shows ok.run; told = ok.told }
+wrote_legal shows (Some text) old new (Err f) ok = tt
 
 -- And so is one that stopped.
-pub stops_legal : ImageShown → (text : List ℕ) (old new : Option (List ℕ)) (r : Result Unit ScriptFault)
-    → IfErr r (λ f. Falls text old new f) → OnErr r (StopsLegally text old new)
-stops_legal shows text old new (Ok done) fault = tt
-stops_legal shows text old new (Err f) fault = falls_legal shows fault
+pub stops_legal : ImageShown → (given : Option (List ℕ)) (old new : Option (List ℕ)) (r : Result Unit ScriptFault)
+    → IfSome given (λ text. IfErr r (λ f. Falls text old new f)) → IfSome given (λ text. OnErr r (StopsLegally text old new))
+stops_legal shows None old new r fault = tt
+stops_legal shows (Some text) old new (Ok done) fault = tt
+stops_legal shows (Some text) old new (Err f) fault = falls_legal shows fault

@@ -33,8 +33,11 @@ pub mod WordLaws
 pub mod LineLaws
 pub mod WriteLaws
 pub mod HexLaws
+pub mod SourceLaws
+pub mod GivenLaws
 pub mod MoveLaws
 pub mod FallLaws
+pub mod RestLaws
 pub mod WholeLaws
 pub mod Beside
 pub mod LegalScripts

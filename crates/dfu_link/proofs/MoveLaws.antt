@@ -1,9 +1,8 @@
 -- Events, lines and runs put together.
 use Rattle.std.proofs.Common.{◌≡◌, ℕ, zero, suc, ◌+◌, List, [], ◌∷◌, ◌++◌, Option, Some, None, refl, sym, ap, ◌∙◌, subst, add-one, append_assoc, arith, ◌<◌, length-append}
 use Rattle.std.proofs.lemmas.List.{append-nil}
-use Rattle.std.specs.Borrow.{Bor}
-use Rattle.std.specs.Prelude.{replicate, unwrap_or, Result, Ok, Err, MatchOption}
-use Rattle.std.specs.Io.KnownBytes.{Appends}
+use Rattle.std.specs.Prelude.{replicate, unwrap_or, Result, Ok, Err}
+use Rattle.std.specs.Io.KnownBytes.{Appends, IsAtEnd}
 use Rattle.dfu_host.specs.declared.limits.Limits.{Limits}
 use Rattle.dfu_host.specs.declared.report.Report.{Report}
 use Rattle.dfu_host.specs.declared.report.Report.TheVariants.{Uploaded}
@@ -24,7 +23,9 @@ use Rattle.dfu_link.specs.Said.{Said, Blank, LimitsTo, Does, Show, EventLine}
 use Rattle.dfu_link.specs.Lines.{line_of}
 use Rattle.dfu_link.specs.ScriptRun.{Settings, nothing, then_prepares, prepared, at_rest, AllCome, none_comes, then_comes, Point, point, events_of, skips, limits_to, plays, shows, LinesRun, stays, then_runs}
 use Rattle.dfu_link.specs.Falls.{HasBroken}
-use Rattle.dfu_link.specs.Moving.{HasPlayed, Steps, Moves, Ends, IsUnarmed, LinesDone, Prepared, with_first, number_of_first}
+use Rattle.dfu_link.specs.Source.{SourceState, GivesLine}
+use Rattle.dfu_link.specs.Moving.{HasPlayed, Steps, Moves, Ends, IsUnarmed, Prepared}
+use Rattle.dfu_link.proofs.GivenLaws.{gives_none, gives_trans}
 use Rattle.dfu_link.proofs.WriteLaws.{appends_none, appends_more, broke_after}
 
 suc_more : {A : Type 0} (n : ℕ) (x : A) → replicate (suc n) x ≡ replicate n x ++ x ∷ []
@@ -133,19 +134,17 @@ step_shows l b line old new e told = record { said = Show; is = e; out = show_li
 -- Lines.
 
 -- No line was done.
-pub moves_none : (p : Point) (k : ℕ) (lines : List (List ℕ)) (old : Option (List ℕ)) → Moves p k lines old p k lines old
-moves_none p k lines old = record { done = []; shown = []; split = refl; count = omega arith; runs = stays; told = appends_none old }
+pub moves_none : (p : Point) (s : SourceState) (old : Option (List ℕ)) → Moves p s old p s old
+moves_none p s old = record { done = []; shown = []; gives = gives_none s; runs = stays; told = appends_none old }
 
 -- One line more was done.
-pub moves_then : (p q r : Point) (k k1 k2 : ℕ) (lines lines1 lines2 : List (List ℕ)) (line : List ℕ) (old mid new : Option (List ℕ))
-    → Moves p k lines old q k1 lines1 mid → lines1 ≡ line ∷ lines2 → k2 ≡ k1 + 1 → Steps q line mid r new
-    → Moves p k lines old r k2 lines2 new
-moves_then p q r k k1 k2 lines lines1 lines2 line old mid new m e next step = record {
-  done = m.done ++ line ∷ [];
+pub moves_then : {p q r : Point} {s t u : SourceState} {old mid new : Option (List ℕ)} → Moves p s old q t mid → GivesLine t u
+    → Steps q u.line mid r new → Moves p s old r u new
+moves_then {u = u} {old = old} {mid = mid} {new = new} m given step = record {
+  done = m.done ++ u.line ∷ [];
   shown = m.shown ++ step.out;
-  split = m.split ∙ (ap (λ (ls : List (List ℕ)). m.done ++ ls) e ∙ sym (append_assoc m.done (line ∷ []) lines2));
-  count = omega (arith, next, m.count, length-append m.done (line ∷ []));
-  runs = then_runs line m.runs step.is step.acts;
+  gives = gives_trans m.gives given.gives;
+  runs = then_runs u.line m.runs step.is step.acts;
   told = appends_more old mid new m.shown step.out m.told step.told;
 }
 
@@ -160,72 +159,60 @@ runs_more p q r xs ys a b run (then_runs {lines = ls} line {out = o} {more = mor
     (subst (λ (c : List ℕ). LinesRun p (xs ++ ls ++ line ∷ []) c r) (append_assoc a o more) both)
 
 -- Lines were done, and then more lines.
-pub moves_trans : (p q r : Point) (k k1 k2 : ℕ) (lines lines1 lines2 : List (List ℕ)) (old mid new : Option (List ℕ))
-    → Moves p k lines old q k1 lines1 mid → Moves q k1 lines1 mid r k2 lines2 new → Moves p k lines old r k2 lines2 new
-moves_trans p q r k k1 k2 lines lines1 lines2 old mid new m n = record {
+pub moves_trans : {p q r : Point} {s t u : SourceState} {old mid new : Option (List ℕ)} → Moves p s old q t mid → Moves q t mid r u new
+    → Moves p s old r u new
+moves_trans {p = p} {q = q} {r = r} {old = old} {mid = mid} {new = new} m n = record {
   done = m.done ++ n.done;
   shown = m.shown ++ n.shown;
-  split = m.split ∙ (ap (λ (ls : List (List ℕ)). m.done ++ ls) n.split ∙ sym (append_assoc m.done n.done lines2));
-  count = omega (arith, m.count, n.count, length-append m.done n.done);
+  gives = gives_trans m.gives n.gives;
   runs = runs_more p q r m.done n.done m.shown n.shown m.runs n.runs;
   told = appends_more old mid new m.shown n.shown m.told n.told;
 }
 
--- The first line was done.
-pub move_one : (p q : Point) (k k1 : ℕ) (line : List ℕ) (lines : List (List ℕ)) (old new : Option (List ℕ)) → k1 ≡ k + 1
-    → Steps p line old q new → Moves p k (line ∷ lines) old q k1 lines new
-move_one p q k k1 line lines old new next step = moves_then p p q k k k1 (line ∷ lines) (line ∷ lines) lines line old old new
-    (moves_none p k (line ∷ lines) old) refl next step
-
 -- All lines were done, and the line of the image is out.
-pub ends_now : (p q : Point) (k k1 : ℕ) (lines : List (List ℕ)) (old mid new : Option (List ℕ)) → Moves p k lines old q k1 [] mid
-    → Appends mid new (image_line q.at.device) → Ends p lines old new
-ends_now p q k k1 lines old mid new m told =
-    let whole : lines ≡ m.done = m.split ∙ append-nil m.done in
-    record {
-      shown = m.shown;
-      end = q;
-      runs = subst (λ (ls : List (List ℕ)). LinesRun p ls m.shown q) (sym whole) m.runs;
-      told = appends_more old mid new m.shown (image_line q.at.device) m.told told;
-    }
+pub ends_now : {p q : Point} {s t : SourceState} {old mid new : Option (List ℕ)} → Moves p s old q t mid → IsAtEnd t.left
+    → Appends mid new (image_line q.at.device) → Ends p s old new
+ends_now {q = q} {t = t} {old = old} {mid = mid} {new = new} m ended told = record {
+  done = m.done;
+  last = t;
+  gives = m.gives;
+  ended = ended;
+  shown = m.shown;
+  end = q;
+  runs = m.runs;
+  told = appends_more old mid new m.shown (image_line q.at.device) m.told told;
+}
 
 -- Lines were done, and then all that were left.
-pub ends_after : (p q : Point) (k k1 : ℕ) (lines lines1 : List (List ℕ)) (old mid new : Option (List ℕ))
-    → Moves p k lines old q k1 lines1 mid → Ends q lines1 mid new → Ends p lines old new
-ends_after p q k k1 lines lines1 old mid new m e =
+pub ends_after : {p q : Point} {s t : SourceState} {old mid new : Option (List ℕ)} → Moves p s old q t mid → Ends q t mid new
+    → Ends p s old new
+ends_after {p = p} {q = q} {old = old} {mid = mid} {new = new} m e =
     let image = image_line e.end.at.device in
-    let all : LinesRun p (m.done ++ lines1) (m.shown ++ e.shown) e.end = runs_more p q e.end m.done lines1 m.shown e.shown m.runs e.runs in
     record {
+      done = m.done ++ e.done;
+      last = e.last;
+      gives = gives_trans m.gives e.gives;
+      ended = e.ended;
       shown = m.shown ++ e.shown;
       end = e.end;
-      runs = subst (λ (ls : List (List ℕ)). LinesRun p ls (m.shown ++ e.shown) e.end) (sym m.split) all;
+      runs = runs_more p q e.end m.done e.done m.shown e.shown m.runs e.runs;
       told = subst (λ (xs : List ℕ). Appends old new xs) (sym (append_assoc m.shown e.shown image))
           (appends_more old mid new m.shown (e.shown ++ image) m.told e.told);
     }
 
--- Lines were done, and then those until no session was live.
-pub follows_after : (p q : Point) (k k1 k2 : ℕ) (lines lines1 lines2 : List (List ℕ)) (old mid new : Option (List ℕ)) (d : Option Shown)
-    (to : Bench → Point) → Moves p k lines old q k1 lines1 mid → LinesDone q k1 lines1 mid d to k2 lines2 new
-    → LinesDone p k lines old d to k2 lines2 new
-follows_after p q k k1 k2 lines lines1 lines2 old mid new None to m f = ends_after p q k k1 lines lines1 old mid new m f
-follows_after p q k k1 k2 lines lines1 lines2 old mid new (Some d) to m f =
-    (f.0, moves_trans p q (to (at_rest d)) k k1 k2 lines lines1 lines2 old mid new m f.1)
-
 -- Lines that set.
 
 -- No line has set anything.
-pub prepared_none : (s : Settings) (k : ℕ) (lines : List (List ℕ)) → Prepared s k lines s k lines
-prepared_none s k lines = record { done = []; split = refl; count = omega arith; prepares = nothing }
+pub prepared_none : (x : Settings) (s : SourceState) → Prepared x s x s
+prepared_none x s = record { done = []; gives = gives_none s; prepares = nothing }
 
 -- One line more has set something.
-pub prepared_then : (s t t' : Settings) (k k1 k2 : ℕ) (lines lines1 lines2 : List (List ℕ)) (line : List ℕ) (x : Said)
-    → Prepared s k lines t k1 lines1 → lines1 ≡ line ∷ lines2 → k2 ≡ k1 + 1 → line_of line ≡ Some x → prepared t x ≡ Some t'
-    → Prepared s k lines t' k2 lines2
-prepared_then s t t' k k1 k2 lines lines1 lines2 line x p e next is does = record {
-  done = p.done ++ line ∷ [];
-  split = p.split ∙ (ap (λ (ls : List (List ℕ)). p.done ++ ls) e ∙ sym (append_assoc p.done (line ∷ []) lines2));
-  count = omega (arith, next, p.count, length-append p.done (line ∷ []));
-  prepares = then_prepares line p.prepares is does;
+pub prepared_then : {x y z : Settings} {s t u : SourceState} (w : Said) → Prepared x s y t → GivesLine t u → line_of u.line ≡ Some w
+    → prepared y w ≡ Some z → Prepared x s z u
+prepared_then {u = u} w p given is does = record {
+  done = p.done ++ u.line ∷ [];
+  gives = gives_trans p.gives given.gives;
+  prepares = then_prepares u.line p.prepares is does;
 }
 
 -- A device with no session.
@@ -233,17 +220,3 @@ prepared_then s t t' k k1 k2 lines lines1 lines2 line x p e next is does = recor
 -- A device that is not armed stays as it is when it is disarmed.
 pub rest_starts : (d : Shown) → IsUnarmed d → at_rest (armed d Whole) ≡ at_rest d
 rest_starts d unarmed = ap (λ (f : Fuse). at_rest (armed d f)) (sym unarmed)
-
--- The line that was taken is the first of those that were left.
-pub first_is : (r : Option (Bor (List ℕ))) (lines lines' : List (List ℕ)) (n n' : ℕ) (X : Type 0)
-    → MatchOption r ((lines ≡ []) × (lines' ≡ []) × (n' ≡ n)) (λ line. (lines ≡ line.now ∷ lines') × (n' ≡ n + 1) × X)
-    → lines ≡ with_first r lines'
-first_is None lines lines' n n' X h = h.0
-first_is (Some line) lines lines' n n' X h = h.0
-
--- And this is its number.
-pub number_is : (r : Option (Bor (List ℕ))) (lines lines' : List (List ℕ)) (n n' : ℕ) (X : Type 0)
-    → MatchOption r ((lines ≡ []) × (lines' ≡ []) × (n' ≡ n)) (λ line. (lines ≡ line.now ∷ lines') × (n' ≡ n + 1) × X)
-    → n + 1 ≡ number_of_first r n'
-number_is None lines lines' n n' X h = ap (λ (k : ℕ). k + 1) (sym h.2)
-number_is (Some line) lines lines' n n' X h = sym h.1

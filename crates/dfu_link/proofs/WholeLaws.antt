@@ -1,93 +1,149 @@
 -- Whole scripts, put together of their parts.
-use Rattle.std.proofs.Common.{◌≡◌, ℕ, ◌≤◌, ◌++◌, List, length, Option, Some, None, refl, subst}
-use Rattle.std.specs.Prelude.{Result, Ok, Err, IfErr, IfSome, Vec}
-use Rattle.std.specs.declared.alloc.Global.{Global}
+use Rattle.std.proofs.Common.{◌≡◌, ℕ, ◌+◌, ◌≤◌, ◌++◌, List, [], length, Option, Some, None, refl, sym, ap, ◌∙◌, subst, arith, length-append}
+use Rattle.std.proofs.lemmas.List.{append-nil}
+use Rattle.std.specs.Prelude.{Bool, IfSome, Result, Ok, Err, IfErr, OnOk}
+use Rattle.std.specs.Io.KnownBytes.{IsAtEnd, prepend_known}
 use Rattle.dfu_device.specs.Shown.{Shown}
 use Rattle.dfu_link.specs.Words.{lines_of}
 use Rattle.dfu_link.specs.Texts.{image_line}
-use Rattle.dfu_link.specs.Gathering.{Gathers}
-use Rattle.dfu_link.specs.ScriptRun.{Settings, beginning, Prepares, Starts, at_rest, point, IsReady, SetsUp, WroteRun}
-use Rattle.dfu_link.specs.Falls.{RunFalls, SettingFalls, StartFalls, Falls, too_long, unread, no_memory, in_setting, at_start, in_run}
-use Rattle.dfu_link.specs.Moving.{Ends, Prepared}
+use Rattle.dfu_link.specs.TextLimit.{IsStopped, GivesNone}
+use Rattle.dfu_link.specs.ScriptRun.{Settings, beginning, Prepares, Starts, at_rest, point, IsReady, SetsUp, LinesRun, WroteRun}
+use Rattle.dfu_link.specs.Falls.{NextFalls, RunFalls, StartFalls, CannotStart, Falls, no_memory, in_setting, at_start, in_run}
+use Rattle.dfu_link.specs.Source.{SourceState, Took, Gives}
+use Rattle.dfu_link.specs.Moving.{Moves, Ends, MovesAndFalls, Prepared, Configured, StopsSetting, CannotConfigure}
 use Rattle.dfu_link.specs.declared.scripting.fault.ScriptFault.{ScriptFault}
 use Rattle.dfu_link.specs.declared.scripting.fault.ScriptFault.TheVariants.{BadLine, LateConfig, BadConfig, TooLarge, NoMemory, Read, Write}
+use Rattle.dfu_link.proofs.GivenLaws.{of_some, took, took_trans, stops_after}
 
--- What holds of a fault may be weakened.
-pub if_err_map : {A E : Type 0} (r : Result A E) (P Q : E → Type 0) → ((e : E) → P e → Q e) → IfErr r P → IfErr r Q
-if_err_map (Ok x) P Q f h = tt
-if_err_map (Err e) P Q f h = f e h
+-- Nothing was taken of a text.
+pub record IsFresh (text : List ℕ) (s : SourceState) : Type 0 where
+  pub left : s.left ≡ Some text
+  pub room : s.room ≡ 16777216
+  pub number : s.number ≡ 0
 
--- A line that sets falls.
-pub setting_ends : (text : List ℕ) (old : Option (List ℕ)) (s : Settings) (f : ScriptFault) → length text ≤ 16777216 → s ≡ beginning
-    → SettingFalls s 1 (lines_of text) f → Falls text old old f
-setting_ends text old s f small e falls = in_setting small (subst (λ (t : Settings). SettingFalls t 1 (lines_of text) f) e falls) refl
+-- The source over a reader that tells its text is a fresh one.
+pub is_fresh : (given : Option (List ℕ)) (text : List ℕ) (s : SourceState) → given ≡ Some text → s.left ≡ prepend_known [] given
+    → s.room ≡ 16777216 → s.number ≡ 0 → IsFresh text s
+is_fresh given text s e left room number = record {
+  left = left ∙ ap (prepend_known []) e;
+  room = room;
+  number = number;
+}
+
+-- Of a fresh source these lines were taken.
+fresh_took : {text : List ℕ} {s s' : SourceState} {xs : List (List ℕ)} → IsFresh text s → Gives s xs s'
+    → (left : List ℕ) × (s'.left ≡ Some left) × Took text 16777216 xs left s'.room
+fresh_took {text = text} {s = s} {s' = s'} {xs = xs} fresh gives =
+    let t = took s s' xs gives fresh.left in
+    (t.0, t.1, subst (λ (room : ℕ). Took text room xs t.0 s'.room) fresh.room t.2)
+
+-- No more lines set.
+setting_ends : {text : List ℕ} {s : SourceState} {x : Settings} (old : Option (List ℕ)) (f : ScriptFault) → IsFresh text s
+    → x ≡ beginning → StopsSetting x s f → Falls text old old f
+setting_ends {text = text} old f fresh e stops =
+    let p = stops.prepared in
+    let t = fresh_took fresh p.gives in
+    let here = of_some stops.at.left (λ left. IsStopped stops.at.room left f × GivesNone (stops.at.number + 1) (lines_of left) f) t.0 t.1
+    stops.stops in
+    in_setting (record {
+      done = p.done;
+      rest = lines_of t.0;
+      split = t.2.are;
+      settings = stops.to;
+      prepares = subst (λ (y : Settings). Prepares y p.done stops.to) e p.prepares;
+      falls = subst (λ (n : ℕ). GivesNone n (lines_of t.0) f) (omega (arith, p.gives.count, fresh.number)) here.1;
+      stops = stops_after f t.2 here.0;
+    }) refl
+
+-- The lines that set fall.
+pub configure_ends : {text : List ℕ} {s : SourceState} {x : Settings} (old : Option (List ℕ)) (f : ScriptFault) → IsFresh text s
+    → x ≡ beginning → CannotConfigure x s f → Falls text old old f
+configure_ends old NoMemory fresh e falls = no_memory refl
+configure_ends old (BadLine n) fresh e falls = setting_ends old (BadLine n) fresh e falls
+configure_ends old (LateConfig n) fresh e falls = setting_ends old (LateConfig n) fresh e falls
+configure_ends old BadConfig fresh e falls = setting_ends old BadConfig fresh e falls
+configure_ends old TooLarge fresh e falls = setting_ends old TooLarge fresh e falls
+configure_ends old Read fresh e falls = setting_ends old Read fresh e falls
+configure_ends old Write fresh e falls = setting_ends old Write fresh e falls
 
 -- The device has to start.
-abbrev sets_up : (text : List ℕ) (s t : Settings) (k : ℕ) (lines : List (List ℕ)) → length text ≤ 16777216 → s ≡ beginning
-    → Prepared s 1 (lines_of text) t k lines → IsReady lines → SetsUp text t lines
-sets_up text s t k lines small e p ready = record {
-  small = small;
-  before = p.done;
-  split = p.split;
-  prepares = subst (λ (x : Settings). Prepares x p.done t) e p.prepares;
-  ready = ready;
-}
+abbrev sets_up : {text : List ℕ} {s s' : SourceState} {x y : Settings} {more : Bool} → (fresh : IsFresh text s) → x ≡ beginning
+    → (c : Configured x s y more s') → SetsUp text y (lines_of (fresh_took fresh c.prepared.gives).0)
+sets_up {y = y} fresh e c =
+    let t = fresh_took fresh c.prepared.gives in
+    record {
+      before = c.prepared.done;
+      split = t.2.are;
+      prepares = subst (λ (z : Settings). Prepares z c.prepared.done y) e c.prepared.prepares;
+      ready = of_some c.at.left (λ left. IsReady (lines_of left)) t.0 t.1 c.ready;
+    }
 
 -- It does not start.
-pub start_ends : (text : List ℕ) (old : Option (List ℕ)) (s t : Settings) (k : ℕ) (lines : List (List ℕ)) (f : ScriptFault)
-    → length text ≤ 16777216 → s ≡ beginning → Prepared s 1 (lines_of text) t k lines → IsReady lines → StartFalls t f
-    → Falls text old old f
-start_ends text old s t k lines BadConfig small e p ready falls = at_start (sets_up text s t k lines small e p ready) falls refl
-start_ends text old s t k lines NoMemory small e p ready falls = no_memory refl
-start_ends text old s t k lines (BadLine n) small e p ready falls = absurd falls
-start_ends text old s t k lines (LateConfig n) small e p ready falls = absurd falls
-start_ends text old s t k lines TooLarge small e p ready falls = absurd falls
-start_ends text old s t k lines Read small e p ready falls = absurd falls
-start_ends text old s t k lines Write small e p ready falls = absurd falls
+pub start_ends : {text : List ℕ} {s s' : SourceState} {x y : Settings} {more : Bool} (old : Option (List ℕ)) (f : ScriptFault)
+    → IsFresh text s → x ≡ beginning → Configured x s y more s' → StartFalls y f → Falls text old old f
+start_ends old NoMemory fresh e c falls = no_memory refl
+start_ends old BadConfig fresh e c falls =
+    let t = fresh_took fresh c.prepared.gives in
+    at_start (sets_up fresh e c) falls
+    (stops_after BadConfig t.2 (of_some c.at.left (λ left. IsStopped c.at.room left BadConfig) t.0 t.1 c.reached)) refl
+start_ends old (BadLine n) fresh e c falls = absurd falls
+start_ends old (LateConfig n) fresh e c falls = absurd falls
+start_ends old TooLarge fresh e c falls = absurd falls
+start_ends old Read fresh e c falls = absurd falls
+start_ends old Write fresh e c falls = absurd falls
+
+at_end : (a : Option (List ℕ)) → IsAtEnd a → IfSome a (λ left. left ≡ [])
+at_end None h = tt
+at_end (Some left) h = h
 
 -- It starts, and all lines after it are done.
-pub run_ends : (text : List ℕ) (old new : Option (List ℕ)) (s t : Settings) (k : ℕ) (lines : List (List ℕ)) (d : Shown)
-    → length text ≤ 16777216 → s ≡ beginning → Prepared s 1 (lines_of text) t k lines → IsReady lines → Starts t d
-    → Ends (point t.limits (at_rest d)) lines old new → WroteRun text old new
-run_ends text old new s t k lines d small e p ready starts ends = record {
-  out = ends.shown ++ image_line ends.end.at.device;
-  run = record {
-    settings = t;
-    after = lines;
-    sets_up = sets_up text s t k lines small e p ready;
-    first = d;
-    starts = starts;
-    shown = ends.shown;
-    end = ends.end;
-    runs = ends.runs;
-    out_is = refl;
-  };
-  told = ends.told;
-}
+pub run_ends : {text : List ℕ} {s s' : SourceState} {x y : Settings} {more : Bool} {old new : Option (List ℕ)} (d : Shown)
+    → IsFresh text s → x ≡ beginning → (c : Configured x s y more s') → Starts y d → Ends (point y.limits (at_rest d)) c.at old new
+    → WroteRun text old new
+run_ends {text = text} {y = y} d fresh e c starts ends =
+    let t = fresh_took fresh c.prepared.gives in
+    let u = took c.at ends.last ends.done ends.gives t.1 in
+    let empty : u.0 ≡ [] = of_some ends.last.left (λ left. left ≡ []) u.0 u.1 (at_end ends.last.left ends.ended) in
+    let all = took_trans t.2 u.2 in
+    let whole : text ≡ all.front = all.split ∙ (ap (λ (zs : List ℕ). all.front ++ zs) empty ∙ append-nil all.front) in
+    let lines : ends.done ≡ lines_of t.0 = sym (u.2.are ∙ (ap (λ (zs : List ℕ). ends.done ++ lines_of zs) empty ∙ append-nil ends.done)) in
+    record {
+      out = ends.shown ++ image_line ends.end.at.device;
+      run = record {
+        small = omega (arith, all.rooms, ap length whole);
+        settings = y;
+        after = lines_of t.0;
+        sets_up = sets_up fresh e c;
+        first = d;
+        starts = starts;
+        shown = ends.shown;
+        end = ends.end;
+        runs = subst (λ (ls : List (List ℕ)). LinesRun (point y.limits (at_rest d)) ls ends.shown ends.end) lines ends.runs;
+        out_is = refl;
+      };
+      told = ends.told;
+    }
 
 -- It starts, and of the lines after it one falls.
-pub run_falls : (text : List ℕ) (old new : Option (List ℕ)) (s t : Settings) (k : ℕ) (lines : List (List ℕ)) (d : Shown) (f : ScriptFault)
-    → length text ≤ 16777216 → s ≡ beginning → Prepared s 1 (lines_of text) t k lines → IsReady lines → Starts t d
-    → RunFalls (point t.limits (at_rest d)) k lines old new f → Falls text old new f
-run_falls text old new s t k lines d f small e p ready starts falls =
-    in_run (sets_up text s t k lines small e p ready) starts (subst (λ (n : ℕ). RunFalls (point t.limits (at_rest d)) n lines old new f)
-    p.count falls)
-
--- The text is not gathered.
-pub gather_ends : (given : Option (List ℕ)) (old : Option (List ℕ)) (f : ScriptFault) → IfSome given (λ all. Gathers all (Err f))
-    → IfSome given (λ text. Falls text old old f)
-gather_ends None old f h = tt
-gather_ends (Some all) old TooLarge h = too_long h refl
-gather_ends (Some all) old Read h = unread refl
-gather_ends (Some all) old NoMemory h = no_memory refl
-gather_ends (Some all) old BadConfig h = absurd h
-gather_ends (Some all) old Write h = absurd h
-gather_ends (Some all) old (BadLine n) h = absurd h
-gather_ends (Some all) old (LateConfig n) h = absurd h
-
--- What holds of the text that was gathered holds of what was read.
-pub holds_of_read : (given : Option (List ℕ)) (v : Vec ℕ Global) (P : List ℕ → Type 0) → IfSome given (λ all. Gathers all (Ok v))
-    → P v.items
-    → IfSome given P
-holds_of_read None v P all h = tt
-holds_of_read (Some text) v P all h = subst P all.0 h
+pub run_falls : {text : List ℕ} {s s' : SourceState} {x y : Settings} {more : Bool} {old new : Option (List ℕ)} (d : Shown)
+    (f : ScriptFault) → IsFresh text s → x ≡ beginning → (c : Configured x s y more s') → Starts y d
+    → MovesAndFalls (point y.limits (at_rest d)) c.at old new f → Falls text old new f
+run_falls {y = y} {new = new} d f fresh e c starts falls =
+    let m = falls.moves in
+    let t = fresh_took fresh c.prepared.gives in
+    let u = took c.at falls.at m.done m.gives t.1 in
+    let here = of_some falls.at.left (λ left. IsStopped falls.at.room left f × NextFalls falls.to (falls.at.number + 1) (lines_of left)
+    falls.mid new f) u.0 u.1 falls.falls in
+    let runs : RunFalls (point y.limits (at_rest d)) (1 + length c.prepared.done) (lines_of t.0) _ new f = record {
+      done = m.done;
+      rest = lines_of u.0;
+      split = u.2.are;
+      shown = m.shown;
+      end = falls.to;
+      runs = m.runs;
+      mid = falls.mid;
+      told = m.told;
+      falls = subst (λ (n : ℕ). NextFalls falls.to n (lines_of u.0) falls.mid new f)
+          (omega (arith, m.gives.count, c.prepared.gives.count, fresh.number)) here.1;
+    } in
+    in_run (sets_up fresh e c) starts runs (stops_after f (took_trans t.2 u.2) here.0)

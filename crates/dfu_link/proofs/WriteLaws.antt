@@ -2,7 +2,7 @@
 use Rattle.std.proofs.Common.{ℕ, List, [], ◌++◌, length-append, Option, Some, None, sym, ap, ◌∙◌, arith}
 use Rattle.std.proofs.lemmas.List.{append_assoc, append-nil}
 use Rattle.std.specs.Io.KnownBytes.{Appends}
-use Rattle.std.specs.Prelude.{Result, Ok, Err, OnErr, OnOk}
+use Rattle.std.specs.Prelude.{Result, Ok, Err, OnErr, OnOk, IfErr}
 use Rattle.dfu_suffix.specs.Writing.{IsOutInPart}
 
 -- Nothing is out.
@@ -54,3 +54,13 @@ on_err_map (Err e) P Q f h = f h
 pub on_ok_map : {A E : Type 0} (r : Result A E) (P Q : Type 0) → (P → Q) → OnOk r P → OnOk r Q
 on_ok_map (Ok x) P Q f h = f h
 on_ok_map (Err e) P Q f h = tt
+
+-- What holds of a fault may be weakened.
+pub if_err_map : {A E : Type 0} (r : Result A E) (P Q : E → Type 0) → ((e : E) → P e → Q e) → IfErr r P → IfErr r Q
+if_err_map (Ok x) P Q f h = tt
+if_err_map (Err e) P Q f h = f e h
+
+-- Two things that hold of a fault hold together.
+pub if_err_both : {A E : Type 0} (r : Result A E) (P : E → Type 0) (B : Type 0) → IfErr r P → OnErr r B → IfErr r (λ e. P e × B)
+if_err_both (Ok x) P B h k = tt
+if_err_both (Err e) P B h k = (h, k)

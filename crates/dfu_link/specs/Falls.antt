@@ -12,6 +12,7 @@ use Rattle.dfu_link.specs.Texts.{image_line, show_line}
 use Rattle.dfu_link.specs.Words.{lines_of}
 use Rattle.dfu_link.specs.Said.{ConfigLine, EventLine, Offer, HasTear, Sets, Does, Show}
 use Rattle.dfu_link.specs.Lines.{line_of}
+use Rattle.dfu_link.specs.TextLimit.{GivesNone, StopsAfter}
 use Rattle.dfu_link.specs.ScriptRun.{Settings, beginning, Prepares, Starts, at_rest, AllCome, Point, point, events_of, LinesRun, SetsUp}
 use Rattle.dfu_link.specs.declared.scripting.fault.ScriptFault.{ScriptFault}
 use Rattle.dfu_link.specs.declared.scripting.fault.ScriptFault.TheVariants.{BadLine, LateConfig, BadConfig, TooLarge, NoMemory, Read, Write}
@@ -56,9 +57,11 @@ LineFalls p k line old new NoMemory = NeedsMemory p line × (new ≡ old)
 LineFalls p k line old new Write = BreaksIn p line old new
 LineFalls p k line old new fault = ⊥
 
--- What falls where these lines are left, the first of them line k: that line, or where none is left the line of the image, when the writer
--- fails.
+-- What falls where these lines are left, the first of them line k: the text goes over its limit or the reader fails, and nothing more is
+-- out; or that line, or where none is left the line of the image, when the writer fails.
 abbrev pub NextFalls : Point → ℕ → List (List ℕ) → Option (List ℕ) → Option (List ℕ) → ScriptFault → Type 0
+NextFalls p k lines old new TooLarge = new ≡ old
+NextFalls p k lines old new Read = new ≡ old
 NextFalls p k [] old new fault = (fault ≡ Write) × IsOutInPart old new (image_line p.at.device)
 NextFalls p k (line ∷ lines) old new fault = LineFalls p k line old new fault
 
@@ -74,16 +77,15 @@ pub record RunFalls (p : Point) (k : ℕ) (lines : List (List ℕ)) (old new : O
   pub told : Appends old mid shown
   pub falls : NextFalls end (k + length done) rest mid new fault
 
--- Lines that set fall, the first of them line k: some set, and the next is none of the language.
-pub record SettingFalls (s : Settings) (k : ℕ) (lines : List (List ℕ)) (fault : ScriptFault) : Type 0 where
+-- Lines that set fall: some set, and then no more does.
+pub record SettingFalls (text : List ℕ) (fault : ScriptFault) : Type 0 where
   pub done : List (List ℕ)
-  pub line : List ℕ
   pub rest : List (List ℕ)
-  pub split : lines ≡ done ++ line ∷ rest
+  pub split : lines_of text ≡ done ++ rest
   pub settings : Settings
-  pub prepares : Prepares s done settings
-  pub none : line_of line ≡ None
-  pub fault_is : fault ≡ BadLine (k + length done)
+  pub prepares : Prepares beginning done settings
+  pub falls : GivesNone (1 + length done) rest fault
+  pub stops : StopsAfter text done fault
 
 -- No device can be set up like this, or the room has no whole units, or the image has more bytes than there is room for.
 pub data CannotStart (s : Settings) : Type 0 where
@@ -97,17 +99,14 @@ StartFalls s BadConfig = CannotStart s
 StartFalls s NoMemory = Unit {0}
 StartFalls s fault = ⊥
 
--- A script ends with a fault. The text is over 16,777,216 bytes, the reader failed, or there was no memory for the text or the device, and
--- nothing is out; a line that sets is none of the language, or no device can be set up like this, and nothing is out; or the device starts,
--- and of the lines after it one falls.
+-- A script ends with a fault. There was no memory for a line, the image or the device, and nothing is out; a line that sets falls, or no
+-- device can be set up like this, and nothing is out; or the device starts, and of the lines after it one falls.
 pub data Falls (text : List ℕ) (old new : Option (List ℕ)) : ScriptFault → Type 0 where
-  too_long : 16777216 < length text → new ≡ old → Falls text old new TooLarge
-  unread : new ≡ old → Falls text old new Read
   no_memory : new ≡ old → Falls text old new NoMemory
-  in_setting : {fault : ScriptFault} → length text ≤ 16777216 → SettingFalls beginning 1 (lines_of text) fault → new ≡ old
-      → Falls text old new fault
-  at_start : {settings : Settings} {after : List (List ℕ)} → SetsUp text settings after → CannotStart settings → new ≡ old
-      → Falls text old new BadConfig
+  in_setting : {fault : ScriptFault} → SettingFalls text fault → new ≡ old → Falls text old new fault
+  at_start : {settings : Settings} {after : List (List ℕ)} (sets_up : SetsUp text settings after) → CannotStart settings
+      → StopsAfter text sets_up.before BadConfig → new ≡ old → Falls text old new BadConfig
   in_run : {settings : Settings} {after : List (List ℕ)} {first : Shown} {fault : ScriptFault} (sets_up : SetsUp text settings after)
       → Starts settings first
-      → RunFalls (point settings.limits (at_rest first)) (1 + length sets_up.before) after old new fault → Falls text old new fault
+      → (falls : RunFalls (point settings.limits (at_rest first)) (1 + length sets_up.before) after old new fault)
+      → StopsAfter text (sets_up.before ++ falls.done) fault → Falls text old new fault

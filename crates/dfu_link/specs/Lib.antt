@@ -27,10 +27,11 @@ pub mod Said
 pub mod Keywords
 pub mod Lines
 pub mod Texts
-pub mod Gathering
+pub mod TextLimit
 pub mod ScriptRun
 pub mod SetupView
 pub mod Falls
+pub mod Source
 pub mod ScriptLegal
 pub mod NextSession
 pub mod CleanSteps

@@ -1,15 +1,20 @@
 -- What lines do one after the other, as the loops of the code have it.
-use Rattle.std.specs.Prelude.{◌≡◌, ℕ, ◌+◌, List, [], ◌∷◌, ◌++◌, length, Option, Some, None}
-use Rattle.std.specs.Borrow.{Bor}
-use Rattle.std.specs.Io.KnownBytes.{Appends}
+use Rattle.std.specs.Prelude.{◌≡◌, ℕ, ◌+◌, List, [], ◌++◌, Bool, Option, Some, None, IfSome}
+use Rattle.std.specs.Io.KnownBytes.{Appends, IsAtEnd}
+use Rattle.dfu_host.specs.declared.limits.Limits.{Limits}
 use Rattle.dfu_slots.specs.Medium.Fuse.{Whole}
 use Rattle.dfu_device.specs.Shown.{Shown}
 use Rattle.dfu_link.specs.Bench.{Bench}
 use Rattle.dfu_link.specs.Happening.{Happening}
 use Rattle.dfu_link.specs.Texts.{image_line}
-use Rattle.dfu_link.specs.Said.{EventLine, Offer, HasTear, Said}
+use Rattle.dfu_link.specs.Words.{lines_of}
+use Rattle.dfu_link.specs.Said.{EventLine, Offer, HasTear, Said, Does, event_line_of}
 use Rattle.dfu_link.specs.Lines.{line_of}
-use Rattle.dfu_link.specs.ScriptRun.{Settings, Prepares, at_rest, AllCome, Point, LineActs, LinesRun}
+use Rattle.dfu_link.specs.ScriptRun.{Settings, Prepares, IsReady, at_rest, AllCome, Point, point, LineActs, LinesRun}
+use Rattle.dfu_link.specs.Falls.{LineFalls, NextFalls}
+use Rattle.dfu_link.specs.TextLimit.{GoesOver, IsStopped}
+use Rattle.dfu_link.specs.Source.{SourceState, Gives, Next, StopsSource}
+use Rattle.dfu_link.specs.declared.scripting.line.EventLine.{EventLine as EventLineRead}
 use Rattle.dfu_link.specs.declared.scripting.fault.ScriptFault.{ScriptFault}
 use Rattle.dfu_link.specs.declared.scripting.fault.ScriptFault.TheVariants.{NoMemory}
 
@@ -32,49 +37,81 @@ pub record Steps (p : Point) (line : List ℕ) (old : Option (List ℕ)) (p' : P
   pub acts : LineActs p said out p'
   pub told : Appends old new out
 
--- Lines were done and what they print is out: the next line was line k, and now is line k'.
-pub record Moves (p : Point) (k : ℕ) (lines : List (List ℕ)) (old : Option (List ℕ)) (p' : Point) (k' : ℕ) (lines' : List (List ℕ))
-    (new : Option (List ℕ)) : Type 0 where
+-- The lines that a source gave were done, and what they print is out.
+pub record Moves (p : Point) (s : SourceState) (old : Option (List ℕ)) (p' : Point) (s' : SourceState) (new : Option (List ℕ)) : Type 0 where
   pub done : List (List ℕ)
   pub shown : List ℕ
-  pub split : lines ≡ done ++ lines'
-  pub count : k' ≡ k + length done
+  pub gives : Gives s done s'
   pub runs : LinesRun p done shown p'
   pub told : Appends old new shown
 
--- All lines were done, and last the line of the image is out.
-pub record Ends (p : Point) (lines : List (List ℕ)) (old new : Option (List ℕ)) : Type 0 where
+-- All lines that a source has were done, and last the line of the image is out.
+pub record Ends (p : Point) (s : SourceState) (old new : Option (List ℕ)) : Type 0 where
+  pub done : List (List ℕ)
+  pub last : SourceState
+  pub gives : Gives s done last
+  pub ended : IsAtEnd last.left
   pub shown : List ℕ
   pub end : Point
-  pub runs : LinesRun p lines shown end
+  pub runs : LinesRun p done shown end
   pub told : Appends old new (shown ++ image_line end.at.device)
+
+-- What falls where a source stands here, if its reader tells the text.
+abbrev pub FallsHere : Point → SourceState → Option (List ℕ) → Option (List ℕ) → ScriptFault → Type 0
+FallsHere p s old new fault = IfSome s.left
+    (λ left. IsStopped s.room left fault × NextFalls p (s.number + 1) (lines_of left) old new fault)
+
+-- Lines that a source gave were done, what they print is out, and then it falls.
+pub record MovesAndFalls (p : Point) (s : SourceState) (old new : Option (List ℕ)) (fault : ScriptFault) : Type 0 where
+  pub to : Point
+  pub at : SourceState
+  pub mid : Option (List ℕ)
+  pub moves : Moves p s old to at mid
+  pub falls : FallsHere to at mid new fault
 
 -- A medium of a device that is not armed.
 abbrev pub IsUnarmed : Shown → Type 0
 IsUnarmed d = d.slots.medium.fuse ≡ Whole
 
 -- Lines were done until no session was live, and the device is given back; or all lines were done, and last the line of the image is out.
-abbrev pub LinesDone : Point → ℕ → List (List ℕ) → Option (List ℕ) → Option Shown → (Bench → Point) → ℕ → List (List ℕ) → Option (List ℕ)
-    → Type 0
-LinesDone p k lines old None to k' lines' new = Ends p lines old new
-LinesDone p k lines old (Some d) to k' lines' new = IsUnarmed d × Moves p k lines old (to (at_rest d)) k' lines' new
+abbrev pub LinesDone : Point → SourceState → Option (List ℕ) → Option Shown → (Bench → Point) → SourceState → Option (List ℕ) → Type 0
+LinesDone p s old None to s' new = Ends p s old new
+LinesDone p s old (Some d) to s' new = IsUnarmed d × Moves p s old (to (at_rest d)) s' new
 
--- Lines were done that set: the next line was line k, and now is line k'.
-pub record Prepared (s : Settings) (k : ℕ) (lines : List (List ℕ)) (s' : Settings) (k' : ℕ) (lines' : List (List ℕ)) : Type 0 where
+-- A line was done but for its events, whatever the session: it said none, or these are left to play.
+abbrev pub Plainly : Shown → Limits → List ℕ → Option (List ℕ) → Option EventLineRead → Limits → Option (List ℕ) → Type 0
+Plainly d l line old None l' new = (b : Bench) → b.device ≡ d → Steps (point l b) line old (point l' b) new
+Plainly d l line old (Some events) l' new = (line_of line ≡ Some (Does (event_line_of events))) × (l' ≡ l) × (new ≡ old)
+
+-- A line falls but for its events, whatever the session.
+abbrev pub PlainlyFalls : Shown → Limits → ℕ → List ℕ → Option (List ℕ) → Option (List ℕ) → ScriptFault → Type 0
+PlainlyFalls d l k line old new fault = (b : Bench) → b.device ≡ d → LineFalls (point l b) k line old new fault
+
+-- Lines that a source gave have set something.
+pub record Prepared (x : Settings) (s : SourceState) (x' : Settings) (s' : SourceState) : Type 0 where
   pub done : List (List ℕ)
-  pub split : lines ≡ done ++ lines'
-  pub count : k' ≡ k + length done
-  pub prepares : Prepares s done s'
+  pub gives : Gives s done s'
+  pub prepares : Prepares x done x'
 
--- The lines that are left, with one that was taken from the front of them.
-abbrev pub with_first : Option (Bor (List ℕ)) → List (List ℕ) → List (List ℕ)
-with_first None lines = []
-with_first (Some line) lines = line.now ∷ lines
+-- Lines that a source gave have set something, and now the device has to start: the next line is given, or there is none.
+pub record Configured (x : Settings) (s : SourceState) (x' : Settings) (more : Bool) (s' : SourceState) : Type 0 where
+  pub at : SourceState
+  pub prepared : Prepared x s x' at
+  pub next : Next at more s'
+  pub ready : IfSome at.left (λ left. IsReady (lines_of left))
+  pub reached : IfSome at.left (λ left. ¬ GoesOver at.room left)
 
--- The number of the first of them, where this many lines were taken from the text.
-abbrev pub number_of_first : Option (Bor (List ℕ)) → ℕ → ℕ
-number_of_first None taken = taken + 1
-number_of_first (Some line) taken = taken
+-- Lines that a source gave have set something, and then no more does.
+pub record StopsSetting (x : Settings) (s : SourceState) (fault : ScriptFault) : Type 0 where
+  pub to : Settings
+  pub at : SourceState
+  pub prepared : Prepared x s to at
+  pub stops : StopsSource at fault
+
+-- There was no memory for a line that sets, or no more lines set.
+abbrev pub CannotConfigure : Settings → SourceState → ScriptFault → Type 0
+CannotConfigure x s NoMemory = Unit {0}
+CannotConfigure x s fault = StopsSetting x s fault
 
 -- There is no memory for the file that is offered.
 abbrev pub FindsNoRoom : EventLine → ScriptFault → Type 0

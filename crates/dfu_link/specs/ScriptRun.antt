@@ -141,17 +141,16 @@ pub data LinesRun : Point → List (List ℕ) → List ℕ → Point → Type 0 
   then_runs : {p q q' : Point} {lines : List (List ℕ)} (line : List ℕ) {said : Said} {out more : List ℕ} →
       LinesRun p lines out q → line_of line ≡ Some said → LineActs q said more q' → LinesRun p (lines ++ line ∷ []) (out ++ more) q'
 
--- The text is set up like this, and these lines are left: it has at most 16,777,216 bytes, the lines before set, and now the device has to
--- start.
+-- The text is set up like this, and these lines are left: the lines before set, and now the device has to start.
 pub record SetsUp (text : List ℕ) (settings : Settings) (after : List (List ℕ)) : Type 0 where
-  pub small : length text ≤ 16777216
   pub before : List (List ℕ)
   pub split : lines_of text ≡ before ++ after
   pub prepares : Prepares beginning before settings
   pub ready : IsReady after
 
--- A whole script: lines that set, the device started, lines that act, and last the line of the image.
+-- A whole script of at most 16,777,216 bytes: lines that set, the device started, lines that act, and last the line of the image.
 pub record IsRun (text out : List ℕ) : Type 0 where
+  pub small : length text ≤ 16777216
   pub settings : Settings
   pub after : List (List ℕ)
   pub sets_up : SetsUp text settings after

@@ -1,14 +1,13 @@
 -- What the setup of the code stands for.
-use Rattle.std.specs.Prelude.{ℕ, List, [], ◌∷◌, Option, Some, None}
-use Rattle.dfu_link.specs.Said.{hex_bytes}
+use Rattle.std.specs.Prelude.{ℕ, List, [], ◌∷◌, Option, Some, None, Vec}
+use Rattle.std.specs.declared.alloc.Global.{Global}
 use Rattle.dfu_link.specs.ScriptRun.{Settings}
-use Rattle.dfu_link.specs.declared.scripting.hex_text.HexText.{HexText}
 use Rattle.dfu_link.specs.declared.scripting.setup.Setup.{Setup}
 
--- The image that a text stands for; with no text it is the byte 00.
-abbrev pub image_bytes : Option HexText → List ℕ
+-- The image at first; where none is set it is the byte 00.
+abbrev pub image_bytes : Option (Vec ℕ Global) → List ℕ
 image_bytes None = 0 ∷ []
-image_bytes (Some text) = hex_bytes text
+image_bytes (Some image) = image.items
 
 -- What is set.
 abbrev pub settings_of : Setup → Settings

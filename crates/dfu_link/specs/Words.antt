@@ -25,6 +25,11 @@ Reads view (Some x) read = read ≡ Some (view x)
 abbrev pub is_newline : ℕ → Bool
 is_newline byte = byte == 10
 
+-- No line ends in these bytes.
+abbrev pub endless : List ℕ → Bool
+endless [] = true
+endless (byte ∷ bytes) = if is_newline byte then false else endless bytes
+
 -- The lines of a text: each ends at a byte 0Ah, which the last may lack.
 abbrev pub lines_of : List ℕ → List (List ℕ)
 lines_of [] = []

@@ -1,28 +1,54 @@
 //! The lines of a script once the device is started.
 //!
 //! A `World` borrows the file that it was offered, so each session has a world of its own, which is
-//! made over the device and taken apart again. Hence the two matches over what a line says: `act`
-//! has a device and no session, `live_line` has the world of the session that is live.
+//! made over the device and taken apart again.
 
-ghost use Rattle.std.specs.Prelude.{◌+◌, ◌≤◌, ◌∷◌, length, OnOk, IfOk, IfErr};
-ghost use Rattle.dfu_link.specs.Words.{lines_of};
+ghost use Rattle.std.specs.Prelude.{◌≡◌, ◌≤◌, OnOk, IfOk, IfErr, IfSome};
 ghost use Rattle.dfu_link.specs.Refusing.{IsLive};
 ghost use Rattle.dfu_link.specs.ScriptRun.{at_rest, point};
-ghost use Rattle.dfu_link.specs.Falls.{LineFalls, RunFalls};
-ghost use Rattle.dfu_link.specs.Moving.{Steps, Ends, LinesDone, IsUnarmed, with_first, number_of_first};
+ghost use Rattle.dfu_link.specs.Falls.{LineFalls};
+ghost use Rattle.dfu_link.specs.Source.{Next, GivesLine, SourceState};
+ghost use Rattle.dfu_link.specs.Moving.{Steps, Ends, LinesDone, IsUnarmed, Plainly, PlainlyFalls, MovesAndFalls};
 
 use crate::scripting::fault::ScriptFault;
-use crate::scripting::line::Line;
-use crate::scripting::lines::{Lines, next_line};
+use crate::scripting::line::{EventLine, Line};
 use crate::scripting::playing::{file_of, play_events, play_live, tear_of};
 use crate::scripting::reading::parse;
 use crate::scripting::showing::{write_image, write_show};
+use crate::scripting::source::Source;
 use crate::world::World;
 use dfu_device::Device;
 use dfu_host::Limits;
-use dfu_slots::Faulty;
+use dfu_slots::{Faulty, Medium};
 use std::alloc::Global;
-use std::io::Write;
+use std::io::{Read, Write};
+
+/// Does a line but for its events, which it gives.
+fn plain_line<'l, M: Medium, W: Write>(
+    device: &Device<M>,
+    line: &'l [u8],
+    number: u32,
+    limits: &mut Limits,
+    writer: &mut W,
+) -> Result<Option<EventLine<'l>>, ScriptFault>
+    ensures ok { IfOk result (λ events. Plainly device.now limits.old line.now (W.contents writer.old) events limits.new (W.contents writer.new)) }
+    ensures fault { IfErr result (λ f. PlainlyFalls device.now limits.old number line.now (W.contents writer.old) (W.contents writer.new) f) }
+{
+    match parse(line) {
+        None => Err(ScriptFault::BadLine(number)),
+        Some(Line::Blank) => Ok(None),
+        Some(Line::Set(_)) => Err(ScriptFault::LateConfig(number)),
+        Some(Line::Limits { actions, restarts }) => {
+            *limits = Limits { actions, restarts };
+            Ok(None)
+        }
+        Some(Line::Show) => {
+            write_show(writer, device)?;
+            Ok(None)
+        }
+        Some(Line::Do(events)) => Ok(Some(events)),
+    }
+}
 
 /// Does a line while a session is live.
 fn live_line<'f, M: Faulty, W: Write>(
@@ -39,37 +65,29 @@ fn live_line<'f, M: Faulty, W: Write>(
     ensures fault { IfErr result (λ f. LineFalls (point limits.old world.old.bench) number line.now (W.contents writer.old)
         (W.contents writer.new) f) }
 {
-    match parse(line) {
-        None => Err(ScriptFault::BadLine(number)),
-        Some(Line::Blank) => Ok(()),
-        Some(Line::Set(_)) => Err(ScriptFault::LateConfig(number)),
-        Some(Line::Limits { actions, restarts }) => {
-            *limits = Limits { actions, restarts };
-            Ok(())
-        }
-        Some(Line::Do(events)) => {
-            let torn = tear_of(alloc, events)?;
-            play_live(world, events, &torn, *limits, writer)?;
-            Ok(())
-        }
-        Some(Line::Show) => write_show(writer, world.device()),
+    let plain = plain_line(world.device(), line, number, limits, writer)?;
+    if let Some(events) = plain {
+        let torn = tear_of(alloc, events)?;
+        play_live(world, events, &torn, *limits, writer)?;
     }
+    Ok(())
 }
 
 /// Does lines until no session is live, and gives the device back; or all that are left, and then
 /// writes the line of the image.
-fn follow<'f, M: Faulty, W: Write>(
+fn follow<'f, R: Read + Drop, M: Faulty, W: Write>(
     alloc: Global,
     world: World<'f, M>,
-    lines: &mut Lines<'_>,
+    source: &mut Source<R>,
     limits: &mut Limits,
     writer: &mut W,
 ) -> Result<Option<Device<M>>, ScriptFault>
-    ensures shrinks { length lines.new.rest.now ≤ length lines.old.rest.now }
-    ensures ok { IfOk result (λ d. LinesDone (point limits.old world.entry.bench) (lines.old.number + 1) (lines_of lines.old.rest.now)
-        (W.contents writer.old) d (point limits.new) (lines.new.number + 1) (lines_of lines.new.rest.now) (W.contents writer.new)) }
-    ensures fault { IfErr result (λ f. RunFalls (point limits.old world.entry.bench) (lines.old.number + 1) (lines_of lines.old.rest.now)
-        (W.contents writer.old) (W.contents writer.new) f) }
+    ensures room { source.new.room ≤ source.old.room }
+    ensures unarmed { IfOk result (λ d. IfSome d (λ d. IsUnarmed d)) }
+    ensures ok { IfOk result (λ d. LinesDone (point limits.old world.entry.bench) source.old (W.contents writer.old) d (point limits.new)
+        source.new (W.contents writer.new)) }
+    ensures fault { IfErr result (λ f. MovesAndFalls (point limits.old world.entry.bench) source.old (W.contents writer.old)
+        (W.contents writer.new) f) }
 {
     let mut world = world;
     'lines: loop {
@@ -77,80 +95,68 @@ fn follow<'f, M: Faulty, W: Write>(
             Ok(device) => return Ok(Some(device)),
             Err(live) => world = live,
         }
-        match next_line(lines) {
-            None => {
-                write_image(writer, world.device())?;
-                return Ok(None);
-            }
-            Some(line) => live_line(alloc, &mut world, line, lines.number, limits, writer)?,
+        if !source.next()? {
+            write_image(writer, world.device())?;
+            return Ok(None);
         }
+        live_line(alloc, &mut world, source.line(), source.number(), limits, writer)?;
     }
 }
 
-/// Does a line while no session is live, and those after it until the session that it begins is
-/// over. The device is given back, unless all lines were done first.
-fn act<M: Faulty, W: Write>(
+/// Does the line that the source gave while no session is live, and those after it until the session
+/// that it begins is over. The device is given back, unless all lines were done first.
+fn act<R: Read + Drop, M: Faulty, W: Write>(
     alloc: Global,
     device: Device<M>,
-    line: &[u8],
-    lines: &mut Lines<'_>,
+    source: &mut Source<R>,
     limits: &mut Limits,
     writer: &mut W,
 ) -> Result<Option<Device<M>>, ScriptFault>
     requires { IsUnarmed device }
-    ensures shrinks { length lines.new.rest.now ≤ length lines.old.rest.now }
-    ensures ok { IfOk result (λ d. LinesDone (point limits.old (at_rest device)) lines.old.number (line.now ∷ lines_of lines.old.rest.now)
-        (W.contents writer.old) d (point limits.new) (lines.new.number + 1) (lines_of lines.new.rest.now) (W.contents writer.new)) }
-    ensures fault { IfErr result (λ f. RunFalls (point limits.old (at_rest device)) lines.old.number
-        (line.now ∷ lines_of lines.old.rest.now) (W.contents writer.old) (W.contents writer.new) f) }
+    ensures room { source.new.room ≤ source.old.room }
+    ensures unarmed { IfOk result (λ d. IfSome d (λ d. IsUnarmed d)) }
+    ensures ok { IfOk result (λ d. (s : SourceState) → GivesLine s source.old → LinesDone (point limits.old (at_rest device)) s
+        (W.contents writer.old) d (point limits.new) source.new (W.contents writer.new)) }
+    ensures fault { IfErr result (λ f. (s : SourceState) → GivesLine s source.old → MovesAndFalls (point limits.old (at_rest device)) s
+        (W.contents writer.old) (W.contents writer.new) f) }
 {
-    match parse(line) {
-        None => Err(ScriptFault::BadLine(lines.number)),
-        Some(Line::Blank) => Ok(Some(device)),
-        Some(Line::Set(_)) => Err(ScriptFault::LateConfig(lines.number)),
-        Some(Line::Limits { actions, restarts }) => {
-            *limits = Limits { actions, restarts };
-            Ok(Some(device))
-        }
-        Some(Line::Show) => {
-            write_show(writer, &device)?;
-            Ok(Some(device))
-        }
-        Some(Line::Do(events)) => {
-            let file = file_of(alloc, events)?;
-            let torn = tear_of(alloc, events)?;
-            let mut world = World::new(alloc, device);
-            play_events(&mut world, events, &file, &torn, *limits, writer)?;
-            let after = follow(alloc, world, lines, limits, writer)?;
-            Ok(after)
-        }
-    }
+    let plain = plain_line(&device, source.line(), source.number(), limits, writer)?;
+    let Some(events) = plain else {
+        return Ok(Some(device));
+    };
+    let file = file_of(alloc, events)?;
+    let torn = tear_of(alloc, events)?;
+    let mut world = World::new(alloc, device);
+    play_events(&mut world, events, &file, &torn, *limits, writer)?;
+    let after = follow(alloc, world, source, limits, writer)?;
+    Ok(after)
 }
 
-/// Does the lines from `first` on, and then writes the line of the image.
-pub(crate) fn run_on<M: Faulty, W: Write>(
+/// Does the lines from the one that the source gave on, if it did, and then writes the line of the
+/// image.
+pub(crate) fn run_on<R: Read + Drop, M: Faulty, W: Write>(
     alloc: Global,
     device: Device<M>,
-    first: Option<&[u8]>,
-    lines: &mut Lines<'_>,
+    source: &mut Source<R>,
+    given: bool,
     limits: Limits,
     writer: &mut W,
 ) -> Result<(), ScriptFault>
     requires { IsUnarmed device }
-    ensures ok { OnOk result (Ends (point limits (at_rest device)) (with_first first.entry (lines_of lines.old.rest.now))
+    ensures ok { OnOk result ((s : SourceState) → Next s given source.old → Ends (point limits (at_rest device)) s
         (W.contents writer.old) (W.contents writer.new)) }
-    ensures fault { IfErr result (λ f. RunFalls (point limits (at_rest device)) (number_of_first first.entry lines.old.number)
-        (with_first first.entry (lines_of lines.old.rest.now)) (W.contents writer.old) (W.contents writer.new) f) }
+    ensures fault { IfErr result (λ f. (s : SourceState) → Next s given source.old → MovesAndFalls (point limits (at_rest device)) s
+        (W.contents writer.old) (W.contents writer.new) f) }
 {
     let mut device = device;
     let mut limits = limits;
-    let mut next = first;
-    while let Some(line) = next {
-        match act(alloc, device, line, lines, &mut limits, writer)? {
+    let mut more = given;
+    while more {
+        match act(alloc, device, source, &mut limits, writer)? {
             Some(after) => device = after,
             None => return Ok(()),
         }
-        next = next_line(lines);
+        more = source.next()?;
     }
     write_image(writer, &device)
 }

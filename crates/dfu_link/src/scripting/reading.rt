@@ -12,7 +12,7 @@ use crate::scripting::line_forms::{capacity, device, go, ids, image, limits, off
 use crate::scripting::words::word_at;
 
 /// The most bytes of a line, without its 0Ah.
-const MAX_LINE: usize = 65_536;
+pub(crate) const MAX_LINE: usize = 65_536;
 
 fn by_keyword(keyword: Keyword, rest: &[u8]) -> Option<Line<'_>>
     ensures { Reads said_of result (by_keyword keyword (words_of rest.now)) }

@@ -1,20 +1,22 @@
 //! What is set before the first event line or `show`.
 
-ghost use Rattle.std.specs.Prelude.{◌≡◌};
+ghost use Rattle.std.specs.Prelude.{◌≡◌, OnOk, IfErr};
 ghost use Rattle.dfu_link.specs.Said.{config_line_of};
 ghost use Rattle.dfu_link.specs.ScriptRun.{set, beginning};
 ghost use Rattle.dfu_link.specs.SetupView.{settings_of};
 
-use crate::scripting::hex_text::HexText;
+use crate::scripting::fault::ScriptFault;
 use crate::scripting::line::{ConfigLine, Room};
+use crate::scripting::starting::bytes_of;
 use dfu_host::Limits;
 use dfu_slots::Unit;
 use dfu_wire::{Functional, Ids};
+use std::alloc::Global;
 
 /// What is set: what `Config::new` takes, the unit in which the medium is written, how many bytes an
 /// image may have, the image at first (the byte 00 where there is none), and the limits of sessions.
-#[derive(Clone, Copy)]
-pub(crate) struct Setup<'t> {
+#[derive(Drop)]
+pub(crate) struct Setup {
     pub ids: Ids,
     pub functional: Functional,
     pub least: u32,
@@ -22,12 +24,12 @@ pub(crate) struct Setup<'t> {
     pub manifest_ms: u32,
     pub unit: Unit,
     pub room: Room,
-    pub image: Option<HexText<'t>>,
+    pub image: Option<Vec<u8>>,
     pub limits: Limits,
 }
 
 /// What holds where no line sets anything else.
-pub(crate) fn beginning<'t>() -> Setup<'t>
+pub(crate) fn beginning() -> Setup
     ensures { settings_of result ≡ beginning }
 {
     Setup {
@@ -58,9 +60,14 @@ pub(crate) fn beginning<'t>() -> Setup<'t>
     }
 }
 
-/// Does what a configuration line says.
-pub(crate) fn set<'t>(setup: &mut Setup<'t>, setting: ConfigLine<'t>)
-    ensures { settings_of setup.new ≡ set (settings_of setup.old) (config_line_of setting.entry) }
+/// Does what a configuration line says. It takes memory for an image alone.
+pub(crate) fn set(
+    alloc: Global,
+    setup: &mut Setup,
+    setting: ConfigLine<'_>,
+) -> Result<(), ScriptFault>
+    ensures ok { OnOk result (settings_of setup.new ≡ set (settings_of setup.old) (config_line_of setting.entry)) }
+    ensures fault { IfErr result (λ f. f ≡ ScriptFault.NoMemory) }
 {
     match setting {
         ConfigLine::Ids(ids) => setup.ids = ids,
@@ -70,22 +77,20 @@ pub(crate) fn set<'t>(setup: &mut Setup<'t>, setting: ConfigLine<'t>)
             busy_ms,
             manifest_ms,
         } => {
-            *setup = Setup {
-                functional,
-                least,
-                busy_ms,
-                manifest_ms,
-                ..*setup
-            };
+            setup.functional = functional;
+            setup.least = least;
+            setup.busy_ms = busy_ms;
+            setup.manifest_ms = manifest_ms;
         }
         ConfigLine::Unit(unit) => setup.unit = unit,
         ConfigLine::Capacity(room) => setup.room = room,
-        ConfigLine::Image(text) => setup.image = Some(text),
+        ConfigLine::Image(text) => setup.image = Some(bytes_of(alloc, text)?),
     }
+    Ok(())
 }
 
 /// Sets the limits of sessions.
-pub(crate) fn set_limits(setup: &mut Setup<'_>, limits: Limits)
+pub(crate) fn set_limits(setup: &mut Setup, limits: Limits)
     ensures { settings_of setup.new ≡ record (settings_of setup.old) { limits = limits } }
 {
     setup.limits = limits;

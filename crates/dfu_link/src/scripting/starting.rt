@@ -32,16 +32,12 @@ pub(crate) fn bytes_of(alloc: Global, text: HexText<'_>) -> Result<Vec<u8>, Scri
 }
 
 /// The image at first.
-fn first_image(alloc: Global, text: Option<HexText<'_>>) -> Result<Vec<u8>, ScriptFault>
-    ensures ok { IfOk result (λ v. v.items ≡ image_bytes text.entry) }
-    ensures fault { IfErr result (λ f. f ≡ ScriptFault.NoMemory) }
+fn first_image(setup: &Setup) -> &[u8]
+    ensures { result.now ≡ image_bytes setup.now.image }
 {
-    match text {
-        Some(text) => bytes_of(alloc, text),
-        None => match Vec::from_slice(alloc, &[0]) {
-            Ok(image) => Ok(image),
-            Err(_) => Err(ScriptFault::NoMemory),
-        },
+    match &setup.image {
+        Some(image) => image,
+        None => &[0],
     }
 }
 
@@ -80,7 +76,7 @@ fn form(
 }
 
 /// Starts the device, in appIDLE on a formatted medium in memory.
-pub(crate) fn start(alloc: Global, setup: &Setup<'_>) -> Result<Device<SimMedium>, ScriptFault>
+pub(crate) fn start(alloc: Global, setup: &Setup) -> Result<Device<SimMedium>, ScriptFault>
     ensures ok { IfOk result (λ d. Starts (settings_of setup.now) d) }
     ensures unarmed { IfOk result (λ d. IsUnarmed d) }
     ensures fault { IfErr result (λ f. StartFalls (settings_of setup.now) f) }
@@ -95,7 +91,6 @@ pub(crate) fn start(alloc: Global, setup: &Setup<'_>) -> Result<Device<SimMedium
     let Ok(config) = config else {
         return Err(ScriptFault::BadConfig);
     };
-    let image = first_image(alloc, setup.image)?;
-    let slots = form(alloc, setup.unit, setup.room, &image)?;
+    let slots = form(alloc, setup.unit, setup.room, first_image(setup))?;
     Ok(Device::start(config, slots))
 }

@@ -1,91 +1,80 @@
 //! Whole scripts.
 
-ghost use Rattle.std.specs.Prelude.{◌+◌, ◌≤◌, length, OnOk, OnErr, IfOk, IfErr, IfSome};
-ghost use Rattle.dfu_link.specs.Words.{lines_of};
-ghost use Rattle.dfu_link.specs.ScriptRun.{IsReady, WroteRun};
-ghost use Rattle.dfu_link.specs.Falls.{SettingFalls, Falls};
+ghost use Rattle.std.specs.Prelude.{◌≤◌, OnOk, OnErr, IfOk, IfErr, IfSome};
+ghost use Rattle.dfu_link.specs.ScriptRun.{WroteRun};
+ghost use Rattle.dfu_link.specs.Falls.{Falls};
 ghost use Rattle.dfu_link.specs.ScriptLegal.{WroteLegal, StopsLegally};
-ghost use Rattle.dfu_link.specs.Moving.{Prepared, with_first, number_of_first};
+ghost use Rattle.dfu_link.specs.Moving.{Configured, CannotConfigure};
 ghost use Rattle.dfu_link.specs.SetupView.{settings_of};
 
 use crate::laws::image_shown;
 use crate::scripting::after_start::run_on;
 use crate::scripting::fault::ScriptFault;
-use crate::scripting::gather::gather_text;
 use crate::scripting::line::Line;
-use crate::scripting::lines::{Lines, next_line};
 use crate::scripting::reading::parse;
 use crate::scripting::setup::{Setup, beginning, set, set_limits};
+use crate::scripting::source::Source;
 use crate::scripting::starting::start;
 use dfu_host::Limits;
 use std::alloc::Global;
 use std::io::{Read, Write};
 
-/// Does the lines up to the first event line or `show`, which is given as it stands: what comes after
-/// speaks of lines as bytes, and reads it again.
-fn configure<'t>(
-    setup: &mut Setup<'t>,
-    lines: &mut Lines<'t>,
-) -> Result<Option<&'t [u8]>, ScriptFault>
-    ensures ok { IfOk result (λ first. Prepared (settings_of setup.old) (lines.old.number + 1) (lines_of lines.old.rest.now)
-        (settings_of setup.new) (number_of_first first lines.new.number) (with_first first (lines_of lines.new.rest.now))) }
-    ensures ready { IfOk result (λ first. IsReady (with_first first (lines_of lines.new.rest.now))) }
-    ensures fault { IfErr result (λ f. SettingFalls (settings_of setup.old) (lines.old.number + 1) (lines_of lines.old.rest.now) f) }
+/// Does the lines up to the first event line or `show`, and tells whether there is one.
+fn configure<R: Read + Drop>(
+    alloc: Global,
+    setup: &mut Setup,
+    source: &mut Source<R>,
+) -> Result<bool, ScriptFault>
+    ensures ok { IfOk result (λ more. Configured (settings_of setup.old) source.old (settings_of setup.new) more source.new) }
+    ensures fault { IfErr result (λ f. CannotConfigure (settings_of setup.old) source.old f) }
 {
-    'settings: while let Some(line) = next_line(lines) {
-        match parse(line) {
-            None => return Err(ScriptFault::BadLine(lines.number)),
+    'settings: loop {
+        if !source.next()? {
+            return Ok(false);
+        }
+        match parse(source.line()) {
+            None => return Err(ScriptFault::BadLine(source.number())),
             Some(Line::Blank) => {}
-            Some(Line::Set(setting)) => set(setup, setting),
+            Some(Line::Set(setting)) => set(alloc, setup, setting)?,
             Some(Line::Limits { actions, restarts }) => {
                 set_limits(setup, Limits { actions, restarts });
             }
-            Some(Line::Do(_)) => return Ok(Some(line)),
-            Some(Line::Show) => return Ok(Some(line)),
+            Some(Line::Do(_)) => return Ok(true),
+            Some(Line::Show) => return Ok(true),
         }
     }
-    Ok(None)
 }
 
-/// Runs a text.
-fn run_text<W: Write>(alloc: Global, text: &[u8], writer: &mut W) -> Result<(), ScriptFault>
-    requires { length text.now ≤ 16777216 }
-    ensures ok { OnOk result (WroteRun text.now (W.contents writer.old) (W.contents writer.new)) }
-    ensures fault { IfErr result (λ f. Falls text.now (W.contents writer.old) (W.contents writer.new) f) }
+/// Runs what a reader gives.
+fn run_lines<R: Read + Drop, W: Write>(
+    alloc: Global,
+    reader: R,
+    writer: &mut W,
+) -> Result<(), ScriptFault>
+    ensures ok { IfSome (R.remaining reader) (λ text. OnOk result (WroteRun text (W.contents writer.old) (W.contents writer.new))) }
+    ensures fault { IfSome (R.remaining reader) (λ text. IfErr result (λ f. Falls text (W.contents writer.old) (W.contents writer.new) f)) }
 {
-    let mut lines = Lines {
-        rest: text,
-        number: 0,
-    };
+    let mut source = Source::new(alloc, reader)?;
     let mut setup = beginning();
-    let first = configure(&mut setup, &mut lines)?;
+    let given = configure(alloc, &mut setup, &mut source)?;
     let device = start(alloc, &setup)?;
-    run_on(alloc, device, first, &mut lines, setup.limits, writer)
+    run_on(alloc, device, &mut source, given, setup.limits, writer)
 }
 
-/// The same, with the session machine beside it.
-fn run_legally<W: Write>(alloc: Global, text: &[u8], writer: &mut W) -> Result<(), ScriptFault>
-    requires { length text.now ≤ 16777216 }
-    ensures ok { OnOk result (WroteRun text.now (W.contents writer.old) (W.contents writer.new)) }
-    ensures fault { IfErr result (λ f. Falls text.now (W.contents writer.old) (W.contents writer.new) f) }
-    ensures legal { OnOk result (WroteLegal text.now (W.contents writer.old) (W.contents writer.new)) }
-    ensures stopped { OnErr result (StopsLegally text.now (W.contents writer.old) (W.contents writer.new)) }
-{
-    // Called for its law, which `legal` needs: no image but the one that is shown is active.
-    image_shown();
-    run_text(alloc, text, writer)
-}
-
-/// Runs a script: reads the whole text, and then does its lines one after the other. Configuration
-/// lines set up a device, event lines let events come to a link of that device and a host, and what
+/// Runs a script: reads it line by line, and does each line before the next one is read. Lines that
+/// set set up a device, event lines let events come to a link of that device and a host, and what
 /// is printed of them is written; last comes the line of the device's image.
+///
+/// It keeps one line, one piece of 65,536 bytes that was read, and the file of the session that is
+/// live, however long the text is.
 ///
 /// # Errors
 ///
-/// `ScriptFault` has them. TooLarge comes once byte 16,777,217 was read, and no read is made after
-/// that; Read at the first error of the reader, with no second try. With these two and BadConfig
-/// nothing is written; with BadLine and LateConfig the text of the lines before, whole; with NoMemory
-/// nothing, or the text of the lines before, whole; with Write a front of the text.
+/// `ScriptFault` has them. The first one in the order of the lines is answered, and the text of the
+/// lines before it is out whole. TooLarge comes where the byte 16,777,217 comes before the end of a
+/// line, and before the byte of that line that is one too many; no read is made after that byte was
+/// read. Read comes at the first error of the reader, with no second try. With BadConfig nothing is
+/// written; with Write a front of the text.
 pub fn script<R: Read + Drop, W: Write>(
     alloc: Global,
     reader: R,
@@ -101,6 +90,7 @@ pub fn script<R: Read + Drop, W: Write>(
     ensures stopped { IfSome (R.remaining reader)
         (λ text. OnErr result (StopsLegally text (W.contents writer.old) (W.contents writer.new))) }
 {
-    let text = gather_text(alloc, reader)?;
-    run_legally(alloc, &text, writer)
+    // Called for its law, which `legal` needs: no image but the one that is shown is active.
+    image_shown();
+    run_lines(alloc, reader, writer)
 }

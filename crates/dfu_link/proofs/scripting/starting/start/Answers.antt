@@ -10,7 +10,7 @@ returns-in_default-clause-fault c = refused c.in_default.field-0 c.in_default.en
 pub returns-clause-ok : goal.returns-clause-ok
 returns-clause-ok c =
     let setup = c.args.setup.now in
-    let image : c.deref.result.now ≡ image_bytes setup.image = c.deref.ensures.value ∙ c.in_ok-image.ensures.ok in
+    let image : c.first_image.result.now ≡ image_bytes setup.image = c.first_image.ensures in
     let formed : Formed setup.unit setup.room.bytes (image_bytes setup.image) c.in_ok-slots.slots = subst
     (λ (bytes : List ℕ). Formed setup.unit setup.room.bytes bytes c.in_ok-slots.slots) image c.in_ok-slots.ensures.ok in
     rw c.start.ensures (record {

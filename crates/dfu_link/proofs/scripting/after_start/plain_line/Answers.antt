@@ -1,0 +1,26 @@
+use Rattle.std.proofs.Common.{◌∙◌, sym, ap, subst, Some}
+use Rattle.std.specs.Io.KnownBytes.{Appends}
+use Rattle.dfu_device.specs.Shown.{Shown}
+use Rattle.dfu_link.specs.Said.{said_of}
+use Rattle.dfu_link.specs.Texts.{show_line}
+use Rattle.dfu_link.specs.ScriptRun.{point}
+use Rattle.dfu_link.specs.declared.scripting.line.Line.{Line}
+use Rattle.dfu_link.proofs.MoveLaws.{step_blank, step_limits, step_shows}
+use Rattle.dfu_link.proofs.scripting.after_start.plain_line.Goals as goal
+
+pub returns-in-Some-Blank-clause-ok : goal.returns-in-Some-Blank-clause-ok
+returns-in-Some-Blank-clause-ok g c = λ b e. step_blank (point c.args.limits.now b) c.args.line.now
+    (g.W.Write.contents c.args.writer.now) (c.in-Some-Blank.ensures ∙ ap (λ (s : Line). Some (said_of s)) c.in-Some-Blank.field-0-is)
+
+pub returns-in-Some-Limits-clause-ok : goal.returns-in-Some-Limits-clause-ok
+returns-in-Some-Limits-clause-ok g c = λ b e. step_limits (point c.args.limits.now b) c.args.line.now
+    (g.W.Write.contents c.args.writer.now) c.in-Some-Limits.actions c.in-Some-Limits.restarts
+    (c.in-Some-Limits.ensures ∙ ap (λ (s : Line). Some (said_of s)) c.in-Some-Limits.field-0-is)
+
+pub returns-in_ok-write_show-in-Some-Show-clause-ok : goal.returns-in_ok-write_show-in-Some-Show-clause-ok
+returns-in_ok-write_show-in-Some-Show-clause-ok g c =
+    let old = g.W.Write.contents c.args.writer.now in
+    let new = g.W.Write.contents c.write_show.new.writer in
+    λ b e. step_shows c.args.limits.now b c.args.line.now old new
+        (c.in-Some-Show.ensures ∙ ap (λ (s : Line). Some (said_of s)) c.in-Some-Show.field-0-is)
+        (subst (λ (d : Shown). Appends old new (show_line d)) (sym e) c.in_ok-write_show-in-Some-Show.ensures.ok)

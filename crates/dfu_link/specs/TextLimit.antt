@@ -1,0 +1,38 @@
+-- The limit of a text, and where reading it line by line ends.
+use Rattle.std.specs.Prelude.{◌≡◌, ℕ, ◌-◌, ◌<◌, ◌≤◌, List, ◌∷◌, ◌++◌, length, take, true, None}
+use Rattle.dfu_link.specs.Words.{endless, lines_of}
+use Rattle.dfu_link.specs.Lines.{line_of}
+use Rattle.dfu_link.specs.declared.scripting.fault.ScriptFault.{ScriptFault}
+use Rattle.dfu_link.specs.declared.scripting.fault.ScriptFault.TheVariants.{BadLine, TooLarge, Read}
+
+-- A text begins with these lines, which end within its first 16,777,216 bytes, and this is left of it.
+pub record Begins (text : List ℕ) (lines : List (List ℕ)) : Type 0 where
+  pub front : List ℕ
+  pub left : List ℕ
+  pub split : text ≡ front ++ left
+  pub are : lines_of text ≡ lines ++ lines_of left
+  pub within : length front ≤ 16777216
+
+-- Where so many bytes may be read, what is left goes over in its first line: the line doesn't end within them, nor does it have over 65,536.
+pub record GoesOver (room : ℕ) (left : List ℕ) : Type 0 where
+  pub over : room < length left
+  pub short : room ≤ 65536
+  pub no_end : endless (take room left) ≡ true
+
+-- Reading ends in the first line of what is left: where it goes over, for that alone; or else the reader fails, or the line has a fault.
+abbrev pub IsStopped : ℕ → List ℕ → ScriptFault → Type 0
+IsStopped room left TooLarge = GoesOver room left
+IsStopped room left Read = Unit {0}
+IsStopped room left fault = ¬ GoesOver room left
+
+-- Reading a text ends in the line after these.
+abbrev pub StopsAfter : List ℕ → List (List ℕ) → ScriptFault → Type 0
+StopsAfter text lines fault = (b : Begins text lines) × IsStopped (16777216 - length b.front) b.left fault
+
+-- Of these lines, the first of them line k, reading gives none of the language: the text goes over its limit, the reader fails, or line k is
+-- none.
+abbrev pub GivesNone : ℕ → List (List ℕ) → ScriptFault → Type 0
+GivesNone k lines TooLarge = Unit {0}
+GivesNone k lines Read = Unit {0}
+GivesNone k (line ∷ lines) (BadLine n) = (n ≡ k) × (line_of line ≡ None)
+GivesNone k lines fault = ⊥

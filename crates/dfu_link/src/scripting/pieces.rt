@@ -1,0 +1,89 @@
+//! The bytes of a reader, a piece at a time.
+
+ghost use Rattle.std.specs.Prelude.{◌≡◌, ◌≤◌, [], length, take, drop, OnOk, IfErr, IfSome};
+ghost use Rattle.std.specs.Io.KnownBytes.{Keeps, Consumes, IsAtEnd, prepend_known};
+
+use crate::scripting::fault::ScriptFault;
+use std::io::Read;
+use std::marker::Model;
+
+/// How many bytes are asked for at a time.
+const PIECE: usize = 65_536;
+
+/// A reader, and the bytes that it gave and that were not taken yet.
+///
+/// Contracts see it as a `PiecesState`.
+#[derive(Drop)]
+pub(crate) struct Pieces<R: Read + Drop> {
+    reader: R,
+    bytes: [u8; PIECE],
+    from: usize,
+    to: usize,
+    ended: bool,
+}
+
+impl<R: Read + Drop> Model for Pieces<R> {
+    ghost use Rattle.std.specs.Prelude.{◌≡◌, ◌≤◌, slice_range, true};
+    ghost use Rattle.std.specs.Io.KnownBytes.{IsAtEnd, prepend_known};
+    ghost use Rattle.dfu_link.specs.Source.{PiecesState};
+
+    ghost Value = { PiecesState };
+
+    ghost view = { λ p. record { ready = slice_range p.bytes p.from p.to; left = prepend_known (slice_range p.bytes p.from p.to) (R.remaining p.reader) } };
+
+    ghost invariant = { λ p. (p.from ≤ p.to) × (p.to ≤ 65536) × (p.ended ≡ true → IsAtEnd (R.remaining p.reader)) };
+}
+
+impl<R: Read + Drop> Pieces<R> {
+    /// A reader of which nothing was read.
+    pub(crate) fn new(reader: R) -> Pieces<R>
+        ensures ready { result.ready ≡ [] }
+        ensures left { result.left ≡ prepend_known [] (R.remaining reader) }
+    {
+        Pieces {
+            reader,
+            bytes: [0; PIECE],
+            from: 0,
+            to: 0,
+            ended: false,
+        }
+    }
+
+    /// Has a byte at hand, unless the reader has none left. It makes one read at most, and none once
+    /// the end was seen.
+    pub(crate) fn fill(&mut self) -> Result<(), ScriptFault>
+        ensures left { Keeps self.old.left self.new.left }
+        ensures front { IfSome self.new.left (λ left. length self.new.ready ≤ length left) }
+        ensures end { OnOk result (self.new.ready ≡ [] → IsAtEnd self.new.left) }
+        ensures fault { IfErr result (λ f. f ≡ ScriptFault.Read) }
+    {
+        if self.from < self.to || self.ended {
+            return Ok(());
+        }
+        match self.reader.read(&mut self.bytes) {
+            Ok(taken) => {
+                self.from = 0;
+                self.to = taken;
+                self.ended = taken == 0;
+                Ok(())
+            }
+            Err(_) => Err(ScriptFault::Read),
+        }
+    }
+
+    /// The bytes at hand.
+    pub(crate) fn ready(&self) -> &[u8]
+        ensures { result.now ≡ self.now.ready }
+    {
+        &self.bytes[self.from..self.to]
+    }
+
+    /// Takes so many of them.
+    pub(crate) fn advance(&mut self, count: usize)
+        requires { count ≤ length self.old.ready }
+        ensures ready { self.new.ready ≡ drop count self.old.ready }
+        ensures left { Consumes self.old.left self.new.left (take count self.old.ready) }
+    {
+        self.from += count;
+    }
+}

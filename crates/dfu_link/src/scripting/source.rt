@@ -1,0 +1,190 @@
+//! The lines of a script, one after the other.
+
+ghost use Rattle.std.specs.Prelude.{◌≡◌, ◌≤◌, ◌<◌, ◌+◌, ◌++◌, [], length, vec_capacity, IfOk, IfErr, Ok, true};
+ghost use Rattle.std.specs.Io.KnownBytes.{prepend_known};
+ghost use Rattle.std.specs.List.{position};
+ghost use Rattle.dfu_link.specs.Words.{is_newline};
+ghost use Rattle.dfu_link.specs.Source.{Next, StopsSource, TakesPiece, source_state};
+
+use crate::scripting::fault::ScriptFault;
+use crate::scripting::pieces::Pieces;
+use crate::scripting::reading::MAX_LINE;
+use std::alloc::Global;
+use std::io::Read;
+use std::marker::Model;
+
+/// The most bytes of a text.
+const MAX_TEXT: u32 = 16_777_216;
+
+/// What a reader gives, line by line. It holds the line that was given last, in a buffer that is
+/// reserved once, and of the text no more than a piece.
+///
+/// Contracts see it as a `SourceState`.
+#[derive(Drop)]
+pub(crate) struct Source<R: Read + Drop> {
+    pieces: Pieces<R>,
+    // How many bytes may still be taken.
+    room: u32,
+    number: u32,
+    line: Vec<u8>,
+}
+
+impl<R: Read + Drop> Model for Source<R> {
+    ghost use Rattle.std.specs.Prelude.{◌≤◌, ◌+◌, vec_capacity};
+    ghost use Rattle.dfu_link.specs.Source.{SourceState};
+
+    ghost Value = { SourceState };
+
+    ghost view = { λ s. record { left = s.pieces.left; room = s.room; number = s.number; line = s.line.items } };
+
+    ghost invariant = { λ s. (s.number + s.room ≤ 16777216) × (65537 ≤ vec_capacity s.line) };
+}
+
+/// Where a line ends.
+fn newline_at(text: &[u8]) -> Option<usize>
+    ensures { result ≡ position is_newline text.now }
+{
+    text.iter().position(|byte| *byte == b'\n')
+}
+
+/// How many bytes were taken, and whether the last of them is the 0Ah of the line.
+#[derive(Clone, Copy)]
+struct Taken {
+    bytes: u32,
+    ended: bool,
+}
+
+/// Puts a piece to the end of a line that has room for it.
+fn put(line: &mut Vec<u8>, piece: &[u8])
+    requires room { length line.old.items + length piece.now ≤ 65537 }
+    requires capacity { 65537 ≤ vec_capacity line.old }
+    ensures items { line.new.items ≡ line.old.items ++ piece.now }
+    ensures capacity { vec_capacity line.old ≤ vec_capacity line.new }
+{
+    let Ok(()) = line.extend_from_slice(piece) else {
+        unreachable!();
+    };
+}
+
+/// Takes of the bytes at hand those of the line, up to its 0Ah: at most so many, and no more than
+/// one that the line may not have.
+fn take_piece<R: Read + Drop>(pieces: &mut Pieces<R>, most: u32, line: &mut Vec<u8>) -> Taken
+    requires ready { 0 < length pieces.old.ready }
+    requires most { 0 < most }
+    requires short { length line.old.items ≤ 65536 }
+    requires capacity { 65537 ≤ vec_capacity line.old }
+    ensures takes { TakesPiece pieces.old.left line.old.items result.bytes result.ended pieces.new.left line.new.items }
+    ensures most { result.bytes ≤ most }
+    ensures capacity { vec_capacity line.old ≤ vec_capacity line.new }
+{
+    let ready = pieces.ready();
+    let room = (MAX_LINE + 1 - line.len()).min(most as usize);
+    let (window, _) = ready.split_at(ready.len().min(room));
+    match newline_at(window) {
+        Some(end) => {
+            let (piece, _) = window.split_at(end);
+            put(line, piece);
+            pieces.advance(end + 1);
+            Taken {
+                bytes: end as u32 + 1,
+                ended: true,
+            }
+        }
+        None => {
+            let bytes = window.len();
+            put(line, window);
+            pieces.advance(bytes);
+            Taken {
+                bytes: bytes as u32,
+                ended: false,
+            }
+        }
+    }
+}
+
+/// Reads a line after so many others, and tells whether there was one.
+fn read_line<R: Read + Drop>(
+    pieces: &mut Pieces<R>,
+    room: &mut u32,
+    before: u32,
+    line: &mut Vec<u8>,
+) -> Result<bool, ScriptFault>
+    requires empty { line.old.items ≡ [] }
+    requires capacity { 65537 ≤ vec_capacity line.old }
+    requires number { before + room.old ≤ 16777216 }
+    ensures ok { IfOk result (λ more. Next (source_state pieces.old.left room.old before line.old.items) more
+        (source_state pieces.new.left room.new (before + 1) line.new.items)) }
+    ensures fault { IfErr result (λ f. StopsSource (source_state pieces.old.left room.old before line.old.items) f) }
+    ensures room { room.new ≤ room.old }
+    ensures less { result ≡ Ok true → room.new < room.old }
+    ensures capacity { vec_capacity line.old ≤ vec_capacity line.new }
+{
+    'pieces: loop {
+        pieces.fill()?;
+        if pieces.ready().is_empty() {
+            return Ok(!line.is_empty());
+        }
+        if *room == 0 {
+            return Err(ScriptFault::TooLarge);
+        }
+        let taken = take_piece(pieces, *room, line);
+        *room -= taken.bytes;
+        if taken.ended {
+            return Ok(true);
+        }
+        if line.len() > MAX_LINE {
+            return Err(ScriptFault::BadLine(before + 1));
+        }
+    }
+}
+
+impl<R: Read + Drop> Source<R> {
+    /// All that a reader gives, of which nothing was read.
+    pub(crate) fn new(alloc: Global, reader: R) -> Result<Source<R>, ScriptFault>
+        ensures ok { IfOk result (λ s. (s.left ≡ prepend_known [] (R.remaining reader)) × (s.room ≡ 16777216) × (s.number ≡ 0)) }
+        ensures fault { IfErr result (λ f. f ≡ ScriptFault.NoMemory) }
+    {
+        let Ok(line) = Vec::with_capacity(alloc, MAX_LINE + 1) else {
+            return Err(ScriptFault::NoMemory);
+        };
+        Ok(Source {
+            pieces: Pieces::new(reader),
+            room: MAX_TEXT,
+            number: 0,
+            line,
+        })
+    }
+
+    /// The line that was given last, without its 0Ah.
+    pub(crate) fn line(&self) -> &[u8]
+        ensures { result.now ≡ self.now.line }
+    {
+        &self.line
+    }
+
+    /// The number of that line, counted from 1.
+    pub(crate) fn number(&self) -> u32
+        ensures { result ≡ self.now.number }
+    {
+        self.number
+    }
+
+    /// Goes on to the next line, and tells whether there is one.
+    ///
+    /// # Errors
+    ///
+    /// BadLine where the line has over 65,536 bytes, TooLarge where the byte past the limit of the
+    /// text comes before that and before its 0Ah, Read where the reader fails.
+    pub(crate) fn next(&mut self) -> Result<bool, ScriptFault>
+        ensures ok { IfOk result (λ more. Next self.old more self.new) }
+        ensures fault { IfErr result (λ f. StopsSource self.old f) }
+        ensures room { self.new.room ≤ self.old.room }
+    {
+        self.line.clear();
+        if !read_line(&mut self.pieces, &mut self.room, self.number, &mut self.line)? {
+            return Ok(false);
+        }
+        self.number += 1;
+        Ok(true)
+    }
+}
