@@ -1,21 +1,22 @@
 //! Sessions played by hand, from the tables of the standard and of this project's profile.
 
-mod answers;
 mod dialogue;
 mod files;
-mod phases;
+mod following;
+mod hostile;
 mod played;
+mod rows;
 mod uploads;
 
 use crate::{Action, Host, HostFault, Limits, Report, Seen};
 use dfu_suffix::read;
-use dfu_wire::{Code, Functional};
+use dfu_wire::Functional;
 use dialogue::{
-    ABORT, AMPLE, APP_IDLE, BLOCK, BUSY, CLOSE, DETACH, DEVICE, DFU_IDLE, GET_STATUS, MANIFEST,
-    SILENT, TOLERANT, WRITTEN,
+    AMPLE, APP_IDLE, BLOCK, BUSY, CLOSE, DETACH, DEVICE, DFU_IDLE, GET_STATUS, MANIFEST, TOLERANT,
+    WRITTEN,
 };
 use files::{ALL_ONES, EMPTY, FOR_ZERO, NINE, zeros};
-use played::{Step, follow, play, shows, told, wants};
+use played::{Step, follow, play, wants};
 use std::test::Fail;
 
 /// A clean download to a tolerant device.
@@ -41,29 +42,6 @@ fn clean_download_takes_thirteen_actions(rt: HostRuntime) -> Result<(), Fail> {
     let mut host = Host::download(&file, &TOLERANT, DEVICE, AMPLE)?;
     follow(&rt, &mut host, &CLEAN);
     wants(&rt, &host, Action::Done(Report::Installed));
-    Ok(())
-}
-
-/// A download to a device that detaches by itself and is not tolerant.
-static UNCONFIRMED: [Step; 10] = [
-    (GET_STATUS, APP_IDLE),
-    (DETACH, Seen::Ack),
-    (Action::Wait(255), Seen::Waited),
-    (GET_STATUS, DFU_IDLE),
-    (BLOCK, Seen::Ack),
-    (GET_STATUS, WRITTEN),
-    (CLOSE, Seen::Ack),
-    (GET_STATUS, MANIFEST),
-    (Action::Wait(10), Seen::Waited),
-    (Action::Reset, Seen::WasReset),
-];
-
-#[test]
-fn device_that_is_not_tolerant_ends_unconfirmed(rt: HostRuntime) -> Result<(), Fail> {
-    let file = read(&ALL_ONES)?;
-    let mut host = Host::download(&file, &SILENT, DEVICE, AMPLE)?;
-    follow(&rt, &mut host, &UNCONFIRMED);
-    wants(&rt, &host, Action::Done(Report::Unconfirmed));
     Ok(())
 }
 
@@ -141,63 +119,6 @@ fn nothing_but_losses_end_by_the_budget(rt: HostRuntime) -> Result<(), Fail> {
         let mut carrier = Lost { used: 0 };
         assert_eq!(rt; play(&mut host, &mut carrier), Report::GaveUp);
         assert_eq!(rt; carrier.used, uses);
-    }
-    Ok(())
-}
-
-#[test]
-fn restarts_are_counted(rt: HostRuntime) -> Result<(), Fail> {
-    let file = read(&ALL_ONES)?;
-    let once = Limits {
-        actions: 10,
-        restarts: 1,
-    };
-    let mut host = Host::download(&file, &TOLERANT, DEVICE, once)?;
-    told(&mut host, &[DFU_IDLE, Seen::Ack, WRITTEN]);
-    wants(&rt, &host, CLOSE);
-    host.take(Seen::Restarted);
-    wants(&rt, &host, GET_STATUS);
-    host.take(DFU_IDLE);
-    wants(&rt, &host, BLOCK);
-    host.take(Seen::Restarted);
-    wants(&rt, &host, Action::Done(Report::RestartsSpent));
-    Ok(())
-}
-
-#[test]
-fn refusal_of_a_block_is_reported_with_its_code(rt: HostRuntime) -> Result<(), Fail> {
-    let file = read(&ALL_ONES)?;
-    let mut host = Host::download(&file, &TOLERANT, DEVICE, AMPLE)?;
-    told(&mut host, &[DFU_IDLE, Seen::Stall]);
-    wants(&rt, &host, GET_STATUS);
-    host.take(Seen::Bytes(&[8, 0, 0, 0, 10, 0]));
-    wants(&rt, &host, Action::Done(Report::Refused(Code::Address)));
-    Ok(())
-}
-
-#[test]
-fn given_up_download_ends_aborted(rt: HostRuntime) -> Result<(), Fail> {
-    let file = read(&ALL_ONES)?;
-    let once = Limits {
-        actions: 1,
-        restarts: 0,
-    };
-    for seen in [Seen::Ack, Seen::Stall, Seen::Nothing, Seen::Restarted] {
-        let mut host = Host::download(&file, &TOLERANT, DEVICE, once)?;
-        host.abort();
-        wants(&rt, &host, ABORT);
-        host.take(seen);
-        wants(&rt, &host, Action::Done(Report::Aborted));
-        shows(&rt, &host, &[]);
-        let mut host = Host::download(&file, &TOLERANT, DEVICE, AMPLE)?;
-        told(
-            &mut host,
-            &[DFU_IDLE, Seen::Ack, WRITTEN, Seen::Ack, DFU_IDLE],
-        );
-        host.abort();
-        wants(&rt, &host, ABORT);
-        host.take(seen);
-        wants(&rt, &host, Action::Done(Report::Aborted));
     }
     Ok(())
 }

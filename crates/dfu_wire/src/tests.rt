@@ -9,19 +9,21 @@ mod statuses;
 use crate::WireFault;
 use std::test::Fail;
 
+/// What each fault is printed as.
+static TEXTS: [(WireFault, &'static str); 7] = [
+    (WireFault::Short, "too few bytes"),
+    (WireFault::Long, "too many bytes"),
+    (WireFault::WrongLength, "the length byte is wrong"),
+    (WireFault::WrongType, "the type byte is wrong"),
+    (WireFault::UnknownState, "no such state"),
+    (WireFault::UnknownCode, "no such status code"),
+    (WireFault::PollTooLong, "the poll time does not fit 24 bits"),
+];
+
 #[test]
 fn faults_say_what_is_wrong(rt: HostRuntime) -> Result<(), Fail> {
-    let rows = [
-        (WireFault::Short, "too few bytes"),
-        (WireFault::Long, "too many bytes"),
-        (WireFault::WrongLength, "the length byte is wrong"),
-        (WireFault::WrongType, "the type byte is wrong"),
-        (WireFault::UnknownState, "no such state"),
-        (WireFault::UnknownCode, "no such status code"),
-        (WireFault::PollTooLong, "the poll time does not fit 24 bits"),
-    ];
-    for (fault, text) in rows {
-        assert_eq!(rt; format!(in rt.alloc(); "{fault}")?.as_str(), text);
+    for (fault, text) in &TEXTS {
+        assert_eq!(rt; format!(in rt.alloc(); "{fault}")?.as_str(), *text);
     }
     Ok(())
 }

@@ -176,37 +176,6 @@ fn refusals_of_an_upload_come_in_their_order(rt: HostRuntime) -> Result<(), Fail
     Ok(())
 }
 
-/// Ways to the phases in which an upload can be given up.
-static WAYS: [&[Seen<'static>]; 10] = [
-    &[],
-    &[Stall],
-    &[APP_IDLE],
-    &[APP_IDLE, Ack],
-    &[OLD_ERROR],
-    &[WRITTEN],
-    &[BUSY],
-    &[DFU_IDLE],
-    &[DFU_IDLE, FIRST],
-    &[DFU_IDLE, FIRST, THIRD],
-];
-
-#[test]
-fn given_up_upload_ends_aborted(rt: HostRuntime) -> Result<(), Fail> {
-    for way in &WAYS {
-        for seen in [Ack, FIRST, Stall, Nothing, Waited, WasReset, Restarted] {
-            let mut host = Host::upload(rt.alloc(), &TOLERANT, AMPLE)?;
-            told(&mut host, way);
-            host.abort();
-            host.abort();
-            wants(&rt, &host, ABORT);
-            shows(&rt, &host, &[]);
-            host.take(seen);
-            wants(&rt, &host, Action::Done(Report::Aborted));
-        }
-    }
-    Ok(())
-}
-
 /// Where an allocation is refused, the report is NoMemory, and no part is shown; else the image
 /// is fetched.
 #[test]

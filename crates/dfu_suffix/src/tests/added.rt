@@ -1,195 +1,160 @@
-//! What `add` writes, and what is out where it fails.
+//! What `add` writes, what is out where it fails, and how often it asks its reader and its writer.
 
-use super::files::{DFUSE, DIGITS, EMPTY, FOUR_ONES, LONG_SUFFIX, NO_IDS};
-use super::readers::{Pieces, Zeros};
-use super::with_byte;
-use super::writers::Narrow;
+use super::files::{
+    DFUSE, DFUSE_DAMAGED, DIGITS, EMPTY, FOUR_ONES, LONG_SUFFIX, NO_IDS, PRODUCT, UNSET, ZEROS,
+};
+use super::readers::{Pieces, in_pieces};
+use super::writers::{Narrow, taking};
 use crate::{SuffixFault, add, read};
 use dfu_wire::Ids;
-use std::io::{self, Read};
+use std::alloc::Global;
+use std::io;
+use std::process::Abort;
 use std::test::Fail;
 
-/// The identifiers of `DIGITS`.
-const PRODUCT: Ids = Ids {
-    device: 0x0100,
-    product: 0x0001,
-    vendor: 0x1209,
-};
-
-fn all_ids(value: u16) -> Ids {
-    Ids {
-        device: value,
-        product: value,
-        vendor: value,
-    }
+/// What `add` answers, and how often the reader and the writer are called. At Ok the whole file is
+/// out, and else this front of it.
+fn adds(
+    rt: &impl Abort,
+    alloc: Global,
+    mut reader: Pieces<'_>,
+    mut writer: Narrow,
+    ids: Ids,
+    answer: Result<u32, SuffixFault>,
+    out: &[u8],
+    calls: (usize, usize),
+) {
+    let (step, stop) = (writer.step, writer.stop.min(reader.stop));
+    let said = add(alloc, &mut reader, ids, &mut writer);
+    assert_eq!(rt;
+        (said, (reader.calls, writer.calls)),
+        (answer, calls),
+        "{step} at a time, stopped at call {stop}"
+    );
+    assert_eq!(rt; writer.taken.as_slice(), out);
 }
+
+/// Payloads, identifiers, and the files that are made of them.
+static KNOWN: [(&'static [u8], Ids, &'static [u8]); 4] = [
+    (b"123456789", PRODUCT, &DIGITS),
+    (&[0xff; 4], UNSET, &FOUR_ONES),
+    (&[0xff; 4], ZEROS, &NO_IDS),
+    (b"", UNSET, &EMPTY),
+];
 
 #[test]
 fn files_of_known_payloads(rt: HostRuntime) {
-    let known: [(&[u8], Ids, &[u8]); 4] = [
-        (b"123456789", PRODUCT, &DIGITS),
-        (&[0xff; 4], all_ids(0xffff), &FOUR_ONES),
-        (&[0xff; 4], all_ids(0), &NO_IDS),
-        (b"", all_ids(0xffff), &EMPTY),
-    ];
-    for (payload, ids, file) in known {
-        let mut out = Vec::new(rt.alloc());
-        assert_eq!(rt;
-            add(rt.alloc(), payload, ids, &mut out),
-            Ok(file.len() as u32),
-            "for {payload:?}"
-        );
-        assert_eq!(rt; out.as_slice(), file);
+    for (payload, ids, file) in &KNOWN {
+        for step in 1..=25usize {
+            let calls = (payload.len().div_ceil(step) + 1, file.len().div_ceil(step));
+            adds(
+                &rt,
+                rt.alloc(),
+                in_pieces(payload, step),
+                taking(rt.alloc(), step),
+                *ids,
+                Ok(file.len() as u32),
+                file,
+                calls,
+            );
+        }
     }
 }
+
+/// Files of the grammar, and files that only DfuSe's mark refuses.
+static SUFFIXED: [&'static [u8]; 5] = [&FOUR_ONES, &EMPTY, &LONG_SUFFIX, &DFUSE, &DFUSE_DAMAGED];
 
 #[test]
 fn files_that_have_a_suffix(rt: HostRuntime) {
-    let files: [&[u8]; 5] = [
-        &FOUR_ONES,
-        &EMPTY,
-        &LONG_SUFFIX,
-        &DFUSE,
-        &with_byte(&DFUSE, 19, 0x00),
-    ];
-    for file in files {
-        let mut out = Vec::new(rt.alloc());
-        assert_eq!(rt;
-            add(rt.alloc(), file, PRODUCT, &mut out),
+    for file in &SUFFIXED {
+        adds(
+            &rt,
+            rt.alloc(),
+            in_pieces(file, 100),
+            taking(rt.alloc(), 100),
+            PRODUCT,
             Err(SuffixFault::AlreadySuffixed),
-            "for {file:?}"
+            &[],
+            (2, 0),
         );
-        assert_eq!(rt; out.len(), 0);
     }
 }
 
-// A file that is refused for another reason is a payload, whole.
+// A file with a zero in its signature, its bLength or its dwCRC is a payload, whole.
 #[test]
 fn files_with_a_wrong_suffix(rt: HostRuntime) -> Result<(), Fail> {
-    let files = [
-        with_byte(&FOUR_ONES, 19, 0x00),
-        with_byte(&FOUR_ONES, 15, 0x0f),
-        with_byte(&FOUR_ONES, 12, 0x00),
-    ];
-    for file in files {
+    for at in 12..20usize {
+        let mut changed = FOUR_ONES;
+        changed[at] = 0;
         let mut out = Vec::new(rt.alloc());
-        assert_eq!(rt;
-            add(rt.alloc(), &file[..], PRODUCT, &mut out),
-            Ok(36),
-            "for {file:?}"
-        );
-        let added = read(&out)?;
-        assert_eq!(rt; added.payload(), &file[..]);
-        assert_eq!(rt;
-            (added.ids(), added.dfu(), added.suffix()),
-            (PRODUCT, 0x0100, 16)
-        );
+        let said = add(rt.alloc(), &changed[..], PRODUCT, &mut out);
+        assert_eq!(rt; said, Ok(36), "byte {at}");
+        assert!(rt; out.starts_with(&changed), "byte {at}");
+        assert_eq!(rt; read(&out)?.payload().len(), 20, "byte {at}");
     }
     Ok(())
 }
 
-fn narrow(rt: &HostRuntime, step: usize, left: usize, fails: bool) -> Narrow {
-    Narrow {
-        taken: Vec::new(rt.alloc()),
-        step,
-        left,
-        fails,
-        calls_after: 0,
-    }
-}
-
-#[test]
-fn one_byte_at_each_call(rt: HostRuntime) {
-    let mut out = narrow(&rt, 1, 100, true);
-    let pieces = Pieces {
-        left: b"123456789",
-        step: 1,
-    };
-    assert_eq!(rt; add(rt.alloc(), pieces, PRODUCT, &mut out), Ok(25));
-    assert_eq!(rt; out.taken.as_slice(), &DIGITS[..]);
-}
-
+// The writer fails, or takes nothing, in place of each of its answers in turn, and would go on
+// behind it. It is not called again.
 #[test]
 fn writer_that_stops(rt: HostRuntime) {
     for fails in [true, false] {
-        for left in 0..25usize {
-            let mut out = narrow(&rt, 7, left, fails);
-            assert_eq!(rt;
-                add(rt.alloc(), &b"123456789"[..], PRODUCT, &mut out),
-                Err(SuffixFault::Write),
-                "after {left} bytes"
-            );
-            assert_eq!(rt; out.taken.as_slice(), &DIGITS[..left]);
-            assert_eq!(rt; out.calls_after, 1, "tries after {left} bytes");
+        for step in 1..=25usize {
+            for stop in 0..25usize.div_ceil(step) {
+                let mut writer = taking(rt.alloc(), step);
+                writer.stop = stop;
+                writer.fails = fails;
+                adds(
+                    &rt,
+                    rt.alloc(),
+                    in_pieces(b"123456789", 9),
+                    writer,
+                    PRODUCT,
+                    Err(SuffixFault::Write),
+                    &DIGITS[..stop * step],
+                    (2, stop + 1),
+                );
+            }
         }
-        let mut out = narrow(&rt, 7, 25, fails);
-        assert_eq!(rt;
-            add(rt.alloc(), &b"123456789"[..], PRODUCT, &mut out),
-            Ok(25)
-        );
-        assert_eq!(rt; out.calls_after, 0);
     }
 }
 
-// The caller goes on with the writer where `add` stopped.
+// The reader fails in place of each of its answers in turn, the end too. Nothing is out then, and
+// the writer was never called.
 #[test]
-fn two_files_in_one_writer(rt: HostRuntime) {
-    let mut out = Vec::new(rt.alloc());
-    assert_eq!(rt;
-        add(rt.alloc(), &b"123456789"[..], PRODUCT, &mut out),
-        Ok(25)
-    );
-    assert_eq!(rt;
-        add(rt.alloc(), &[0xff; 4][..], all_ids(0xffff), &mut out),
-        Ok(20)
-    );
-    assert_eq!(rt; &out[..25], &DIGITS[..]);
-    assert_eq!(rt; &out[25..], &FOUR_ONES[..]);
-}
-
-#[test]
-fn nothing_out_where_the_reader_fails(rt: HostRuntime) {
-    for left in [0usize, 1, 5000] {
-        let mut zeros = Zeros {
-            left,
-            calls_after: 0,
-        };
-        let mut out = Vec::new(rt.alloc());
-        assert_eq!(rt;
-            add(rt.alloc(), &mut zeros, PRODUCT, &mut out),
-            Err(SuffixFault::Read),
-            "after {left} bytes"
-        );
-        assert_eq!(rt;
-            (zeros.calls_after, out.len()),
-            (1, 0),
-            "after {left} bytes"
-        );
+fn reader_that_fails(rt: HostRuntime) {
+    for step in 1..=9usize {
+        for stop in 0..=9usize.div_ceil(step) {
+            let mut reader = in_pieces(b"123456789", step);
+            reader.stop = stop;
+            reader.fails = true;
+            adds(
+                &rt,
+                rt.alloc(),
+                reader,
+                taking(rt.alloc(), 9),
+                PRODUCT,
+                Err(SuffixFault::Read),
+                &[],
+                (stop + 1, 0),
+            );
+        }
     }
 }
 
+// The 256th call gives the byte past the limit, and is the last.
 #[test]
-fn payload_past_the_limit(rt: HostRuntime) {
-    let mut zeros = Zeros {
-        left: 16_777_201,
-        calls_after: 0,
-    };
-    let mut out = Vec::new(rt.alloc());
-    assert_eq!(rt;
-        add(rt.alloc(), &mut zeros, PRODUCT, &mut out),
-        Err(SuffixFault::TooLarge)
-    );
-    assert_eq!(rt; (zeros.calls_after, out.len()), (0, 0));
-}
-
-#[test]
-fn payload_at_the_limit(rt: HostRuntime) {
-    let zeros = io::repeat(0).take(16_777_200);
+fn payloads_at_and_past_the_limit(rt: HostRuntime) -> Result<(), Fail> {
+    let zeros = vec![in rt.alloc(); 0u8; 16_777_201]?;
+    let mut reader = in_pieces(&zeros, 65_536);
     let mut nowhere = io::sink();
-    assert_eq!(rt;
-        add(rt.alloc(), zeros, PRODUCT, &mut nowhere),
-        Ok(16_777_216)
-    );
+    let said = add(rt.alloc(), &mut reader, PRODUCT, &mut nowhere);
+    assert_eq!(rt; (said, reader.calls), (Err(SuffixFault::TooLarge), 256));
+    let mut reader = in_pieces(&zeros[1..], 65_536);
+    let said = add(rt.alloc(), &mut reader, PRODUCT, &mut nowhere);
+    assert_eq!(rt; (said, reader.calls), (Ok(16_777_216), 257));
+    Ok(())
 }
 
 // Where memory is ample the whole file is out; where an allocation is refused, nothing is.

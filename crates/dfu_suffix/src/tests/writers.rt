@@ -1,33 +1,47 @@
-//! Writers that take little at a time, fail, or stop taking.
+//! Writers that take little at a time, stop or fail, and count how often they are called.
 
+use std::alloc::Global;
 use std::io::{self, ErrorKind, Write};
 
-/// Takes at most `step` bytes a call. Once it took `left` bytes it fails, or takes nothing.
+/// Takes at most `step` bytes a call. The call with the number `stop`, counted from 0, fails, or
+/// takes nothing. A flush counts as a call.
 #[derive(Drop)]
 pub struct Narrow {
     pub taken: Vec<u8>,
     pub step: usize,
-    pub left: usize,
+    pub stop: usize,
     pub fails: bool,
-    pub calls_after: usize,
+    pub calls: usize,
+}
+
+/// Takes all, at most `step` bytes a call.
+pub fn taking(alloc: Global, step: usize) -> Narrow {
+    Narrow {
+        taken: Vec::new(alloc),
+        step,
+        stop: usize::MAX,
+        fails: false,
+        calls: 0,
+    }
 }
 
 impl Write for Narrow {
     fn write(&mut self, buf: &[u8]) -> io::Result<usize> {
-        if self.left == 0 {
-            self.calls_after = self.calls_after.saturating_add(1);
+        let call = self.calls;
+        self.calls = call.saturating_add(1);
+        if call == self.stop {
             if self.fails {
                 return Err(io::Error::from(ErrorKind::Interrupted));
             }
             return Ok(0);
         }
-        let most = buf.len().min(self.step).min(self.left);
+        let most = buf.len().min(self.step);
         self.taken.extend_from_slice(&buf[..most])?;
-        self.left -= most;
         Ok(most)
     }
 
     fn flush(&mut self) -> io::Result<()> {
+        self.calls = self.calls.saturating_add(1);
         Ok(())
     }
 }

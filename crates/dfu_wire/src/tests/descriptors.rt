@@ -22,25 +22,27 @@ fn descriptor_is_read_and_written_without_its_reserved_bits(rt: HostRuntime) {
     assert_eq!(rt; reread_functional(&DESCRIPTOR), Ok(DESCRIPTOR));
 }
 
+/// Bytes, and their first fault.
+static FAULTS: [(&'static [u8], WireFault); 8] = [
+    (&[], WireFault::Short),
+    (&[0x07], WireFault::WrongLength),
+    (
+        &[0x07, 0x21, 0x0d, 0xff, 0x00, 0x08, 0x00],
+        WireFault::WrongLength,
+    ),
+    (
+        &[0x0a, 0x22, 0, 0, 0, 0, 0, 0, 0, 0],
+        WireFault::WrongLength,
+    ),
+    (&[0x09], WireFault::Short),
+    (&[0x09, 0x22, 0, 0, 0, 0, 0, 0], WireFault::Short),
+    (&[0x09, 0x22, 0, 0, 0, 0, 0, 0, 0, 0], WireFault::Long),
+    (&[0x09, 0x22, 0, 0, 0, 0, 0, 0, 0], WireFault::WrongType),
+];
+
 #[test]
 fn descriptor_faults_come_in_their_order(rt: HostRuntime) {
-    let rows: [(&[u8], WireFault); 8] = [
-        (&[], WireFault::Short),
-        (&[0x07], WireFault::WrongLength),
-        (
-            &[0x07, 0x21, 0x0d, 0xff, 0x00, 0x08, 0x00],
-            WireFault::WrongLength,
-        ),
-        (
-            &[0x0a, 0x22, 0, 0, 0, 0, 0, 0, 0, 0],
-            WireFault::WrongLength,
-        ),
-        (&[0x09], WireFault::Short),
-        (&[0x09, 0x22, 0, 0, 0, 0, 0, 0], WireFault::Short),
-        (&[0x09, 0x22, 0, 0, 0, 0, 0, 0, 0, 0], WireFault::Long),
-        (&[0x09, 0x22, 0, 0, 0, 0, 0, 0, 0], WireFault::WrongType),
-    ];
-    for (bytes, fault) in rows {
-        assert_eq!(rt; Functional::decode(bytes), Err(fault), "at {bytes:?}");
+    for (bytes, fault) in &FAULTS {
+        assert_eq!(rt; Functional::decode(bytes), Err(*fault), "at {bytes:?}");
     }
 }

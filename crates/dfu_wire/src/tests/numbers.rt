@@ -3,7 +3,7 @@
 use crate::{Code, State, WireFault, identifier};
 use std::test::Fail;
 
-const STATE_NAMES: [&str; 11] = [
+static STATE_NAMES: [&'static str; 11] = [
     "appIDLE",
     "appDETACH",
     "dfuIDLE",
@@ -17,7 +17,7 @@ const STATE_NAMES: [&str; 11] = [
     "dfuERROR",
 ];
 
-const CODE_NAMES: [&str; 16] = [
+static CODE_NAMES: [&'static str; 16] = [
     "OK",
     "errTARGET",
     "errFILE",
@@ -66,22 +66,24 @@ fn every_byte_is_a_code_or_none(rt: HostRuntime) -> Result<(), Fail> {
     Ok(())
 }
 
+/// Texts, and the identifiers that they are.
+static IDENTIFIERS: [(&'static str, Option<u16>); 10] = [
+    ("1209", Some(0x1209)),
+    ("aBcD", Some(0xabcd)),
+    ("0000", Some(0)),
+    ("ffff", Some(0xffff)),
+    ("", None),
+    ("123", None),
+    ("12345", None),
+    ("0x12", None),
+    ("+123", None),
+    ("12 9", None),
+];
+
 #[test]
 fn identifiers_have_four_digits(rt: HostRuntime) -> Result<(), Fail> {
-    let rows = [
-        ("1209", Some(0x1209)),
-        ("aBcD", Some(0xabcd)),
-        ("0000", Some(0)),
-        ("ffff", Some(0xffff)),
-        ("", None),
-        ("123", None),
-        ("12345", None),
-        ("0x12", None),
-        ("+123", None),
-        ("12 9", None),
-    ];
-    for (text, number) in rows {
-        assert_eq!(rt; identifier(text.as_bytes()), number, "{text}");
+    for (text, number) in &IDENTIFIERS {
+        assert_eq!(rt; identifier(text.as_bytes()), *number, "{text}");
     }
     Ok(())
 }
