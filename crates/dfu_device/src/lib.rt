@@ -6,6 +6,7 @@
 mod answer;
 mod config;
 mod device;
+mod downloads;
 mod effects;
 mod fault;
 pub mod laws;

@@ -9,10 +9,13 @@ use std::process::Abort;
 use std::test::Fail;
 
 mod all_setups;
+mod blocks;
+mod cells;
 mod many_pieces;
 mod restart;
 mod rows;
 mod sizes;
+mod stations;
 mod uploads;
 
 const IDS: Ids = Ids {
@@ -80,23 +83,28 @@ enum Cause {
 /// A cause, what is answered (Ack and no bytes where nothing is), the bytes, and the state after it.
 type Row = (Cause, Answer, &'static [u8], State);
 
+/// Carries out what happens, and answers what is answered, Ack where nothing is.
+fn carry_out(device: &mut Device<SimMedium>, cause: Cause, out: &mut ArrayVec<u8, 4096>) -> Answer {
+    match cause {
+        Cause::Ask(setup, body) => device.handle(&setup, body, out),
+        Cause::Wait(ms) => {
+            device.elapse(ms);
+            Answer::Ack
+        }
+        Cause::Reset => {
+            device.usb_reset();
+            Answer::Ack
+        }
+    }
+}
+
 /// Carries out the rows one after the other.
 fn play(rt: &impl Abort, device: &mut Device<SimMedium>, rows: &[Row]) {
     let mut out = ArrayVec::new();
     for (number, row) in rows.iter().enumerate() {
         let (cause, wanted, bytes, after) = *row;
         out.clear();
-        let answer = match cause {
-            Cause::Ask(setup, body) => device.handle(&setup, body, &mut out),
-            Cause::Wait(ms) => {
-                device.elapse(ms);
-                Answer::Ack
-            }
-            Cause::Reset => {
-                device.usb_reset();
-                Answer::Ack
-            }
-        };
+        let answer = carry_out(device, cause, &mut out);
         assert_eq!(rt;
             (answer, out.as_slice(), device.state()),
             (wanted, bytes, after),

@@ -1,6 +1,6 @@
 -- Where the two slots of a medium stand, and what stands in them.
 -- The gate unit and the header unit have `g` bytes each, at least 16.
-use Rattle.std.specs.Prelude.{◌≡◌, ◌⊎◌, ℕ, ◌+◌, ◌-◌, ◌*◌, ◌/◌, ◌%◌, ◌^◌, ◌≤◌, ◌<◌, List, ◌∷◌, ◌++◌, length, replicate, slice_index, slice_range}
+use Rattle.std.specs.Prelude.{◌≡◌, ◌⊎◌, ℕ, ◌+◌, ◌-◌, ◌*◌, ◌/◌, ◌%◌, ◌≤◌, List, ◌∷◌, ◌++◌, length, replicate, slice_index, slice_range}
 use Rattle.std.specs.Int.{w32, to_le_bytes}
 
 -- A slot is one half of the medium.

@@ -1,103 +1,22 @@
-//! Every pair of kind and request, in each state.
+//! Every pair of bmRequestType and bRequest at each station, a reset of the bus, and time, against the table of `stations.rt`.
 
-use super::{CLOSE, CLR_STATUS, Cause, DETACH, FIRST, GET_STATUS, device, functional};
-use crate::{Answer, Device};
+ghost use Rattle.std.specs.Prelude.{◌<◌};
+
+use super::cells::{cell, seen};
+use super::stations::{IMAGE, STATIONS, Station};
+use super::{IDS, carry_out, device_on, functional, play};
+use crate::{Answer, Config, Device};
 use arrayvec::ArrayVec;
 use dfu_slots::SimMedium;
 use dfu_wire::State;
+use std::alloc::Global;
 use std::process::Abort;
 use std::test::Fail;
 
-/// The way from appIDLE through a whole download.
-const DOWNLOAD: [Cause; 9] = [
-    Cause::Ask(DETACH, &[]),
-    Cause::Reset,
-    Cause::Ask(FIRST, &[1; 4]),
-    Cause::Ask(GET_STATUS, &[]),
-    Cause::Wait(5),
-    Cause::Ask(GET_STATUS, &[]),
-    Cause::Ask(CLOSE, &[]),
-    Cause::Ask(GET_STATUS, &[]),
-    Cause::Wait(10),
-];
+/// The bytes of the bodies.
+static BODY: [u8; 4097] = [0; 4097];
 
-/// The way from appIDLE to dfuERROR.
-const TROUBLE: [Cause; 3] = [
-    Cause::Ask(DETACH, &[]),
-    Cause::Reset,
-    Cause::Ask(CLR_STATUS, &[]),
-];
-
-/// The way from appIDLE to dfuUPLOAD-IDLE: the image has one byte, and one is asked for.
-const SENDING: [Cause; 3] = [
-    Cause::Ask(DETACH, &[]),
-    Cause::Reset,
-    Cause::Ask([0xa1, 2, 0, 0, 0, 0, 1, 0], &[]),
-];
-
-/// A state: the way there from appIDLE, the state after GETSTATUS where it is answered, whether
-/// GETSTATE is, whether UPLOAD of one byte is, which goes to dfuUPLOAD-IDLE, the state after any other
-/// request, and the requests that are acknowledged: bRequest, wLength, the state after it.
-#[derive(Clone, Copy)]
-struct Station {
-    way: &'static [Cause],
-    state: State,
-    polled: Option<State>,
-    sends: bool,
-    other: State,
-    acknowledged: &'static [(u8, u16, State)],
-}
-
-/// Goes to a station.
-fn enter(device: &mut Device<SimMedium>, way: &[Cause], out: &mut ArrayVec<u8, 4096>) {
-    device.usb_reset();
-    if device.state() == State::DfuIdle {
-        device.usb_reset();
-    }
-    for cause in way {
-        match *cause {
-            Cause::Ask(setup, body) => {
-                let _ = device.handle(&setup, body, out);
-            }
-            Cause::Wait(ms) => device.elapse(ms),
-            Cause::Reset => device.usb_reset(),
-        }
-    }
-}
-
-/// The answer to a setup, how many bytes it has, and the state after it.
-fn expected(station: &Station, asked: Asked) -> (Answer, usize, State) {
-    let Asked {
-        kind,
-        request,
-        length,
-        fits,
-    } = asked;
-    if kind != 0x21 && kind != 0xa1 || !fits {
-        return (Answer::Stall, 0, station.state);
-    }
-    if let Some(polled) = station.polled {
-        if kind == 0xa1 && request == 3 {
-            return (Answer::Bytes, (length as usize).min(6), polled);
-        }
-        if kind == 0xa1 && request == 5 {
-            return (Answer::Bytes, (length as usize).min(1), station.state);
-        }
-    }
-    if station.sends && kind == 0xa1 && request == 2 && length == 1 {
-        return (Answer::Bytes, 1, State::UploadIdle);
-    }
-    if kind == 0x21 {
-        for &(number, len, next) in station.acknowledged {
-            if number == request && len == length {
-                return (Answer::Ack, 0, next);
-            }
-        }
-    }
-    (Answer::Stall, 0, station.other)
-}
-
-/// A setup for interface 0 with wValue 0, and whether its body has the length that it says.
+/// A setup for interface 0, and whether its body has as many bytes as go with it.
 #[derive(Clone, Copy)]
 struct Asked {
     kind: u8,
@@ -106,134 +25,230 @@ struct Asked {
     fits: bool,
 }
 
-/// Sends one setup at a station, with the front of a body.
-fn check(
-    rt: &impl Abort,
-    device: &mut Device<SimMedium>,
-    station: &Station,
-    asked: Asked,
-    body: &[u8],
-    out: &mut ArrayVec<u8, 4096>,
-) {
-    if device.state() != station.state {
-        enter(device, station.way, out);
+/// A device as it is set up for a station.
+fn made(alloc: Global, station: &Station) -> Result<Device<SimMedium>, Fail> {
+    let (attributes, least, busy_ms, manifest_ms) = station.set_up;
+    let config = Config::new(IDS, functional(attributes), least, busy_ms, manifest_ms)?;
+    device_on(SimMedium::new(alloc, 192)?, config, &IMAGE)
+}
+
+/// Goes to a station, from wherever the device stands.
+fn go(device: &mut Device<SimMedium>, station: &Station, out: &mut ArrayVec<u8, 4096>) {
+    device.usb_reset();
+    if device.state() == State::DfuIdle {
+        device.usb_reset();
     }
-    let Asked {
-        kind,
-        request,
-        length,
-        fits,
-    } = asked;
-    let [low, high] = length.to_le_bytes();
-    let right = if kind == 0x21 { length as usize } else { 0 };
-    let len = if fits {
+    for (cause, _, _, _) in station.way.rows().iter().take(station.steps) {
+        let _ = carry_out(device, *cause, out);
+    }
+}
+
+/// Whether a setup of this kind is a request of the class.
+fn is_of_class(kind: u8) -> bool {
+    kind == 0x21 || kind == 0xa1
+}
+
+/// Where the table has a request of the class.
+fn place(kind: u8, request: u8) -> usize
+    ensures { result < 8 }
+{
+    match (kind, request) {
+        (0x21, 0) => 0,
+        (0x21, 1) => 1,
+        (0xa1, 2) => 2,
+        (0xa1, 3) => 3,
+        (0x21, 4) => 4,
+        (0xa1, 5) => 5,
+        (0x21, 6) => 6,
+        _ => 7,
+    }
+}
+
+/// The cell for a setup that goes by the table.
+fn cell_for(station: &Station, asked: Asked) -> [u8; 3] {
+    let size = asked.length.min(2) as usize;
+    cell(station, 1 + place(asked.kind, asked.request) * 3 + size)
+}
+
+/// How many bytes the body has.
+fn body_len(asked: Asked) -> usize {
+    let right = if asked.kind == 0x21 {
+        asked.length as usize
+    } else {
+        0
+    };
+    if asked.fits {
         right
     } else if right == 0 {
         1
     } else {
-        0
+        right - 1
+    }
+}
+
+/// Asks a device at a station.
+fn ask(
+    device: &mut Device<SimMedium>,
+    station: &Station,
+    asked: Asked,
+    out: &mut ArrayVec<u8, 4096>,
+) -> Answer {
+    let [low, high] = asked.length.to_le_bytes();
+    let setup = [
+        asked.kind,
+        asked.request,
+        station.number,
+        0,
+        0,
+        0,
+        low,
+        high,
+    ];
+    device.handle(&setup, &BODY[..body_len(asked).min(4097)], out)
+}
+
+/// Whether these bytes are the front of others, cut to a length.
+fn is_front(bytes: &[u8], told: &[u8], len: u16) -> bool {
+    bytes == &told[..told.len().min(len as usize)]
+}
+
+/// Whether these are the bytes with which a request is answered.
+fn is_told(station: &Station, asked: Asked, bytes: &[u8]) -> bool {
+    match asked.request {
+        3 => is_front(bytes, station.status, asked.length),
+        5 => is_front(bytes, station.state, asked.length),
+        _ => is_front(bytes, station.piece, asked.length),
+    }
+}
+
+/// Asks what goes by the table of a device that was brought to the station for it.
+fn check_served(
+    rt: &impl Abort,
+    device: &mut Device<SimMedium>,
+    station: &Station,
+    asked: Asked,
+    out: &mut ArrayVec<u8, 4096>,
+) {
+    go(device, station, out);
+    let answer = ask(device, station, asked, out);
+    let told = match answer {
+        Answer::Bytes => is_told(station, asked, out.as_slice()),
+        _ => out.is_empty(),
     };
-    let answer = device.handle(
-        &[kind, request, 0, 0, 0, 0, low, high],
-        &body[..len.min(body.len())],
-        out,
-    );
-    assert_eq!(rt;
-        (answer, out.len(), device.state()),
-        expected(station, asked),
-        "kind {kind} request {request} length {length}"
+    assert!(rt;
+        told && seen(device, answer) == cell_for(station, asked),
+        "request {} of length {} in {}",
+        asked.request,
+        asked.length,
+        station.name
     );
 }
 
-/// Every pair of kind and request at a station, with three lengths, and a body that fits or does not.
-fn check_all(rt: &impl Abort, device: &mut Device<SimMedium>, station: &Station) {
-    let body = [0; 4097];
+/// Every setup that goes by the table.
+fn check_all_served(rt: &impl Abort, alloc: Global, station: &Station) -> Result<(), Fail> {
     let mut out = ArrayVec::new();
-    enter(device, station.way, &mut out);
-    for kind in 0..=255 {
+    for kind in [0x21, 0xa1] {
         for request in 0..=255 {
+            let mut device = made(alloc, station)?;
             for length in [0, 1, 4097] {
-                for fits in [true, false] {
-                    let asked = Asked {
-                        kind,
-                        request,
-                        length,
-                        fits,
-                    };
-                    check(rt, device, station, asked, &body, &mut out);
-                }
+                let asked = Asked {
+                    kind,
+                    request,
+                    length,
+                    fits: true,
+                };
+                check_served(rt, &mut device, station, asked, &mut out);
             }
         }
     }
+    Ok(())
 }
 
-/// The station after so many steps of a download.
-#[rattlefmt::skip]
-fn after(steps: usize, state: State, polled: Option<State>, other: State, acknowledged: &'static [(u8, u16, State)]) -> Station {
-    Station { way: &DOWNLOAD[..steps.min(9)], state, polled, sends: state == State::DfuIdle, other, acknowledged }
+/// Asks what does not go by the table, and says whether it is stalled and nothing is seen to change.
+fn is_refused(
+    device: &mut Device<SimMedium>,
+    station: &Station,
+    asked: Asked,
+    out: &mut ArrayVec<u8, 4096>,
+) -> bool {
+    let state = device.state();
+    let code = device.code();
+    let answer = ask(device, station, asked, out);
+    answer == Answer::Stall && out.is_empty() && device.state() == state && device.code() == code
 }
 
-#[rattlefmt::skip]
-#[test]
-fn every_setup_is_answered_before_a_download(rt: HostRuntime) -> Result<(), Fail> {
-    let mut device = device(rt.alloc(), functional(0x07), 1, 5, 10)?;
-    for station in [
-        after(0, State::AppIdle, Some(State::AppIdle), State::AppIdle, &[(0, 0, State::AppDetach)]),
-        after(1, State::AppDetach, Some(State::AppDetach), State::AppIdle, &[]),
-        after(2, State::DfuIdle, Some(State::DfuIdle), State::Error, &[(1, 1, State::DownloadSync), (6, 0, State::DfuIdle)]),
-    ] {
-        check_all(&rt, &mut device, &station);
+/// Every setup that does not go by the table, one after the other. In the end the device goes on as if nothing had come.
+fn check_all_others(rt: &impl Abort, alloc: Global, station: &Station) -> Result<(), Fail> {
+    let mut out = ArrayVec::new();
+    let mut device = made(alloc, station)?;
+    go(&mut device, station, &mut out);
+    for pair in 0..=65_535_u16 {
+        let [request, kind] = pair.to_le_bytes();
+        for length in [0, 1, 4097] {
+            let asked = Asked {
+                kind,
+                request,
+                length,
+                fits: !is_of_class(kind),
+            };
+            let refused = is_refused(&mut device, station, asked, &mut out);
+            assert!(rt;
+                refused,
+                "kind {kind} request {request} length {length} in {}",
+                station.name
+            );
+        }
+    }
+    assert!(rt;
+        seen(&device, Answer::Stall) == cell(station, 0),
+        "{}",
+        station.name
+    );
+    let rows = station.way.rows();
+    play(rt, &mut device, &rows[station.steps.min(rows.len())..]);
+    Ok(())
+}
+
+/// A reset of the bus.
+fn check_reset(rt: &impl Abort, alloc: Global, station: &Station) -> Result<(), Fail> {
+    let mut device = made(alloc, station)?;
+    go(&mut device, station, &mut ArrayVec::new());
+    device.usb_reset();
+    assert!(rt;
+        seen(&device, Answer::Ack) == cell(station, 25),
+        "{}",
+        station.name
+    );
+    Ok(())
+}
+
+/// Milliseconds that pass.
+fn check_time(rt: &impl Abort, alloc: Global, station: &Station) -> Result<(), Fail> {
+    for (column, ms) in [(26, 0), (27, 1), (28, 10)] {
+        let mut device = made(alloc, station)?;
+        go(&mut device, station, &mut ArrayVec::new());
+        device.elapse(ms);
+        assert!(rt;
+            seen(&device, Answer::Ack) == cell(station, column),
+            "{}",
+            station.name
+        );
     }
     Ok(())
 }
 
-#[rattlefmt::skip]
+/// All that can come to a device at a station.
+fn check_station(rt: &impl Abort, alloc: Global, station: &Station) -> Result<(), Fail> {
+    check_all_served(rt, alloc, station)?;
+    check_all_others(rt, alloc, station)?;
+    check_reset(rt, alloc, station)?;
+    check_time(rt, alloc, station)
+}
+
 #[test]
-fn every_setup_is_answered_while_blocks_come(rt: HostRuntime) -> Result<(), Fail> {
-    let mut device = device(rt.alloc(), functional(0x07), 1, 5, 10)?;
-    for station in [
-        after(3, State::DownloadSync, Some(State::DownloadBusy), State::Error, &[]),
-        after(4, State::DownloadBusy, None, State::Error, &[]),
-        after(5, State::DownloadSync, Some(State::DownloadIdle), State::Error, &[]),
-        after(6, State::DownloadIdle, Some(State::DownloadIdle), State::Error, &[(1, 0, State::ManifestSync), (6, 0, State::DfuIdle)]),
-    ] {
-        check_all(&rt, &mut device, &station);
+fn every_setup_a_reset_and_time_go_by_the_table(rt: HostRuntime) -> Result<(), Fail> {
+    for station in &STATIONS {
+        check_station(&rt, rt.alloc(), station)?;
     }
-    Ok(())
-}
-
-#[rattlefmt::skip]
-#[test]
-fn every_setup_is_answered_while_the_image_is_put_in_place(rt: HostRuntime) -> Result<(), Fail> {
-    let mut device = device(rt.alloc(), functional(0x07), 1, 5, 10)?;
-    for station in [
-        after(7, State::ManifestSync, Some(State::Manifest), State::Error, &[]),
-        after(8, State::Manifest, None, State::Error, &[]),
-        after(9, State::ManifestSync, Some(State::DfuIdle), State::Error, &[]),
-    ] {
-        check_all(&rt, &mut device, &station);
-    }
-    Ok(())
-}
-
-#[rattlefmt::skip]
-#[test]
-fn every_setup_is_answered_at_the_end(rt: HostRuntime) -> Result<(), Fail> {
-    let mut waiting = device(rt.alloc(), functional(0x03), 1, 5, 10)?;
-    check_all(&rt, &mut waiting, &after(9, State::ManifestWaitReset, None, State::ManifestWaitReset, &[]));
-    let mut in_error = device(rt.alloc(), functional(0x07), 1, 5, 10)?;
-    let trouble = Station { way: &TROUBLE, state: State::Error, polled: Some(State::Error), sends: false,
-        other: State::Error, acknowledged: &[(4, 0, State::DfuIdle)] };
-    check_all(&rt, &mut in_error, &trouble);
-    Ok(())
-}
-
-#[rattlefmt::skip]
-#[test]
-fn every_setup_is_answered_during_an_upload(rt: HostRuntime) -> Result<(), Fail> {
-    let mut device = device(rt.alloc(), functional(0x06), 1, 5, 10)?;
-    let sending = Station { way: &SENDING, state: State::UploadIdle, polled: Some(State::UploadIdle), sends: false,
-        other: State::Error, acknowledged: &[(6, 0, State::DfuIdle)] };
-    check_all(&rt, &mut device, &sending);
     Ok(())
 }

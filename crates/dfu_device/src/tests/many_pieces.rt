@@ -1,46 +1,52 @@
-//! An upload of more pieces than there are numbers.
+//! A download of more blocks, and an upload of more pieces, than there are numbers.
 
+use super::Cause::Ask;
 use super::uploads::TO_DFU_IDLE;
-use super::{IDS, device_on, functional, play};
+use super::{GET_STATUS, IDS, Row, device_on, functional, play};
 use crate::{Answer, Config, Device};
 use arrayvec::ArrayVec;
 use dfu_slots::SimMedium;
 use dfu_wire::{Functional, State};
-use std::alloc::Global;
 use std::process::Abort;
 use std::test::Fail;
-
-/// The setup of an UPLOAD.
-fn upload(number: u16, len: u16) -> [u8; 8] {
-    let [number_low, number_high] = number.to_le_bytes();
-    let [len_low, len_high] = len.to_le_bytes();
-    [0xa1, 2, number_low, number_high, 0, 0, len_low, len_high]
-}
 
 /// A byte for each place, so that two places that are 65,536 apart differ.
 fn byte_at(place: u32) -> u8 {
     (place % 251) as u8
 }
 
-/// An image of so many of these bytes.
-fn counted(alloc: Global, len: u32) -> Result<Vec<u8>, Fail> {
-    let mut image = Vec::new(alloc);
-    for place in 0..len {
-        image.push(byte_at(place))?;
-    }
-    Ok(image)
+/// A block of one byte is taken and written with the number that is due there.
+fn takes(
+    rt: &impl Abort,
+    device: &mut Device<SimMedium>,
+    out: &mut ArrayVec<u8, 4096>,
+    place: u32,
+) {
+    let [low, high, _, _] = place.to_le_bytes();
+    let answer = device.handle(&[0x21, 1, low, high, 0, 0, 1, 0], &[byte_at(place)], out);
+    assert!(rt; answer == Answer::Ack);
+    let _ = device.handle(&GET_STATUS, &[], out);
 }
 
 /// The piece of one byte that is due there is sent, or at the end one of no bytes.
-fn sends(rt: &impl Abort, device: &mut Device<SimMedium>, place: u32, piece: &[u8]) {
-    let mut out = ArrayVec::new();
-    let answer = device.handle(&upload((place % 65_536) as u16, 1), &[], &mut out);
-    assert_eq!(rt;
-        (answer, out.as_slice()),
-        (Answer::Bytes, piece),
-        "at {place}"
-    );
+fn sends(
+    rt: &impl Abort,
+    device: &mut Device<SimMedium>,
+    out: &mut ArrayVec<u8, 4096>,
+    place: u32,
+    piece: &[u8],
+) {
+    let [low, high, _, _] = place.to_le_bytes();
+    let answer = device.handle(&[0xa1, 2, low, high, 0, 0, 1, 0], &[], out);
+    assert!(rt; answer == Answer::Bytes && out.as_slice() == piece);
 }
+
+/// The download is closed, and its image put in place.
+#[rattlefmt::skip]
+static CLOSED: [Row; 2] = [
+    (Ask([0x21, 1, 2, 0, 0, 0, 0, 0], &[]), Answer::Ack, &[], State::ManifestSync),
+    (Ask(GET_STATUS, &[]), Answer::Bytes, &[0, 0, 0, 0, 2, 0], State::DfuIdle),
+];
 
 #[test]
 fn number_0_comes_after_65535(rt: HostRuntime) -> Result<(), Fail> {
@@ -48,16 +54,20 @@ fn number_0_comes_after_65535(rt: HostRuntime) -> Result<(), Fail> {
         transfer: 1,
         ..functional(0x07)
     };
-    let config = Config::new(IDS, functional, 1, 5, 10)?;
-    let image = counted(rt.alloc(), 65_538)?;
+    let config = Config::new(IDS, functional, 1, 0, 0)?;
     let medium = SimMedium::new(rt.alloc(), 2 * (32 + 65_538))?;
-    let mut device = device_on(medium, config, &image)?;
+    let mut device = device_on(medium, config, &[0])?;
     play(&rt, &mut device, &TO_DFU_IDLE);
+    let mut out = ArrayVec::new();
     for place in 0..65_538 {
-        sends(&rt, &mut device, place, &[byte_at(place)]);
+        takes(&rt, &mut device, &mut out, place);
+    }
+    play(&rt, &mut device, &CLOSED);
+    for place in 0..65_538 {
+        sends(&rt, &mut device, &mut out, place, &[byte_at(place)]);
     }
     assert_eq!(rt; device.state(), State::UploadIdle);
-    sends(&rt, &mut device, 65_538, &[]);
+    sends(&rt, &mut device, &mut out, 65_538, &[]);
     assert_eq!(rt; device.state(), State::DfuIdle);
     Ok(())
 }

@@ -4,7 +4,7 @@ use super::Cause::{Ask, Reset, Wait};
 use super::restart::restarted;
 use super::{
     ABORT, BLOCK, CLOSE, CLR_STATUS, DETACH, FIRST, GET_STATE, GET_STATUS, IDS, Row, SECOND,
-    device, functional, play,
+    UPLOAD, device, functional, play,
 };
 use crate::{Answer, Config, ConfigFault};
 use dfu_wire::{Code, Functional, State};
@@ -12,10 +12,14 @@ use std::test::Fail;
 
 /// A whole download, with a detach that comes too late before it.
 #[rattlefmt::skip]
-static DOWNLOADED: [Row; 19] = [
+static DOWNLOADED: [Row; 24] = [
     (Ask(GET_STATUS, &[]), Answer::Bytes, &[0, 0, 0, 0, 0, 0], State::AppIdle),
     (Ask([0x21, 0, 100, 0, 0, 0, 0, 0], &[]), Answer::Ack, &[], State::AppDetach),
-    (Wait(99), Answer::Ack, &[], State::AppDetach),
+    (Wait(60), Answer::Ack, &[], State::AppDetach),
+    // these two do not begin the time anew
+    (Ask(GET_STATUS, &[]), Answer::Bytes, &[0, 0, 0, 0, 1, 0], State::AppDetach),
+    (Ask(GET_STATE, &[]), Answer::Bytes, &[1], State::AppDetach),
+    (Wait(39), Answer::Ack, &[], State::AppDetach),
     (Wait(1), Answer::Ack, &[], State::AppIdle),
     (Ask(DETACH, &[]), Answer::Ack, &[], State::AppDetach),
     (Reset, Answer::Ack, &[], State::DfuIdle),
@@ -30,8 +34,10 @@ static DOWNLOADED: [Row; 19] = [
     (Ask(GET_STATUS, &[]), Answer::Bytes, &[0, 0, 0, 0, 5, 0], State::DownloadIdle),
     (Ask(CLOSE, &[]), Answer::Ack, &[], State::ManifestSync),
     (Ask(GET_STATUS, &[]), Answer::Bytes, &[0, 10, 0, 0, 7, 0], State::Manifest),
-    (Wait(10), Answer::Ack, &[], State::ManifestSync),
+    (Wait(9), Answer::Ack, &[], State::Manifest),
+    (Wait(1), Answer::Ack, &[], State::ManifestSync),
     (Ask(GET_STATUS, &[]), Answer::Bytes, &[0, 0, 0, 0, 2, 0], State::DfuIdle),
+    (Ask(UPLOAD, &[]), Answer::Bytes, &BLOCK, State::DfuIdle),
 ];
 
 /// Requests that are errors in dfuIDLE.
@@ -50,18 +56,14 @@ static WRONG_REQUESTS: [Row; 6] = [
 fn a_download_goes_by_the_table(rt: HostRuntime) -> Result<(), Fail> {
     let mut device = device(rt.alloc(), functional(0x07), 1, 5, 10)?;
     play(&rt, &mut device, &DOWNLOADED);
-    assert_eq!(rt; device.slots().active_len(), 4);
-    let mut image = [0; 4];
-    device.slots().read_active(0, &mut image);
-    assert_eq!(rt; image, BLOCK);
     play(&rt, &mut device, &WRONG_REQUESTS);
-    assert_eq!(rt; device.code(), Code::Address);
+    assert!(rt; device.code() == Code::Address);
     Ok(())
 }
 
 /// A download of four bytes that is closed.
 #[rattlefmt::skip]
-static TOO_SHORT: [Row; 6] = [
+pub(crate) static TOO_SHORT: [Row; 6] = [
     (Ask(DETACH, &[]), Answer::Ack, &[], State::AppDetach),
     (Reset, Answer::Ack, &[], State::DfuIdle),
     (Ask(FIRST, &BLOCK), Answer::Ack, &[], State::DownloadSync),
@@ -80,7 +82,7 @@ fn an_image_that_is_too_short_is_a_fault(rt: HostRuntime) -> Result<(), Fail> {
 
 /// A download to a device that waits for a reset at the end.
 #[rattlefmt::skip]
-static NOT_TOLERANT: [Row; 9] = [
+pub(crate) static NOT_TOLERANT: [Row; 9] = [
     (Ask(DETACH, &[]), Answer::Ack, &[], State::AppDetach),
     (Reset, Answer::Ack, &[], State::DfuIdle),
     (Ask(FIRST, &BLOCK), Answer::Ack, &[], State::DownloadSync),
@@ -165,7 +167,7 @@ fn a_short_answer_makes_its_transition(rt: HostRuntime) -> Result<(), Fail> {
 
 /// A device that detaches by itself.
 #[rattlefmt::skip]
-static WILLING: [Row; 3] = [
+pub(crate) static WILLING: [Row; 3] = [
     (Ask(DETACH, &[]), Answer::Ack, &[], State::AppDetach),
     (Wait(0), Answer::Ack, &[], State::AppDetach),
     (Wait(1), Answer::Ack, &[], State::DfuIdle),
@@ -192,12 +194,11 @@ static LATE: [Row; 5] = [
 #[rattlefmt::skip]
 #[test]
 fn a_device_detaches_in_time(rt: HostRuntime) -> Result<(), Fail> {
-    let mut willing = device(rt.alloc(), functional(0x0f), 1, 5, 10)?;
-    play(&rt, &mut willing, &WILLING);
-    let mut at_once = device(rt.alloc(), Functional { detach_ms: 0, ..functional(0x07) }, 1, 5, 10)?;
-    play(&rt, &mut at_once, &AT_ONCE);
-    let mut late = device(rt.alloc(), Functional { detach_ms: 65_535, ..functional(0x07) }, 1, 5, 10)?;
-    play(&rt, &mut late, &LATE);
+    for (attributes, detach_ms, rows) in [(0x0f, 255, &WILLING[..]), (0x07, 0, &AT_ONCE[..]), (0x07, 65_535, &LATE[..])] {
+        let functional = Functional { detach_ms, ..functional(attributes) };
+        let mut device = device(rt.alloc(), functional, 1, 5, 10)?;
+        play(&rt, &mut device, rows);
+    }
     Ok(())
 }
 

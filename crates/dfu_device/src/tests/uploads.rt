@@ -72,12 +72,13 @@ fn idle(rt: &impl Abort, alloc: Global) -> Result<Device<SimMedium>, Fail> {
 
 /// UPLOADs that cannot be the first, with the status after them.
 #[rattlefmt::skip]
-static BEGUN_WRONGLY: [([u8; 8], &'static [u8]); 6] = [
+static BEGUN_WRONGLY: [([u8; 8], &'static [u8]); 7] = [
     ([0xa1, 2, 0, 0, 0, 0, 0, 0], &STALLED_PKT),
     ([0xa1, 2, 1, 0, 0, 0, 0, 0], &STALLED_PKT),
     ([0xa1, 2, 0, 0, 0, 0, 9, 0], &STALLED_PKT),
     ([0xa1, 2, 1, 0, 0, 0, 255, 255], &STALLED_PKT),
     ([0xa1, 2, 1, 0, 0, 0, 8, 0], &ADDRESS),
+    ([0xa1, 2, 0, 128, 0, 0, 8, 0], &ADDRESS),
     ([0xa1, 2, 255, 255, 0, 0, 8, 0], &ADDRESS),
 ];
 
@@ -100,11 +101,12 @@ fn an_upload_does_not_begin_wrongly(rt: HostRuntime) -> Result<(), Fail> {
 
 /// What cannot follow number 0, with the status after it.
 #[rattlefmt::skip]
-static GONE_ON_WRONGLY: [([u8; 8], &'static [u8]); 8] = [
+static GONE_ON_WRONGLY: [([u8; 8], &'static [u8]); 9] = [
     ([0xa1, 2, 1, 0, 0, 0, 0, 0], &STALLED_PKT),
     ([0xa1, 2, 0, 0, 0, 0, 9, 0], &STALLED_PKT),
     ([0xa1, 2, 0, 0, 0, 0, 8, 0], &ADDRESS),
     ([0xa1, 2, 2, 0, 0, 0, 8, 0], &ADDRESS),
+    ([0xa1, 2, 1, 128, 0, 0, 8, 0], &ADDRESS),
     (DETACH, &STALLED_PKT),
     (CLOSE, &STALLED_PKT),
     (CLR_STATUS, &STALLED_PKT),
