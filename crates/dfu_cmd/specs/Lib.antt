@@ -9,3 +9,4 @@ pub mod ShowLines
 pub mod ShowText
 pub mod AddText
 pub mod RunText
+pub mod Buffering

@@ -3,9 +3,12 @@
 mod files;
 mod host;
 mod machine;
+mod opened;
 mod readers;
+mod runs;
 mod scripts;
 mod streams;
+mod typed;
 
 use crate::{Exit, Job, JobFault, add_text, check_text, job, run_text, show_text};
 use dfu_wire::Ids;
