@@ -3,6 +3,7 @@ pub mod Output
 pub mod AnswerLines
 pub mod CheckText
 pub mod CommandLine
+pub mod Complete
 pub mod Refusals
 pub mod Identifiers
 pub mod ShowLines
