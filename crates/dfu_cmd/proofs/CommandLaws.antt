@@ -1,13 +1,15 @@
 -- The command line as clap reads it.
-use Rattle.std.proofs.Common.{◌≡◌, List, [], false, true, refl, ap, subst, sym, ◌∙◌}
-use Rattle.clap.specs.Words.{App, HasKind, HasMatchesOf, IsParsedFrom, Text, app_of, fault_of, has_subcommand, is_simple, is_simple_and_free, subcommand_of, subcommand_rows_of}
+use Rattle.std.proofs.Common.{◌≡◌, List, [], IfSome, Option, false, true, refl, ap, subst, sym, ◌∙◌}
+use Rattle.clap.specs.Words.{App, HasKind, HasMatchesOf, IsParsedFrom, Row, Text, app_of, fault_of, has_subcommand, is_simple, is_simple_and_free, subcommand_of, subcommand_rows_of}
 use Rattle.clap.specs.declared.builder.Command.{Command}
 use Rattle.clap.specs.declared.builder.Command.TheViews.{out-Command}
 use Rattle.clap.specs.declared.parser.matches.ArgMatches.{ArgMatches}
 use Rattle.clap.proofs.CallerLemmas.{subcommand_required}
 use Rattle.clap.specs.declared.error.Error.{Error}
 use Rattle.dfu_cmd.specs.CommandLine.{dfu_app}
+use Rattle.dfu_cmd.specs.Complete.{IsComplete}
 use Rattle.dfu_cmd.specs.Refusals.{word_faults}
+use Rattle.dfu_cmd.proofs.Complete.{complete}
 
 dfu_simple : is_simple dfu_app ≡ true
 unfolding dfu_app
@@ -43,3 +45,9 @@ pub faulty : (app : App) (words : List Text) (error : Error) → app ≡ dfu_app
 unfolding word_faults
 faulty app words error e free =
     subst (λ (a : App). HasKind (fault_of a words) error) e (free (ap is_simple_and_free e ∙ dfu_free))
+
+-- What clap states for words that it takes is complete.
+pub complete_from : (words : List Text) (o : Option (Text × List Row)) → o ≡ subcommand_of dfu_app words → word_faults words ≡ []
+    → IfSome o (λ p. IsComplete p.0 p.1)
+unfolding word_faults
+complete_from words o e none = complete words o none e

@@ -3,9 +3,11 @@ pub mod Output
 pub mod AnswerLines
 pub mod CheckText
 pub mod CommandLine
+pub mod Complete
 pub mod Refusals
 pub mod Identifiers
 pub mod ShowLines
 pub mod ShowText
 pub mod AddText
 pub mod RunText
+pub mod Buffering

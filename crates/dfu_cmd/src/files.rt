@@ -1,6 +1,7 @@
 //! Files that the commands open and make.
 
 use crate::adding::add_text;
+use crate::buffering::run_buffered;
 use crate::checking::check_text;
 use crate::exit::Exit;
 use crate::faults::fault_text;
@@ -10,8 +11,13 @@ use crate::replacing::replace;
 use crate::running::run_text;
 use dfu_suffix::SuffixFault;
 use dfu_wire::Ids;
+use std::fs;
+use std::io::{self, BufWriter, IsTerminal, Read};
 use std::rt::Files;
-use std::{fs, io};
+
+/// How many bytes the buffer of `run` has. Two writes after one another put out at least so many,
+/// whatever the lines are; so there is at most one for each 8,192 bytes, and one more.
+const BUFFER: usize = 16_384;
 
 /// Checks a file, or standard input where the name is `-`.
 pub(crate) fn run_check<R: Files + Input + Print + AllocGlobal>(rt: &R, file: &str) -> Exit {
@@ -25,15 +31,31 @@ pub(crate) fn run_check<R: Files + Input + Print + AllocGlobal>(rt: &R, file: &s
     }
 }
 
+/// Runs a script through a buffer, so that it makes few writes. Where the script is typed at a
+/// terminal, what a line prints is out before the next one is waited for, so it goes without one;
+/// and where there is no memory for one.
+fn run_from<R: Print + AllocGlobal, S: Read + IsTerminal + Drop>(rt: &R, script: S) -> Exit {
+    if !script.is_terminal() {
+        if let Ok(buffer) = BufWriter::with_capacity(rt.alloc(), BUFFER, io::writer(rt)) {
+            let (exit, _) = run_buffered(rt.alloc(), script, buffer);
+            return exit;
+        }
+    }
+    run_text(rt.alloc(), script, &mut io::writer(rt))
+}
+
 /// Runs a script, or that of standard input where the name is `-`.
-pub(crate) fn run_script<R: Files + Input + Print + AllocGlobal>(rt: &R, script: &str) -> Exit {
-    let mut out = io::writer(rt);
+pub(crate) fn run_script<R: Files + Input + Print + AllocGlobal>(rt: &R, script: &str) -> Exit
+where
+    R::File: IsTerminal,
+    R::Reader: IsTerminal,
+{
     if script == "-" {
-        return run_text(rt.alloc(), rt.reader(), &mut out);
+        return run_from(rt, rt.reader());
     }
     match fs::open(rt, script) {
-        Ok(reader) => run_text(rt.alloc(), reader, &mut out),
-        Err(_error) => fault_text(SuffixFault::Read, &mut out),
+        Ok(reader) => run_from(rt, reader),
+        Err(_error) => fault_text(SuffixFault::Read, &mut io::writer(rt)),
     }
 }
 

@@ -3,6 +3,7 @@
 #![tactic(auto)]
 
 mod adding;
+mod buffering;
 mod checking;
 mod command_line;
 mod exit;
@@ -22,6 +23,7 @@ mod task;
 mod words;
 
 pub use adding::add_text;
+pub use buffering::run_buffered;
 pub use checking::check_text;
 use dfu_suffix::SuffixFault;
 pub use exit::Exit;
@@ -32,7 +34,7 @@ use identifiers::{IdTexts, ids_said};
 use owner::Owned;
 pub use running::run_text;
 pub use showing::show_text;
-use std::io::{self, ErrorKind};
+use std::io::{self, ErrorKind, IsTerminal};
 use std::process::ExitCode;
 use std::rt::Files;
 pub use task::{Job, JobFault};
@@ -44,7 +46,8 @@ mod tests;
 /// Does a job.
 fn perform<R: Files + Input + Print + AllocGlobal>(rt: &R, job: Job) -> Exit
 where
-    R::File: Owned,
+    R::File: Owned + IsTerminal,
+    R::Reader: IsTerminal,
 {
     match job {
         Job::Check { file } => run_check(rt, &file),
@@ -81,7 +84,8 @@ fn explain<R: Print>(rt: &R, error: &clap::Error) -> u8 {
 /// Does what the words ask for, and answers the exit status.
 fn run_words<R: Files + Input + Print + AllocGlobal>(rt: &R, words: &[String]) -> u8
 where
-    R::File: Owned,
+    R::File: Owned + IsTerminal,
+    R::Reader: IsTerminal,
 {
     match job(rt.alloc(), words) {
         Ok(job) => perform(rt, job).status(),

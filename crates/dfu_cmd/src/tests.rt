@@ -1,11 +1,16 @@
 //! The lines of known files, bytes and scripts, and the jobs of known words.
 
-mod files;
+mod acting;
+mod adding;
+mod commands;
 mod host;
 mod machine;
+mod opened;
 mod readers;
+mod runs;
 mod scripts;
 mod streams;
+mod typed;
 
 use crate::{Exit, Job, JobFault, add_text, check_text, job, run_text, show_text};
 use dfu_wire::Ids;
@@ -14,13 +19,13 @@ use std::process::Abort;
 use std::test::Fail;
 
 /// Payload FFFFFFFFh, identifiers FFFFh.
-const FOUR_ONES: [u8; 20] = [
+static FOUR_ONES: [u8; 20] = [
     0xff, 0xff, 0xff, 0xff, 0xff, 0xff, 0xff, 0xff, 0xff, 0xff, 0x00, 0x01, 0x55, 0x46, 0x44, 0x10,
     0x71, 0xc8, 0x51, 0x0c,
 ];
 
 /// Payload '123456789', vendor 1209h, product 0001h, device 0100h.
-const DIGITS: [u8; 25] = [
+static DIGITS: [u8; 25] = [
     0x31, 0x32, 0x33, 0x34, 0x35, 0x36, 0x37, 0x38, 0x39, 0x00, 0x01, 0x01, 0x00, 0x09, 0x12, 0x00,
     0x01, 0x55, 0x46, 0x44, 0x10, 0x62, 0x1c, 0x70, 0xfe,
 ];
@@ -31,47 +36,57 @@ const DIGITS_IDS: Ids = Ids {
     vendor: 0x1209,
 };
 
+/// The file is answered with this line, and this end.
+fn checks(rt: &impl Abort, alloc: Global, file: &[u8], line: &str, end: Exit) {
+    let mut out = Vec::new(alloc);
+    assert_eq!(rt; check_text(alloc, file, &mut out), end, "{line}");
+    assert_eq!(rt; out.as_slice(), line.as_bytes());
+}
+
 #[test]
 fn checks_known_files(rt: HostRuntime) {
-    let known: [(&[u8], &[u8], Exit); 4] = [
-        (
-            &FOUR_ONES,
-            b"ok payload 4 suffix 16 device ffff product ffff vendor ffff dfu 0100 crc 0c51c871\n",
-            Exit::Done,
-        ),
-        (
-            &DIGITS,
-            b"ok payload 9 suffix 16 device 0100 product 0001 vendor 1209 dfu 0100 crc fe701c62\n",
-            Exit::Done,
-        ),
-        (&FOUR_ONES[..15], b"refused TooShort\n", Exit::Refused),
-        (&FOUR_ONES[..19], b"refused NoSignature\n", Exit::Refused),
-    ];
-    for (bytes, line, exit) in known {
-        let mut out = Vec::new(rt.alloc());
-        assert_eq!(rt;
-            check_text(rt.alloc(), bytes, &mut out),
-            exit,
-            "of {bytes:?}"
-        );
-        assert_eq!(rt; out.as_slice(), line, "of {bytes:?}");
-    }
+    let ones =
+        "ok payload 4 suffix 16 device ffff product ffff vendor ffff dfu 0100 crc 0c51c871\n";
+    let digits =
+        "ok payload 9 suffix 16 device 0100 product 0001 vendor 1209 dfu 0100 crc fe701c62\n";
+    checks(&rt, rt.alloc(), &FOUR_ONES, ones, Exit::Done);
+    checks(&rt, rt.alloc(), &DIGITS, digits, Exit::Done);
+    let (short, end) = ("refused TooShort\n", Exit::Refused);
+    checks(&rt, rt.alloc(), &FOUR_ONES[..15], short, end);
+    checks(
+        &rt,
+        rt.alloc(),
+        &FOUR_ONES[..19],
+        "refused NoSignature\n",
+        end,
+    );
+}
+
+/// The file is answered with this line and this end, and these bytes are written.
+fn adds(rt: &impl Abort, alloc: Global, payload: &[u8], file: &[u8], line: &str, end: Exit) {
+    let mut made = Vec::new(alloc);
+    let mut out = Vec::new(alloc);
+    let exit = add_text(alloc, payload, DIGITS_IDS, &mut made, &mut out);
+    assert_eq!(rt; exit, end);
+    assert_eq!(rt; (made.as_slice(), out.as_slice()), (file, line.as_bytes()));
 }
 
 #[test]
 fn adds_a_suffix(rt: HostRuntime) {
-    let mut file = Vec::new(rt.alloc());
-    let mut out = Vec::new(rt.alloc());
-    let exit = add_text(
+    adds(
+        &rt,
         rt.alloc(),
-        &b"123456789"[..],
-        DIGITS_IDS,
-        &mut file,
-        &mut out,
+        b"123456789",
+        &DIGITS,
+        "wrote 25\n",
+        Exit::Done,
     );
-    assert_eq!(rt; exit, Exit::Done);
-    assert_eq!(rt; file.as_slice(), &DIGITS[..]);
-    assert_eq!(rt; out.as_slice(), &b"wrote 25\n"[..]);
+}
+
+#[test]
+fn adds_no_second_suffix(rt: HostRuntime) {
+    let line = "refused AlreadySuffixed\n";
+    adds(&rt, rt.alloc(), &FOUR_ONES, b"", line, Exit::Refused);
 }
 
 // Of a script with no line the line of the image is left.
@@ -80,16 +95,6 @@ fn runs_an_empty_script(rt: HostRuntime) {
     let mut out = Vec::new(rt.alloc());
     assert_eq!(rt; run_text(rt.alloc(), &b""[..], &mut out), Exit::Done);
     assert_eq!(rt; out.as_slice(), &b"image 00\n"[..]);
-}
-
-#[test]
-fn adds_no_second_suffix(rt: HostRuntime) {
-    let mut file = Vec::new(rt.alloc());
-    let mut out = Vec::new(rt.alloc());
-    let exit = add_text(rt.alloc(), &FOUR_ONES[..], DIGITS_IDS, &mut file, &mut out);
-    assert_eq!(rt; exit, Exit::Refused);
-    assert_eq!(rt; file.len(), 0);
-    assert_eq!(rt; out.as_slice(), &b"refused AlreadySuffixed\n"[..]);
 }
 
 /// What `show` writes for each of these texts, and how it ends.
@@ -195,30 +200,32 @@ fn outcome(alloc: Global, line: &str) -> Result<String, AllocError> {
     }
 }
 
+/// Words, and the job that they are.
+static JOBS: [(&str, &str); 16] = [
+    ("dfu add a b --pid 0001", "add;a;b;ffff;0001;ffff;"),
+    ("dfu add a b --did 1 --vid=2", "add;a;b;2;ffff;1;"),
+    ("dfu check -", "check;-;"),
+    ("dfu show status 00", "show;status;00;"),
+    ("dfu run -", "run;-;"),
+    ("dfu run a", "run;a;"),
+    ("dfu", "words 2"),
+    ("dfu check", "words 2"),
+    ("dfu add a", "words 2"),
+    ("dfu add a b c", "words 2"),
+    ("dfu run", "words 2"),
+    ("dfu run a b", "words 2"),
+    ("dfu --version", "words 2"),
+    ("dfu show status -x", "words 2"),
+    ("dfu --help", "words 0"),
+    ("dfu help add", "words 0"),
+];
+
 // Words that are no job are the parser's refusal, with status 2; help has status 0.
 #[test]
 fn jobs_of_words(rt: HostRuntime) -> Result<(), Fail> {
-    let known = [
-        ("dfu add a b --pid 0001", "add;a;b;ffff;0001;ffff;"),
-        ("dfu add a b --did 1 --vid=2", "add;a;b;2;ffff;1;"),
-        ("dfu check -", "check;-;"),
-        ("dfu show status 00", "show;status;00;"),
-        ("dfu run -", "run;-;"),
-        ("dfu run a", "run;a;"),
-        ("dfu", "words 2"),
-        ("dfu check", "words 2"),
-        ("dfu add a", "words 2"),
-        ("dfu add a b c", "words 2"),
-        ("dfu run", "words 2"),
-        ("dfu run a b", "words 2"),
-        ("dfu --version", "words 2"),
-        ("dfu show status -x", "words 2"),
-        ("dfu --help", "words 0"),
-        ("dfu help add", "words 0"),
-    ];
-    for (line, found) in known {
+    for (line, found) in &JOBS {
         let text = outcome(rt.alloc(), line)?;
-        assert_eq!(rt; text.as_str(), found, "{line}");
+        assert_eq!(rt; text.as_str(), *found, "{line}");
     }
     Ok(())
 }

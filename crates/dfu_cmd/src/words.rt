@@ -1,9 +1,10 @@
 //! From the words of a command line to a job.
 
-ghost use Rattle.std.specs.Prelude.{◌≡◌, IfErr, IfOk, Some, codes, map, true};
+ghost use Rattle.std.specs.Prelude.{◌≡◌, IfErr, IfOk, IfSome, Some, codes, is_some, map, true};
 ghost use Rattle.std.specs.String.{string_bytes};
 ghost use Rattle.clap.specs.Words.{HasKind, Kinds, first_of, found_of, has_subcommand, rows_of, subcommand_of, subcommand_rows_of};
 ghost use Rattle.dfu_cmd.specs.CommandLine.{dfu_app, States};
+ghost use Rattle.dfu_cmd.specs.Complete.{HasTexts, IsComplete, arguments_of};
 ghost use Rattle.dfu_cmd.specs.Refusals.{EndsBy, Tells, word_faults};
 
 use crate::command_line::dfu_command;
@@ -14,13 +15,12 @@ use std::alloc::Global;
 
 /// The text of an argument.
 fn text_of(alloc: Global, found: &ArgMatches<'_>, id: &str) -> Result<String, JobFault>
+    requires there { is_some (first_of id.now (rows_of (found_of found.now))) ≡ true }
     ensures memory { IfErr result (λ f. f ≡ JobFault.NoMemory) }
     ensures text { IfOk result (λ t. first_of id.now (rows_of (found_of found.now)) ≡ Some (string_bytes t)) }
 {
-    // Each argument of `dfu_command` is needed or has a default, so there is a text. That isn't
-    // proved, and the answer is one that no words get.
     let Some(text) = found.get_str(id) else {
-        return Err(JobFault::NoMemory);
+        unreachable!()
     };
     match String::from_str(alloc, text) {
         Ok(text) => Ok(text),
@@ -32,6 +32,7 @@ fn text_of(alloc: Global, found: &ArgMatches<'_>, id: &str) -> Result<String, Jo
 fn matches_of<'a>(alloc: Global, words: &'a [String]) -> Result<ArgMatches<'a>, JobFault>
     ensures rows { IfOk result (λ m. subcommand_rows_of m ≡ subcommand_of dfu_app (map string_bytes words.now)) }
     ensures named { IfOk result (λ m. has_subcommand m ≡ true) }
+    ensures complete { IfOk result (λ m. IfSome (subcommand_rows_of m) (λ p. IsComplete p.0 p.1)) }
     ensures faults { EndsBy (word_faults (map string_bytes words.now)) result }
 {
     let command = match dfu_command(alloc) {
@@ -55,6 +56,7 @@ fn fault_of(error: clap::Error) -> JobFault
 }
 
 fn check_job(alloc: Global, found: &ArgMatches<'_>) -> Result<Job, JobFault>
+    requires texts { HasTexts (arguments_of (codes "check")) (rows_of (found_of found.now)) }
     ensures job { IfOk result (λ j. States (Some (codes "check", rows_of (found_of found.now))) j) }
     ensures memory { IfErr result (λ f. f ≡ JobFault.NoMemory) }
 {
@@ -63,6 +65,7 @@ fn check_job(alloc: Global, found: &ArgMatches<'_>) -> Result<Job, JobFault>
 }
 
 fn add_job(alloc: Global, found: &ArgMatches<'_>) -> Result<Job, JobFault>
+    requires texts { HasTexts (arguments_of (codes "add")) (rows_of (found_of found.now)) }
     ensures job { IfOk result (λ j. States (Some (codes "add", rows_of (found_of found.now))) j) }
     ensures memory { IfErr result (λ f. f ≡ JobFault.NoMemory) }
 {
@@ -81,6 +84,7 @@ fn add_job(alloc: Global, found: &ArgMatches<'_>) -> Result<Job, JobFault>
 }
 
 fn show_job(alloc: Global, found: &ArgMatches<'_>) -> Result<Job, JobFault>
+    requires texts { HasTexts (arguments_of (codes "show")) (rows_of (found_of found.now)) }
     ensures job { IfOk result (λ j. States (Some (codes "show", rows_of (found_of found.now))) j) }
     ensures memory { IfErr result (λ f. f ≡ JobFault.NoMemory) }
 {
@@ -90,6 +94,7 @@ fn show_job(alloc: Global, found: &ArgMatches<'_>) -> Result<Job, JobFault>
 }
 
 fn run_job(alloc: Global, found: &ArgMatches<'_>) -> Result<Job, JobFault>
+    requires texts { HasTexts (arguments_of (codes "run")) (rows_of (found_of found.now)) }
     ensures job { IfOk result (λ j. States (Some (codes "run", rows_of (found_of found.now))) j) }
     ensures memory { IfErr result (λ f. f ≡ JobFault.NoMemory) }
 {
@@ -98,6 +103,7 @@ fn run_job(alloc: Global, found: &ArgMatches<'_>) -> Result<Job, JobFault>
 }
 
 fn named_job(alloc: Global, name: &str, found: &ArgMatches<'_>) -> Result<Job, JobFault>
+    requires complete { IsComplete name.now (rows_of (found_of found.now)) }
     ensures job { IfOk result (λ j. States (Some (name.now, rows_of (found_of found.now))) j) }
     ensures memory { IfErr result (λ f. f ≡ JobFault.NoMemory) }
 {
@@ -106,14 +112,13 @@ fn named_job(alloc: Global, name: &str, found: &ArgMatches<'_>) -> Result<Job, J
         "add" => add_job(alloc, found),
         "show" => show_job(alloc, found),
         "run" => run_job(alloc, found),
-        // `dfu_command` has no other subcommand. That isn't proved, and the answer is one that no
-        // words get.
-        _ => Err(JobFault::NoMemory),
+        _ => unreachable!(),
     }
 }
 
 fn chosen(alloc: Global, matches: &ArgMatches<'_>) -> Result<Job, JobFault>
-    requires { has_subcommand matches.now ≡ true }
+    requires named { has_subcommand matches.now ≡ true }
+    requires complete { IfSome (subcommand_rows_of matches.now) (λ p. IsComplete p.0 p.1) }
     ensures job { IfOk result (λ j. States (subcommand_rows_of matches.now) j) }
     ensures memory { IfErr result (λ f. f ≡ JobFault.NoMemory) }
 {

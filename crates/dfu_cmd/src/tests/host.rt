@@ -1,13 +1,13 @@
 //! The machine in memory as the library's runtime.
 
-use crate::owner::Owned;
 use crate::place::beside;
-use crate::tests::machine::{Kind, Machine, entry_in, place_in};
+use crate::tests::machine::{Kind, Machine, entry_in};
+use crate::tests::opened::Opened;
+use crate::tests::typed::Typed;
 use std::alloc::{Allocator, Global};
 use std::fmt::Display;
-use std::fs::{FileTimes, Metadata, OpenFile, OpenOptions, Permissions};
-use std::io::{self, BufRead, ErrorKind, Lines, Read, Seek, SeekFrom, Write};
-use std::os::unix::fs::PermissionsExt;
+use std::fs::{FileTimes, Metadata, OpenOptions, Permissions};
+use std::io::{self, BufRead, ErrorKind, Lines};
 use std::path::PathBuf;
 use std::rt::Files;
 
@@ -15,14 +15,6 @@ use std::rt::Files;
 #[derive(Clone, Copy)]
 pub struct Host<'m> {
     pub machine: &'m Machine,
-}
-
-/// An open file: its name, and where the next read begins.
-#[derive(Drop)]
-pub struct Opened<'m> {
-    machine: &'m Machine,
-    name: String,
-    place: usize,
 }
 
 impl Alloc for Host<'_> {
@@ -45,94 +37,32 @@ impl Print for Host<'_> {
     }
 
     fn write_all(&self, bytes: &[u8]) -> io::Result<()> {
-        if self.machine.failing == "print" {
+        let mut state = self.machine.state.try_borrow_mut()?;
+        if state.prints >= state.room {
             return Err(io::Error::from(ErrorKind::BrokenPipe));
         }
-        let mut state = self.machine.state.try_borrow_mut()?;
+        state.prints += 1;
         state.printed.extend_from_slice(bytes)?;
         Ok(())
     }
 }
 
 impl Input for Host<'_> {
-    type Reader = &'static [u8];
+    type Reader = Typed;
 
     fn read_line<A: Allocator + Clone>(&self, _buf: &mut String<A>) -> io::Result<usize> {
         Err(io::Error::from(ErrorKind::Unsupported))
     }
 
-    fn lines<A: Allocator>(&self, alloc: A) -> Lines<&'static [u8], A> {
-        self.machine.input.lines(alloc)
+    fn lines<A: Allocator>(&self, alloc: A) -> Lines<Typed, A> {
+        self.reader().lines(alloc)
     }
 
-    fn reader(&self) -> &'static [u8] {
-        self.machine.input
-    }
-}
-
-impl Read for Opened<'_> {
-    fn read(&mut self, buf: &mut [u8]) -> io::Result<usize> {
-        let state = self.machine.state.try_borrow()?;
-        let entry = entry_in(&state.folder, &self.name)?;
-        let mut rest = entry.bytes.get(self.place..).unwrap_or(&[]);
-        let count = rest.read(buf)?;
-        self.place = self.place.saturating_add(count);
-        Ok(count)
-    }
-}
-
-impl Write for Opened<'_> {
-    fn write(&mut self, buf: &[u8]) -> io::Result<usize> {
-        self.machine.call("write", "")?;
-        let mut state = self.machine.state.try_borrow_mut()?;
-        let Some(place) = place_in(&state.folder, &self.name) else {
-            return Err(io::Error::from(ErrorKind::NotFound));
-        };
-        let Some(entry) = state.folder.get_mut(place) else {
-            return Err(io::Error::from(ErrorKind::NotFound));
-        };
-        entry.bytes.extend_from_slice(buf)?;
-        Ok(buf.len())
-    }
-
-    fn flush(&mut self) -> io::Result<()> {
-        Ok(())
-    }
-}
-
-impl Seek for Opened<'_> {
-    fn seek(&mut self, _to: SeekFrom) -> io::Result<u64> {
-        Err(io::Error::from(ErrorKind::Unsupported))
-    }
-}
-
-impl Owned for Opened<'_> {
-    fn set_owner(&self, _user: u32, _group: u32) -> io::Result<()> {
-        self.machine.call("owner", "")
-    }
-}
-
-impl OpenFile for Opened<'_> {
-    fn metadata(&self) -> io::Result<Metadata> {
-        Err(io::Error::from(ErrorKind::Unsupported))
-    }
-
-    fn set_len(&self, _size: u64) -> io::Result<()> {
-        Err(io::Error::from(ErrorKind::Unsupported))
-    }
-
-    fn sync_all(&self) -> io::Result<()> {
-        self.machine.call("sync", "")
-    }
-
-    fn sync_data(&self) -> io::Result<()> {
-        Err(io::Error::from(ErrorKind::Unsupported))
-    }
-
-    fn set_permissions(&self, perm: Permissions) -> io::Result<()> {
-        let mode = perm.mode();
-        let of = format!(in self.machine.alloc; " {mode:o}")?;
-        self.machine.call("rights", &of)
+    fn reader(&self) -> Typed {
+        Typed {
+            rest: self.machine.input,
+            is_terminal: self.machine.is_typed,
+        }
     }
 }
 

@@ -28,6 +28,10 @@ pub struct State {
     /// The calls so far, each ended by `;`.
     pub calls: String,
     pub printed: Vec<u8>,
+    /// How many calls of printing were made.
+    pub prints: usize,
+    /// How many of them succeed.
+    pub room: usize,
 }
 
 #[derive(Drop)]
@@ -35,6 +39,8 @@ pub struct Machine {
     pub alloc: Global,
     /// What standard input gives.
     pub input: &'static [u8],
+    /// It is typed at a terminal.
+    pub is_typed: bool,
     /// The calls that fail, each time.
     pub failing: &'static str,
     pub state: RefCell<State>,
@@ -68,10 +74,13 @@ impl Machine {
             folder: Vec::new(alloc),
             calls: String::new(alloc),
             printed: Vec::new(alloc),
+            prints: 0,
+            room: if failing == "print" { 0 } else { usize::MAX },
         };
         Machine {
             alloc,
             input,
+            is_typed: false,
             failing,
             state: RefCell::new(state),
         }

@@ -3,6 +3,8 @@
 use crate::tests::readers::{Failing, Refusing};
 use crate::tests::{DIGITS, DIGITS_IDS, FOUR_ONES};
 use crate::{Exit, add_text, check_text, run_text, show_text};
+use std::alloc::Global;
+use std::io::Write;
 
 #[test]
 fn checks_a_reader_that_fails(rt: HostRuntime) {
@@ -40,16 +42,18 @@ fn stops_at_a_writer_that_fails(rt: HostRuntime) {
     assert_eq!(rt; (out.left, out.calls_after), (0, 1));
 }
 
+/// KIND and HEX of `show`, and for how many bytes there is room.
+static SHORT_OF_ROOM: [(&str, &str, usize); 3] = [
+    ("status", "000500000400", 41),
+    ("status", "-", 3),
+    ("state", "00", 9),
+];
+
 #[test]
 fn shows_to_a_writer_that_fails(rt: HostRuntime) {
-    let known = [
-        ("status", "000500000400", 41usize),
-        ("status", "-", 3),
-        ("state", "00", 9),
-    ];
-    for (kind, hex, room) in known {
+    for (kind, hex, room) in &SHORT_OF_ROOM {
         let mut out = Refusing {
-            left: room,
+            left: *room,
             calls_after: 0,
         };
         assert_eq!(rt;
@@ -71,6 +75,11 @@ fn adds_to_a_reader_that_fails(rt: HostRuntime) {
     assert_eq!(rt; out.as_slice(), &b"fault Read\n"[..]);
 }
 
+/// How nine digits get a suffix.
+fn adds<F: Write, W: Write>(alloc: Global, file: &mut F, out: &mut W) -> Exit {
+    add_text(alloc, &b"123456789"[..], DIGITS_IDS, file, out)
+}
+
 // The file would have 25 bytes.
 #[test]
 fn adds_to_a_file_that_fails(rt: HostRuntime) {
@@ -79,14 +88,7 @@ fn adds_to_a_file_that_fails(rt: HostRuntime) {
         calls_after: 0,
     };
     let mut out = Vec::new(rt.alloc());
-    let exit = add_text(
-        rt.alloc(),
-        &b"123456789"[..],
-        DIGITS_IDS,
-        &mut file,
-        &mut out,
-    );
-    assert_eq!(rt; exit, Exit::Fault);
+    assert_eq!(rt; adds(rt.alloc(), &mut file, &mut out), Exit::Fault);
     assert_eq!(rt; (file.left, file.calls_after), (0, 1));
     assert_eq!(rt; out.as_slice(), &b"fault Write\n"[..]);
 }
@@ -99,14 +101,7 @@ fn adds_with_a_line_that_fails(rt: HostRuntime) {
         left: 8,
         calls_after: 0,
     };
-    let exit = add_text(
-        rt.alloc(),
-        &b"123456789"[..],
-        DIGITS_IDS,
-        &mut file,
-        &mut out,
-    );
-    assert_eq!(rt; exit, Exit::Fault);
+    assert_eq!(rt; adds(rt.alloc(), &mut file, &mut out), Exit::Fault);
     assert_eq!(rt; file.as_slice(), &DIGITS[..]);
     assert_eq!(rt; (out.left, out.calls_after), (0, 1));
 }

@@ -1,0 +1,22 @@
+-- That each text of a job is there.
+use Rattle.std.specs.Prelude.{◌≡◌, true, false, List, [], ◌∷◌, if◌then◌else◌, is_some, codes}
+use Rattle.std.specs.Str.{bytes_eq}
+use Rattle.clap.specs.Words.{Row, Text, first_of}
+use Rattle.clap.specs.Walk.{is_empty}
+
+-- The arguments of the subcommand with this name; there are none where it is no subcommand.
+abbrev pub arguments_of : Text → List Text
+arguments_of name =
+    if bytes_eq name (codes "check") then codes "file" ∷ []
+    else (if bytes_eq name (codes "add") then codes "file" ∷ codes "to" ∷ codes "vid" ∷ codes "pid" ∷ codes "did" ∷ []
+    else (if bytes_eq name (codes "show") then codes "kind" ∷ codes "hex" ∷ []
+    else (if bytes_eq name (codes "run") then codes "script" ∷ [] else [])))
+
+-- Each of these arguments has a text.
+abbrev pub HasTexts : List Text → List Row → Type 0
+HasTexts [] rows = Unit {0}
+HasTexts (id ∷ ids) rows = (is_some (first_of id rows) ≡ true) × HasTexts ids rows
+
+-- The name is that of a subcommand with arguments, and each of them has a text.
+abbrev pub IsComplete : Text → List Row → Type 0
+IsComplete name rows = (is_empty (arguments_of name) ≡ false) × HasTexts (arguments_of name) rows

@@ -1,0 +1,49 @@
+//! What the words of a line read and print on the machine in memory, and how they end.
+
+use crate::tests::FOUR_ONES;
+use crate::tests::acting::{calls, ends, machine_with, prints};
+use std::test::Fail;
+
+/// Words, what is printed, the calls that are made, and the end.
+#[rattlefmt::skip]
+static READ: [(&str, &str, &str, u8); 7] = [
+    ("dfu check a", "ok payload 4 suffix 16 device ffff product ffff vendor ffff dfu 0100 crc 0c51c871\n", "open a;", 0),
+    ("dfu check -", "refused TooShort\n", "", 1),
+    ("dfu check c", "fault Read\n", "open c;", 3),
+    ("dfu run a", "refused BadLine 1\n", "open a;", 1),
+    ("dfu run -", "state appIDLE status OK image 00\nimage 00\n", "", 0),
+    ("dfu run c", "fault Read\n", "open c;", 3),
+    ("dfu show state 00", "bad words\n", "", 2),
+];
+
+// Standard input has a script, and `a` a file.
+#[test]
+fn reads_what_is_named(rt: HostRuntime) -> Result<(), Fail> {
+    for (line, printed, made, end) in &READ {
+        let machine = machine_with(rt.alloc(), &FOUR_ONES, "")?;
+        ends(&rt, &machine, line, *end)?;
+        prints(&rt, &machine, printed)?;
+        calls(&rt, &machine, made)?;
+    }
+    Ok(())
+}
+
+/// Words, the call that fails, and the end.
+static TOLD: [(&str, &str, u8); 5] = [
+    ("dfu --help", "", 0),
+    ("dfu help add", "", 0),
+    ("dfu", "", 2),
+    ("dfu --help", "print", 3),
+    ("dfu", "print", 3),
+];
+
+#[test]
+fn ends_as_the_parser_says(rt: HostRuntime) -> Result<(), Fail> {
+    for (line, failing, end) in &TOLD {
+        let machine = machine_with(rt.alloc(), b"", failing)?;
+        ends(&rt, &machine, line, *end)?;
+        let state = machine.state.try_borrow()?;
+        assert_eq!(rt; state.printed.is_empty(), *end == 3, "{line}");
+    }
+    Ok(())
+}
