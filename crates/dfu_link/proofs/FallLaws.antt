@@ -1,5 +1,5 @@
 -- Where lines fall after others were done.
-use Rattle.std.proofs.Common.{◌≡◌, ℕ, ◌+◌, ◌<◌, List, [], ◌∷◌, Option, Some, None, refl, sym, ap, ◌∙◌, subst, arith, length}
+use Rattle.std.proofs.Common.{◌≡◌, ℕ, ◌+◌, List, [], ◌∷◌, Option, Some, None, refl, sym, subst, arith}
 use Rattle.std.specs.Prelude.{IfSome}
 use Rattle.std.specs.Io.KnownBytes.{IsAtEnd}
 use Rattle.dfu_suffix.specs.Writing.{IsOutInPart}
@@ -11,8 +11,8 @@ use Rattle.dfu_link.specs.Bench.{Nobody}
 use Rattle.dfu_link.specs.Said.{EventLine, Offer, Does}
 use Rattle.dfu_link.specs.Falls.{HasBroken, in_events, for_file, for_tear, LineFalls, NextFalls}
 use Rattle.dfu_link.specs.TextLimit.{GoesOver, IsStopped, GivesNone}
-use Rattle.dfu_link.specs.Source.{SourceState, Took, Takes, GivesLine, StopsSource}
-use Rattle.dfu_link.specs.Moving.{Moves, FallsHere, MovesAndFalls, FindsNoRoom, FindsNoTear}
+use Rattle.dfu_link.specs.Source.{SourceState, Takes, GivesLine, StopsSource}
+use Rattle.dfu_link.specs.Moving.{Moves, MovesAndFalls, FindsNoRoom, FindsNoTear}
 use Rattle.dfu_link.specs.declared.scripting.fault.ScriptFault.{ScriptFault}
 use Rattle.dfu_link.specs.declared.scripting.fault.ScriptFault.TheVariants.{BadLine, LateConfig, BadConfig, TooLarge, NoMemory, Read, Write}
 use Rattle.dfu_link.proofs.MoveLaws.{moves_trans}
@@ -45,7 +45,7 @@ taken_falls p None b room room' k n line old new f took ends is falls = tt
 taken_falls p (Some a) None room room' k n line old new f took ends is falls = absurd took
 taken_falls p (Some a) (Some b) room room' k n line old new f took ends is falls =
     let there : NextFalls p k (line ∷ lines_of b) old new f =
-        line_is_next p k line (lines_of b) old new f (subst (λ (x : ℕ). LineFalls p x line old new f) is falls) in
+    line_is_next p k line (lines_of b) old new f (subst (λ (x : ℕ). LineFalls p x line old new f) is falls) in
     (line_stops p n room line a old new f ends falls, subst (λ (ls : List (List ℕ)). NextFalls p k ls old new f) (sym took.are) there)
 
 -- The line that a source gave falls.

@@ -1,11 +1,9 @@
 -- Lines that a source gives, one after the other.
-use Rattle.std.proofs.Common.{◌≡◌, ℕ, ◌+◌, ◌-◌, ◌<◌, ◌≤◌, List, [], ◌∷◌, ◌++◌, length, Option, Some, None, refl, sym, ap, ◌∙◌, subst, append_assoc, arith, length-append}
-use Rattle.std.proofs.lemmas.List.{append-nil}
+use Rattle.std.proofs.Common.{◌≡◌, ℕ, ◌-◌, List, [], ◌++◌, length, Option, Some, None, refl, sym, ap, ◌∙◌, subst, append_assoc, arith, length-append}
 use Rattle.std.specs.Prelude.{IfSome}
-use Rattle.std.specs.Io.KnownBytes.{IsAtEnd}
 use Rattle.dfu_link.specs.Words.{lines_of}
-use Rattle.dfu_link.specs.TextLimit.{GoesOver, IsStopped, Begins, StopsAfter}
-use Rattle.dfu_link.specs.Source.{SourceState, Took, Takes, Gives, GivesLine}
+use Rattle.dfu_link.specs.TextLimit.{IsStopped, StopsAfter}
+use Rattle.dfu_link.specs.Source.{SourceState, Took, Takes, Gives}
 use Rattle.dfu_link.specs.declared.scripting.fault.ScriptFault.{ScriptFault}
 
 -- What holds for each value that may be there holds for the one that is.
@@ -70,6 +68,7 @@ took s s' xs g e = took_told s.left s'.left s.room s'.room xs g.takes e
 pub stops_after : {text left : List ℕ} {xs : List (List ℕ)} {room : ℕ} (fault : ScriptFault) → Took text 16777216 xs left room
     → IsStopped room left fault → StopsAfter text xs fault
 stops_after {left = left} {room = room} fault t stopped =
-    let same : room ≡ 16777216 - length t.front = omega (arith, t.rooms) in
-    (record { front = t.front; left = left; split = t.split; are = t.are; within = omega (arith, t.rooms) },
-      subst (λ (n : ℕ). IsStopped n left fault) same stopped)
+    let same : room ≡ 16777216 - length t.front = omega (arith, t.rooms) in (
+      record { front = t.front; left = left; split = t.split; are = t.are; within = omega (arith, t.rooms) },
+      subst (λ (n : ℕ). IsStopped n left fault) same stopped,
+    )

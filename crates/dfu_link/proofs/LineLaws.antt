@@ -1,7 +1,6 @@
 -- Lines of a text.
-use Rattle.std.proofs.Common.{◌≡◌, ℕ, zero, suc, ◌+◌, ◌<◌, ◌≤◌, List, [], ◌∷◌, ◌++◌, length, get_or, take, cond, Some, None, refl, sym, ap, ◌∙◌, arith, true, false, Bool}
+use Rattle.std.proofs.Common.{◌≡◌, ℕ, zero, suc, ◌<◌, ◌≤◌, List, [], ◌∷◌, ◌++◌, length, get_or, take, cond, Some, None, refl, sym, ap, ◌∙◌, arith, true, false, Bool}
 use Rattle.std.specs.List.{position, onto_first}
-use Rattle.std.proofs.lemmas.List.{take_all}
 use Rattle.std.proofs.lemmas.List.Quantifiers.{position-Some}
 use Rattle.dfu_link.specs.Words.{lines_of, endless, is_newline}
 use Rattle.dfu_link.proofs.WordLaws.{none_passes}
@@ -84,8 +83,10 @@ pub line_long : (xs ys : List ℕ) → 0 < length xs → endless xs ≡ true
 line_long [] ys some h = absurd (omega (arith, some))
 line_long (b ∷ []) ys some h = long_one b ys (endless_first b [] h)
 line_long (b ∷ c ∷ bs) ys some h =
-    let rest = line_long (c ∷ bs) ys (omega arith) (endless_rest b (c ∷ bs) h) in
-    (b ∷ rest.0, rest.1,
+    let rest = line_long (c ∷ bs) ys (omega arith) (endless_rest b (c ∷ bs) h) in (
+      b ∷ rest.0,
+      rest.1,
       ap (λ (t : Bool). cond t ([] ∷ lines_of ((c ∷ bs) ++ ys)) (onto_first b (lines_of ((c ∷ bs) ++ ys)))) (endless_first b (c ∷ bs) h)
           ∙ ap (onto_first b) rest.2,
-      omega (arith, rest.3))
+      omega (arith, rest.3),
+    )

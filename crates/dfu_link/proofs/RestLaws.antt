@@ -1,17 +1,16 @@
 -- Lines that are done while no session is live.
-use Rattle.std.proofs.Common.{◌≡◌, ℕ, List, Option, Some, None, Bool, true, false, refl, sym, ap, ◌∙◌, subst}
+use Rattle.std.proofs.Common.{◌≡◌, ℕ, List, Option, Some, None, Bool, true, false, refl, sym, subst}
 use Rattle.std.specs.Io.KnownBytes.{Appends}
 use Rattle.dfu_host.specs.declared.limits.Limits.{Limits}
 use Rattle.dfu_suffix.specs.Writing.{IsOutInPart}
 use Rattle.dfu_device.specs.Shown.{Shown}
 use Rattle.dfu_link.specs.Bench.{Bench}
-use Rattle.dfu_link.specs.Said.{Does, event_line_of}
-use Rattle.dfu_link.specs.Lines.{line_of}
+use Rattle.dfu_link.specs.Said.{event_line_of}
 use Rattle.dfu_link.specs.Texts.{image_line}
 use Rattle.dfu_link.specs.ScriptRun.{Point, point, at_rest, events_of}
 use Rattle.dfu_link.specs.Falls.{HasBroken, LineFalls}
 use Rattle.dfu_link.specs.Source.{SourceState, Next, GivesLine, StopsSource}
-use Rattle.dfu_link.specs.Moving.{HasPlayed, Steps, Moves, Ends, LinesDone, IsUnarmed, Plainly, MovesAndFalls, FindsNoRoom, FindsNoTear}
+use Rattle.dfu_link.specs.Moving.{HasPlayed, Steps, Moves, Ends, LinesDone, Plainly, MovesAndFalls, FindsNoRoom, FindsNoTear}
 use Rattle.dfu_link.specs.declared.scripting.line.EventLine.{EventLine}
 use Rattle.dfu_link.specs.declared.scripting.fault.ScriptFault.{ScriptFault}
 use Rattle.dfu_link.specs.declared.scripting.fault.ScriptFault.TheVariants.{Write}
@@ -59,7 +58,8 @@ went_on went m = record { from = λ r next. moves_trans (went.from r next) m }
 
 -- And then lines until no session was live, or all that were left.
 pub went_to : {given : Bool} {first s : SourceState} {p q : Point} {old mid : Option (List ℕ)} (d : Option Shown) (to : Bench → Point)
-    (u : SourceState) (new : Option (List ℕ)) → Went given first p old q s mid → LinesDone q s mid d to u new → (r : SourceState) → Next r given first
+    (u : SourceState) (new : Option (List ℕ)) → Went given first p old q s mid → LinesDone q s mid d to u new → (r : SourceState)
+    → Next r given first
     → LinesDone p r old d to u new
 went_to None to u new went done = λ r next. ends_after (went.from r next) done
 went_to (Some d) to u new went done = λ r next. (done.0, moves_trans (went.from r next) done.1)
@@ -131,7 +131,7 @@ pub no_room : (d : Shown) (l l' : Limits) (k : ℕ) (line : List ℕ) (old new :
 no_room d l l' k line old new events f plainly is no_memory =
     let plain = subst (λ (x : Option EventLine). Plainly d l line old x l' new) is plainly in
     subst (λ (x : Option (List ℕ)). LineFalls (point l (at_rest d)) k line old x f) (sym plain.2)
-        (offer_falls (point l (at_rest d)) k line old (event_line_of events) f plain.0 refl no_memory)
+    (offer_falls (point l (at_rest d)) k line old (event_line_of events) f plain.0 refl no_memory)
 
 -- There is none for their tear.
 pub no_tear : (d : Shown) (l l' : Limits) (k : ℕ) (line : List ℕ) (old new : Option (List ℕ)) {plain : Option EventLine}
@@ -140,7 +140,7 @@ pub no_tear : (d : Shown) (l l' : Limits) (k : ℕ) (line : List ℕ) (old new :
 no_tear d l l' k line old new b events f plainly is no_memory =
     let plain = subst (λ (x : Option EventLine). Plainly d l line old x l' new) is plainly in
     subst (λ (x : Option (List ℕ)). LineFalls (point l b) k line old x f) (sym plain.2)
-        (tear_falls (point l b) k line old (event_line_of events) f plain.0 no_memory)
+    (tear_falls (point l b) k line old (event_line_of events) f plain.0 no_memory)
 
 -- The writer fails among them.
 pub events_break : (d : Shown) (l l' : Limits) (k : ℕ) (line : List ℕ) (old : Option (List ℕ)) {mid new : Option (List ℕ)}
@@ -160,4 +160,4 @@ events_play d l l' line old {mid = mid} {new = new} b b' events plainly is playe
     let plain = subst (λ (y : Option EventLine). Plainly d l line old y l' mid) is plainly in
     let step : Steps (point l' b) line mid (point l' b') new = step_plays l' b b' line mid new (event_line_of events) plain.0 played in
     subst (λ (y : Limits). Steps (point y b) line old (point l' b') new) plain.1
-        (subst (λ (y : Option (List ℕ)). Steps (point l' b) line y (point l' b') new) plain.2 step)
+    (subst (λ (y : Option (List ℕ)). Steps (point l' b) line y (point l' b') new) plain.2 step)

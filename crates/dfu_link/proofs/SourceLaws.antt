@@ -1,6 +1,6 @@
 -- A line, read piece by piece.
 use Rattle.std.proofs.Common.{◌≡◌, ℕ, ◌+◌, ◌-◌, ◌<◌, ◌≤◌, min, List, [], ◌∷◌, ◌++◌, length, get_or, take, drop, slice_range, Option, Some, None, refl, sym, ap, ◌∙◌, subst, arith, length-append, length-take, drop-drop, append_assoc, true, false, Bool}
-use Rattle.std.proofs.lemmas.List.{append-nil, drop-take, take-append-drop, take-append-le, take_more, take-take, take_min, length-take-le, take_at}
+use Rattle.std.proofs.lemmas.List.{append-nil, drop-take, take-append-drop, take_more, take-take, take_min, length-take-le}
 use Rattle.std.proofs.lemmas.List.Quantifiers.{position-Some}
 use Rattle.std.proofs.KnownBytes.{Consumes-trans}
 use Rattle.std.specs.Prelude.{IfSome, not, ◌==◌}
@@ -9,9 +9,8 @@ use Rattle.std.specs.Io.KnownBytes.{Consumes, IsAtEnd, Keeps, prepend_known}
 use Rattle.dfu_link.specs.Words.{lines_of, endless, is_newline}
 use Rattle.dfu_link.specs.Lines.{line_of}
 use Rattle.dfu_link.specs.TextLimit.{GoesOver, IsStopped, GivesNone}
-use Rattle.dfu_link.specs.Source.{SourceState, source_state, Took, Takes, TakesPiece, Next, GivesLine, StopsSource}
-use Rattle.dfu_link.specs.declared.scripting.fault.ScriptFault.{ScriptFault}
-use Rattle.dfu_link.specs.declared.scripting.fault.ScriptFault.TheVariants.{BadLine, TooLarge, Read}
+use Rattle.dfu_link.specs.Source.{source_state, Takes, TakesPiece, Next, GivesLine, StopsSource}
+use Rattle.dfu_link.specs.declared.scripting.fault.ScriptFault.TheVariants.{BadLine}
 use Rattle.dfu_link.proofs.LineLaws.{endless_none, endless_before, endless_more, line_ended, line_last, line_long, ends_within}
 
 -- Pieces.
@@ -77,19 +76,6 @@ pub record ReadSoFar (left : Option (List ℕ)) (room : ℕ) (left' : Option (Li
   pub no_end : endless line ≡ true
   pub short : length line ≤ 65536
 
-consumes_none : (left : Option (List ℕ)) → Consumes left left []
-consumes_none None = tt
-consumes_none (Some xs) = refl
-
--- Nothing was read of it.
-pub so_far_none : (left : Option (List ℕ)) (room : ℕ) (line : List ℕ) → line ≡ [] → ReadSoFar left room left room line
-so_far_none left room line e = subst (λ (xs : List ℕ). ReadSoFar left room left room xs) (sym e) (record {
-  given = consumes_none left;
-  rooms = omega arith;
-  no_end = refl;
-  short = omega arith;
-})
-
 consumes_kept : (a b c : Option (List ℕ)) (xs : List ℕ) → Consumes a b xs → Keeps b c → Consumes a c xs
 consumes_kept None b c xs h k = tt
 consumes_kept (Some a) None c xs h k = absurd h
@@ -126,14 +112,15 @@ ends_at_newline None b room room' line none rooms h = (tt, tt)
 ends_at_newline (Some a) None room room' line none rooms h = absurd h
 ends_at_newline (Some a) (Some b) room room' line none rooms h =
     let whole : a ≡ line ++ 10 ∷ b = h ∙ append_assoc line (10 ∷ []) b in
-    let within = ends_within line b room (omega (arith, rooms)) in
-    (record {
+    let within = ends_within line b room (omega (arith, rooms)) in (
+      record {
         front = line ++ 10 ∷ [];
         split = h;
         are = ap lines_of whole ∙ line_ended line b none;
         rooms = omega (arith, rooms, length-append line (10 ∷ []));
       },
-      λ over. grind (arith, over.no_end ∙ refl, ap (λ (xs : List ℕ). endless (take room xs)) whole, within))
+      λ over. grind (arith, over.no_end ∙ refl, ap (λ (xs : List ℕ). endless (take room xs)) whole, within),
+    )
 
 -- A line was read up to its 0Ah.
 pub line_given : {left left1 left2 : Option (List ℕ)} {room room1 : ℕ} (n : ℕ) (x : List ℕ) {line line' : List ℕ} {bytes : ℕ}
@@ -160,14 +147,15 @@ ends_with_text : (a b : Option (List ℕ)) (room room' : ℕ) (line : List ℕ) 
 ends_with_text None b room room' line none some rooms h e = (tt, tt)
 ends_with_text (Some a) None room room' line none some rooms h e = absurd h
 ends_with_text (Some a) (Some b) room room' line none some rooms h e =
-    let whole : a ≡ line = h ∙ (ap (λ (xs : List ℕ). line ++ xs) e ∙ append-nil line) in
-    (record {
+    let whole : a ≡ line = h ∙ (ap (λ (xs : List ℕ). line ++ xs) e ∙ append-nil line) in (
+      record {
         front = line;
         split = h;
         are = ap lines_of whole ∙ (line_last line some none ∙ ap (λ (xs : List ℕ). line ∷ lines_of xs) (sym e));
         rooms = rooms;
       },
-      λ over. absurd (omega (arith, over.over, rooms, ap length whole)))
+      λ over. absurd (omega (arith, over.over, rooms, ap length whole)),
+    )
 
 at_end : (a b : Option (List ℕ)) → Consumes a b [] → IsAtEnd b → IsAtEnd a
 at_end None b h e = tt
@@ -195,27 +183,6 @@ text_ended left left' room room' n x (b ∷ bs) r e true h =
 
 -- No line.
 
-over_limit : (a b : Option (List ℕ)) (room : ℕ) (line ready : List ℕ) → Consumes a b line → room ≡ length line → length line ≤ 65536
-    → endless line ≡ true → 0 < length ready → IfSome b (λ left. length ready ≤ length left) → IfSome a (λ left. GoesOver room left)
-over_limit None b room line ready h rooms short none some front = tt
-over_limit (Some a) None room line ready h rooms short none some front = absurd h
-over_limit (Some a) (Some b) room line ready h rooms short none some front = record {
-  over = omega (arith, rooms, some, front, ap length h, length-append line b);
-  short = omega (arith, rooms, short);
-  no_end = ap endless (ap (take room) h ∙ take_at line b room (sym rooms)) ∙ none;
-}
-
-with_none : (a : Option (List ℕ)) (room n : ℕ) (x : List ℕ) → IfSome a (λ left. GoesOver room left)
-    → StopsSource (source_state a room n x) TooLarge
-with_none None room n x over = tt
-with_none (Some text) room n x over = (over, tt)
-
--- The text goes over its limit.
-pub text_too_large : (left left' : Option (List ℕ)) (room room' n : ℕ) (x line ready : List ℕ) → ReadSoFar left room left' room' line
-    → room' ≡ 0 → 0 < length ready → IfSome left' (λ xs. length ready ≤ length xs) → StopsSource (source_state left room n x) TooLarge
-text_too_large left left' room room' n x line ready r full some front =
-    with_none left room n x (over_limit left left' room line ready r.given (omega (arith, r.rooms, full)) r.short r.no_end some front)
-
 too_long_is_none : (line : List ℕ) → 65536 < length line → line_of line ≡ None
 unfolding line_of
 too_long_is_none line long = grind (arith, long)
@@ -226,10 +193,11 @@ long_line None b room n line h size none le = tt
 long_line (Some a) None room n line h size none le = absurd h
 long_line (Some a) (Some b) room n line h size none le =
     let long = line_long line b (omega (arith, size)) none in
-    let is : lines_of a ≡ long.0 ∷ long.1 = ap lines_of h ∙ long.2 in
-    (λ over. absurd (omega (arith, over.short, size, le)),
+    let is : lines_of a ≡ long.0 ∷ long.1 = ap lines_of h ∙ long.2 in (
+      λ over. absurd (omega (arith, over.short, size, le)),
       subst (λ (ls : List (List ℕ)). GivesNone (n + 1) ls (BadLine (n + 1))) (sym is)
-          (refl, too_long_is_none long.0 (omega (arith, size, long.3))))
+          (refl, too_long_is_none long.0 (omega (arith, size, long.3))),
+    )
 
 -- The line has over 65,536 bytes.
 pub line_too_long : {left left1 left2 : Option (List ℕ)} {room room1 : ℕ} (n : ℕ) (x : List ℕ) {line line' : List ℕ} {bytes : ℕ}
@@ -241,8 +209,3 @@ line_too_long {left = left} {left1 = left1} {left2 = left2} {room = room} n x {l
     (Consumes-trans left left1 left2 line t.piece r.given t.taken) in
     let none : endless line' ≡ true = ap endless t.longer ∙ endless_more line t.piece r.no_end t.no_end in
     long_line left left2 room n line' given (omega (arith, long, t.short)) none (omega (arith, r.rooms, le, t.count, size))
-
--- The reader fails.
-pub read_fails : (left : Option (List ℕ)) (room n : ℕ) (x : List ℕ) → StopsSource (source_state left room n x) Read
-read_fails None room n x = tt
-read_fails (Some text) room n x = (tt, tt)

@@ -1,16 +1,16 @@
 -- Whole scripts, put together of their parts.
-use Rattle.std.proofs.Common.{◌≡◌, ℕ, ◌+◌, ◌≤◌, ◌++◌, List, [], length, Option, Some, None, refl, sym, ap, ◌∙◌, subst, arith, length-append}
+use Rattle.std.proofs.Common.{◌≡◌, ℕ, ◌+◌, ◌++◌, List, [], length, Option, Some, None, refl, sym, ap, ◌∙◌, subst, arith}
 use Rattle.std.proofs.lemmas.List.{append-nil}
-use Rattle.std.specs.Prelude.{Bool, IfSome, Result, Ok, Err, IfErr, OnOk}
+use Rattle.std.specs.Prelude.{Bool, IfSome}
 use Rattle.std.specs.Io.KnownBytes.{IsAtEnd, prepend_known}
 use Rattle.dfu_device.specs.Shown.{Shown}
 use Rattle.dfu_link.specs.Words.{lines_of}
 use Rattle.dfu_link.specs.Texts.{image_line}
 use Rattle.dfu_link.specs.TextLimit.{IsStopped, GivesNone}
 use Rattle.dfu_link.specs.ScriptRun.{Settings, beginning, Prepares, Starts, at_rest, point, IsReady, SetsUp, LinesRun, WroteRun}
-use Rattle.dfu_link.specs.Falls.{NextFalls, RunFalls, StartFalls, CannotStart, Falls, no_memory, in_setting, at_start, in_run}
+use Rattle.dfu_link.specs.Falls.{NextFalls, RunFalls, StartFalls, Falls, no_memory, in_setting, at_start, in_run}
 use Rattle.dfu_link.specs.Source.{SourceState, Took, Gives}
-use Rattle.dfu_link.specs.Moving.{Moves, Ends, MovesAndFalls, Prepared, Configured, StopsSetting, CannotConfigure}
+use Rattle.dfu_link.specs.Moving.{Ends, MovesAndFalls, Configured, StopsSetting, CannotConfigure}
 use Rattle.dfu_link.specs.declared.scripting.fault.ScriptFault.{ScriptFault}
 use Rattle.dfu_link.specs.declared.scripting.fault.ScriptFault.TheVariants.{BadLine, LateConfig, BadConfig, TooLarge, NoMemory, Read, Write}
 use Rattle.dfu_link.proofs.GivenLaws.{of_some, took, took_trans, stops_after}

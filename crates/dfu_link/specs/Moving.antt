@@ -38,7 +38,8 @@ pub record Steps (p : Point) (line : List ℕ) (old : Option (List ℕ)) (p' : P
   pub told : Appends old new out
 
 -- The lines that a source gave were done, and what they print is out.
-pub record Moves (p : Point) (s : SourceState) (old : Option (List ℕ)) (p' : Point) (s' : SourceState) (new : Option (List ℕ)) : Type 0 where
+pub record Moves (p : Point) (s : SourceState) (old : Option (List ℕ)) (p' : Point) (s' : SourceState) (new : Option (List ℕ))
+    : Type 0 where
   pub done : List (List ℕ)
   pub shown : List ℕ
   pub gives : Gives s done s'

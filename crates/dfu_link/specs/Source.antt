@@ -1,6 +1,6 @@
 -- What a source of lines gives of the text that it reads.
 use Rattle.std.specs.Prelude.{◌≡◌, ℕ, ◌+◌, ◌<◌, List, [], ◌∷◌, ◌++◌, length, Option, Some, None, IfSome, ⊤, Bool, true, false, if◌then◌else◌, ◌≤◌}
-use Rattle.std.specs.Io.KnownBytes.{Consumes, IsAtEnd}
+use Rattle.std.specs.Io.KnownBytes.{Consumes, IsAtEnd, prepend_known}
 use Rattle.dfu_link.specs.Words.{endless, lines_of}
 use Rattle.dfu_link.specs.TextLimit.{GoesOver, IsStopped, GivesNone}
 use Rattle.dfu_link.specs.declared.scripting.fault.ScriptFault.{ScriptFault}
@@ -9,6 +9,10 @@ use Rattle.dfu_link.specs.declared.scripting.fault.ScriptFault.{ScriptFault}
 pub record PiecesState : Type 0 where
   pub ready : List ℕ
   pub left : Option (List ℕ)
+
+-- These bytes are at hand, and then come those that a reader has left, where it tells them.
+abbrev pub pieces_state : List ℕ → Option (List ℕ) → PiecesState
+pieces_state ready given = record { ready = ready; left = prepend_known ready given }
 
 -- What is left of the text where the reader tells it, how many bytes may still be taken, the number of the line that was given last, and
 -- that line.

@@ -13,7 +13,8 @@ pub record Begins (text : List ℕ) (lines : List (List ℕ)) : Type 0 where
   pub are : lines_of text ≡ lines ++ lines_of left
   pub within : length front ≤ 16777216
 
--- Where so many bytes may be read, what is left goes over in its first line: the line doesn't end within them, nor does it have over 65,536.
+-- Where so many bytes may be read, what is left goes over in its first line: the line doesn't end within them, and they are no more than
+-- the 65,536 that a line may have.
 pub record GoesOver (room : ℕ) (left : List ℕ) : Type 0 where
   pub over : room < length left
   pub short : room ≤ 65536
@@ -29,8 +30,8 @@ IsStopped room left fault = ¬ GoesOver room left
 abbrev pub StopsAfter : List ℕ → List (List ℕ) → ScriptFault → Type 0
 StopsAfter text lines fault = (b : Begins text lines) × IsStopped (16777216 - length b.front) b.left fault
 
--- Of these lines, the first of them line k, reading gives none of the language: the text goes over its limit, the reader fails, or line k is
--- none.
+-- Of these lines, the first of them line k, reading gives none of the language: the text goes over its limit, the reader fails, or line k
+-- is none.
 abbrev pub GivesNone : ℕ → List (List ℕ) → ScriptFault → Type 0
 GivesNone k lines TooLarge = Unit {0}
 GivesNone k lines Read = Unit {0}

@@ -31,8 +31,10 @@ fn plain_line<'l, M: Medium, W: Write>(
     limits: &mut Limits,
     writer: &mut W,
 ) -> Result<Option<EventLine<'l>>, ScriptFault>
-    ensures ok { IfOk result (λ events. Plainly device.now limits.old line.now (W.contents writer.old) events limits.new (W.contents writer.new)) }
-    ensures fault { IfErr result (λ f. PlainlyFalls device.now limits.old number line.now (W.contents writer.old) (W.contents writer.new) f) }
+    ensures ok { IfOk result (λ events. Plainly device.now limits.old line.now (W.contents writer.old) events limits.new
+        (W.contents writer.new)) }
+    ensures fault { IfErr result (λ f. PlainlyFalls device.now limits.old number line.now (W.contents writer.old)
+        (W.contents writer.new) f) }
 {
     match parse(line) {
         None => Err(ScriptFault::BadLine(number)),
@@ -99,7 +101,14 @@ fn follow<'f, R: Read + Drop, M: Faulty, W: Write>(
             write_image(writer, world.device())?;
             return Ok(None);
         }
-        live_line(alloc, &mut world, source.line(), source.number(), limits, writer)?;
+        live_line(
+            alloc,
+            &mut world,
+            source.line(),
+            source.number(),
+            limits,
+            writer,
+        )?;
     }
 }
 

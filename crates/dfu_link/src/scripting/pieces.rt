@@ -24,12 +24,12 @@ pub(crate) struct Pieces<R: Read + Drop> {
 
 impl<R: Read + Drop> Model for Pieces<R> {
     ghost use Rattle.std.specs.Prelude.{◌≡◌, ◌≤◌, slice_range, true};
-    ghost use Rattle.std.specs.Io.KnownBytes.{IsAtEnd, prepend_known};
-    ghost use Rattle.dfu_link.specs.Source.{PiecesState};
+    ghost use Rattle.std.specs.Io.KnownBytes.{IsAtEnd};
+    ghost use Rattle.dfu_link.specs.Source.{PiecesState, pieces_state};
 
     ghost Value = { PiecesState };
 
-    ghost view = { λ p. record { ready = slice_range p.bytes p.from p.to; left = prepend_known (slice_range p.bytes p.from p.to) (R.remaining p.reader) } };
+    ghost view = { λ p. pieces_state (slice_range p.bytes p.from p.to) (R.remaining p.reader) };
 
     ghost invariant = { λ p. (p.from ≤ p.to) × (p.to ≤ 65536) × (p.ended ≡ true → IsAtEnd (R.remaining p.reader)) };
 }

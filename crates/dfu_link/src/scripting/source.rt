@@ -181,7 +181,12 @@ impl<R: Read + Drop> Source<R> {
         ensures room { self.new.room ≤ self.old.room }
     {
         self.line.clear();
-        if !read_line(&mut self.pieces, &mut self.room, self.number, &mut self.line)? {
+        if !read_line(
+            &mut self.pieces,
+            &mut self.room,
+            self.number,
+            &mut self.line,
+        )? {
             return Ok(false);
         }
         self.number += 1;

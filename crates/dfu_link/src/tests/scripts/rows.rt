@@ -2,6 +2,7 @@
 
 use crate::{ScriptFault, script};
 use std::alloc::{AllocError, Global};
+use std::io::{self, Read};
 use std::process::Abort;
 
 /// Payload FFFFFFFFh, identifiers FFFFh.
@@ -32,7 +33,23 @@ pub fn text_of(alloc: Global, row: &str) -> Result<Vec<u8>, AllocError> {
     Ok(text)
 }
 
-/// A script ends like this, and this is out.
+/// Gives one byte at each call.
+#[derive(Drop)]
+struct Drip<'t> {
+    rest: &'t [u8],
+}
+
+impl Read for Drip<'_> {
+    fn read(&mut self, buf: &mut [u8]) -> io::Result<usize> {
+        let given = self.rest.len().min(buf.len()).min(1);
+        let (first, rest) = self.rest.split_at(given);
+        buf[..given].copy_from_slice(first);
+        self.rest = rest;
+        Ok(given)
+    }
+}
+
+/// A script ends like this, and this is out, also where it is read byte by byte.
 pub fn text_ends(
     rt: &impl Abort,
     alloc: Global,
@@ -43,6 +60,9 @@ pub fn text_ends(
     let mut seen = Vec::new(alloc);
     assert_eq!(rt; script(alloc, text, &mut seen), end);
     assert_eq!(rt; seen.as_slice(), out);
+    let mut dripped = Vec::new(alloc);
+    assert_eq!(rt; script(alloc, Drip { rest: text }, &mut dripped), end);
+    assert_eq!(rt; dripped.as_slice(), out);
 }
 
 /// The script of a row ends like this, and this is out.

@@ -7,15 +7,25 @@ use std::io::{self, ErrorKind, Read, Write};
 use std::process::Abort;
 use std::test::Fail;
 
-/// Gives so many line ends, and then fails or is at its end.
+/// Gives this front and so many line ends, and then fails or is at its end. It counts its calls.
 #[derive(Drop)]
 struct Blank {
+    front: &'static [u8],
     left: usize,
     fails: bool,
+    calls: usize,
 }
 
 impl Read for Blank {
     fn read(&mut self, buf: &mut [u8]) -> io::Result<usize> {
+        self.calls = self.calls.saturating_add(1);
+        if !self.front.is_empty() {
+            let given = self.front.len().min(buf.len());
+            let (first, rest) = self.front.split_at(given);
+            buf[..given].copy_from_slice(first);
+            self.front = rest;
+            return Ok(given);
+        }
         if self.left == 0 && self.fails {
             return Err(io::Error::from(ErrorKind::Interrupted));
         }
@@ -127,24 +137,69 @@ fn refused_allocation_in_an_upload(rt: HostRuntime) {
     }
 }
 
+/// A script of this reader ends like this, and this is out.
+fn ends_after(
+    rt: &impl Abort,
+    alloc: Global,
+    blank: &mut Blank,
+    end: Result<(), ScriptFault>,
+    out: &str,
+) {
+    let mut seen = Vec::new(alloc);
+    assert_eq!(rt; script(alloc, blank, &mut seen), end);
+    assert_eq!(rt; seen.as_slice(), out.as_bytes());
+}
+
+const SHOWN: &str = "state appIDLE status OK image 00\n";
+
+/// No read is made after the reader's end, after its error, or after the byte past the limit, which
+/// the last number of a row counts; and the lines before have run.
 #[test]
-fn texts_have_a_limit(rt: HostRuntime) -> Result<(), Fail> {
+fn texts_have_a_limit(rt: HostRuntime) {
+    let none = b"".as_slice();
+    let show = b"show\n".as_slice();
     let rows = [
-        (16_777_216, false, Ok(()), "image 00\n"),
-        (16_777_217, false, Err(ScriptFault::TooLarge), ""),
-        (16_777_217, true, Err(ScriptFault::TooLarge), ""),
-        (16_777_216, true, Err(ScriptFault::Read), ""),
-        (0, true, Err(ScriptFault::Read), ""),
+        (none, 16_777_216, false, Ok(()), "image 00\n", 257),
+        (none, 16_777_217, false, Err(ScriptFault::TooLarge), "", 257),
+        (none, 16_777_217, true, Err(ScriptFault::TooLarge), "", 257),
+        (none, 16_777_216, true, Err(ScriptFault::Read), "", 257),
+        (none, 0, true, Err(ScriptFault::Read), "", 1),
+        (
+            show,
+            16_777_212,
+            false,
+            Err(ScriptFault::TooLarge),
+            SHOWN,
+            257,
+        ),
+        (show, 0, true, Err(ScriptFault::Read), SHOWN, 2),
+        (
+            b"show\nsho".as_slice(),
+            0,
+            true,
+            Err(ScriptFault::Read),
+            SHOWN,
+            2,
+        ),
+        (
+            b"?\n".as_slice(),
+            16_777_216,
+            true,
+            Err(ScriptFault::BadLine(1)),
+            "",
+            1,
+        ),
     ];
-    for (left, fails, result, out) in rows {
-        let mut seen = Vec::new(rt.alloc());
-        assert_eq!(rt;
-            script(rt.alloc(), Blank { left, fails }, &mut seen),
-            result
-        );
-        assert_eq!(rt; seen.as_slice(), out.as_bytes());
+    for (front, left, fails, end, out, calls) in rows {
+        let mut blank = Blank {
+            front,
+            left,
+            fails,
+            calls: 0,
+        };
+        ends_after(&rt, rt.alloc(), &mut blank, end, out);
+        assert_eq!(rt; blank.calls, calls);
     }
-    Ok(())
 }
 
 /// Wherever the writer fails, a front of the text is out.

@@ -13,7 +13,8 @@ use Rattle.dfu_link.proofs.scripting.after_start.act.Goals as goal
 pub returns-in_err-plain-clause-fault : goal.returns-in_err-plain-clause-fault
 returns-in_err-plain-clause-fault g c =
     let failed = err_from_is_err_and c.from_residual.result c.from_residual.ensures.1 in
-    let moved = moved_none true c.args.source.now (point c.args.limits.now (at_rest c.args.device)) (g.W.Write.contents c.args.writer.now) in
+    let old = g.W.Write.contents c.args.writer.now in
+    let moved = moved_none true c.args.source.now (point c.args.limits.now (at_rest c.args.device)) old in
     rw (failed.1, failed.2) (moved_falls c.in_err-plain.field-0.0 moved c.number.ensures c.line.ensures
     (c.in_err-plain.ensures.fault (at_rest c.args.device) refl)).from
 
@@ -85,7 +86,8 @@ returns-in_err-after-clause-fault g c =
     (λ (b : Bench). HasPlayed b (events_of l' d) mid b' new) starts c.in_ok-play_events.ensures.ok in
     let step = events_play c.args.device l l' c.line.result.now old (at_rest c.args.device) b' c.in-Some.events c.in_ok-plain.ensures.ok
     c.in-Some.is played in
-    rw (failed.1, failed.2) (went_and_fell c.in_err-after.field-0.0 (moved_then moved c.line.ensures step) c.in_err-after.ensures.fault).from
+    let went = moved_then moved c.line.ensures step in
+    rw (failed.1, failed.2) (went_and_fell c.in_err-after.field-0.0 went c.in_err-after.ensures.fault).from
 
 pub returns-clause-ok : goal.returns-clause-ok
 returns-clause-ok g c =
@@ -104,4 +106,4 @@ returns-clause-ok g c =
     let step = events_play c.args.device l l' c.line.result.now old (at_rest c.args.device) b' c.in-Some.events c.in_ok-plain.ensures.ok
     c.in-Some.is played in
     went_to c.in_ok-after.after (point c.follow.new.limits) c.follow.new.source (g.W.Write.contents c.follow.new.writer)
-        (moved_then moved c.line.ensures step) c.in_ok-after.ensures.ok
+    (moved_then moved c.line.ensures step) c.in_ok-after.ensures.ok

@@ -12,7 +12,8 @@ pub returns-in_err-torn-clause-fault : goal.returns-in_err-torn-clause-fault
 returns-in_err-torn-clause-fault g c =
     let failed = err_from_is_err_and c.from_residual-in_err-torn.result c.from_residual-in_err-torn.ensures.1 in
     rw (failed.1, failed.2) (no_tear c.device.result.now c.args.limits.now c.plain_line.new.limits c.args.number c.args.line.now
-    (g.W.Write.contents c.args.writer.now) (g.W.Write.contents c.plain_line.new.writer) c.args.world.now.bench c.in-Some.events c.in_err-torn.field-0.0 c.in_ok-plain.ensures.ok c.in-Some.is
+    (g.W.Write.contents c.args.writer.now) (g.W.Write.contents c.plain_line.new.writer) c.args.world.now.bench c.in-Some.events
+    c.in_err-torn.field-0.0 c.in_ok-plain.ensures.ok c.in-Some.is
     c.in_err-torn.ensures.fault)
 
 pub returns-in_err-play_live-clause-fault : goal.returns-in_err-play_live-clause-fault

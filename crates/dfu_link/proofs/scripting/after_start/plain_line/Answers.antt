@@ -22,5 +22,5 @@ returns-in_ok-write_show-in-Some-Show-clause-ok g c =
     let old = g.W.Write.contents c.args.writer.now in
     let new = g.W.Write.contents c.write_show.new.writer in
     λ b e. step_shows c.args.limits.now b c.args.line.now old new
-        (c.in-Some-Show.ensures ∙ ap (λ (s : Line). Some (said_of s)) c.in-Some-Show.field-0-is)
-        (subst (λ (d : Shown). Appends old new (show_line d)) (sym e) c.in_ok-write_show-in-Some-Show.ensures.ok)
+    (c.in-Some-Show.ensures ∙ ap (λ (s : Line). Some (said_of s)) c.in-Some-Show.field-0-is)
+    (subst (λ (d : Shown). Appends old new (show_line d)) (sym e) c.in_ok-write_show-in-Some-Show.ensures.ok)

@@ -1,6 +1,6 @@
 use Rattle.std.proofs.Common.{◌≡◌, ◌∙◌, sym, ap, subst, arith, not, Bool, ℕ, ◌==◌, length, vec_len}
 use Rattle.dfu_link.specs.Source.{TakesPiece}
-use Rattle.dfu_link.proofs.SourceLaws.{ReadSoFar, so_far_filled, so_far_more, text_ended, line_given, line_too_long, nil_of_length}
+use Rattle.dfu_link.proofs.SourceLaws.{so_far_filled, so_far_more, text_ended, line_given, line_too_long, nil_of_length}
 use Rattle.dfu_link.proofs.scripting.source.read_line.Goals as goal
 
 pub returns-then-is_empty-clause-ok : goal.returns-then-is_empty-clause-ok
@@ -9,9 +9,9 @@ returns-then-is_empty-clause-ok g c =
     let size : vec_len c.pieces.line ≡ length c.pieces.line.items = omega arith in
     let none = sym c.ready.ensures ∙ nil_of_length c.ready.result.now (sym c.is_empty.ensures ∙ c.if-is_empty.true) in
     text_ended c.args.pieces.now.left c.fill.new.self.left c.args.room.now c.pieces.room c.args.before c.args.line.now.items
-        c.pieces.line.items line (c.in_ok-fill.ensures.end none)
-        (not c.is_empty-then-is_empty.result) (ap not c.is_empty-then-is_empty.ensures
-        ∙ ap (λ (n : ℕ). not (n == 0)) size)
+    c.pieces.line.items line (c.in_ok-fill.ensures.end none)
+    (not c.is_empty-then-is_empty.result) (ap not c.is_empty-then-is_empty.ensures
+    ∙ ap (λ (n : ℕ). not (n == 0)) size)
 
 pub returns-then-taken-clause-ok : goal.returns-then-taken-clause-ok
 returns-then-taken-clause-ok g c =
@@ -27,7 +27,8 @@ returns-then-len-gt-MAX_LINE-clause-fault g c =
     let taken = c.take_piece-taken in
     let takes = subst (λ (t : Bool). TakesPiece c.fill.new.self.left c.pieces.line.items taken.result.bytes t taken.new.pieces.left
     taken.new.line.items) c.if-taken.false taken.ensures.takes in
-    line_too_long c.args.before c.args.line.now.items line takes taken.ensures.most (omega (arith, c.len.ensures, c.if-len-gt-MAX_LINE.true))
+    line_too_long c.args.before c.args.line.now.items line takes taken.ensures.most
+    (omega (arith, c.len.ensures, c.if-len-gt-MAX_LINE.true))
 
 pub pieces-preserved : goal.pieces-preserved
 pieces-preserved g c =

@@ -1,4 +1,4 @@
-use Rattle.std.proofs.Common.{◌≡◌, ◌∙◌, List, ℕ, subst, refl}
+use Rattle.std.proofs.Common.{◌≡◌, List, ℕ, subst, refl}
 use Rattle.dfu_link.specs.Falls.{refused}
 use Rattle.dfu_link.specs.Forming.{Formed}
 use Rattle.dfu_link.specs.SetupView.{image_bytes}

@@ -1,4 +1,4 @@
-use Rattle.std.proofs.Common.{◌≡◌, ◌∙◌, ℕ, ◌+◌, ap, length, drop, slice_range, arith}
+use Rattle.std.proofs.Common.{◌≡◌, ◌∙◌, ◌+◌, ap, length, drop, slice_range, arith}
 use Rattle.dfu_link.specs.Source.{PiecesState}
 use Rattle.dfu_link.proofs.SourceLaws.{ready_advanced, front_consumed}
 use Rattle.dfu_link.proofs.scripting.pieces.Pieces.advance.Goals as goal
