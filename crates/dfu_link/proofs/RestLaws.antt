@@ -51,11 +51,6 @@ moved_then {s = s} {q = q} {t = t} {mid = mid} {new = new} moved is step =
     let there : Steps q s.line mid t new = subst (λ (xs : List ℕ). Steps q xs mid t new) is step in
     record { from = λ r next. moves_then (moved.from r next).1 (moved.from r next).2 there }
 
--- And then lines until no session was live.
-pub went_on : {given : Bool} {first s u : SourceState} {p q t : Point} {old mid new : Option (List ℕ)} → Went given first p old q s mid
-    → Moves q s mid t u new → Went given first p old t u new
-went_on went m = record { from = λ r next. moves_trans (went.from r next) m }
-
 -- And then lines until no session was live, or all that were left.
 pub went_to : {given : Bool} {first s : SourceState} {p q : Point} {old mid : Option (List ℕ)} (d : Option Shown) (to : Bench → Point)
     (u : SourceState) (new : Option (List ℕ)) → Went given first p old q s mid → LinesDone q s mid d to u new → (r : SourceState)
@@ -63,11 +58,6 @@ pub went_to : {given : Bool} {first s : SourceState} {p q : Point} {old mid : Op
     → LinesDone p r old d to u new
 went_to None to u new went done = λ r next. ends_after (went.from r next) done
 went_to (Some d) to u new went done = λ r next. (done.0, moves_trans (went.from r next) done.1)
-
--- And then all that were left.
-pub went_to_the_end : {given : Bool} {first s : SourceState} {p q : Point} {old mid new : Option (List ℕ)}
-    → Went given first p old q s mid → Ends q s mid new → (r : SourceState) → Next r given first → Ends p r old new
-went_to_the_end went e = λ r next. ends_after (went.from r next) e
 
 -- The line that was given was done, and those after it until no session was live.
 pub moved_on : {given : Bool} {first s u : SourceState} {p q t : Point} {old mid new : Option (List ℕ)}

@@ -47,7 +47,7 @@ pub struct Machine {
 }
 
 /// Where a name stands in the folder.
-pub fn place_in(folder: &[Entry], name: &str) -> Option<usize> {
+pub(crate) fn place_in(folder: &[Entry], name: &str) -> Option<usize> {
     for (place, entry) in folder.iter().enumerate() {
         if entry.name.as_str() == name {
             return Some(place);
@@ -57,7 +57,7 @@ pub fn place_in(folder: &[Entry], name: &str) -> Option<usize> {
 }
 
 /// The entry with this name.
-pub fn entry_in<'f>(folder: &'f [Entry], name: &str) -> io::Result<&'f Entry> {
+pub(crate) fn entry_in<'f>(folder: &'f [Entry], name: &str) -> io::Result<&'f Entry> {
     match place_in(folder, name) {
         Some(place) => match folder.get(place) {
             Some(entry) => Ok(entry),
