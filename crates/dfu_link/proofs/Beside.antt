@@ -1,5 +1,6 @@
 -- The session machine goes along with a script.
 use Rattle.std.proofs.Common.{◌≡◌, ◌⊎◌, inl, inr, ℕ, Bool, List, [], ◌∷◌, ◌++◌, Option, Some, None, Result, Ok, refl, sym, ap, ◌∙◌, subst, append_assoc}
+use Rattle.std.proofs.lemmas.List.{append-nil}
 use Rattle.std.specs.Prelude.{unwrap_or}
 use Rattle.dfu_slots.specs.Seen.{image_of}
 use Rattle.dfu_device.specs.Setting.{Setting}
@@ -23,14 +24,10 @@ use Rattle.dfu_link.specs.ScriptLegal.{begun_with, Vouches, GoesWith, reported, 
 use Rattle.dfu_link.proofs.Saying.{only_offered}
 use Rattle.dfu_link.proofs.Steady.{comes_follow, comes_sure, uploads_give}
 
-append_none : (xs : List Report) → xs ++ [] ≡ xs
-append_none [] = refl
-append_none (x ∷ xs) = ap (λ (ys : List Report). x ∷ ys) (append_none xs)
-
 legal_on : {t : Bool} {n : ℕ} {m mid m' : Machine} {kinds : List Kind} {reports : List Report} {kind : Kind} {report : Option Report}
     → Legal t n m kinds reports mid → Step t n kind mid report m' → Legal t n m (kinds ++ kind ∷ []) (reports ++ said report) m'
 legal_on {t = t} {n = n} {m = m} {m' = m'} {kind = kind} {report = report} stops s =
-    subst (λ (rs : List Report). Legal t n m (kind ∷ []) rs m') (append_none (said report)) (and_then s stops)
+    subst (λ (rs : List Report). Legal t n m (kind ∷ []) rs m') (append-nil (said report)) (and_then s stops)
 legal_on {t = t} {n = n} {m = m} {m' = m'} {kind = kind} {report = report}
     (and_then {kind = k} {kinds = ks} {report = r} {reports = rs} f more) s =
     subst (λ (xs : List Report). Legal t n m (k ∷ (ks ++ kind ∷ [])) xs m') (sym (append_assoc (said r) rs (said report)))
@@ -90,7 +87,7 @@ gone : ImageShown → {factory : List ℕ} {s : Setting} {reports : List Report}
 gone shown {factory = factory} {s = s} {reports = reports} {b = b} {m = m} beside (refuses why) active = record {
   after = m;
   goes = (why, refl, refl);
-  beside = subst (λ (rs : List Report). Beside factory s rs b m) (sym (append_none reports)) beside;
+  beside = subst (λ (rs : List Report). Beside factory s rs b m) (sym (append-nil reports)) beside;
   line = refl;
 }
 gone shown {factory = factory} {s = s} {reports = reports} {b = b} {b' = b'} {m = m} {h = h} beside
@@ -134,7 +131,7 @@ all_gone shown {factory = factory} {s = s} {before = before} {b = b} {m = m} bes
   reports = [];
   after = m;
   go = no_event;
-  beside = subst (λ (rs : List Report). Beside factory s rs b m) (sym (append_none before)) beside;
+  beside = subst (λ (rs : List Report). Beside factory s rs b m) (sym (append-nil before)) beside;
 }
 all_gone shown {factory = factory} {s = s} {before = before} {b = b} {m = m} beside
     (then_comes {c' = c'} {events = events} {event = event} {out = out} {answer = answer} more one active) =
@@ -170,13 +167,13 @@ line_gone shown {factory = factory} {s = s} {before = before} {p = p} {m = m} be
   reports = [];
   after = m;
   go = does_nothing;
-  beside = subst (λ (rs : List Report). Beside factory s rs p.at m) (sym (append_none before)) beside;
+  beside = subst (λ (rs : List Report). Beside factory s rs p.at m) (sym (append-nil before)) beside;
 }
 line_gone shown {factory = factory} {s = s} {before = before} {p = p} {m = m} beside acts_limits = record {
   reports = [];
   after = m;
   go = limits_to;
-  beside = subst (λ (rs : List Report). Beside factory s rs p.at m) (sym (append_none before)) beside;
+  beside = subst (λ (rs : List Report). Beside factory s rs p.at m) (sym (append-nil before)) beside;
 }
 line_gone shown beside (plays come) =
     let all = all_gone shown beside come in
@@ -186,7 +183,7 @@ line_gone shown {factory = factory} {s = s} {before = before} {p = p} {m = m} be
   after = m;
   go = subst (λ (image : List ℕ). LineGoes factory p m Show [] (state_text p.at.device ++ line_of_image image) p m)
       (cur_shown shown p.at m beside.vouches) shows;
-  beside = subst (λ (rs : List Report). Beside factory s rs p.at m) (sym (append_none before)) beside;
+  beside = subst (λ (rs : List Report). Beside factory s rs p.at m) (sym (append-nil before)) beside;
 }
 
 -- Lines that were done, with which the machine went along.
@@ -205,7 +202,7 @@ lines_gone shown {factory = factory} {s = s} {before = before} {p = p} {m = m} b
   reports = [];
   after = m;
   go = no_line;
-  beside = subst (λ (rs : List Report). Beside factory s rs p.at m) (sym (append_none before)) beside;
+  beside = subst (λ (rs : List Report). Beside factory s rs p.at m) (sym (append-nil before)) beside;
 }
 lines_gone shown {factory = factory} {s = s} {before = before} {p = p} {m = m} beside (then_runs {q' = q'} line more is acts) =
     let rest = lines_gone shown beside more in

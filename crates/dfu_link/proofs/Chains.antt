@@ -1,5 +1,6 @@
 -- A run step by step, with what each step ensures.
 use Rattle.std.proofs.Common.{◌≡◌, ◌⊎◌, inl, inr, ℕ, zero, suc, ◌+◌, ◌<◌, ◌≤◌, List, [], ◌∷◌, ◌++◌, length, take, drop, map, get_or, Option, Result, Ok, Err, refl, sym, ap, ◌∙◌, subst, arith, append_assoc}
+use Rattle.std.proofs.lemmas.List.{append-nil}
 use Rattle.std.proofs.lemmas.List.{take_all, length-map}
 use Rattle.dfu_slots.specs.Medium.{MediumState}
 use Rattle.dfu_slots.specs.Image.{Active}
@@ -36,15 +37,11 @@ pub data Chain : LinkState → List Happening → List Report → LinkState → 
   one_more : {b mid b' : LinkState} {h : Happening} {hs : List Happening} {report : Option Report} {reports : List Report}
       → Stepped b h mid report → Chain mid hs reports b' → Chain b (h ∷ hs) (said report ++ reports) b'
 
-append_none : (xs : List Report) → xs ++ [] ≡ xs
-append_none [] = refl
-append_none (x ∷ xs) = ap (λ (ys : List Report). x ∷ ys) (append_none xs)
-
 -- A chain goes on.
 pub chain_on : {b mid b' : LinkState} {hs : List Happening} {reports : List Report} {h : Happening} {report : Option Report}
     → Chain b hs reports mid → Stepped mid h b' report → Chain b (hs ++ h ∷ []) (reports ++ said report) b'
 chain_on {b = b} {b' = b'} {h = h} {report = report} no_more s =
-    subst (λ (rs : List Report). Chain b (h ∷ []) rs b') (append_none (said report)) (one_more s no_more)
+    subst (λ (rs : List Report). Chain b (h ∷ []) rs b') (append-nil (said report)) (one_more s no_more)
 chain_on {b = b} {b' = b'} {h = h} {report = report} (one_more {h = g} {hs = hs} {report = first} {reports = reports} t more) s =
     subst (λ (rs : List Report). Chain b (g ∷ (hs ++ h ∷ [])) rs b') (sym (append_assoc (said first) reports (said report)))
     (one_more t (chain_on more s))

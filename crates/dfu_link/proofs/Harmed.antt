@@ -2,7 +2,7 @@
 use Rattle.std.proofs.Common.{◌≡◌, inl, inr, ℕ, Bool, true, false, List, ◌∷◌, [], length, refl, sym, ap, ◌∙◌, subst}
 use Rattle.dfu_wire.specs.declared.requests.Request.{Request as Asked}
 use Rattle.dfu_slots.specs.Medium.Fuse.{Whole}
-use Rattle.dfu_slots.specs.Seen.{SlotsState, image_of, Commit}
+use Rattle.dfu_slots.specs.Seen.{SlotsState, image_of, Call, Commit, Called}
 use Rattle.dfu_slots.specs.Determined.{IsKnown, SameStore, called_same_end, called_never_both}
 use Rattle.dfu_device.specs.declared.answer.Answer.{Answer}
 use Rattle.dfu_device.specs.declared.answer.Answer.TheVariants as answer
@@ -67,6 +67,15 @@ record DoneOnce (p : Plan) (len : ℕ) (w w' v' : Shown) (a b : Answer) (out oth
   second : Answers len (outcome (image_of w.slots) p luck).reply b other
   device : SameDevice w' v'
 
+-- The same calls with the same end leave the same device, where they leave the same of the rest.
+same_calls : (calls : List Call) (ok : Bool) (w w' v' : Shown) → IsKnown w.slots.medium.fuse → w'.config ≡ v'.config → w'.stage ≡ v'.stage
+    → Called w.slots calls ok w'.slots → Called w.slots calls ok v'.slots → SameDevice w' v'
+same_calls calls ok w w' v' known config stage h k = record {
+  config = config;
+  stage = stage;
+  store = called_same_end calls ok w.slots w.slots w'.slots v'.slots (same_store w.slots) known h k;
+}
+
 done_once : (p : Plan) (len : ℕ) (w w' v' : Shown) (a b : Answer) (out other : List ℕ) → IsKnown w.slots.medium.fuse
     → Done p len w a out w' → Done p len w b other v' → DoneOnce p len w w' v' a b out other
 done_once (Sure reply stage) len w w' v' a b out other known (says, is) (says2, is2) =
@@ -75,21 +84,13 @@ done_once (Writes before block reply stage bad) len w w' v' a b out other known 
   luck = Works;
   first = says;
   second = says2;
-  device = record {
-    config = h.config_is ∙ sym k.config_is;
-    stage = h.stage_is ∙ sym k.stage_is;
-    store = called_same_end (block_calls before block) true w.slots w.slots w'.slots v'.slots (same_store w.slots) known h.calls k.calls;
-  };
+  device = same_calls (block_calls before block) true w w' v' known (h.config_is ∙ sym k.config_is) (h.stage_is ∙ sym k.stage_is) h.calls k.calls;
 }
 done_once (Writes before block reply stage bad) len w w' v' a b out other known (inr (says, h)) (inr (says2, k)) = record {
   luck = FailsOld;
   first = says;
   second = says2;
-  device = record {
-    config = h.config_is ∙ sym k.config_is;
-    stage = h.stage_is ∙ sym k.stage_is;
-    store = called_same_end (block_calls before block) false w.slots w.slots w'.slots v'.slots (same_store w.slots) known h.calls k.calls;
-  };
+  device = same_calls (block_calls before block) false w w' v' known (h.config_is ∙ sym k.config_is) (h.stage_is ∙ sym k.stage_is) h.calls k.calls;
 }
 done_once (Writes before block reply stage bad) len w w' v' a b out other known (inl (says, h)) (inr (says2, k)) =
     absurd (called_never_both (block_calls before block) w.slots w.slots w'.slots v'.slots (same_store w.slots) known h.calls k.calls)
@@ -99,21 +100,13 @@ done_once (Commits taken reply stage bad) len w w' v' a b out other known (inl (
   luck = Works;
   first = says;
   second = says2;
-  device = record {
-    config = h.config_is ∙ sym k.config_is;
-    stage = h.stage_is ∙ sym k.stage_is;
-    store = called_same_end (Commit (length taken) ∷ []) true w.slots w.slots w'.slots v'.slots (same_store w.slots) known h.calls k.calls;
-  };
+  device = same_calls (Commit (length taken) ∷ []) true w w' v' known (h.config_is ∙ sym k.config_is) (h.stage_is ∙ sym k.stage_is) h.calls k.calls;
 }
 done_once (Commits taken reply stage bad) len w w' v' a b out other known (inr (says, h)) (inr (says2, k)) = record {
   luck = FailsOld;
   first = says;
   second = says2;
-  device = record {
-    config = h.config_is ∙ sym k.config_is;
-    stage = h.stage_is ∙ sym k.stage_is;
-    store = called_same_end (Commit (length taken) ∷ []) false w.slots w.slots w'.slots v'.slots (same_store w.slots) known h.calls k.calls;
-  };
+  device = same_calls (Commit (length taken) ∷ []) false w w' v' known (h.config_is ∙ sym k.config_is) (h.stage_is ∙ sym k.stage_is) h.calls k.calls;
 }
 done_once (Commits taken reply stage bad) len w w' v' a b out other known (inl (says, h)) (inr (says2, k)) =
     absurd (called_never_both (Commit (length taken) ∷ []) w.slots w.slots w'.slots v'.slots (same_store w.slots) known h.calls k.calls)
