@@ -4,6 +4,7 @@ mod bench;
 mod cuts;
 mod fates;
 mod faults;
+mod lists;
 mod runs;
 mod scripts;
 mod uploads;
