@@ -2,6 +2,7 @@
 
 mod bench;
 mod cuts;
+mod dice;
 mod fates;
 mod faults;
 mod lists;
