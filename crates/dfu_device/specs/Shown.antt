@@ -1,7 +1,8 @@
 -- What a contract sees of a device.
 use Rattle.std.specs.Prelude.{◌≡◌, ℕ, List, [], length, take}
-use Rattle.dfu_slots.specs.Seen.{SlotsState, image_of, spare_of, room_of}
-use Rattle.dfu_device.specs.Stage.{Profile, Stage, InDownloadSync, InDownloadSyncWritten, InDownloadBusy, InDownloadIdle, InManifestSync, InManifest}
+use Rattle.dfu_slots.specs.Medium.{MediumState}
+use Rattle.dfu_slots.specs.Seen.{SlotsState, store_on, image_of, spare_of, room_of}
+use Rattle.dfu_device.specs.Stage.{Profile, Stage, InAppIdle, InDownloadSync, InDownloadSyncWritten, InDownloadBusy, InDownloadIdle, InManifestSync, InManifest}
 use Rattle.dfu_device.specs.Setting.{Setting}
 use Rattle.dfu_device.specs.Outcome.{Situation}
 
@@ -10,6 +11,10 @@ pub record Shown : Type 0 where
   pub config : Setting
   pub slots : SlotsState
   pub stage : Stage
+
+-- A device that got power: it is in appIDLE, and nothing is put on its medium.
+abbrev pub powered_on : Setting → MediumState → Shown
+powered_on config m = record { config = config; slots = store_on m; stage = InAppIdle }
 
 -- The profile of a device that is set up like this, with room for images of so many bytes.
 abbrev pub profile_of : Setting → ℕ → Profile

@@ -1,13 +1,13 @@
 //! A device, as a bootloader would run it.
 
 ghost use Rattle.std.specs.Prelude.{◌≡◌, take, OnOk, OnErr, IfOk, IfErr};
-ghost use Rattle.dfu_slots.specs.Seen.{store_on, fused};
+ghost use Rattle.dfu_slots.specs.Seen.{fused};
 ghost use Rattle.dfu_slots.specs.Medium.Fuse.{Whole, Armed};
 ghost use Rattle.dfu_slots.specs.Image.{HasImage};
 ghost use Rattle.dfu_slots.specs.Changes.{IsOpenFault};
 ghost use Rattle.dfu_device.specs.Stage.{InAppIdle, state_of, code_of};
 ghost use Rattle.dfu_device.specs.Table.{reset_stage};
-ghost use Rattle.dfu_device.specs.Shown.{IsStored};
+ghost use Rattle.dfu_device.specs.Shown.{IsStored, powered_on};
 ghost use Rattle.dfu_device.specs.Rows.{Handles, Elapses};
 
 use crate::machine::Machine;
@@ -89,13 +89,21 @@ impl<M: Medium> Device<M> {
     /// 3. `TwoImages`: both are, and neither generation is the other's plus 1 modulo 256.
     /// 4. `BadHeader`: the active slot's header is not well formed.
     pub fn power_on(config: Config, medium: M) -> Result<Device<M>, (OpenFault, M)>
-        ensures ok { IfOk result (λ d. d ≡ record { config = config; slots = store_on (M.state medium); stage = InAppIdle }) }
+        ensures ok { IfOk result (λ d. d ≡ powered_on config (M.state medium)) }
         ensures has_image { OnOk result (HasImage (M.state medium)) }
         ensures err { IfErr result (λ e. (e.1 ≡ medium) × IsOpenFault e.0 (M.state medium)) }
         ensures refused { OnErr result (¬ HasImage (M.state medium)) }
     {
         let slots = Slots::open(medium)?;
         Ok(Device::start(config, slots))
+    }
+
+    /// The power goes and comes back: the device starts anew on its medium as it stands, in place, as
+    /// `power_on` starts one on what `into_medium` gives back. That is never refused.
+    pub fn restart(&mut self)
+        ensures { self.new ≡ powered_on self.old.config self.old.slots.medium }
+    {
+        self.machine.restart();
     }
 
     /// Answers a setup with its body (USB DFU 1.1, appendix A). `out` is emptied first; where the

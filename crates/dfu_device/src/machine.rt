@@ -4,7 +4,7 @@ ghost use Rattle.std.specs.Prelude.{◌≡◌, ◌≢◌, ◌<◌, ◌==◌, ◌
 ghost use Rattle.dfu_slots.specs.Seen.{image_of, spare_of};
 ghost use Rattle.dfu_device.specs.Stage.{InAppIdle, state_of, code_of};
 ghost use Rattle.dfu_device.specs.Table.{reset_stage};
-ghost use Rattle.dfu_device.specs.Shown.{Shown};
+ghost use Rattle.dfu_device.specs.Shown.{Shown, powered_on};
 ghost use Rattle.dfu_device.specs.inside.Fields.{is_sound};
 ghost use Rattle.dfu_device.specs.Rows.{Serves, Handles, body_length};
 
@@ -40,6 +40,14 @@ impl<M: Medium> Machine<M> {
             mode: Mode::AppIdle,
             block: ArrayVec::new(),
         }
+    }
+
+    /// The machine starts anew in appIDLE, on its medium as it stands.
+    pub(crate) fn restart(&mut self)
+        ensures { shown self.new ≡ powered_on (shown self.old).config (shown self.old).slots.medium }
+    {
+        self.slots.reopen();
+        self.mode = Mode::AppIdle;
     }
 
     /// The state of the standard.

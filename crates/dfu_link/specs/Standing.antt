@@ -1,41 +1,12 @@
 -- What a link stands on between events, as one value and as a fact.
-use Rattle.std.specs.Prelude.{◌≡◌, ℕ, ◌<◌, false, List, [], Option, Some, None, unwrap_or}
+use Rattle.std.specs.Prelude.{◌≡◌, ℕ, ◌<◌, List, [], Option, Some, None}
 use Rattle.dfu_slots.specs.Medium.Fuse.{Whole}
-use Rattle.dfu_slots.specs.declared.unit.Unit.TheVariants.{Byte}
-use Rattle.dfu_slots.specs.Seen.{store_on}
-use Rattle.dfu_device.specs.Stage.{InAppIdle}
 use Rattle.dfu_device.specs.Shown.{Shown, profile, situation}
 use Rattle.dfu_host.specs.Host.{HostState, IsOn}
 use Rattle.dfu_host.specs.Counting.{IsCounted}
 use Rattle.dfu_host.specs.Uploading.{kept_in}
 use Rattle.dfu_link.specs.Bench.{Session, Nobody, Hosted, Bench, ShowsActive, LinkState}
 use Rattle.dfu_link.specs.Fact.{SessionFact}
-
--- What stands for a device that is off its port, as it is only while its power goes and comes back.
-abbrev pub off_port : Shown
-off_port = record {
-  config = record {
-    ids = record { device = 0; product = 0; vendor = 0 };
-    functional = record {
-      can_download = false;
-      can_upload = false;
-      tolerant = false;
-      will_detach = false;
-      detach_ms = 0;
-      transfer = 0;
-      version = 0;
-    };
-    least = 0;
-    busy_ms = 0;
-    manifest_ms = 0;
-  };
-  slots = store_on (record { bytes = []; failures = 0; fuse = Whole; unit = Byte });
-  stage = InAppIdle;
-}
-
--- The device that is on a port.
-abbrev pub on_port : Option Shown → Shown
-on_port device = unwrap_or device off_port
 
 -- The session of a host, or of none.
 abbrev pub session_of : Option HostState → Session

@@ -8,33 +8,32 @@ ghost use Rattle.dfu_link.specs.Acting.{course_in, seen_over, HasSent, HasWaited
 
 use crate::back::Back;
 use crate::course::{Course, Handling, Harming};
-use crate::port::Port;
 use arrayvec::ArrayVec;
-use dfu_device::Answer;
+use dfu_device::{Answer, Device};
 use dfu_host::{Action, Host, Seen};
 use dfu_slots::Faulty;
 
 /// The device handles a request, or doesn't see it. Where it does, its answer's bytes stand in
 /// `out`.
 fn reach<M: Faulty>(
-    port: &mut Port<M>,
+    device: &mut Device<M>,
     setup: &[u8; 8],
     body: &[u8],
     handling: Handling,
     out: &mut ArrayVec<u8, 4096>,
 ) -> Back
-    ensures { Reaches setup.now body.now handling port.old result out.new.items port.new }
+    ensures { Reaches setup.now body.now handling device.old result out.new.items device.new }
 {
     match handling {
         Handling::Unseen => Back::Lost,
-        Handling::Once => Back::Answered(port.handle(setup, body, out)),
+        Handling::Once => Back::Answered(device.handle(setup, body, out)),
         Handling::Again => {
-            let _ = port.handle(setup, body, out);
-            Back::Answered(port.handle(setup, body, out))
+            let _ = device.handle(setup, body, out);
+            Back::Answered(device.handle(setup, body, out))
         }
         Handling::Late(ms) => {
-            let answer = port.handle(setup, body, out);
-            port.elapse(ms);
+            let answer = device.handle(setup, body, out);
+            device.elapse(ms);
             Back::Answered(answer)
         }
     }
@@ -53,15 +52,15 @@ fn come_back(course: Course<'_>, back: Back) -> Back
 
 /// A request goes to the device by its course. Where an answer comes back, its bytes stand in `out`.
 fn send<M: Faulty>(
-    port: &mut Port<M>,
+    device: &mut Device<M>,
     setup: &[u8; 8],
     body: &[u8],
     course: Course<'_>,
     out: &mut ArrayVec<u8, 4096>,
 ) -> Back
-    ensures { HasSent setup.now body.now (course_in course.entry) port.old result out.new.items port.new }
+    ensures { HasSent setup.now body.now (course_in course.entry) device.old result out.new.items device.new }
 {
-    let back = reach(port, setup, body, course.handling, out);
+    let back = reach(device, setup, body, course.handling, out);
     come_back(course, back)
 }
 
@@ -86,29 +85,29 @@ fn seen_after(harming: Harming, seen: Seen<'static>) -> Seen<'static>
 }
 
 /// A wait of the host: where a time slips in it passes in its place.
-fn wait<M: Faulty>(port: &mut Port<M>, ms: u32, course: Course<'_>) -> Seen<'static>
-    ensures { HasWaited ms (course_in course.entry) port.old result port.new }
+fn wait<M: Faulty>(device: &mut Device<M>, ms: u32, course: Course<'_>) -> Seen<'static>
+    ensures { HasWaited ms (course_in course.entry) device.old result device.new }
 {
-    port.elapse(time_of(course.handling, ms));
+    device.elapse(time_of(course.handling, ms));
     seen_after(course.harming, Seen::Waited)
 }
 
 /// The time that slips in after a reset of the bus passes.
-fn slip<M: Faulty>(port: &mut Port<M>, handling: Handling)
-    ensures { Slips handling port.old port.new }
+fn slip<M: Faulty>(device: &mut Device<M>, handling: Handling)
+    ensures { Slips handling device.old device.new }
 {
     match handling {
         Handling::Unseen | Handling::Once | Handling::Again => {}
-        Handling::Late(ms) => port.elapse(ms),
+        Handling::Late(ms) => device.elapse(ms),
     }
 }
 
 /// A reset of the bus by the host, and the time that slips in after it.
-fn reset_bus<M: Faulty>(port: &mut Port<M>, course: Course<'_>) -> Seen<'static>
-    ensures { HasReset (course_in course.entry) port.old result port.new }
+fn reset_bus<M: Faulty>(device: &mut Device<M>, course: Course<'_>) -> Seen<'static>
+    ensures { HasReset (course_in course.entry) device.old result device.new }
 {
-    port.usb_reset();
-    slip(port, course.handling);
+    device.usb_reset();
+    slip(device, course.handling);
     seen_after(course.harming, Seen::WasReset)
 }
 
@@ -127,22 +126,22 @@ fn tell(host: &mut Host<'_>, back: Back, out: &[u8])
 
 /// The next action of a host that is not done, by its course. Who cuts or fails a write has armed the
 /// medium for it.
-pub(crate) fn act<M: Faulty>(port: &mut Port<M>, host: &mut Host<'_>, course: Course<'_>)
+pub(crate) fn act<M: Faulty>(device: &mut Device<M>, host: &mut Host<'_>, course: Course<'_>)
     requires { IsOn host.old.phase }
-    ensures { HasActed host.old (course_in course.entry) port.old port.new host.new }
+    ensures { HasActed host.old (course_in course.entry) device.old device.new host.new }
 {
     match host.next() {
         Action::Send { setup, body } => {
             let mut out = ArrayVec::new();
-            let back = send(port, &setup, body, course, &mut out);
+            let back = send(device, &setup, body, course, &mut out);
             tell(host, back, out.as_slice());
         }
         Action::Wait(ms) => {
-            let seen = wait(port, ms, course);
+            let seen = wait(device, ms, course);
             host.take(seen);
         }
         Action::Reset => {
-            let seen = reset_bus(port, course);
+            let seen = reset_bus(device, course);
             host.take(seen);
         }
         Action::Done(_) => unreachable!(),

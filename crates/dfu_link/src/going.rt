@@ -11,41 +11,42 @@ ghost use Rattle.dfu_link.specs.Acting.{harm_at, HasGone};
 use crate::acting::act;
 use crate::course::{Course, Harming, course_by};
 use crate::fate::Fate;
-use crate::port::Port;
+use crate::power::power_cycle;
+use dfu_device::Device;
 use dfu_host::Host;
 use dfu_slots::Faulty;
 
 /// Arms the medium for an action of this course: with a cut no later write works, with a failure all
 /// later ones do.
-fn arm<M: Faulty>(port: &mut Port<M>, course: Course<'_>)
-    requires { port.old.slots.medium.fuse ≡ Whole }
-    ensures { port.new ≡ armed port.old (fuse_of course.entry.harming (harm_at course.entry)) }
+fn arm<M: Faulty>(device: &mut Device<M>, course: Course<'_>)
+    requires { device.old.slots.medium.fuse ≡ Whole }
+    ensures { device.new ≡ armed device.old (fuse_of course.entry.harming (harm_at course.entry)) }
 {
     match course.harming {
         Harming::NoWrite => {}
-        Harming::CutsPower => port.arm(course.writes, course.tear, true),
-        Harming::FailsWrite => port.arm(course.writes, course.tear, false),
+        Harming::CutsPower => device.arm(course.writes, course.tear, true),
+        Harming::FailsWrite => device.arm(course.writes, course.tear, false),
     }
 }
 
 /// The action is over: after a cut the power comes back, and in any case the medium is disarmed.
-fn settle<M: Faulty>(port: &mut Port<M>, harming: Harming)
-    ensures { port.new ≡ left_by harming port.old }
+fn settle<M: Faulty>(device: &mut Device<M>, harming: Harming)
+    ensures { device.new ≡ left_by harming device.old }
 {
     match harming {
-        Harming::CutsPower => port.power_cycle(),
-        Harming::NoWrite | Harming::FailsWrite => port.disarm(),
+        Harming::CutsPower => power_cycle(device),
+        Harming::NoWrite | Harming::FailsWrite => device.disarm(),
     }
 }
 
 /// Carries out the next action of a host that is not done, by its fate.
-pub(crate) fn carry_out<M: Faulty>(port: &mut Port<M>, host: &mut Host<'_>, fate: Fate<'_>)
+pub(crate) fn carry_out<M: Faulty>(device: &mut Device<M>, host: &mut Host<'_>, fate: Fate<'_>)
     requires on { IsOn host.old.phase }
-    requires unarmed { port.old.slots.medium.fuse ≡ Whole }
-    ensures { HasGone host.old (course_of (fate_of fate.entry)) (harm_in fate.entry) port.old port.new host.new }
+    requires unarmed { device.old.slots.medium.fuse ≡ Whole }
+    ensures { HasGone host.old (course_of (fate_of fate.entry)) (harm_in fate.entry) device.old device.new host.new }
 {
     let course = course_by(fate);
-    arm(port, course);
-    act(port, host, course);
-    settle(port, course.harming);
+    arm(device, course);
+    act(device, host, course);
+    settle(device, course.harming);
 }

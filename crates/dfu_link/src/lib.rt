@@ -15,7 +15,7 @@ mod going;
 pub mod laws;
 mod offering;
 mod play;
-mod port;
+mod power;
 mod running;
 mod scripting;
 mod uploading;

@@ -12,7 +12,7 @@ use crate::fate::Fate;
 use crate::fault::LinkFault;
 use crate::going::carry_out;
 use crate::offering::begin;
-use crate::port::Port;
+use crate::power::power_cycle;
 use crate::uploading::upload;
 use dfu_device::Device;
 use dfu_host::{Action, Host, Limits, Report, Seen};
@@ -101,18 +101,18 @@ fn abort(host: &mut Option<Host<'_>>) -> Result<Option<Report>, LinkFault>
 
 /// The host takes its next action.
 fn go<'f, M: Faulty>(
-    port: &mut Port<M>,
+    device: &mut Device<M>,
     host: &mut Option<Host<'f>>,
     gave: &mut Option<Host<'f>>,
     fate: Fate<'_>,
 ) -> Result<Option<Report>, LinkFault>
-    requires { IsSteady (bench_of port.old host.old) }
-    ensures { HasCome (link_state port.old host.old gave.old) (Goes (fate_of fate.entry) (harm_in fate.entry))
-        (link_state port.new host.new gave.new) result }
+    requires { IsSteady (bench_of device.old host.old) }
+    ensures { HasCome (link_state device.old host.old gave.old) (Goes (fate_of fate.entry) (harm_in fate.entry))
+        (link_state device.new host.new gave.new) result }
 {
     match host {
         None => return Err(LinkFault::NoHost),
-        Some(live) => carry_out(port, live, fate),
+        Some(live) => carry_out(device, live, fate),
     }
     Ok(end(host, gave))
 }
@@ -120,29 +120,29 @@ fn go<'f, M: Faulty>(
 /// An event comes. A refused one changes nothing.
 pub(crate) fn play<'f, M: Faulty>(
     alloc: Global,
-    port: &mut Port<M>,
+    device: &mut Device<M>,
     host: &mut Option<Host<'f>>,
     gave: &mut Option<Host<'f>>,
     event: Event<'f, '_>,
 ) -> Result<Option<Report>, LinkFault>
-    requires { IsSteady (bench_of port.old host.old) }
-    ensures { HasCome (link_state port.old host.old gave.old) (happening event.entry) (link_state port.new host.new gave.new) result }
+    requires { IsSteady (bench_of device.old host.old) }
+    ensures { HasCome (link_state device.old host.old gave.old) (happening event.entry) (link_state device.new host.new gave.new) result }
 {
     match event {
-        Event::Offer { file, limits } => offer(port.device(), host, file, limits),
-        Event::Upload { limits } => upload(alloc, port.device(), host, limits),
+        Event::Offer { file, limits } => offer(device, host, file, limits),
+        Event::Upload { limits } => upload(alloc, device, host, limits),
         Event::Abort => abort(host),
-        Event::Go(fate) => go(port, host, gave, fate),
+        Event::Go(fate) => go(device, host, gave, fate),
         Event::Time(ms) => {
-            port.elapse(ms);
+            device.elapse(ms);
             Ok(None)
         }
         Event::Reset => {
-            port.usb_reset();
+            device.usb_reset();
             Ok(restart(host, gave))
         }
         Event::Cut => {
-            port.power_cycle();
+            power_cycle(device);
             Ok(restart(host, gave))
         }
     }

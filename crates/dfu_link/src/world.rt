@@ -16,7 +16,6 @@ use crate::event::Event;
 use crate::fault::LinkFault;
 use crate::laws::image_shown;
 use crate::play::play;
-use crate::port::Port;
 use dfu_device::Device;
 use dfu_host::{Host, Report};
 use dfu_slots::Faulty;
@@ -29,7 +28,7 @@ use std::marker::Model;
 #[derive(Drop)]
 pub struct World<'f, M: Faulty> {
     alloc: Global,
-    port: Port<M>,
+    device: Device<M>,
     host: Option<Host<'f>>,
     // The host of the last session that reported Uploaded, if one did.
     gave: Option<Host<'f>>,
@@ -41,9 +40,9 @@ impl<'f, M: Faulty> Model for World<'f, M> {
 
     ghost Value = { LinkState };
 
-    ghost view = { λ w. link_state w.port w.host w.gave };
+    ghost view = { λ w. link_state w.device w.host w.gave };
 
-    ghost invariant = { λ w. Holds (bench_of w.port w.host) };
+    ghost invariant = { λ w. Holds (bench_of w.device w.host) };
 }
 
 impl<'f, M: Faulty> World<'f, M> {
@@ -59,7 +58,7 @@ impl<'f, M: Faulty> World<'f, M> {
         let _ = device.slots().capacity();
         World {
             alloc,
-            port: Port::new(device),
+            device,
             host: None,
             gave: None,
         }
@@ -86,7 +85,7 @@ impl<'f, M: Faulty> World<'f, M> {
     {
         let told = play(
             self.alloc,
-            &mut self.port,
+            &mut self.device,
             &mut self.host,
             &mut self.gave,
             event,
@@ -94,7 +93,7 @@ impl<'f, M: Faulty> World<'f, M> {
         // Called for its law, which `legal` needs: no image but the one that is shown is active.
         image_shown();
         // Called for its clause `image`, which `active` needs; what it answers isn't used.
-        let _ = self.port.device().slots().capacity();
+        let _ = self.device.slots().capacity();
         told
     }
 
@@ -114,7 +113,7 @@ impl<'f, M: Faulty> World<'f, M> {
         ensures device { result.now ≡ self.now.bench.device }
         ensures active { ShowsActive self.now.bench }
     {
-        self.port.device()
+        &self.device
     }
 
     /// The device back, without what was uploaded. Where a session is live, the link back as it is.
@@ -125,7 +124,7 @@ impl<'f, M: Faulty> World<'f, M> {
         ensures unarmed { IfOk result (λ device. device.slots.medium.fuse ≡ Whole) }
     {
         match self.host {
-            None => Ok(self.port.into_device()),
+            None => Ok(self.device),
             Some(_) => Err(self),
         }
     }

@@ -48,6 +48,11 @@ active_on m n at spare image unit size whole stands =
     (subst (λ (k : ℕ). IsMultiple m.unit (k / 2 - 2 * gate_of m)) (sym size) whole))
     (subst (λ (u : WriteUnit). ActiveAt (gate_size u) n.bytes at spare image) (sym unit) stands)
 
+-- The image stays where the store is opened anew.
+pub reopened_image : (s : SlotsState) → image_of (store_on s.medium) ≡ image_of s
+unfolding image_of
+reopened_image s = refl
+
 -- What is put.
 
 -- Where nothing is held, the spare's data is that of the medium.

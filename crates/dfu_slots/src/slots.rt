@@ -142,6 +142,28 @@ impl<M: Medium> Slots<M> {
         read_data(&self.medium, places.active, at, out);
     }
 
+    /// Opens its own medium anew, as after a loss of power: what was put is forgotten. `open` would not
+    /// refuse it. It writes nothing.
+    pub fn reopen(&mut self)
+        ensures store { self.new ≡ store_on self.old.medium }
+        ensures image { image_of self.new ≡ image_of self.old }
+        ensures shape { is_shaped self.new ≡ true }
+    {
+        self.puts.clear();
+        match open::check(&self.medium) {
+            Ok(()) => {}
+            Err(_) => unreachable!(),
+        }
+    }
+
+    /// The medium as it stands, to be read. Bytes that are held back are not on it.
+    pub fn medium(&self) -> &M
+        ensures medium { M.state result.now ≡ self.now.medium }
+        ensures active { Active self.now.medium (image_of self.now) }
+    {
+        &self.medium
+    }
+
     /// Hands the medium back as it is. Bytes that are held back do not come to it.
     pub fn into_medium(self) -> M
         ensures medium { M.state result ≡ self.medium }

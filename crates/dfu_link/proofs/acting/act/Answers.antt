@@ -19,7 +19,7 @@ returns-in-Wait g c =
     let row = c.take.ensures.row in
     record {
       heard = row.heard;
-      acts = acts_wait (deed h.task h.phase) (course_in c.args.course) c.in-Wait.ms c.args.port.now c.wait-seen.new.port row.heard
+      acts = acts_wait (deed h.task h.phase) (course_in c.args.course) c.in-Wait.ms c.args.device.now c.wait-seen.new.device row.heard
           c.in-Wait.ensures.act (c.wait-seen.ensures.waits _ _ row.hears);
       same = row.same;
     }
@@ -30,7 +30,7 @@ returns-in-Reset g c =
     let row = c.take-in-Reset.ensures.row in
     record {
       heard = row.heard;
-      acts = acts_reset (deed h.task h.phase) (course_in c.args.course) c.args.port.now c.reset_bus-seen.new.port row.heard
+      acts = acts_reset (deed h.task h.phase) (course_in c.args.course) c.args.device.now c.reset_bus-seen.new.device row.heard
           c.in-Reset.ensures.act (c.reset_bus-seen.ensures.resets _ _ row.hears);
       same = row.same;
     }

@@ -3,4 +3,4 @@ use Rattle.dfu_link.proofs.Acts.{unarmed_is}
 use Rattle.dfu_link.proofs.going.arm.Goals as goal
 
 pub returns-in-NoWrite : goal.returns-in-NoWrite
-returns-in-NoWrite g c = rw c.in-NoWrite.is (sym (unarmed_is c.args.port.now c.requires))
+returns-in-NoWrite g c = rw c.in-NoWrite.is (sym (unarmed_is c.args.device.now c.requires))

@@ -4,12 +4,12 @@ use Rattle.dfu_link.proofs.world.World.step.Goals as goal
 pub invariant_of-self : goal.invariant_of-self
 invariant_of-self g c = record {
   steady = come_steady c.self.invariant.steady c.play-told.ensures;
-  active = rw (← c.device.ensures, ← c.slots.ensures.slots) c.capacity.ensures.image;
+  active = rw (← c.slots.ensures.slots) c.capacity.ensures.image;
 }
 
 pub returns-clause-legal : goal.returns-clause-legal
 returns-clause-legal g c = rw (← c.self.view_is) (come_follow c.image_shown.ensures c.self.invariant.steady
-    (rw (← c.device.ensures, ← c.slots.ensures.slots) c.capacity.ensures.image) c.play-told.ensures)
+    (rw (← c.slots.ensures.slots) c.capacity.ensures.image) c.play-told.ensures)
 
 pub returns-clause-sure : goal.returns-clause-sure
 returns-clause-sure g c = rw (← c.self.view_is) (come_sure c.play-told.ensures)
