@@ -11,7 +11,9 @@ use std::alloc::Global;
 use std::process::Abort;
 use std::test::Fail;
 
-/// How many lists are played, and how many events each has.
+/// What the dice begin with, how many lists are played, and how many events each has.
+const SEED: u64 = 1;
+
 const LISTS: u32 = 1_000;
 
 const EVENTS: u32 = 100;
@@ -21,15 +23,35 @@ const ROOM: u32 = 256;
 
 const LONGEST: usize = 1_536;
 
-/// A medium that is written in the unit with this number, and how long its gate unit is.
-fn medium(alloc: Global, unit: u32) -> Result<(SimMedium, usize), Fail> {
+/// An unwritten medium that is written in the unit with this number.
+fn blank(alloc: Global, unit: u32) -> Result<SimMedium, Fail> {
     let made = match unit {
-        0 => (SimMedium::with_unit(alloc, 576, Unit::Byte)?, 16),
-        1 => (SimMedium::with_unit(alloc, 576, Unit::U16)?, 16),
-        2 => (SimMedium::with_unit(alloc, 768, Unit::U64)?, 64),
-        _ => (SimMedium::with_unit(alloc, 1_536, Unit::U256)?, 256),
+        0 => SimMedium::with_unit(alloc, 576, Unit::Byte)?,
+        1 => SimMedium::with_unit(alloc, 576, Unit::U16)?,
+        2 => SimMedium::with_unit(alloc, 768, Unit::U64)?,
+        _ => SimMedium::with_unit(alloc, 1_536, Unit::U256)?,
     };
     Ok(made)
+}
+
+/// How long the gate unit of such a medium is.
+fn gate_size(unit: u32) -> usize {
+    match unit {
+        0 | 1 => 16,
+        2 => 64,
+        _ => 256,
+    }
+}
+
+/// Another medium of this unit, with these bytes, which are as many as it has.
+fn copy(rt: &impl Abort, alloc: Global, unit: u32, bytes: &[u8]) -> Result<SimMedium, Fail> {
+    let mut medium = blank(alloc, unit)?;
+    let size = medium.unit().size() as usize;
+    if bytes.len() != medium.len() as usize || bytes.len() % size != 0 {
+        panic!(rt; "the medium has another length");
+    }
+    medium.write(0, bytes)?;
+    Ok(medium)
 }
 
 /// A device of any attributes, with a transfer size of 1 to 9 or of 4,096.
@@ -106,32 +128,44 @@ fn shown<'b>(device: &Device<SimMedium>, buffer: &'b mut [u8; 256]) -> &'b [u8] 
     found
 }
 
-/// The device is taken from the link where no session is live: its medium's bytes have the image
-/// that it showed, and it starts with that image again.
+/// The bytes of the device's medium have the image that it shows, and a device that starts on a copy
+/// of them has it too.
+fn looked_at(
+    rt: &impl Abort,
+    alloc: Global,
+    device: &Device<SimMedium>,
+    unit: u32,
+) -> Result<(), Fail> {
+    let mut before = [0; 256];
+    let image = shown(device, &mut before);
+    let medium = device.slots().medium();
+    let mut bytes = [0; LONGEST];
+    let len = (medium.len() as usize).min(LONGEST);
+    medium.read(0, &mut bytes[..len]);
+    assert!(rt; plain_image(&bytes[..len], gate_size(unit)) == Some(image));
+    match Device::power_on(device.config(), copy(rt, alloc, unit, &bytes[..len])?) {
+        Ok(started) => {
+            let mut after = [0; 256];
+            assert!(rt; shown(&started, &mut after) == image);
+            Ok(())
+        }
+        Err(_) => panic!(rt; "power doesn't come back"),
+    }
+}
+
+/// The device is taken from the link where no session is live, and starts again on its own medium.
 fn taken_apart(
     rt: &impl Abort,
     alloc: Global,
     world: World<'static, SimMedium>,
-    gate: usize,
 ) -> World<'static, SimMedium> {
     let device = match world.into_device() {
         Ok(device) => device,
         Err(live) => return live,
     };
-    let mut before = [0; 256];
-    let image = shown(&device, &mut before);
     let config = device.config();
-    let medium = device.into_medium();
-    let mut bytes = [0; LONGEST];
-    let len = (medium.len() as usize).min(LONGEST);
-    medium.read(0, &mut bytes[..len]);
-    assert!(rt; plain_image(&bytes[..len], gate) == Some(image));
-    match Device::power_on(config, medium) {
-        Ok(device) => {
-            let mut after = [0; 256];
-            assert!(rt; shown(&device, &mut after) == image);
-            World::new(alloc, device)
-        }
+    match Device::power_on(config, device.into_medium()) {
+        Ok(device) => World::new(alloc, device),
         Err(_) => panic!(rt; "power doesn't come back"),
     }
 }
@@ -140,8 +174,8 @@ fn taken_apart(
 /// Installed the device stands in appIDLE with the image that was offered last.
 fn play_list(rt: &impl Abort, alloc: Global, dice: &mut Dice) -> Result<(), Fail> {
     let setup = setup(dice);
-    let (medium, gate) = medium(alloc, dice.roll(4))?;
-    let mut world = world_on(alloc, medium, setup, &[0])?;
+    let unit = dice.roll(4);
+    let mut world = world_on(alloc, blank(alloc, unit)?, setup, &[0])?;
     let mut offered = 0;
     let mut last = 0;
     for _ in 0..EVENTS {
@@ -160,8 +194,9 @@ fn play_list(rt: &impl Abort, alloc: Global, dice: &mut Dice) -> Result<(), Fail
             assert_eq!(rt; world.device().state(), State::AppIdle);
             assert_eq!(rt; world.device().code(), Code::Ok);
         }
+        looked_at(rt, alloc, world.device(), unit)?;
         if dice.roll(4) == 0 {
-            world = taken_apart(rt, alloc, world, gate);
+            world = taken_apart(rt, alloc, world);
         }
     }
     Ok(())
@@ -169,7 +204,7 @@ fn play_list(rt: &impl Abort, alloc: Global, dice: &mut Dice) -> Result<(), Fail
 
 #[test]
 fn lists_of_events_keep_an_image(rt: HostRuntime) -> Result<(), Fail> {
-    let mut dice = Dice { state: 1 };
+    let mut dice = Dice { state: SEED };
     for _ in 0..LISTS {
         play_list(&rt, rt.alloc(), &mut dice)?;
     }

@@ -1,6 +1,7 @@
 //! Scripts from the first byte of their text to the last of their output.
 
 mod limits;
+mod portions;
 mod rows;
 mod streams;
 

@@ -33,15 +33,16 @@ pub fn text_of(alloc: Global, row: &str) -> Result<Vec<u8>, AllocError> {
     Ok(text)
 }
 
-/// Gives one byte at each call.
+/// Gives at most so many bytes of a text at each call.
 #[derive(Drop)]
-struct Drip<'t> {
-    rest: &'t [u8],
+pub struct Portions<'t> {
+    pub rest: &'t [u8],
+    pub most: usize,
 }
 
-impl Read for Drip<'_> {
+impl Read for Portions<'_> {
     fn read(&mut self, buf: &mut [u8]) -> io::Result<usize> {
-        let given = self.rest.len().min(buf.len()).min(1);
+        let given = self.rest.len().min(buf.len()).min(self.most);
         let (first, rest) = self.rest.split_at(given);
         buf[..given].copy_from_slice(first);
         self.rest = rest;
@@ -60,8 +61,12 @@ pub fn text_ends(
     let mut seen = Vec::new(alloc);
     assert_eq!(rt; script(alloc, text, &mut seen), end);
     assert_eq!(rt; seen.as_slice(), out);
+    let bytes = Portions {
+        rest: text,
+        most: 1,
+    };
     let mut dripped = Vec::new(alloc);
-    assert_eq!(rt; script(alloc, Drip { rest: text }, &mut dripped), end);
+    assert_eq!(rt; script(alloc, bytes, &mut dripped), end);
     assert_eq!(rt; dripped.as_slice(), out);
 }
 
