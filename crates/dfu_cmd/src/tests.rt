@@ -114,10 +114,15 @@ fn shows(rt: &impl Abort, alloc: Global, kind: &str, known: &[(&str, &[u8], Exit
 fn shows_descriptors(rt: HostRuntime) {
     let descriptor: &[u8] =
         b"functional download yes upload no tolerant yes will-detach yes detach 255 transfer 8 version 0110\n";
-    let known: [(&str, &[u8], Exit); 4] = [
+    let of_seven: &[u8] =
+        b"functional download yes upload no tolerant yes will-detach yes detach 255 transfer 8 version 0100\n";
+    let known: [(&str, &[u8], Exit); 7] = [
         ("09210dff0008001001", descriptor, Exit::Done),
         ("0921FDff0008001001", descriptor, Exit::Done),
-        ("07210dff000800", b"refused WrongLength\n", Exit::Refused),
+        ("07210dff000800", of_seven, Exit::Done),
+        ("07210dff0008", b"refused Short\n", Exit::Refused),
+        ("07210dff00080000", b"refused Long\n", Exit::Refused),
+        ("08210dff000800", b"refused WrongLength\n", Exit::Refused),
         ("", b"refused Short\n", Exit::Refused),
     ];
     shows(&rt, rt.alloc(), "functional", &known);

@@ -1,14 +1,19 @@
--- The bytes of a functional descriptor (USB DFU 1.1, section 4.1.3).
+-- The bytes of a functional descriptor (USB DFU 1.1 and USB DFU 1.0, section 4.1.3 of each).
 use Rattle.std.specs.Prelude.{◌≡◌, ◌≢◌, ◌⊎◌, ◌↔◌, ℕ, ◌+◌, ◌*◌, ◌<◌, ◌^◌, ◌==◌, Bool, not, List, length, slice_index, bit_and, IsTrue, IsBitSet}
 use Rattle.dfu_wire.specs.declared.functionals.Functional.{Functional}
 use Rattle.dfu_wire.specs.declared.fault.WireFault.{WireFault}
 use Rattle.dfu_wire.specs.declared.fault.WireFault.TheVariants as fault
 
--- These nine bytes are this descriptor: numbers of two bytes have their low byte first, and bits 4
--- to 7 of the attributes may be anything.
+-- A descriptor has 7 bytes in DFU 1.0, and 9 in DFU 1.1.
+abbrev pub IsFunctionalLength : ℕ → Type 0
+IsFunctionalLength n = (n ≡ 7) ⊎ (n ≡ 9)
+
+-- These bytes are this descriptor: the first says how many they are, 7 or 9, numbers of two bytes
+-- have their low byte first, bits 4 to 7 of the attributes may be anything, and 7 bytes, which have
+-- no version, are of version 0100h.
 pub record IsFunctional (f : Functional) (b : List ℕ) : Type 0 where
-  pub length : length b ≡ 9
-  pub own_length : slice_index b 0 ≡ 9
+  pub own_length : IsFunctionalLength (slice_index b 0)
+  pub length : length b ≡ slice_index b 0
   pub type_byte : slice_index b 1 ≡ 0x21
   pub download : IsTrue f.can_download ↔ IsBitSet (slice_index b 2) 0
   pub upload : IsTrue f.can_upload ↔ IsBitSet (slice_index b 2) 1
@@ -16,7 +21,8 @@ pub record IsFunctional (f : Functional) (b : List ℕ) : Type 0 where
   pub will_detach : IsTrue f.will_detach ↔ IsBitSet (slice_index b 2) 3
   pub detach : f.detach_ms ≡ slice_index b 3 + 256 * slice_index b 4
   pub transfer : f.transfer ≡ slice_index b 5 + 256 * slice_index b 6
-  pub version : f.version ≡ slice_index b 7 + 256 * slice_index b 8
+  pub version : slice_index b 0 ≡ 9 → f.version ≡ slice_index b 7 + 256 * slice_index b 8
+  pub no_version : slice_index b 0 ≡ 7 → f.version ≡ 0x0100
 
 -- Whether a bit of a number is 1, bit 0 being the lowest.
 abbrev pub has_bit : (number bit : ℕ) → Bool
@@ -35,13 +41,16 @@ functional_of attributes detach transfer version = record {
 }
 
 -- Bytes that are no descriptor have this first fault: there are none at all, then the first byte is
--- not 9, then they are too few, or too many, or of another type.
+-- neither 7 nor 9, then they are fewer than it says, or more, or of another type.
 abbrev pub FirstFunctionalFault : WireFault → List ℕ → Type 0
-FirstFunctionalFault fault.Short b = (length b ≡ 0) ⊎ ((slice_index b 0 ≡ 9) × (length b < 9))
-FirstFunctionalFault fault.WrongLength b = (0 < length b) × (slice_index b 0 ≢ 9)
-FirstFunctionalFault fault.Long b = (slice_index b 0 ≡ 9) × (9 < length b)
+FirstFunctionalFault fault.Short b =
+    (length b ≡ 0) ⊎ (IsFunctionalLength (slice_index b 0) × (length b < slice_index b 0))
+FirstFunctionalFault fault.WrongLength b =
+    (0 < length b) × (slice_index b 0 ≢ 7) × (slice_index b 0 ≢ 9)
+FirstFunctionalFault fault.Long b =
+    IsFunctionalLength (slice_index b 0) × (slice_index b 0 < length b)
 FirstFunctionalFault fault.WrongType b =
-    (slice_index b 0 ≡ 9) × (length b ≡ 9) × (slice_index b 1 ≢ 0x21)
+    IsFunctionalLength (slice_index b 0) × (length b ≡ slice_index b 0) × (slice_index b 1 ≢ 0x21)
 FirstFunctionalFault fault.UnknownState b = ⊥
 FirstFunctionalFault fault.UnknownCode b = ⊥
 FirstFunctionalFault fault.PollTooLong b = ⊥

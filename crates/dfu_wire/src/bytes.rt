@@ -1,6 +1,6 @@
 //! Bits and bytes of the fields.
 
-ghost use Rattle.std.specs.Prelude.{◌≡◌, ◌<◌, ◌+◌, ◌*◌, length, slice_index};
+ghost use Rattle.std.specs.Prelude.{◌≡◌, ◌<◌, ◌≤◌, ◌+◌, ◌*◌, length, slice_index};
 ghost use Rattle.dfu_wire.specs.Functional.{has_bit};
 
 use byteorder::{ByteOrder, LittleEndian};
@@ -13,6 +13,14 @@ pub(crate) fn two_bytes(number: u16) -> [u8; 2]
     let mut bytes = [0; 2];
     LittleEndian::write_u16(&mut bytes, number);
     bytes
+}
+
+/// The number whose two bytes stand at this place, the low byte first.
+pub(crate) fn number_at(bytes: &[u8], at: usize) -> u16
+    requires { at + 2 ≤ length bytes.now }
+    ensures { result ≡ slice_index bytes.now at + 256 * slice_index bytes.now (at + 1) }
+{
+    LittleEndian::read_u16(&bytes[at..])
 }
 
 /// Whether this bit is 1, bit 0 being the lowest.

@@ -8,15 +8,15 @@ use thiserror::Error;
 /// Why bytes or numbers are no value of the wire. Each reader says in which order it looks.
 #[derive(Clone, Copy, Debug, PartialEq, Eq, Error)]
 pub enum WireFault {
-    /// There are fewer bytes than the value has: under 9 of a functional descriptor (where there
-    /// is no first byte, or it is 9), under 6 of a status.
+    /// There are fewer bytes than the value has: none of a functional descriptor, or fewer than its
+    /// first byte says (where that is 7 or 9), and under 6 of a status.
     #[error("too few bytes")]
     Short,
-    /// There are more bytes than the value has: over 9 of a functional descriptor, over 6 of a
-    /// status.
+    /// There are more bytes than the value has: more than the first byte of a functional descriptor
+    /// says (where that is 7 or 9), and over 6 of a status.
     #[error("too many bytes")]
     Long,
-    /// The first byte of a functional descriptor, bLength, is not 9.
+    /// The first byte of a functional descriptor, bLength, is neither 7 nor 9.
     #[error("the length byte is wrong")]
     WrongLength,
     /// The second byte of a functional descriptor, bDescriptorType, is not 21h.

@@ -1,29 +1,35 @@
-//! The functional descriptor (USB DFU 1.1, section 4.1.3).
+//! The functional descriptor (USB DFU 1.1 and USB DFU 1.0, section 4.1.3 of each).
 
 ghost use Rattle.std.specs.Prelude.{◌≡◌, ◌<◌, ◌≤◌, ◌^◌, ◌+◌, ◌*◌, IfOk, IfErr, Ok, length, slice_index, IsTrue, IsBitSet, ◌↔◌};
 
 use crate::WireFault;
-use crate::bytes::{is_set, two_bytes};
-use byteorder::{ByteOrder, LittleEndian};
+use crate::bytes::{is_set, number_at, two_bytes};
 
-/// bLength of every descriptor.
+/// bLength of a descriptor of DFU 1.1.
 const LENGTH: u8 = 9;
+
+/// bLength of a descriptor of DFU 1.0, which ends before bcdDFUVersion.
+const LENGTH_1_0: u8 = 7;
+
+/// bcdDFUVersion of DFU 1.0.
+const VERSION_1_0: u16 = 0x0100;
 
 /// bDescriptorType of every descriptor.
 const TYPE: u8 = 0x21;
 
-/// What a device says of its upgrades: 9 bytes on the wire.
+/// What a device says of its upgrades: 9 bytes on the wire, or 7 in DFU 1.0, which has no bcdDFUVersion.
 ///
 /// | Bytes | Field of the standard | Field here |
 /// |---|---|---|
-/// | 0 | bLength, always 9 | |
+/// | 0 | bLength: 9, or 7 in DFU 1.0 | |
 /// | 1 | bDescriptorType, always 21h | |
 /// | 2 | bmAttributes: bits 0 to 3 | the four flags, in their order here |
 /// | 3, 4 | wDetachTimeOut, milliseconds | `detach_ms` |
 /// | 5, 6 | wTransferSize, bytes | `transfer` |
-/// | 7, 8 | bcdDFUVersion, as 0110h | `version` |
+/// | 7, 8 | bcdDFUVersion, as 0110h; 0100h where there are 7 bytes | `version` |
 ///
-/// Bits 4 to 7 of bmAttributes are reserved: ignored on reading, and written as 0.
+/// Bits 4 to 7 of bmAttributes are reserved: ignored on reading, and written as 0. Bit 3 is read the
+/// same of either version, though DFU 1.0 reserved it.
 #[derive(Clone, Copy, Debug, PartialEq, Eq)]
 pub struct Functional {
     /// bitCanDnload: a host may send an image.
@@ -64,9 +70,9 @@ impl Functional {
     /// Reads a descriptor. The faults, in the order in which they are looked for:
     ///
     /// 1. `Short`: there are no bytes.
-    /// 2. `WrongLength`: the first byte is not 9.
-    /// 3. `Short`: there are fewer than 9 bytes.
-    /// 4. `Long`: there are more than 9 bytes.
+    /// 2. `WrongLength`: the first byte is neither 7 nor 9.
+    /// 3. `Short`: there are fewer bytes than the first byte says.
+    /// 4. `Long`: there are more bytes than the first byte says.
     /// 5. `WrongType`: the second byte is not 21h.
     pub fn decode(bytes: &[u8]) -> Result<Functional, WireFault>
         ensures ok { IfOk result (λ f. IsFunctional f bytes.now) }
@@ -76,29 +82,31 @@ impl Functional {
         if bytes.is_empty() {
             return Err(WireFault::Short);
         }
-        if bytes[0] != LENGTH {
+        let length = bytes[0];
+        if length != LENGTH && length != LENGTH_1_0 {
             return Err(WireFault::WrongLength);
         }
-        if bytes.len() < 9 {
+        if bytes.len() < usize::from(length) {
             return Err(WireFault::Short);
         }
-        if bytes.len() > 9 {
+        if bytes.len() > usize::from(length) {
             return Err(WireFault::Long);
         }
         if bytes[1] != TYPE {
             return Err(WireFault::WrongType);
         }
-        Ok(Functional::of_attributes(
-            bytes[2],
-            LittleEndian::read_u16(&bytes[3..]),
-            LittleEndian::read_u16(&bytes[5..]),
-            LittleEndian::read_u16(&bytes[7..]),
-        ))
+        let version = if length == LENGTH {
+            number_at(bytes, 7)
+        } else {
+            VERSION_1_0
+        };
+        Ok(Functional::of_attributes(bytes[2], number_at(bytes, 3), number_at(bytes, 5), version))
     }
 
-    /// Writes the descriptor, with the reserved bits 0. `decode` of the result is the descriptor
-    /// again.
+    /// Writes the descriptor as that of DFU 1.1, in 9 bytes whatever its version is, with the
+    /// reserved bits 0. `decode` of the result is the descriptor again.
     pub fn encode(&self) -> [u8; 9]
+        ensures length { length result ≡ 9 }
         ensures fields { IsFunctional self.now result }
         ensures reserved { slice_index result 2 < 16 }
     {

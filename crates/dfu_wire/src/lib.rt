@@ -1,6 +1,6 @@
-//! The wire formats of USB device firmware upgrade (USB DFU 1.1): the functional descriptor, the
-//! setups of the seven requests, the answer to GETSTATUS, the states and the status codes, and the
-//! identifiers of a device.
+//! The wire formats of USB device firmware upgrade (USB DFU 1.1): the functional descriptor (read also
+//! in the form of DFU 1.0), the setups of the seven requests, the answer to GETSTATUS, the states and
+//! the status codes, and the identifiers of a device.
 //!
 //! No call takes memory, and none but the readers and `Status::new` can refuse.
 #![tactic(auto)]
