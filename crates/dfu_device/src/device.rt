@@ -85,8 +85,8 @@ impl<M: Medium> Device<M> {
     ///
     /// 1. `WrongSize`: its length is not 2 * (2 * G + C) with C from 1 to 16,777,216 and a multiple of
     ///    the unit's size; G is 16, or the unit's size where that is more.
-    /// 2. `NoImage`: neither slot's gate is open.
-    /// 3. `TwoImages`: both are, and neither generation is the other's plus 1 modulo 256.
+    /// 2. `NoImage`: neither slot counts: its gate is closed, or its header is of version 2 and not well formed.
+    /// 3. `TwoImages`: both do, and neither generation is the other's plus 1 modulo 256.
     /// 4. `BadHeader`: the active slot's header is not well formed.
     pub fn power_on(config: Config, medium: M) -> Result<Device<M>, (OpenFault, M)>
         ensures ok { IfOk result (λ d. d ≡ powered_on config (M.state medium)) }

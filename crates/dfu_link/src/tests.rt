@@ -6,6 +6,7 @@ mod dice;
 mod fates;
 mod faults;
 mod lists;
+mod plain;
 mod runs;
 mod scripts;
 mod uploads;

@@ -1,9 +1,10 @@
 -- What a store is after `commit`.
 use Rattle.std.proofs.Common.{◌≡◌, ◌⊎◌, inl, inr, ⊎_elim, true, false, is_ok, ℕ, ◌+◌, ◌≤◌, ◌<◌, List, length, take, Result, Ok, Err, OnOk, OnErr, IsErrOf, ◌↔◌, refl, sym, ◌∙◌, ap, subst, arith}
+use Rattle.dfu_suffix.specs.Register.{register}
 use Rattle.dfu_slots.specs.Units.{filled}
-use Rattle.dfu_slots.specs.Medium.{Rose}
+use Rattle.dfu_slots.specs.Medium.{Rose, written}
 use Rattle.dfu_slots.specs.Layout.{slot_size, slot, IsOpen}
-use Rattle.dfu_slots.specs.Image.{Counts, gate_of, capacity_of, Active, HasImage, spare_at}
+use Rattle.dfu_slots.specs.Image.{gate_of, capacity_of, Active, HasImage, spare_at}
 use Rattle.dfu_slots.specs.Seen.{SlotsState, store_on, spare_slot, held_at, image_of, spare_of, is_begun, room_of, is_shaped, Commit, writes_of, CallWorked, CallFailed, DidCall}
 use Rattle.dfu_slots.specs.inside.Store.{IsStore}
 use Rattle.dfu_slots.specs.Changes.{Changes}
@@ -27,8 +28,11 @@ module _ (s now : SlotsState) (store : IsStore s) (len : ℕ) (le : len ≤ s.pu
   place : has.active.spare ≡ spare_at g s.medium.bytes
   place = (places_are g s.medium.bytes has.active.at has.active.spare has.image (standing has.active)).1
 
-  off : ¬ Counts (slot g s.medium.bytes has.active.spare)
-  off = subst (λ (q : ℕ). ¬ Counts (slot g s.medium.bytes q)) (sym place) shut
+  off : ¬ IsOpen (slot g s.medium.bytes has.active.spare)
+  off = subst (λ (q : ℕ). ¬ IsOpen (slot g s.medium.bytes q)) (sym place) shut
+
+  crc_is : register (take len (spare_of s)) ≡ register (take len (written (spare_slot s).data_bytes (held_at s) s.held))
+  crc_is = ap (λ (l : List ℕ). register (take len l)) (spare_is s)
 
   room : held_at s + length (filled s.medium.unit s.held) ≤ capacity_of s.medium
   room = held_fits s store.puts has.active.sized.whole
@@ -42,7 +46,7 @@ module _ (s now : SlotsState) (store : IsStore s) (len : ℕ) (le : len ≤ s.pu
       (ends_keep a.spare (a.spare + slot_size s.medium.bytes) (writes_of s (Commit len)) s.medium now.medium
       (place_end g s.medium.bytes a.at a.spare (standing a).sized (standing a).places).1
       (commit_inside g (gate_wide s.medium.unit) s.medium a.at a.spare has.image (standing a) off s.medium.unit
-      (held_at s) s.held room len within) ends).size
+      (held_at s) s.held room len within (register (take len (spare_of s))) crc_is) ends).size
 
   -- An image that stands on the medium now is its active one.
   active_now : Ends s.medium (writes_of s (Commit len)) now.medium → (at spare : ℕ) (image : List ℕ)
@@ -56,7 +60,7 @@ module _ (s now : SlotsState) (store : IsStore s) (len : ℕ) (le : len ≤ s.pu
       subst (λ (l : List ℕ). Active now.medium (take len l)) (sym (spare_is s))
       (active_now (inl worked.writes) a.spare a.at _
       (committed g (gate_wide s.medium.unit) s.medium a.at a.spare has.image (standing a) off s.medium.unit
-      (held_at s) s.held room len within now.medium worked.writes))
+      (held_at s) s.held room len within (register (take len (spare_of s))) crc_is now.medium worked.writes))
 
   commit_either : CallFailed s (Commit len) now → Active now.medium has.image ⊎ Active now.medium (take len (spare_of s))
   commit_either failed =
@@ -66,7 +70,7 @@ module _ (s now : SlotsState) (store : IsStore s) (len : ℕ) (le : len ≤ s.pu
       (λ old. inl (active_now (inr failed.writes) a.at a.spare has.image old))
       (λ new. inr (active_now (inr failed.writes) a.spare a.at _ new))
       (committed_either g (gate_wide s.medium.unit) s.medium a.at a.spare has.image (standing a) off s.medium.unit
-      (held_at s) s.held room len within now.medium failed.writes))
+      (held_at s) s.held room len within (register (take len (spare_of s))) crc_is now.medium failed.writes))
 
   room_after : Ends s.medium (writes_of s (Commit len)) now.medium → room_of now ≡ room_of s
   room_after ends = room_from s now (ends_unit (writes_of s (Commit len)) s.medium now.medium ends) (size_after ends)

@@ -4,7 +4,7 @@ use Rattle.std.proofs.lemmas.List.{length-take-le}
 use Rattle.dfu_slots.specs.declared.unit.Unit.{Unit as WriteUnit}
 use Rattle.dfu_slots.specs.Units.{unit_size, gate_size, whole_part}
 use Rattle.dfu_slots.specs.Medium.{Rose, written}
-use Rattle.dfu_slots.specs.Layout.{slot_size, Slot, IsOpen}
+use Rattle.dfu_slots.specs.Layout.{slot_size, Slot, slot, IsOpen}
 use Rattle.dfu_slots.specs.Image.{gate_of, capacity_of, Active, HasImage, spare_at}
 use Rattle.dfu_slots.specs.Seen.{SlotsState, store_on, spare_slot, held_at, data_place, image_of, spare_of, is_begun, room_of, is_shaped, Put, writes_of, CallWorked, DidCall}
 use Rattle.dfu_slots.specs.inside.Store.{HasPuts, IsStore}
@@ -20,7 +20,7 @@ use Rattle.dfu_slots.proofs.SpareData.{data_kept, data_keeps, data_spare, data_g
 use Rattle.dfu_slots.proofs.Put.{whole_le, rest_length, put_inside, put_written, put_joined, put_behind}
 use Rattle.dfu_slots.proofs.Seeing.{spare_is, fresh_store, image_active, shaped, begun_from_gate}
 use Rattle.dfu_slots.proofs.Stays.{Stays, stays_has, stays_same, stays_image, stays_room, spare_there}
-use Rattle.dfu_slots.proofs.Answered.{was_small, came_or_not, failed_fresh, not_begun_is, too_large_is, did_change}
+use Rattle.dfu_slots.proofs.Answered.{was_shut, was_small, came_or_not, failed_fresh, not_begun_is, too_large_is, did_change}
 
 module _ (s now : SlotsState) (store : IsStore s) (at : ℕ) (new : List ℕ) (here : at ≡ s.put_end) where
   abbrev g : ℕ
@@ -48,7 +48,11 @@ module _ (s now : SlotsState) (store : IsStore s) (at : ℕ) (new : List ℕ) (h
       (data_place s (at - length s.held))
       (omega (arith, place)) (omega (arith, place, fits, here, all_length, held_end s store.puts, store.has_image.active.sized.room))
 
-  module _ (fits : at + length new ≤ capacity_of s.medium) (ends : Ends s.medium (writes_of s (Put at new)) now.medium) where
+  module _ (fits : at + length new ≤ capacity_of s.medium) (begun : ¬ IsOpen (spare_slot s))
+      (ends : Ends s.medium (writes_of s (Put at new)) now.medium) where
+    shut : ¬ IsOpen (slot g s.medium.bytes store.has_image.active.spare)
+    shut = subst (λ (q : ℕ). ¬ IsOpen (slot g s.medium.bytes q)) (sym place) begun
+
     unit_is : now.medium.unit ≡ s.medium.unit
     unit_is = ends_unit (writes_of s (Put at new)) s.medium now.medium ends
 
@@ -56,10 +60,10 @@ module _ (s now : SlotsState) (store : IsStore s) (at : ℕ) (new : List ℕ) (h
     stays_after =
         let a = store.has_image.active in
         record {
-          stands = data_keeps g (gate_wide s.medium.unit) s.medium now.medium a.at a.spare store.has_image.image (standing a)
+          stands = data_keeps g (gate_wide s.medium.unit) s.medium now.medium a.at a.spare store.has_image.image (standing a) shut
               (writes_of s (Put at new)) (inside fits) ends;
           unit = unit_is;
-          size = (data_kept g (gate_wide s.medium.unit) s.medium now.medium a.at a.spare store.has_image.image (standing a)
+          size = (data_kept g (gate_wide s.medium.unit) s.medium now.medium a.at a.spare store.has_image.image (standing a) shut
               (writes_of s (Put at new)) (inside fits) ends).size;
         }
 
@@ -67,11 +71,11 @@ module _ (s now : SlotsState) (store : IsStore s) (at : ℕ) (new : List ℕ) (h
     gate_after =
         let a = store.has_image.active in
         ap (λ (p : Slot). p.gate) (spare_there s.medium now.medium unit_is)
-        ∙ data_gate g (gate_wide s.medium.unit) s.medium now.medium a.at a.spare store.has_image.image (standing a)
+        ∙ data_gate g (gate_wide s.medium.unit) s.medium now.medium a.at a.spare store.has_image.image (standing a) shut
         (writes_of s (Put at new)) (inside fits) ends
 
   -- After a `put` that is Ok.
-  module _ (fits : at + length new ≤ capacity_of s.medium) (worked : CallWorked s (Put at new) now) where
+  module _ (fits : at + length new ≤ capacity_of s.medium) (begun : ¬ IsOpen (spare_slot s)) (worked : CallWorked s (Put at new) now) where
     rest_is : length now.held ≡ length all % unit_size s.medium.unit
     rest_is = ap length worked.held_is ∙ rest_length s.medium.unit s.held new ∙ omega (arith, part_le s.medium.unit (length all))
 
@@ -84,7 +88,7 @@ module _ (s now : SlotsState) (store : IsStore s) (at : ℕ) (new : List ℕ) (h
 
     puts_after : HasPuts now
     puts_after =
-        let stays = stays_after fits (inl worked.writes) in
+        let stays = stays_after fits begun (inl worked.writes) in
         record {
           fits = omega (arith, fits, here, worked.end_is, ap gate_size stays.unit, stays.size);
           part = part_is ∙ ap (λ (u : WriteUnit). now.put_end % unit_size u) (sym stays.unit);
@@ -116,10 +120,11 @@ module _ (s now : SlotsState) (store : IsStore s) (at : ℕ) (new : List ℕ) (h
         let a = store.has_image.active in
         let ends = inl worked.writes in
         let kept = data_spare g (gate_wide s.medium.unit) s.medium now.medium a.at a.spare store.has_image.image (standing a)
+        (shut fits begun ends)
         (writes_of s (Put at new)) (inside fits) ends in
         let end = (place_end g s.medium.bytes a.at a.spare (standing a).sized (standing a).places).1 in
-        ap (λ (p : Slot). p.data_bytes) (spare_there s.medium now.medium (unit_is fits ends))
-        ∙ data_written g s.medium.bytes now.medium.bytes a.at a.spare store.has_image.image (standing a) kept (held_at s) (take whole all)
+        ap (λ (p : Slot). p.data_bytes) (spare_there s.medium now.medium (unit_is fits begun ends))
+        ∙ data_written g s.medium.bytes now.medium.bytes (standing a).sized kept (held_at s) (take whole all)
         (omega (arith, room, data_size, length-take-le whole all (whole_le s.medium.unit s.held new), whole_le s.medium.unit s.held new))
         (put_written s.medium.unit s.held new s.medium now.medium (data_place s (at - length s.held))
         (omega (arith, place, here, end, room, data_size, a.sized.room)) worked.writes
@@ -142,12 +147,12 @@ module _ {T : Type 0} (s now : SlotsState) (store : IsStore s) (at : ℕ) (new :
     (changes : Changes s (Put at new) result now) where
   put_stays : Stays s now store.has_image
   put_stays =
-      ⊎_elim (λ came. stays_after s now store at new here came.fits came.ends) (λ same. stays_same s now store.has_image same)
+      ⊎_elim (λ came. stays_after s now store at new here came.fits came.shut came.ends) (λ same. stays_same s now store.has_image same)
       (came_or_not s now (at + length new) (Put at new) result not_begun too_large changes)
 
   put_gate : (spare_slot now).gate ≡ (spare_slot s).gate
   put_gate =
-      ⊎_elim (λ came. gate_after s now store at new here came.fits came.ends) (λ same. ap (λ (x : SlotsState). (spare_slot x).gate) same)
+      ⊎_elim (λ came. gate_after s now store at new here came.fits came.shut came.ends) (λ same. ap (λ (x : SlotsState). (spare_slot x).gate) same)
       (came_or_not s now (at + length new) (Put at new) result not_begun too_large changes)
 
 -- After any answer it is a store.
@@ -157,7 +162,8 @@ put_store : {T : Type 0} (s now : SlotsState) (store : IsStore s) (at : ℕ) (ne
     → Changes s (Put at new) result now → IsStore now
 put_store {T} s now store at new here (Ok x) a b worked = record {
   has_image = stays_has s now store.has_image (put_stays {T = T} s now store at new here (Ok x) a b worked);
-  puts = puts_after s now store at new here (was_small {T = T} s (at + length new) (Ok x) a b (λ e. cc) (λ e. cc)) worked;
+  puts = puts_after s now store at new here (was_small {T = T} s (at + length new) (Ok x) a b (λ e. cc) (λ e. cc))
+      (was_shut {T = T} s (at + length new) (Ok x) a b (λ e. cc)) worked;
 }
 put_store {T} s now store at new here (Err Failed) a b failed =
     subst IsStore (sym (failed_fresh {T = T} s now (Put at new) (Err Failed) failed refl))
@@ -172,7 +178,7 @@ put_spare : {T : Type 0} (s now : SlotsState) → IsStore s → (at : ℕ) (new 
     → Changes s (Put at new) result now → OnOk result (spare_of now ≡ written (spare_of s) at new)
 put_spare s now store at new here (Err e) a b changes = tt
 put_spare {T} s now store at new here (Ok x) a b worked = spare_after s now store at new here
-    (was_small {T = T} s (at + length new) (Ok x) a b (λ e. cc) (λ e. cc)) worked
+    (was_small {T = T} s (at + length new) (Ok x) a b (λ e. cc) (λ e. cc)) (was_shut {T = T} s (at + length new) (Ok x) a b (λ e. cc)) worked
 
 -- And the puts end behind them.
 put_ends : {T : Type 0} (s now : SlotsState) (at : ℕ) (new : List ℕ) (result : Result T PutFault) → Changes s (Put at new) result now

@@ -21,7 +21,8 @@ not_begun_is s result not_begun = (λ e. open_not_begun s (not_begun.0 e), λ of
 module _ {T : Type 0} (s : SlotsState) (n : ℕ) (result : Result T PutFault)
     (not_begun : IsErrOf result NotBegun ↔ IsOpen (spare_slot s))
     (too_large : IsErrOf result TooLarge ↔ ((¬ IsOpen (spare_slot s)) × (capacity_of s.medium < n))) where
-  was_shut : ¬ IsErrOf result NotBegun → ¬ IsOpen (spare_slot s)
+  -- An answer other than NotBegun tells that the spare was closed.
+  pub was_shut : ¬ IsErrOf result NotBegun → ¬ IsOpen (spare_slot s)
   was_shut other is_open = other (not_begun.1 is_open)
 
   -- An answer that is neither NotBegun nor TooLarge tells that there was room.

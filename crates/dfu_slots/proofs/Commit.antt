@@ -1,10 +1,13 @@
 -- What `commit` leaves.
-use Rattle.std.proofs.Common.{◌≡◌, ◌⊎◌, inl, inr, ⊎_elim, ◌==◌, ℕ, ◌+◌, ◌-◌, ◌*◌, ◌≤◌, ◌<◌, List, [], ◌∷◌, ◌++◌, length, take, replicate, slice_index, slice_range, sym, ◌∙◌, ap, subst, arith, length-append}
+use Rattle.std.proofs.Common.{◌≡◌, ◌⊎◌, inl, inr, ⊎_elim, ℕ, ◌+◌, ◌-◌, ◌*◌, ◌^◌, ◌≤◌, ◌<◌, List, [], ◌∷◌, length, take, drop, replicate, slice_index, slice_range, sym, ◌∙◌, ap, subst, arith}
 use Rattle.std.proofs.lemmas.List.{length-take-le, take_at, take-take}
 use Rattle.std.proofs.lemmas.Bool.{cases_eq}
+use Rattle.std.specs.Int.{w32, from_le_bytes}
+use Rattle.std.proofs.lemmas.Nat.{from_le_bytes-to_le_bytes_4}
+use Rattle.dfu_suffix.specs.Register.{register}
 use Rattle.dfu_slots.specs.Medium.{MediumState, Write, KeepsOutside, AllWrites, BrokenWrites, written}
-use Rattle.dfu_slots.specs.Layout.{slot_size, capacity, Slot, slot, OPEN, IsOpen, generation, next_generation, header, gate_unit, header_unit}
-use Rattle.dfu_slots.specs.Image.{Counts, active_at, spare_at, spare}
+use Rattle.dfu_slots.specs.Layout.{slot_size, capacity, Slot, slot, OPEN, IsOpen, generation, next_generation, header_length, header, HasHeader, gate_unit, header_unit}
+use Rattle.dfu_slots.specs.Image.{active_at, spare_at, spare}
 use Rattle.dfu_slots.specs.Writes.{commit_writes}
 use Rattle.dfu_slots.proofs.Stands.{ActiveAt}
 use Rattle.dfu_slots.proofs.Torn.{written_range, keeps_both, keeps_wider}
@@ -15,31 +18,30 @@ use Rattle.dfu_slots.proofs.Series.{AllInside, all_keep, broken_keep, all_parts,
 use Rattle.dfu_slots.proofs.Begun.{gate_written}
 
 -- A header unit that was written begins with the header.
-pub header_written : (g : ℕ) → 16 ≤ g → (old : List ℕ) (p gen len : ℕ) → p + g ≤ length old
-    → slice_range (written old p (header_unit g gen len)) p (p + 16) ≡ header gen len
-header_written g wide old p gen len fits =
-    let unit = header_unit g gen len in
-    let size = length-header_unit g gen len wide in
+pub header_written : (g : ℕ) → 16 ≤ g → (old : List ℕ) (p gen len crc : ℕ) → p + g ≤ length old
+    → slice_range (written old p (header_unit g gen len crc)) p (p + 16) ≡ header 2 gen len crc
+header_written g wide old p gen len crc fits =
+    let unit = header_unit g gen len crc in
+    let size = length-header_unit g gen len crc wide in
     let whole : slice_range (written old p unit) p (p + length unit) ≡ unit = written_range old p unit (omega (arith, size)) in
     let d = slice_range (written old p unit) p (p + length unit) in
-    front old p unit 16 (omega (arith, size)) (omega (arith, size)) ∙ take_at (header gen len) (replicate (g - 16) 0) 16 (omega arith)
+    front old p unit 16 (omega (arith, size)) (omega (arith, size)) ∙ take_at (header 2 gen len crc) (replicate (g - 16) 0) 16 (omega arith)
   where
     front : (l : List ℕ) (q : ℕ) (new : List ℕ) (n : ℕ) → n ≤ length new → q + length new ≤ length l
         → slice_range (written l q new) q (q + n) ≡ take n new
     front l q new n le room =
         let e : q + n - q ≡ n = omega arith in
         let f : q + length new - q ≡ length new = omega arith in
-        let d = Rattle.std.proofs.Common.drop q (written l q new) in
+        let d = drop q (written l q new) in
         ap (λ (k : ℕ). take k d) e ∙ sym (take-take n (length new) d le)
         ∙ ap (λ (x : List ℕ). take n x) (ap (λ (k : ℕ). take k d) (sym f) ∙ written_range l q new room)
 
 -- The gate of a slot whose header and data are a new image's.
 
 module _ (g : ℕ) (wide : 16 ≤ g) (old mid left : List ℕ) (mine other : ℕ) (image : List ℕ) (a : ActiveAt g old mine other image)
-    (off : ¬ Counts (slot g old other))
-    (len : ℕ) (whole : List ℕ) (fits : len ≤ length whole) (keeps : KeepsOutside (other + g) (other + slot_size old) old mid)
+    (len : ℕ) (whole : List ℕ) (fits : len ≤ length whole) (bound : len < 2 ^ 32) (keeps : KeepsOutside (other + g) (other + slot_size old) old mid)
     (torn : KeepsOutside other (other + g) mid left)
-    (head : (slot g mid other).header ≡ header (next_generation (generation (slot g old mine))) len)
+    (head : (slot g mid other).header ≡ header 2 (next_generation (generation (slot g old mine))) len (register (take len whole)))
     (data_is : (slot g mid other).data_bytes ≡ whole) where
   abbrev gen : ℕ
   gen = next_generation (generation (slot g old mine))
@@ -56,7 +58,7 @@ module _ (g : ℕ) (wide : 16 ≤ g) (old mid left : List ℕ) (mine other : ℕ
   left_size : slot_size left ≡ slot_size old
   left_size = size_kept other (other + slot_size old) old left left_keeps
 
-  left_head : (slot g left other).header ≡ header gen len
+  left_head : (slot g left other).header ≡ header 2 gen len (register (take len whole))
   left_head = header_outside g other (other + g) mid left other torn (inr (omega arith)) ∙ head
 
   left_data : (slot g left other).data_bytes ≡ whole
@@ -73,23 +75,33 @@ module _ (g : ℕ) (wide : 16 ≤ g) (old mid left : List ℕ) (mine other : ℕ
   generation_is : generation (slot g left other) ≡ gen
   generation_is = ap (λ (h : List ℕ). slice_index h 0) left_head
 
+  length_is : header_length (slot g left other) ≡ len
+  length_is = ap (λ (h : List ℕ). from_le_bytes w32 (take 4 (drop 4 h))) left_head ∙ from_le_bytes-to_le_bytes_4 len bound
+
+  -- It has a well-formed header of the new image, whatever its gate is.
+  left_header : (n : ℕ) → n ≡ len → HasHeader (slot g left other) n
+  left_header n same = record {
+    well_formed = inr (left_head ∙ (λ i. header 2 (sym generation_is i) (sym same i) (register (take (sym same i) (sym left_data i)))));
+    fits = omega (arith, ap length left_data, same, fits);
+  }
+
   -- Open, it is the newest slot, and has the new image.
   pub opened : IsOpen (slot g left other) → ActiveAt g left other mine next_image
   opened is_open = record {
     sized = sized_kept g other (other + slot_size old) old left left_keeps a.sized;
     places = ⊎_elim (λ p. inr (p.1 ∙ sym left_size, p.0)) (λ p. inl (p.1, p.0 ∙ sym left_size)) a.places;
-    newest = record { counts = is_open; newer = inr (generation_is ∙ ap (λ (x : Slot). next_generation (generation x)) (sym mine_is)) };
-    header_is = record {
-      well_formed = left_head ∙ (λ i. header (sym generation_is i) (sym image_length i));
-      fits = omega (arith, ap length left_data, image_length, fits);
+    newest = record {
+      counts = record { is_open = is_open; intact = λ two. left_header (header_length (slot g left other)) length_is };
+      newer = inr (generation_is ∙ ap (λ (x : Slot). next_generation (generation x)) (sym mine_is));
     };
+    header_is = left_header (length next_image) image_length;
     image_is = ap (λ (n : ℕ). take n whole) (sym image_length) ∙ ap (λ (d : List ℕ). take (length next_image) d) (sym left_data);
   }
 
   -- Closed, it does not count, and the old image stays.
-  pub closed : ¬ Counts (slot g left other) → ActiveAt g left mine other image
+  pub closed : ¬ IsOpen (slot g left other) → ActiveAt g left mine other image
   closed shut = active_kept g wide old left mine other image other (other + slot_size old) a left_keeps (omega arith) (omega arith)
-      (inl shut)
+      (inl (λ c. shut c.is_open))
 
   either_way : ActiveAt g left mine other image ⊎ ActiveAt g left other mine next_image
   either_way = elim (cases_eq (slot g left other).gate OPEN) [ inl is_open ↦ inr (opened is_open) | inr shut ↦ inl (closed shut) ]
@@ -97,7 +109,7 @@ module _ (g : ℕ) (wide : 16 ≤ g) (old mid left : List ℕ) (mine other : ℕ
 -- The writes of a commit.
 
 module _ (g : ℕ) (wide : 16 ≤ g) (s : MediumState) (mine other : ℕ) (image : List ℕ) (a : ActiveAt g s.bytes mine other image)
-    (off : ¬ Counts (slot g s.bytes other))
+    (shut : ¬ IsOpen (slot g s.bytes other))
     (len : ℕ) (fits : len ≤ capacity g s.bytes) where
   abbrev was : List ℕ
   was = s.bytes
@@ -108,8 +120,11 @@ module _ (g : ℕ) (wide : 16 ≤ g) (s : MediumState) (mine other : ℕ) (image
   end : other + slot_size was ≤ length was
   end = (place_end g was mine other a.sized a.places).1
 
+  abbrev crc : ℕ
+  crc = register (take len (spare g was).data_bytes)
+
   abbrev head_unit : List ℕ
-  head_unit = header_unit g (next_generation (generation (slot g was (active_at g was)))) len
+  head_unit = header_unit g (next_generation (generation (slot g was (active_at g was)))) len crc
 
   abbrev before_gate : List Write
   before_gate = record { at = spare_at g was + g; bytes = head_unit } ∷ []
@@ -121,7 +136,7 @@ module _ (g : ℕ) (wide : 16 ≤ g) (s : MediumState) (mine other : ℕ) (image
   inside = (
     omega (arith, places_of.1),
     omega
-        (arith, places_of.1, a.sized.room, length-header_unit g (next_generation (generation (slot g was (active_at g was)))) len wide),
+        (arith, places_of.1, a.sized.room, length-header_unit g (next_generation (generation (slot g was (active_at g was)))) len crc wide),
     tt,
   )
 
@@ -131,6 +146,9 @@ module _ (g : ℕ) (wide : 16 ≤ g) (s : MediumState) (mine other : ℕ) (image
   whole_length : length (slot g was other).data_bytes ≡ capacity g was
   whole_length = data_length g was other end (omega (arith, a.sized.room))
 
+  bound : len < 2 ^ 32
+  bound = omega (arith, fits, a.sized.bound)
+
   -- After the writes before the gate.
   module _ (mid : MediumState) (first : AllWrites s before_gate mid) where
     mid_keeps : KeepsOutside (other + g) (other + slot_size was) was mid.bytes
@@ -139,20 +157,22 @@ module _ (g : ℕ) (wide : 16 ≤ g) (s : MediumState) (mine other : ℕ) (image
     mid_bytes : mid.bytes ≡ written was (spare_at g was + g) head_unit
     mid_bytes = ap (λ (m : MediumState). m.bytes) first.2 ∙ first.1.bytes
 
-    mid_head : (slot g mid.bytes other).header ≡ header (next_generation (generation (slot g was mine))) len
+    mid_head : (slot g mid.bytes other).header
+        ≡ header 2 (next_generation (generation (slot g was mine))) len (register (take len (slot g was other).data_bytes))
     mid_head =
         ap (λ (q : ℕ). slice_range mid.bytes (q + g) (q + g + 16)) places_of.1
         ∙ ap (λ (l : List ℕ). slice_range l (spare_at g was + g) (spare_at g was + g + 16)) mid_bytes
-        ∙ header_written g wide was (spare_at g was + g) (next_generation (generation (slot g was (active_at g was)))) len
+        ∙ header_written g wide was (spare_at g was + g) (next_generation (generation (slot g was (active_at g was)))) len crc
         (omega (arith, places_of.1, end, a.sized.room))
-        ∙ sym (ap (λ (q : ℕ). header (next_generation (generation (slot g was q))) len) places_of.0)
+        ∙ (λ i. header 2 (next_generation (generation (slot g was (sym places_of.0 i)))) len
+        (register (take len (slot g was (sym places_of.1 i)).data_bytes)))
 
     mid_data : (slot g mid.bytes other).data_bytes ≡ (slot g was other).data_bytes
     mid_data =
         data_outside g (other + g) (other + 2 * g) was mid.bytes other
         (all_keep (other + g) (other + 2 * g) before_gate s mid (omega (arith, end, a.sized.room)) (
           inside.0,
-          omega (arith, places_of.1, length-header_unit g (next_generation (generation (slot g was (active_at g was)))) len wide),
+          omega (arith, places_of.1, length-header_unit g (next_generation (generation (slot g was (active_at g was)))) len crc wide),
           tt,
         ) first)
         (inr (omega arith))
@@ -161,7 +181,7 @@ module _ (g : ℕ) (wide : 16 ≤ g) (s : MediumState) (mine other : ℕ) (image
   new_image = take len (spare g was).data_bytes
 
   -- All of them.
-  pub commit_done : (now : MediumState) → AllWrites s (commit_writes g was len) now → ActiveAt g now.bytes other mine new_image
+  pub commit_done : (now : MediumState) → AllWrites s (commit_writes g was len crc) now → ActiveAt g now.bytes other mine new_image
   commit_done now all =
       let parts = all_parts before_gate gate_write s now all in
       let mid = parts.0 in
@@ -174,16 +194,16 @@ module _ (g : ℕ) (wide : 16 ≤ g) (s : MediumState) (mine other : ℕ) (image
       ap (λ (q : ℕ). slice_index now.bytes q) places_of.1 ∙ ap (λ (l : List ℕ). slice_index l (spare_at g was)) bytes_are
       ∙ gate_written g wide mid.bytes (spare_at g was) OPEN (omega (arith, size, end, places_of.1, a.sized.room)) in
       subst (λ (q : ℕ). ActiveAt g now.bytes other mine (take len (slot g was q).data_bytes)) places_of.1
-      (opened g wide was mid.bytes now.bytes mine other image a off len (slot g was other).data_bytes (omega (arith, whole_length))
+      (opened g wide was mid.bytes now.bytes mine other image a len (slot g was other).data_bytes (omega (arith, whole_length)) bound
       (mid_keeps mid first) torn (mid_head mid first) (mid_data mid first) is_open)
 
   -- Those up to one that failed.
-  pub commit_broken : (now : MediumState) → BrokenWrites s (commit_writes g was len) now → ActiveAt g now.bytes mine other image
+  pub commit_broken : (now : MediumState) → BrokenWrites s (commit_writes g was len crc) now → ActiveAt g now.bytes mine other image
       ⊎ ActiveAt g now.bytes other mine new_image
   commit_broken now broken = elim (broken_parts before_gate gate_write s now broken) [
     | inl early ↦
         inl (closed_change g wide was now.bytes mine other image (other + g) (other + slot_size was) a
-        (broken_keep (other + g) (other + slot_size was) before_gate s now end inside early) off (omega arith) (omega arith))
+        (broken_keep (other + g) (other + slot_size was) before_gate s now end inside early) shut (omega arith) (omega arith))
     | inr late ↦
         let mid = late.0 in
         let first = late.1.first in
@@ -191,6 +211,6 @@ module _ (g : ℕ) (wide : 16 ≤ g) (s : MediumState) (mine other : ℕ) (image
         let torn = broken_keep other (other + g) gate_write mid now (omega (arith, size, end, a.sized.room)) gate_inside late.1.second in
         subst (λ (q : ℕ). ActiveAt g now.bytes mine other image
         ⊎ ActiveAt g now.bytes other mine (take len (slot g was q).data_bytes)) places_of.1
-        (either_way g wide was mid.bytes now.bytes mine other image a off len (slot g was other).data_bytes (omega (arith, whole_length))
+        (either_way g wide was mid.bytes now.bytes mine other image a len (slot g was other).data_bytes (omega (arith, whole_length)) bound
         (mid_keeps mid first) torn (mid_head mid first) (mid_data mid first))
   ]

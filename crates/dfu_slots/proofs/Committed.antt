@@ -1,34 +1,25 @@
 -- What `commit` leaves: it writes the bytes that are held, and then installs the image.
-use Rattle.std.proofs.Common.{◌≡◌, ◌⊎◌, inl, inr, ⊎_elim, ℕ, ◌+◌, ◌*◌, ◌≤◌, List, ◌++◌, length, take, drop, replicate, sym, ◌∙◌, ap, subst, arith, length-append}
-use Rattle.std.proofs.lemmas.List.{length-take-le, take-append-le, append_assoc}
+use Rattle.std.proofs.Common.{◌≡◌, ◌⊎◌, inl, inr, ⊎_elim, ℕ, ◌+◌, ◌*◌, ◌≤◌, List, ◌++◌, length, take, replicate, sym, ◌∙◌, ap, subst, arith, length-append}
 use Rattle.dfu_slots.specs.declared.unit.Unit.{Unit as WriteUnit}
+use Rattle.dfu_suffix.specs.Register.{register}
 use Rattle.dfu_slots.specs.Units.{fill_size, filled}
 use Rattle.dfu_slots.specs.Medium.{MediumState, Write, AllWrites, BrokenWrites, written}
-use Rattle.dfu_slots.specs.Layout.{slot_size, capacity, Slot, slot, generation, next_generation}
-use Rattle.dfu_slots.specs.Image.{Counts, active_at, spare_at, spare}
+use Rattle.dfu_slots.specs.Layout.{slot_size, capacity, Slot, slot, IsOpen, generation, next_generation}
+use Rattle.dfu_slots.specs.Image.{active_at, spare_at, spare}
 use Rattle.dfu_slots.specs.Writes.{part_writes, open_writes, commit_writes}
 use Rattle.dfu_slots.proofs.Stands.{ActiveAt}
 use Rattle.dfu_slots.proofs.Parts.{length-gate_unit, length-header_unit, slot_outside, size_kept, data_length}
 use Rattle.dfu_slots.proofs.Newest.{places_are, place_end}
 use Rattle.dfu_slots.proofs.Series.{AllInside, all_parts, broken_parts, some_written, inside_some, inside_append}
+use Rattle.dfu_slots.proofs.Within.{front_of_written}
 use Rattle.dfu_slots.proofs.SpareData.{data_kept, data_keeps, data_spare, data_gate_at, data_written}
 use Rattle.dfu_slots.proofs.Commit.{commit_done, commit_broken}
 
--- What stands behind written bytes does not show in front of their end.
-front_of_written : (d : List ℕ) (k : ℕ) (xs zs : List ℕ) (len : ℕ) → k ≤ length d → len ≤ k + length xs
-    → take len (written d k (xs ++ zs)) ≡ take len (written d k xs)
-front_of_written d k xs zs len fits le =
-    let a = take k d ++ xs in
-    let room : len ≤ length a = omega (arith, le, length-append (take k d) xs, length-take-le k d fits) in
-    let past = drop (k + length (xs ++ zs)) d in
-    ap (λ (l : List ℕ). take len l) (ap (λ (l : List ℕ). l ++ past) (sym (append_assoc (take k d) xs zs)) ∙ append_assoc a zs past)
-    ∙ take-append-le len a (zs ++ past) room
-    ∙ sym (take-append-le len a (drop (k + length xs) d) room)
-
 module _ (g : ℕ) (wide : 16 ≤ g) (s : MediumState) (mine other : ℕ) (image : List ℕ) (a : ActiveAt g s.bytes mine other image)
-    (off : ¬ Counts (slot g s.bytes other))
+    (shut : ¬ IsOpen (slot g s.bytes other))
     (u : WriteUnit) (k : ℕ) (held : List ℕ) (room : k + length (filled u held) ≤ capacity g s.bytes) (len : ℕ)
-    (le : len ≤ k + length held) where
+    (le : len ≤ k + length held)
+    (crc : ℕ) (crc_is : crc ≡ register (take len (written (spare g s.bytes).data_bytes k held))) where
   abbrev part : List Write
   part = part_writes u (spare_at g s.bytes + 2 * g + k) held
 
@@ -43,9 +34,9 @@ module _ (g : ℕ) (wide : 16 ≤ g) (s : MediumState) (mine other : ℕ) (image
   new_image = take len (written (spare g s.bytes).data_bytes k held)
 
   -- All its writes lie in the spare.
-  pub commit_inside : AllInside other (other + slot_size s.bytes) (part ++ commit_writes g s.bytes len)
+  pub commit_inside : AllInside other (other + slot_size s.bytes) (part ++ commit_writes g s.bytes len crc)
   commit_inside =
-      inside_append other (other + slot_size s.bytes) part (commit_writes g s.bytes len)
+      inside_append other (other + slot_size s.bytes) part (commit_writes g s.bytes len crc)
       (inside_some other (other + slot_size s.bytes) (spare_at g s.bytes + 2 * g + k) (filled u held) (omega (arith, place))
       (omega (arith, place, room, a.sized.room))) (
         omega (arith, place),
@@ -53,7 +44,7 @@ module _ (g : ℕ) (wide : 16 ≤ g) (s : MediumState) (mine other : ℕ) (image
           arith,
           place,
           a.sized.room,
-          length-header_unit g (next_generation (generation (slot g s.bytes (active_at g s.bytes)))) len wide,
+          length-header_unit g (next_generation (generation (slot g s.bytes (active_at g s.bytes)))) len crc wide,
         ),
         (omega (arith, place), omega (arith, place, a.sized.room, length-gate_unit g 165 wide), tt),
       )
@@ -61,22 +52,22 @@ module _ (g : ℕ) (wide : 16 ≤ g) (s : MediumState) (mine other : ℕ) (image
   -- After the held bytes are written.
   module _ (mid : MediumState) (first : AllWrites s part mid) where
     keeps : ActiveAt g mid.bytes mine other image
-    keeps = data_keeps g wide s mid mine other image a part inside (inl first)
+    keeps = data_keeps g wide s mid mine other image a shut part inside (inl first)
 
-    shut : ¬ Counts (slot g mid.bytes other)
-    shut counts = off (sym (data_gate_at g wide s mid mine other image a part inside (inl first)) ∙ counts)
+    still_shut : ¬ IsOpen (slot g mid.bytes other)
+    still_shut is_open = shut (sym (data_gate_at g wide s mid mine other image a shut part inside (inl first)) ∙ is_open)
 
     same_spare : spare_at g mid.bytes ≡ spare_at g s.bytes
-    same_spare = data_spare g wide s mid mine other image a part inside (inl first)
+    same_spare = data_spare g wide s mid mine other image a shut part inside (inl first)
 
     size : slot_size mid.bytes ≡ slot_size s.bytes
     size = size_kept (other + 2 * g) (other + slot_size s.bytes) s.bytes mid.bytes
-        (data_kept g wide s mid mine other image a part inside (inl first))
+        (data_kept g wide s mid mine other image a shut part inside (inl first))
 
     mine_is : slot g mid.bytes mine ≡ slot g s.bytes mine
     mine_is =
         slot_outside g (other + 2 * g) (other + slot_size s.bytes) s.bytes mid.bytes mine
-        (data_kept g wide s mid mine other image a part inside (inl first)) wide (omega (arith, a.sized.room))
+        (data_kept g wide s mid mine other image a shut part inside (inl first)) wide (omega (arith, a.sized.room))
         (⊎_elim (λ p. inl (omega (arith, p.0, p.1))) (λ p. inr (omega (arith, p.0, p.1))) a.places)
 
     same_generation : generation (slot g mid.bytes (active_at g mid.bytes)) ≡ generation (slot g s.bytes (active_at g s.bytes))
@@ -85,15 +76,11 @@ module _ (g : ℕ) (wide : 16 ≤ g) (s : MediumState) (mine other : ℕ) (image
         ∙ ap (λ (x : Slot). generation x) mine_is
         ∙ ap (λ (q : ℕ). generation (slot g s.bytes q)) (places_are g s.bytes mine other image a).0
 
-    -- The writes of the installation are those of the medium before.
-    same_writes : commit_writes g s.bytes len ≡ commit_writes g mid.bytes len
-    same_writes = λ i. open_writes g (sym same_spare i) (next_generation (sym same_generation i)) len
-
     fits : len ≤ capacity g mid.bytes
     fits = omega (arith, le, room, size, length-append held (replicate (fill_size u (length held)) 0))
 
     data_is : (spare g mid.bytes).data_bytes ≡ written (spare g s.bytes).data_bytes k (filled u held)
-    data_is = data_written g s.bytes mid.bytes mine other image a same_spare k (filled u held) room
+    data_is = data_written g s.bytes mid.bytes a.sized same_spare k (filled u held) room
         (some_written s mid (spare_at g s.bytes + 2 * g + k) (filled u held) first)
 
     image_is : take len (spare g mid.bytes).data_bytes ≡ new_image
@@ -107,25 +94,32 @@ module _ (g : ℕ) (wide : 16 ≤ g) (s : MediumState) (mine other : ℕ) (image
               (omega (arith, place, (place_end g s.bytes mine other a.sized a.places).1)) (omega (arith, a.sized.room)),
         )) le
 
+    -- The writes of the installation are those of the medium before.
+    same_writes : commit_writes g s.bytes len crc ≡ commit_writes g mid.bytes len (register (take len (spare g mid.bytes).data_bytes))
+    same_writes =
+        λ i.
+        open_writes g (sym same_spare i) (next_generation (sym same_generation i)) len
+        ((crc_is ∙ ap (λ (l : List ℕ). register l) (sym image_is)) i)
+
   -- All writes came.
-  pub committed : (now : MediumState) → AllWrites s (part ++ commit_writes g s.bytes len) now → ActiveAt g now.bytes other mine new_image
+  pub committed : (now : MediumState) → AllWrites s (part ++ commit_writes g s.bytes len crc) now → ActiveAt g now.bytes other mine new_image
   committed now came =
-      let parts = all_parts part (commit_writes g s.bytes len) s now came in
+      let parts = all_parts part (commit_writes g s.bytes len crc) s now came in
       let mid = parts.0 in
       let first = parts.1.first in
       let second = subst (λ (ws : List Write). AllWrites mid ws now) (same_writes mid first) parts.1.second in
       subst (λ (l : List ℕ). ActiveAt g now.bytes other mine l) (image_is mid first)
-      (commit_done g wide mid mine other image (keeps mid first) (shut mid first) len (fits mid first) now second)
+      (commit_done g wide mid mine other image (keeps mid first) (still_shut mid first) len (fits mid first) now second)
 
   -- They came up to one that failed.
-  pub committed_either : (now : MediumState) → BrokenWrites s (part ++ commit_writes g s.bytes len) now
+  pub committed_either : (now : MediumState) → BrokenWrites s (part ++ commit_writes g s.bytes len crc) now
       → ActiveAt g now.bytes mine other image ⊎ ActiveAt g now.bytes other mine new_image
-  committed_either now broken = elim (broken_parts part (commit_writes g s.bytes len) s now broken) [
-    | inl early ↦ inl (data_keeps g wide s now mine other image a part inside (inr early))
+  committed_either now broken = elim (broken_parts part (commit_writes g s.bytes len crc) s now broken) [
+    | inl early ↦ inl (data_keeps g wide s now mine other image a shut part inside (inr early))
     | inr late ↦
         let mid = late.0 in
         let first = late.1.first in
         let second = subst (λ (ws : List Write). BrokenWrites mid ws now) (same_writes mid first) late.1.second in
         subst (λ (l : List ℕ). ActiveAt g now.bytes mine other image ⊎ ActiveAt g now.bytes other mine l) (image_is mid first)
-        (commit_broken g wide mid mine other image (keeps mid first) (shut mid first) len (fits mid first) now second)
+        (commit_broken g wide mid mine other image (keeps mid first) (still_shut mid first) len (fits mid first) now second)
   ]

@@ -1,11 +1,13 @@
 -- The steps of a `format` keep the length of the medium and its unit.
-use Rattle.std.proofs.Common.{◌≡◌, ℕ, ◌+◌, ◌*◌, ◌≤◌, List, [], ◌++◌, length, Result, sym, ◌∙◌, ap, subst, arith}
+use Rattle.std.proofs.Common.{◌≡◌, ℕ, ◌+◌, ◌*◌, ◌≤◌, List, [], ◌++◌, length, take, drop, replicate, Result, refl, sym, ◌∙◌, ap, subst, arith}
 use Rattle.dfu_slots.specs.declared.unit.Unit.{Unit as WriteUnit}
-use Rattle.dfu_slots.specs.Units.{gate_size, filled}
-use Rattle.dfu_slots.specs.Medium.{MediumState, Write, AllWrites, BrokenWrites}
+use Rattle.std.proofs.lemmas.List.{take_at, append_assoc}
+use Rattle.dfu_suffix.specs.Register.{register}
+use Rattle.dfu_slots.specs.Units.{gate_size, fill_size, filled}
+use Rattle.dfu_slots.specs.Medium.{MediumState, Write, AllWrites, BrokenWrites, written}
 use Rattle.dfu_slots.specs.inside.Series.{Series}
-use Rattle.dfu_slots.specs.Layout.{slot_size, OPEN}
-use Rattle.dfu_slots.specs.Image.{gate_of, capacity_of, IsSized, Active}
+use Rattle.dfu_slots.specs.Layout.{slot_size, slot, OPEN}
+use Rattle.dfu_slots.specs.Image.{gate_of, slot_of, capacity_of, IsSized, Active}
 use Rattle.dfu_slots.specs.Writes.{close_writes, piece_writes, image_writes, open_writes}
 use Rattle.dfu_slots.specs.Seen.{SlotsState, store_of, image_of, format_series}
 use Rattle.dfu_slots.specs.Changes.{CanFormat}
@@ -15,7 +17,8 @@ use Rattle.dfu_slots.proofs.Series.{AllInside, all_keep, all_unit, all_append, b
 use Rattle.dfu_slots.proofs.Pieces.{pieces_inside}
 use Rattle.dfu_slots.proofs.Multiples.{gate_wide, filled_within, sized_after}
 use Rattle.dfu_slots.proofs.Seeing.{active_on, image_is, IsFresh, fresh_leaves}
-use Rattle.dfu_slots.proofs.Formatted.{format_done}
+use Rattle.dfu_slots.proofs.Formatted.{pieces_written, format_done}
+use Rattle.dfu_slots.proofs.SpareData.{data_at_written}
 
 -- Bytes that fit in the data of a slot do so filled up with zeros.
 units_fit : (s : MediumState) (image : List ℕ) → CanFormat s image → length (filled s.unit image) ≤ capacity_of s
@@ -49,9 +52,11 @@ module _ (s now : MediumState) (image : List ℕ) (can : CanFormat s image)
   image_unit : now.unit ≡ s.unit
   image_unit = all_unit (image_writes s.unit (gate_of s) image) s now all
 
+  image_size : length now.bytes ≡ length s.bytes
+  image_size = (all_keep 0 (length s.bytes) (image_writes s.unit (gate_of s) image) s now (omega arith) (image_inside s image can) all).size
+
   image_sized : IsSized now
-  image_sized = sized_after s now can.sized image_unit
-      (all_keep 0 (length s.bytes) (image_writes s.unit (gate_of s) image) s now (omega arith) (image_inside s image can) all).size
+  image_sized = sized_after s now can.sized image_unit image_size
 
 -- A medium that can be formatted still can once its gates are closed.
 closed_can : (s mid : MediumState) (image : List ℕ) → CanFormat s image → AllWrites s (close_writes (gate_of s) s.bytes) mid
@@ -68,6 +73,12 @@ pieces_are s mid image at place unit =
     let here : at ≡ 2 * gate_of s = omega (arith, place) in
     λ i. piece_writes (length (filled (unit i) image)) (here i) (filled (unit i) image)
 
+-- What was written at the front of a list is its front.
+front_of : (d xs zs : List ℕ) → take (length xs) (written d 0 (xs ++ zs)) ≡ xs
+front_of d xs zs =
+    let past = drop (0 + length (xs ++ zs)) d in
+    ap (λ (l : List ℕ). take (length xs) l) (append_assoc xs zs past) ∙ take_at xs (zs ++ past) (length xs) refl
+
 -- The whole series.
 
 module _ (s now : MediumState) (image : List ℕ) (can : CanFormat s image) (all : AllWrites s (format_series s image) now) where
@@ -76,11 +87,11 @@ module _ (s now : MediumState) (image : List ℕ) (can : CanFormat s image) (all
       let g = gate_of s in
       let wide = gate_wide s.unit in
       let opening = inside_append 0 (length s.bytes) (close_writes g s.bytes ++ image_writes s.unit g image)
-      (open_writes g 0 0 (length image))
+      (open_writes g 0 0 (length image) (register image))
       (inside_append 0 (length s.bytes) (close_writes g s.bytes) (image_writes s.unit g image) (close_inside s can.sized)
       (image_inside s image can)) (
         omega arith,
-        omega (arith, length-header_unit g 0 (length image) wide, can.sized.room, can.sized.even),
+        omega (arith, length-header_unit g 0 (length image) (register image) wide, can.sized.room, can.sized.even),
         (omega arith, omega (arith, length-gate_unit g OPEN wide, can.sized.room, can.sized.even), tt),
       ) in
       (all_keep 0 (length s.bytes) (format_series s image) s now (omega arith) opening all).size
@@ -108,34 +119,68 @@ module _ (s mid : MediumState) (image : List ℕ) (can : CanFormat s image) (at 
       → BrokenWrites s (format_series s image) now
   pieces_broken now broken =
       broken_first (close_writes (gate_of s) s.bytes ++ image_writes s.unit (gate_of s) image)
-      (open_writes (gate_of s) 0 0 (length image)) s now
+      (open_writes (gate_of s) 0 0 (length image) (register image)) s now
       (broken_later (close_writes (gate_of s) s.bytes) (image_writes s.unit (gate_of s) image) s mid now closed
       (subst (λ (ws : List Write). BrokenWrites mid ws now) are (broken (length units) (omega arith))))
 
   -- All pieces are written.
   module _ (filling : MediumState) (all : (n : ℕ) → length units ≤ n → AllWrites mid (piece_writes n at units) filling) where
-    written : AllWrites mid (image_writes s.unit (gate_of s) image) filling
-    written = subst (λ (ws : List Write). AllWrites mid ws filling) are (all (length units) (omega arith))
+    in_place : AllWrites mid (image_writes s.unit (gate_of s) image) filling
+    in_place = subst (λ (ws : List Write). AllWrites mid ws filling) are (all (length units) (omega arith))
+
+    image_unit_is : filling.unit ≡ mid.unit
+    image_unit_is = all_unit (image_writes s.unit (gate_of s) image) mid filling in_place
+
+    filled_unit : filling.unit ≡ s.unit
+    filled_unit = image_unit_is ∙ unit
+
+    in_place_there : AllWrites mid (image_writes mid.unit (gate_of mid) image) filling
+    in_place_there = subst (λ (u : WriteUnit). AllWrites mid (image_writes u (gate_size u) image) filling) (sym unit) in_place
 
     -- The medium has the length that it had.
     pub pieces_sized : IsSized filling
     pieces_sized =
         image_sized mid filling image (closed_can s mid image can closed)
-        (subst (λ (u : WriteUnit). AllWrites mid (image_writes u (gate_size u) image) filling) (sym unit) written)
+        in_place_there
 
-    -- So the gate unit and the header unit of the first slot lie within it.
-    pub front_within : 0 + 2 * gate_of filling ≤ length filling.bytes
-    front_within = omega (arith, pieces_sized.room, pieces_sized.even)
+    filled_size : length filling.bytes ≡ length s.bytes
+    filled_size = image_size mid filling image (closed_can s mid image can closed) in_place_there ∙ closed_size s mid can.sized closed
+
+    -- So the first slot lies within it.
+    pub front_within : 0 + slot_size filling.bytes ≤ length filling.bytes
+    front_within = omega (arith, pieces_sized.even)
+
+    -- The image fits in the data of its slots.
+    pub image_within : length image ≤ capacity_of filling
+    image_within = omega (arith, can.fits, ap gate_size filled_unit, filled_size)
+
+    -- And it stands in front of the first slot's data.
+    image_there : take (length image) (slot_of filling 0).data_bytes ≡ image
+    image_there =
+        let g = gate_of mid in
+        let here : at ≡ 0 + 2 * g + 0 = omega (arith, at_is, ap gate_size unit) in
+        let room : 2 * g + length units ≤ slot_size mid.bytes = omega
+        (arith, units_fit mid image (closed_can s mid image can closed), (closed_sized s mid can.sized closed).room) in
+        let even = (closed_sized s mid can.sized closed).even in
+        let is : filling.bytes ≡ written mid.bytes (0 + 2 * g + 0) units =
+        pieces_written (length units) at units mid filling (omega arith) (omega (arith, here, room, even)) (all (length units) (omega arith))
+        ∙ ap (λ (p : ℕ). written mid.bytes p units) here in
+        ap (λ (u : WriteUnit). take (length image) (slot (gate_size u) filling.bytes 0).data_bytes) image_unit_is
+        ∙ ap (λ (l : List ℕ). take (length image) l)
+        (data_at_written g mid.bytes filling.bytes 0 0 units (omega (arith, even)) (omega (arith, room)) is)
+        ∙ front_of (slot g mid.bytes 0).data_bytes image (replicate (fill_size mid.unit (length image)) 0)
 
     -- And the writes that open the first slot are the last ones of the `format`.
     pub pieces_opened : {T E : Type 0} (now : MediumState) (r : Result T E)
-        → Series filling (open_writes (gate_of filling) 0 0 (length image)) r now → Series s (format_series s image) r now
+        → Series filling
+        (open_writes (gate_of filling) 0 0 (length image) (register (take (length image) (slot_of filling 0).data_bytes))) r now
+        → Series s (format_series s image) r now
     pieces_opened now r series =
         series_after (close_writes (gate_of s) s.bytes ++ image_writes s.unit (gate_of s) image)
-        (open_writes (gate_of s) 0 0 (length image)) s filling now r
-        (all_append (close_writes (gate_of s) s.bytes) (image_writes s.unit (gate_of s) image) s mid filling closed written)
-        (subst (λ (u : WriteUnit). Series filling (open_writes (gate_size u) 0 0 (length image)) r now)
-        (all_unit (image_writes s.unit (gate_of s) image) mid filling written ∙ unit) series)
+        (open_writes (gate_of s) 0 0 (length image) (register image)) s filling now r
+        (all_append (close_writes (gate_of s) s.bytes) (image_writes s.unit (gate_of s) image) s mid filling closed in_place)
+        (subst (λ (ws : List Write). Series filling ws r now)
+        (λ i. open_writes (gate_size (filled_unit i)) 0 0 (length image) (register (image_there i))) series)
 
 -- What is tested before a `format` is what it needs.
 pub can_format : (s : MediumState) (image : List ℕ) (a b : ℕ) → IsSized s → length image ≤ b → b ≡ a → a ≡ capacity_of s → CanFormat s image

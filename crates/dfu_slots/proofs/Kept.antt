@@ -1,10 +1,11 @@
 -- The active image stays while the spare slot is changed.
-use Rattle.std.proofs.Common.{◌≡◌, ◌⊎◌, inl, inr, ⊎_elim, ℕ, ◌+◌, ◌*◌, ◌≤◌, ◌<◌, List, length, take, slice_index, sym, ◌∙◌, ap, subst, arith}
+use Rattle.std.proofs.Common.{◌≡◌, ◌⊎◌, inl, inr, ⊎_elim, ℕ, ◌+◌, ◌≤◌, ◌<◌, List, length, take, slice_index, sym, ◌∙◌, ap, subst, arith}
 use Rattle.dfu_slots.specs.Medium.{KeepsOutside}
-use Rattle.dfu_slots.specs.Layout.{slot_size, Slot, slot, generation, next_generation, HasHeader}
+use Rattle.dfu_slots.specs.Layout.{slot_size, Slot, slot, IsOpen, generation, next_generation, HasHeader}
 use Rattle.dfu_slots.specs.Image.{Counts, IsNewest}
 use Rattle.dfu_slots.proofs.Stands.{ActiveAt}
-use Rattle.dfu_slots.proofs.Parts.{gate_outside, header_outside, slot_outside, size_kept, sized_kept}
+use Rattle.dfu_slots.proofs.Counting.{counts_same}
+use Rattle.dfu_slots.proofs.Parts.{gate_outside, header_outside, data_outside, slot_outside, size_kept, sized_kept}
 
 -- The slot at one place stays the newest beside what stands at the other one now.
 abbrev pub StaysNewest : ℕ → List ℕ → List ℕ → ℕ → ℕ → Type 0
@@ -32,25 +33,18 @@ active_kept g wide old now mine other image from to a keeps above below newer =
 
 module _ (g : ℕ) (wide : 16 ≤ g) (old now : List ℕ) (mine other : ℕ) (image : List ℕ) (from to : ℕ) (a : ActiveAt g old mine other image)
     (keeps : KeepsOutside from to old now) where
-  -- A change of the spare's data keeps it.
-  pub data_change : other + 2 * g ≤ from → to ≤ other + slot_size old → ActiveAt g now mine other image
-  data_change above below =
-      let gate = gate_outside g from to old now other keeps (inl (omega arith)) in
-      let head = header_outside g from to old now other keeps (inl (omega arith)) in
-      active_kept g wide old now mine other image from to a keeps (omega arith) below
-      (⊎_elim (λ off. inl (λ c. off (sym gate ∙ c)))
-      (λ newer. inr (newer ∙ ap (λ (h : List ℕ). next_generation (slice_index h 0)) (sym head))) a.newest.newer)
-
-  -- So does a change of its gate, where it counts already.
-  pub gate_change : Counts (slot g old other) → other ≤ from → to ≤ other + g → ActiveAt g now mine other image
+  -- A change of the spare's gate keeps it, where that gate is open: the spare counts no more than it did.
+  pub gate_change : IsOpen (slot g old other) → other ≤ from → to ≤ other + g → ActiveAt g now mine other image
   gate_change was_open above below =
       let head = header_outside g from to old now other keeps (inr below) in
+      let body = data_outside g from to old now other keeps (inr (omega arith)) in
       active_kept g wide old now mine other image from to a keeps above (omega (arith, a.sized.room))
-      (⊎_elim (λ off. absurd (off was_open)) (λ newer. inr (newer ∙ ap (λ (h : List ℕ). next_generation (slice_index h 0)) (sym head)))
+      (⊎_elim (λ off. inl (λ c. off (counts_same (slot g now other) (slot g old other) head body was_open c)))
+      (λ newer. inr (newer ∙ ap (λ (h : List ℕ). next_generation (slice_index h 0)) (sym head)))
       a.newest.newer)
 
-  -- So does a change behind its gate, where it does not count.
-  pub closed_change : ¬ Counts (slot g old other) → other < from → to ≤ other + slot_size old → ActiveAt g now mine other image
-  closed_change off above below =
+  -- So does a change behind its gate, where that is closed.
+  pub closed_change : ¬ IsOpen (slot g old other) → other < from → to ≤ other + slot_size old → ActiveAt g now mine other image
+  closed_change shut above below =
       let gate = gate_outside g from to old now other keeps (inl above) in
-      active_kept g wide old now mine other image from to a keeps (omega arith) below (inl (λ c. off (sym gate ∙ c)))
+      active_kept g wide old now mine other image from to a keeps (omega arith) below (inl (λ c. shut (sym gate ∙ c.is_open)))

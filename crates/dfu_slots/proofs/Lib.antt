@@ -5,6 +5,8 @@ mod Answered
 mod Begun
 mod Commit
 mod Committed
+mod Comparing
+mod Counting
 mod Filled
 mod Formatted
 mod Formatting
@@ -16,6 +18,7 @@ mod Pieces
 mod Put
 mod PutSteps
 mod Refused
+mod Registering
 mod Seeing
 mod Series
 mod Simulated

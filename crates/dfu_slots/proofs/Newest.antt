@@ -1,23 +1,10 @@
 -- The test finds the active slot.
 use Rattle.std.proofs.Common.{◌≡◌, inl, inr, ⊎_elim, not, true, false, ℕ, ◌+◌, ◌≤◌, List, length, sym, ◌∙◌, subst, arith, eq-eqb}
-use Rattle.std.proofs.lemmas.Bool.{and_from, and_left, and_right, or_left, or_right, or_from, or_cases, and_parts, eqb-true, eqb-false, not-true, cases_Bool, not_from_false, not_from_true, ne_eqb, cond-true, cond-false}
-use Rattle.dfu_slots.specs.Layout.{slot_size, Slot, slot, OPEN, next_generation, ArePlaces}
-use Rattle.dfu_slots.specs.Image.{Counts, IsNewest, counts, is_newest, first_is_active, active_at, spare_at}
+use Rattle.std.proofs.lemmas.Bool.{and_from, and_left, and_right, or_left, or_right, or_from, or_cases, and_parts, eqb-true, not-true, cases_Bool, not_from_false, not_from_true, ne_eqb, cond-true, cond-false}
+use Rattle.dfu_slots.specs.Layout.{slot_size, Slot, slot, next_generation, ArePlaces}
+use Rattle.dfu_slots.specs.Image.{IsNewest, counts, is_newest, first_is_active, active_at, spare_at}
 use Rattle.dfu_slots.proofs.Stands.{HasTwoSlots, ActiveAt}
-
-counts_true : (s : Slot) → Counts s → counts s ≡ true
-counts_true s c = eq-eqb s.gate OPEN c
-
-counts_false : (s : Slot) → ¬ Counts s → counts s ≡ false
-counts_false s c = ne_eqb s.gate OPEN c
-
--- A slot that the test takes to count counts.
-pub counts_from : (s : Slot) → counts s ≡ true → Counts s
-counts_from s t = eqb-true s.gate OPEN t
-
--- A slot that the test takes not to count does not.
-pub counts_not : (s : Slot) → counts s ≡ false → ¬ Counts s
-counts_not s t = eqb-false s.gate OPEN t
+use Rattle.dfu_slots.proofs.Counting.{counts_true, counts_false, counts_from, counts_not}
 
 -- The test takes the newest slot for the newest.
 pub newest_test : (mine other : Slot) → IsNewest mine other → is_newest mine other ≡ true

@@ -6,7 +6,8 @@ use Rattle.dfu_slots.specs.Medium.{MediumState}
 use Rattle.dfu_slots.specs.Layout.{slot_size, Slot, slot, HasHeader, ArePlaces}
 use Rattle.dfu_slots.specs.Image.{Counts, gate_of, slot_of, IsSized, IsNewest, HasImage, counts, is_newest, first_is_active, active_at, spare_at}
 use Rattle.dfu_slots.specs.Changes.{FirstCounts, SecondCounts, HasNewest, HasBadHeader}
-use Rattle.dfu_slots.proofs.Newest.{counts_from, counts_not, newest_test, newest_from, places_newest, tested_places}
+use Rattle.dfu_slots.proofs.Counting.{counts_from, counts_not}
+use Rattle.dfu_slots.proofs.Newest.{newest_test, newest_from, places_newest, tested_places}
 
 neither : (x y : Slot) → is_newest x y ≡ false → is_newest y x ≡ false → ¬ ((¬ Counts x) × (¬ Counts y)) → Counts x × Counts y
 neither x y a b some = elim (cases_Bool (counts x)) [

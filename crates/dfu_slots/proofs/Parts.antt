@@ -11,9 +11,9 @@ pub length-gate_unit : (g gate : ℕ) → 16 ≤ g → length (gate_unit g gate)
 length-gate_unit g gate wide = omega (arith, length-replicate {A = ℕ} (g - 1) 0)
 
 -- A header unit that is written has the same size.
-pub length-header_unit : (g gen len : ℕ) → 16 ≤ g → length (header_unit g gen len) ≡ g
-length-header_unit g gen len wide = omega
-    (arith, length-append (header gen len) (replicate (g - 16) 0), length-replicate {A = ℕ} (g - 16) 0)
+pub length-header_unit : (g gen len crc : ℕ) → 16 ≤ g → length (header_unit g gen len crc) ≡ g
+length-header_unit g gen len crc wide = omega
+    (arith, length-append (header 2 gen len crc) (replicate (g - 16) 0), length-replicate {A = ℕ} (g - 16) 0)
 
 -- The byte behind the gate unit is the generation.
 pub generation_at : (g : ℕ) (bytes : List ℕ) (at : ℕ) → slice_index bytes (at + g) ≡ generation (slot g bytes at)
@@ -31,12 +31,12 @@ data_length g bytes at end room = omega (
       (omega (arith, length-drop (at + 2 * g) bytes, end)),
 )
 
--- Sixteen bytes that are read behind the gate unit, and are a header that fits, are a well-formed header of the slot.
-pub header_from : (g : ℕ) (bytes : List ℕ) (at len : ℕ) (out : List ℕ) → out ≡ slice_range bytes (at + g) (at + g + 16)
-    → out ≡ header (get_or out 0 0) len → len ≤ capacity g bytes
+-- Sixteen bytes that are read behind the gate unit, and are a header of version 1 that fits, are a well-formed header of the slot.
+pub header_from : (g : ℕ) (bytes : List ℕ) (at len : ℕ) (out : List ℕ) → out ≡ (slot g bytes at).header
+    → out ≡ header 1 (get_or out 0 0) len 0 → len ≤ capacity g bytes
     → at + slot_size bytes ≤ length bytes → 2 * g ≤ slot_size bytes → HasHeader (slot g bytes at) len
 header_from g bytes at len out read is fits end room = record {
-  well_formed = sym read ∙ is ∙ ap (λ (l : List ℕ). header (get_or l 0 0) len) read;
+  well_formed = inl (sym read ∙ is ∙ ap (λ (l : List ℕ). header 1 (get_or l 0 0) len 0) read);
   fits = omega (arith, data_length g bytes at end room);
 }
 

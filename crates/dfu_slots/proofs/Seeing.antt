@@ -1,18 +1,17 @@
 -- What the layers above see of a store with an active image.
-use Rattle.std.proofs.Common.{◌≡◌, ◌==◌, not, true, false, ℕ, ◌-◌, ◌*◌, ◌/◌, ◌^◌, ◌≤◌, nat_le, List, [], length, take, drop, refl, sym, ◌∙◌, ap, subst, arith}
-use Rattle.std.proofs.lemmas.Nat.{from_le_bytes-to_le_bytes_4}
+use Rattle.std.proofs.Common.{◌≡◌, ◌==◌, not, true, false, ℕ, ◌-◌, ◌*◌, ◌/◌, ◌^◌, ◌≤◌, nat_le, List, [], length, take, refl, sym, ◌∙◌, ap, subst, arith}
 use Rattle.std.proofs.lemmas.Bool.{and_from, le-leb, ne_eqb, eqb-true, eqb-false, not_from_false, not_from_true, not-true, not-false, eq-eqb}
-use Rattle.std.specs.Int.{w32, from_le_bytes}
 use Rattle.dfu_slots.specs.declared.unit.Unit.{Unit as WriteUnit}
 use Rattle.dfu_slots.specs.Units.{gate_size, IsMultiple}
 use Rattle.dfu_slots.specs.Medium.{MediumState, Fuse, written}
-use Rattle.dfu_slots.specs.Layout.{capacity, slot, OPEN, IsOpen}
+use Rattle.dfu_slots.specs.Layout.{capacity, slot, OPEN, IsOpen, header_length}
 use Rattle.dfu_slots.specs.Image.{gate_of, capacity_of, Active, HasImage, has_image_fused, active_at, spare_at, spare}
-use Rattle.dfu_slots.specs.Seen.{SlotsState, store_of, store_on, fused, header_length, spare_slot, held_at, image_of, spare_of, is_begun, room_of, is_shaped, image_fused, spare_fused, begun_fused, room_fused}
+use Rattle.dfu_slots.specs.Seen.{SlotsState, store_of, store_on, fused, spare_slot, held_at, image_of, spare_of, is_begun, room_of, is_shaped, image_fused, spare_fused, begun_fused, room_fused}
 use Rattle.dfu_slots.specs.inside.Store.{HasPuts, IsStore}
 use Rattle.dfu_slots.proofs.Stands.{ActiveAt, standing, active_from}
 use Rattle.dfu_slots.proofs.Torn.{written_torn}
 use Rattle.dfu_slots.proofs.Parts.{data_length}
+use Rattle.dfu_slots.proofs.Counting.{header_length_is}
 use Rattle.dfu_slots.proofs.Newest.{spare_end}
 use Rattle.dfu_slots.proofs.Unique.{active_header, active_fits, image_at}
 use Rattle.dfu_slots.proofs.Within.{written_nil}
@@ -31,8 +30,7 @@ image_is s image active =
     let fits = active_fits g bytes p refl active.at active.spare image a in
     let head = active_header g bytes p refl active.at active.spare image a in
     let len : header_length (slot g bytes p) ≡ length image =
-    ap (λ (l : List ℕ). from_le_bytes w32 (take 4 (drop 4 l))) head.well_formed
-    ∙ from_le_bytes-to_le_bytes_4 (length image) (omega (arith, fits, a.sized.bound)) in
+    header_length_is (slot g bytes p) (length image) head (omega (arith, fits, a.sized.bound)) in
     image_at g bytes p refl active.at active.spare image a ∙ ap (λ (n : ℕ). take n (slot g bytes p).data_bytes) (sym len)
 
 -- The image that a store is seen to have is the active one.

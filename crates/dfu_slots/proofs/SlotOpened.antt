@@ -9,29 +9,30 @@ use Rattle.dfu_slots.specs.Image.{gate_of}
 use Rattle.dfu_slots.specs.Writes.{open_writes}
 use Rattle.dfu_slots.proofs.Series.{wrote_there, failed_there, series_one, series_next}
 
-module _ (m mid : MediumState) (at size gen len : ℕ) (head : List ℕ) (size_is : size ≡ gate_of m) (head_is : head ≡ header gen len) where
+module _ (m mid : MediumState) (at size gen len crc : ℕ) (head : List ℕ) (size_is : size ≡ gate_of m)
+    (head_is : head ≡ header 2 gen len crc) where
   place : at + size ≡ at + gate_of m
   place = ap (λ (n : ℕ). at + n) size_is
 
-  unit_is : head ++ replicate (size - length head) 0 ≡ header_unit (gate_of m) gen len
+  unit_is : head ++ replicate (size - length head) 0 ≡ header_unit (gate_of m) gen len crc
   unit_is = λ i. head_is i ++ replicate (size_is i - length (head_is i)) 0
 
   -- The write of the header fails.
   pub header_broken : FailedWrite m (at + size) (head ++ replicate (size - length head) 0) mid
-      → BrokenWrites m (open_writes (gate_of m) at gen len) mid
+      → BrokenWrites m (open_writes (gate_of m) at gen len crc) mid
   header_broken failed = inl (failed_there m mid (at + size) (at + gate_of m) (head ++ replicate (size - length head) 0)
-      (header_unit (gate_of m) gen len) place unit_is failed)
+      (header_unit (gate_of m) gen len crc) place unit_is failed)
 
   -- It works, and the write of the gate follows it.
   pub gate_follows : {T E : Type 0} (now : MediumState) (r : Result T E)
       → Wrote m (at + size) (head ++ replicate (size - length head) 0) mid
       → OnOk r (Wrote mid at (gate_unit (gate_of mid) OPEN) now) → OnErr r (FailedWrite mid at (gate_unit (gate_of mid) OPEN) now)
-      → Series m (open_writes (gate_of m) at gen len) r now
+      → Series m (open_writes (gate_of m) at gen len crc) r now
   gate_follows now r wrote worked failed =
-      let first : Wrote m (at + gate_of m) (header_unit (gate_of m) gen len) mid =
+      let first : Wrote m (at + gate_of m) (header_unit (gate_of m) gen len crc) mid =
       wrote_there m mid (at + size) (at + gate_of m) (head ++ replicate (size - length head) 0)
-      (header_unit (gate_of m) gen len) place unit_is wrote in
-      series_next m mid now (at + gate_of m) (header_unit (gate_of m) gen len)
+      (header_unit (gate_of m) gen len crc) place unit_is wrote in
+      series_next m mid now (at + gate_of m) (header_unit (gate_of m) gen len crc)
       (record { at = at; bytes = gate_unit (gate_of m) OPEN } ∷ []) r first
       (series_one mid now at (gate_unit (gate_of m) OPEN) r
       (subst (λ (u : WriteUnit). OnOk r (Wrote mid at (gate_unit (gate_size u) OPEN) now)) first.unit worked)

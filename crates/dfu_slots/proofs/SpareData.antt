@@ -1,19 +1,19 @@
 -- Writes in the spare's data keep the active image, and the spare's gate.
 use Rattle.std.proofs.Common.{◌≡◌, inl, ℕ, ◌+◌, ◌*◌, ◌≤◌, List, length, slice_index, slice_range, sym, ◌∙◌, ap, arith}
 use Rattle.dfu_slots.specs.Medium.{MediumState, Write, KeepsOutside, written}
-use Rattle.dfu_slots.specs.Layout.{slot_size, capacity, slot}
+use Rattle.dfu_slots.specs.Layout.{slot_size, capacity, slot, IsOpen}
 use Rattle.dfu_slots.specs.Image.{spare_at, spare}
-use Rattle.dfu_slots.proofs.Stands.{ActiveAt}
+use Rattle.dfu_slots.proofs.Stands.{HasTwoSlots, ActiveAt}
 use Rattle.dfu_slots.proofs.Torn.{written_torn}
 use Rattle.dfu_slots.proofs.Parts.{gate_outside}
-use Rattle.dfu_slots.proofs.Newest.{places_are, place_end}
-use Rattle.dfu_slots.proofs.Kept.{data_change}
+use Rattle.dfu_slots.proofs.Newest.{places_are, place_end, spare_end}
+use Rattle.dfu_slots.proofs.Kept.{closed_change}
 use Rattle.dfu_slots.proofs.Series.{AllInside, Ends, ends_keep}
 use Rattle.dfu_slots.proofs.Within.{written_within}
 use Rattle.dfu_slots.proofs.Begun.{same_spare}
 
 module _ (g : ℕ) (wide : 16 ≤ g) (s now : MediumState) (mine other : ℕ) (image : List ℕ) (a : ActiveAt g s.bytes mine other image)
-    (ws : List Write) (inside : AllInside (other + 2 * g) (other + slot_size s.bytes) ws) (ends : Ends s ws now) where
+    (shut : ¬ IsOpen (slot g s.bytes other)) (ws : List Write) (inside : AllInside (other + 2 * g) (other + slot_size s.bytes) ws) (ends : Ends s ws now) where
   place : other ≡ spare_at g s.bytes
   place = (places_are g s.bytes mine other image a).1
 
@@ -23,8 +23,8 @@ module _ (g : ℕ) (wide : 16 ≤ g) (s now : MediumState) (mine other : ℕ) (i
 
   -- The active image stands where it stood.
   pub data_keeps : ActiveAt g now.bytes mine other image
-  data_keeps = data_change g wide s.bytes now.bytes mine other image (other + 2 * g) (other + slot_size s.bytes) a data_kept (omega arith)
-      (omega arith)
+  data_keeps = closed_change g wide s.bytes now.bytes mine other image (other + 2 * g) (other + slot_size s.bytes) a data_kept shut
+      (omega (arith, wide)) (omega arith)
 
   -- The spare is at the place where it was.
   pub data_spare : spare_at g now.bytes ≡ spare_at g s.bytes
@@ -41,16 +41,20 @@ module _ (g : ℕ) (wide : 16 ≤ g) (s now : MediumState) (mine other : ℕ) (i
       ∙ data_gate_at
       ∙ ap (λ (q : ℕ). slice_index s.bytes q) place
 
--- Bytes that were written at a place of the spare's data stand there in it.
-pub data_written : (g : ℕ) (old now : List ℕ) (mine other : ℕ) (image : List ℕ) → ActiveAt g old mine other image
-    → spare_at g now ≡ spare_at g old
+-- Bytes that were written at a place of a slot's data stand there in it.
+pub data_at_written : (g : ℕ) (old now : List ℕ) (p k : ℕ) (new : List ℕ) → p + slot_size old ≤ length old
+    → 2 * g + k + length new ≤ slot_size old → now ≡ written old (p + 2 * g + k) new
+    → (slot g now p).data_bytes ≡ written (slot g old p).data_bytes k new
+data_at_written g old now p k new end fits is =
+    let torn = written_torn old (p + 2 * g + k) new (omega (arith, end, fits)) in
+    let size : slot_size now ≡ slot_size old = omega (arith, ap length is, torn.size) in
+    (λ i. slice_range (is i) (p + 2 * g) (p + size i))
+    ∙ written_within old (p + 2 * g) (p + slot_size old) k new (omega (arith, fits)) end
+
+-- So they do in the spare's data.
+pub data_written : (g : ℕ) (old now : List ℕ) → HasTwoSlots g old → spare_at g now ≡ spare_at g old
     → (k : ℕ) (new : List ℕ) → k + length new ≤ capacity g old → now ≡ written old (spare_at g old + 2 * g + k) new
     → (spare g now).data_bytes ≡ written (spare g old).data_bytes k new
-data_written g old now mine other image a same k new fits is =
-    let p = spare_at g old in
-    let place : other ≡ p = (places_are g old mine other image a).1 in
-    let end : p + slot_size old ≤ length old = omega (arith, place, (place_end g old mine other a.sized a.places).1) in
-    let torn = written_torn old (p + 2 * g + k) new (omega (arith, end, fits, a.sized.room)) in
-    let size : slot_size now ≡ slot_size old = omega (arith, ap length is, torn.size) in
-    (λ i. slice_range (is i) (same i + 2 * g) (same i + size i))
-    ∙ written_within old (p + 2 * g) (p + slot_size old) k new (omega (arith, fits, a.sized.room)) end
+data_written g old now sized same k new fits is =
+    ap (λ (q : ℕ). (slot g now q).data_bytes) same
+    ∙ data_at_written g old now (spare_at g old) k new (spare_end g old sized) (omega (arith, fits, sized.room)) is

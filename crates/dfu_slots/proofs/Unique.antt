@@ -1,20 +1,14 @@
 -- The active image is one, and is read at the place that the test finds.
-use Rattle.std.proofs.Common.{◌≡◌, ℕ, ◌^◌, ◌≤◌, ◌<◌, List, length, take, drop, slice_range, refl, sym, ◌∙◌, ap, subst, arith}
-use Rattle.std.specs.Int.{w32, from_le_bytes}
-use Rattle.std.proofs.lemmas.Nat.{from_le_bytes-to_le_bytes_4}
+use Rattle.std.proofs.Common.{◌≡◌, ℕ, ◌≤◌, List, length, take, drop, slice_range, refl, sym, ◌∙◌, ap, subst, arith}
 use Rattle.std.proofs.lemmas.List.{take-take}
 use Rattle.std.proofs.lemmas.Slice.{between_is}
 use Rattle.dfu_slots.specs.Medium.{MediumState}
-use Rattle.dfu_slots.specs.Layout.{capacity, slot, generation, header, HasHeader}
-use Rattle.dfu_slots.specs.Image.{Active, active_at, gate_of}
+use Rattle.dfu_slots.specs.Layout.{capacity, slot, HasHeader}
+use Rattle.dfu_slots.specs.Image.{Counts, Active, active_at, gate_of}
 use Rattle.dfu_slots.proofs.Stands.{HasTwoSlots, ActiveAt, standing}
+use Rattle.dfu_slots.proofs.Counting.{header_length_is}
 use Rattle.dfu_slots.proofs.Newest.{places_are, active_end}
 use Rattle.dfu_slots.proofs.Parts.{data_length}
-
-header_length : (g a b : ℕ) → a < 2 ^ 32 → b < 2 ^ 32 → header g a ≡ header g b → a ≡ b
-header_length g a b fa fb same =
-    sym (from_le_bytes-to_le_bytes_4 a fa) ∙ ap (λ (l : List ℕ). from_le_bytes w32 (take 4 (drop 4 l))) same
-    ∙ from_le_bytes-to_le_bytes_4 b fb
 
 module _ (g : ℕ) (bytes : List ℕ) (p : ℕ) (here : p ≡ active_at g bytes) (mine other : ℕ) (image : List ℕ)
     (a : ActiveAt g bytes mine other image) where
@@ -24,7 +18,11 @@ module _ (g : ℕ) (bytes : List ℕ) (p : ℕ) (here : p ≡ active_at g bytes)
   place : mine ≡ p
   place = (places_are g bytes mine other image a).0 ∙ sym here
 
-  -- The slot that the test finds has the header of the active image.
+  -- The slot that the test finds counts.
+  pub active_counts : Counts (slot g bytes p)
+  active_counts = subst (λ (q : ℕ). Counts (slot g bytes q)) place a.newest.counts
+
+  -- It has the header of the active image.
   pub active_header : HasHeader (slot g bytes p) (length image)
   active_header = subst (λ (q : ℕ). HasHeader (slot g bytes q) (length image)) place a.header_is
 
@@ -38,8 +36,8 @@ module _ (g : ℕ) (bytes : List ℕ) (p : ℕ) (here : p ≡ active_at g bytes)
   -- The length that a header of that slot tells is that of the active image.
   pub active_len_is : (len : ℕ) → HasHeader (slot g bytes p) len → len ≡ length image
   active_len_is len head =
-      header_length (generation (slot g bytes p)) len (length image) (omega (arith, head.fits, room_is, sized.bound))
-      (omega (arith, active_fits, sized.bound)) (sym head.well_formed ∙ active_header.well_formed)
+      sym (header_length_is (slot g bytes p) len head (omega (arith, head.fits, room_is, sized.bound)))
+      ∙ header_length_is (slot g bytes p) (length image) active_header (omega (arith, active_fits, sized.bound))
 
   -- The active image is the front of that slot's data.
   pub image_at : image ≡ take (length image) (slot g bytes p).data_bytes

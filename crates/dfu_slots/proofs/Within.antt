@@ -1,6 +1,6 @@
 -- A part of a list that was written within that part.
 use Rattle.std.proofs.Common.{◌≡◌, ℕ, ◌+◌, ◌-◌, ◌≤◌, List, [], ◌++◌, length, take, drop, slice_range, sym, ◌∙◌, ap, arith, length-append, length-drop}
-use Rattle.std.proofs.lemmas.List.{length-take-le, drop-append-le, drop-take, drop-drop, take-take, append-nil, append_assoc, take_at, take-append-drop}
+use Rattle.std.proofs.lemmas.List.{length-take-le, take-append-le, drop-append-le, drop-take, drop-drop, take-take, append-nil, append_assoc, take_at, take-append-drop}
 use Rattle.std.proofs.Math.Seq.{take-append-add}
 use Rattle.dfu_slots.specs.Medium.{written}
 use Rattle.dfu_slots.proofs.Torn.{written_torn, drop_past}
@@ -60,3 +60,14 @@ pub written_nil : (l : List ℕ) (k : ℕ) → written l k [] ≡ l
 written_nil l k =
     let e : k + 0 ≡ k = omega arith in
     ap (λ (f : List ℕ). f ++ drop (k + 0) l) (append-nil (take k l)) ∙ ap (λ (j : ℕ). take k l ++ drop j l) e ∙ take-append-drop k l
+
+-- What stands behind written bytes does not show in front of their end.
+pub front_of_written : (d : List ℕ) (k : ℕ) (xs zs : List ℕ) (len : ℕ) → k ≤ length d → len ≤ k + length xs
+    → take len (written d k (xs ++ zs)) ≡ take len (written d k xs)
+front_of_written d k xs zs len fits le =
+    let a = take k d ++ xs in
+    let room : len ≤ length a = omega (arith, le, length-append (take k d) xs, length-take-le k d fits) in
+    let past = drop (k + length (xs ++ zs)) d in
+    ap (λ (l : List ℕ). take len l) (ap (λ (l : List ℕ). l ++ past) (sym (append_assoc (take k d) xs zs)) ∙ append_assoc a zs past)
+    ∙ take-append-le len a (zs ++ past) room
+    ∙ sym (take-append-le len a (drop (k + length xs) d) room)

@@ -1,12 +1,13 @@
 -- On a medium whose fuse is known, the bytes, the fuse and the unit fix what a list of writes leaves.
-use Rattle.std.specs.Prelude.{◌≡◌, ℕ, ◌+◌, ◌-◌, ◌*◌, Bool, true, false, List, [], ◌∷◌, ◌++◌, length}
+use Rattle.std.specs.Prelude.{◌≡◌, ℕ, ◌+◌, ◌-◌, ◌*◌, Bool, true, false, List, [], ◌∷◌, ◌++◌, length, take}
 use Rattle.std.proofs.Common.{inl, inr, refl, sym, ap, ◌∙◌, subst, arith}
+use Rattle.dfu_suffix.specs.Register.{register}
 use Rattle.dfu_slots.specs.Units.{gate_size}
 use Rattle.dfu_slots.specs.Medium.{MediumState, Fuse, MayWork, MayFail, written, Write, Wrote, FailedWrite, AllWrites, BrokenWrites}
 use Rattle.dfu_slots.specs.Medium.Fuse.{Unknown, Whole, Armed, Stopped}
-use Rattle.dfu_slots.specs.Image.{spare_at}
+use Rattle.dfu_slots.specs.Image.{spare_at, spare}
 use Rattle.dfu_slots.specs.Writes.{begin_writes, put_writes, put_rest, part_writes, commit_writes}
-use Rattle.dfu_slots.specs.Seen.{SlotsState, Call, Begin, Put, Commit, writes_of, next_held, CallWorked, CallFailed, Called}
+use Rattle.dfu_slots.specs.Seen.{SlotsState, spare_of, Call, Begin, Put, Commit, writes_of, next_held, CallWorked, CallFailed, Called}
 
 -- A fuse says what the next writes will do.
 abbrev pub IsKnown : Fuse → Type 0
@@ -137,6 +138,14 @@ pub record SameStore (a b : SlotsState) : Type 0 where
 flip_store : (s t : SlotsState) → SameStore s t → SameStore t s
 flip_store s t same = record { medium = flip s.medium t.medium same.medium; held = sym same.held; put_end = sym same.put_end }
 
+-- The same stores have the same bytes in the spare's data.
+spare_same : (s t : SlotsState) → SameStore s t → spare_of s ≡ spare_of t
+unfolding spare_of
+spare_same s t same =
+    λ i.
+    written (spare (gate_size (same.medium.unit i)) (same.medium.bytes i)).data_bytes
+    (same.put_end i - length (same.held i)) (same.held i)
+
 -- The same stores have the same writes.
 writes_same : (s t : SlotsState) (call : Call) → SameStore s t → writes_of s call ≡ writes_of t call
 writes_same s t Begin same = λ i. begin_writes (gate_size (same.medium.unit i)) (same.medium.bytes i)
@@ -151,7 +160,7 @@ writes_same s t (Commit len) same =
     (spare_at (gate_size (same.medium.unit i)) (same.medium.bytes i) + 2 * gate_size (same.medium.unit i) +
     (same.put_end i - length (same.held i)))
     (same.held i)
-    ++ commit_writes (gate_size (same.medium.unit i)) (same.medium.bytes i) len
+    ++ commit_writes (gate_size (same.medium.unit i)) (same.medium.bytes i) len (register (take len (spare_same s t same i)))
 
 -- They hold the same back after a call.
 held_same : (s t : SlotsState) (call : Call) → SameStore s t → next_held s call ≡ next_held t call

@@ -1,8 +1,11 @@
 -- Which image of a medium is the active one.
-use Rattle.std.specs.Prelude.{◌≡◌, ◌⊎◌, ◌&&◌, ◌||◌, not, ℕ, ◌*◌, ◌^◌, ◌<◌, ◌≤◌, Bool, List, length, take, if◌then◌else◌, ◌==◌}
+use Rattle.std.specs.Prelude.{◌≡◌, ◌⊎◌, ◌&&◌, ◌||◌, not, ℕ, ◌*◌, ◌^◌, ◌<◌, ◌≤◌, Bool, List, length, take, drop, if◌then◌else◌, ◌==◌, nat_le, slice_index}
+use Rattle.std.specs.Int.{w32, from_le_bytes}
+use Rattle.std.specs.Str.{bytes_eq}
+use Rattle.dfu_suffix.specs.Register.{register}
 use Rattle.dfu_slots.specs.Units.{gate_size, IsMultiple}
 use Rattle.dfu_slots.specs.Medium.{MediumState, Fuse}
-use Rattle.dfu_slots.specs.Layout.{Slot, slot, slot_size, capacity, ArePlaces, OPEN, IsOpen, generation, next_generation, HasHeader}
+use Rattle.dfu_slots.specs.Layout.{Slot, slot, slot_size, capacity, ArePlaces, OPEN, generation, next_generation, version, header_length, header, HasHeader}
 
 -- How many bytes the gate unit and the header unit of a medium have each.
 abbrev pub gate_of : MediumState → ℕ
@@ -23,9 +26,10 @@ pub record IsSized (m : MediumState) : Type 0 where
   pub bound : capacity_of m ≤ 2 ^ 24
   pub whole : IsMultiple m.unit (capacity_of m)
 
--- A slot counts where its gate is open.
-abbrev pub Counts : Slot → Type 0
-Counts s = IsOpen s
+-- A slot counts where its gate is open and, if its header is of version 2 by its second byte, that is well formed with the length in it.
+pub record Counts (s : Slot) : Type 0 where
+  pub is_open : s.gate ≡ OPEN
+  pub intact : slice_index s.header 1 ≡ 2 → HasHeader s (from_le_bytes w32 (take 4 (drop 4 s.header)))
 
 -- The first of two slots counts, and the other one does not, or is one generation behind.
 pub record IsNewest (mine other : Slot) : Type 0 where
@@ -65,9 +69,15 @@ has_image_fused m fuse has = record { image = has.image; active = active_fused m
 
 -- The same as tests, which find the places of the two slots.
 
+-- Whether a slot has a well-formed header of version 2.
+unfoldable pub is_intact : Slot → Bool
+is_intact s =
+    let len = header_length s in
+    nat_le len (length s.data_bytes) && bytes_eq s.header (header 2 (generation s) len (register (take len s.data_bytes)))
+
 -- Whether a slot counts.
 abbrev pub counts : Slot → Bool
-counts s = s.gate == OPEN
+counts s = (s.gate == OPEN) && (not (version s == 2) || is_intact s)
 
 -- Whether the first of two slots counts, and the other one does not, or is one generation behind.
 abbrev pub is_newest : Slot → Slot → Bool

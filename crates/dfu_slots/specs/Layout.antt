@@ -1,7 +1,8 @@
 -- Where the two slots of a medium stand, and what stands in them.
 -- The gate unit and the header unit have `g` bytes each, at least 16.
-use Rattle.std.specs.Prelude.{◌≡◌, ◌⊎◌, ℕ, ◌+◌, ◌-◌, ◌*◌, ◌/◌, ◌%◌, ◌≤◌, List, ◌∷◌, ◌++◌, length, replicate, slice_index, slice_range}
-use Rattle.std.specs.Int.{w32, to_le_bytes}
+use Rattle.std.specs.Prelude.{◌≡◌, ◌⊎◌, ℕ, ◌+◌, ◌-◌, ◌*◌, ◌/◌, ◌%◌, ◌≤◌, List, ◌∷◌, ◌++◌, length, take, drop, replicate, slice_index, slice_range}
+use Rattle.std.specs.Int.{w32, to_le_bytes, from_le_bytes}
+use Rattle.dfu_suffix.specs.Register.{register}
 
 -- A slot is one half of the medium.
 abbrev pub slot_size : List ℕ → ℕ
@@ -45,19 +46,27 @@ generation s = slice_index s.header 0
 abbrev pub next_generation : ℕ → ℕ
 next_generation gen = (gen + 1) % 256
 
--- The header of an image: generation, version 1, two zero bytes, length, eight zero bytes.
-abbrev pub header : ℕ → ℕ → List ℕ
-header gen len = gen ∷ 1 ∷ 0 ∷ 0 ∷ to_le_bytes w32 len ++ replicate 8 0
+-- The version is the second byte of the header.
+abbrev pub version : Slot → ℕ
+version s = slice_index s.header 1
 
--- A slot has a well-formed header, of an image that its data has room for.
+-- The length that stands in a slot's header.
+abbrev pub header_length : Slot → ℕ
+header_length s = from_le_bytes w32 (take 4 (drop 4 s.header))
+
+-- The header of an image: generation, version, two zero bytes, length, register, four zero bytes.
+abbrev pub header : ℕ → ℕ → ℕ → ℕ → List ℕ
+header version gen len crc = gen ∷ version ∷ 0 ∷ 0 ∷ to_le_bytes w32 len ++ to_le_bytes w32 crc ++ replicate 4 0
+
+-- A slot has a well-formed header, of so many bytes at the front of its data: in version 2 their register, in version 1 zeros.
 pub record HasHeader (s : Slot) (len : ℕ) : Type 0 where
-  pub well_formed : s.header ≡ header (generation s) len
+  pub well_formed : (s.header ≡ header 1 (generation s) len 0) ⊎ (s.header ≡ header 2 (generation s) len (register (take len s.data_bytes)))
   pub fits : len ≤ length s.data_bytes
 
 -- A gate unit as it is written: the gate, and then zeros.
 abbrev pub gate_unit : ℕ → ℕ → List ℕ
 gate_unit g gate = gate ∷ replicate (g - 1) 0
 
--- A header unit as it is written: the header, and then zeros.
-abbrev pub header_unit : ℕ → ℕ → ℕ → List ℕ
-header_unit g gen len = header gen len ++ replicate (g - 16) 0
+-- A header unit as it is written: a header of version 2, and then zeros.
+abbrev pub header_unit : ℕ → ℕ → ℕ → ℕ → List ℕ
+header_unit g gen len crc = header 2 gen len crc ++ replicate (g - 16) 0

@@ -1,8 +1,8 @@
 -- What the layers above see of a slot store.
-use Rattle.std.specs.Prelude.{refl, ◌≡◌, ◌⊎◌, ℕ, ◌+◌, ◌-◌, ◌*◌, ◌^◌, ◌≤◌, Bool, true, false, not, ◌==◌, ◌&&◌, nat_le, List, [], ◌∷◌, ◌++◌, length, take, drop}
-use Rattle.std.specs.Int.{w32, from_le_bytes}
+use Rattle.std.specs.Prelude.{refl, ◌≡◌, ◌⊎◌, ℕ, ◌+◌, ◌-◌, ◌*◌, ◌^◌, ◌≤◌, Bool, true, false, not, ◌==◌, ◌&&◌, nat_le, List, [], ◌∷◌, ◌++◌, length, take}
+use Rattle.dfu_suffix.specs.Register.{register}
 use Rattle.dfu_slots.specs.Medium.{MediumState, Fuse, Write, Rose, AllWrites, BrokenWrites, written}
-use Rattle.dfu_slots.specs.Layout.{Slot, slot, OPEN, capacity}
+use Rattle.dfu_slots.specs.Layout.{Slot, slot, OPEN, capacity, header_length}
 use Rattle.dfu_slots.specs.Image.{gate_of, active_at, spare_at, spare}
 use Rattle.dfu_slots.specs.Writes.{begin_writes, put_writes, put_rest, part_writes, commit_writes, format_writes}
 
@@ -27,10 +27,6 @@ fused s fuse = record s { medium = record s.medium { fuse = fuse } }
 -- The store after its power was off: it stands over the same bytes, with this fuse, and what was put is forgotten.
 abbrev pub restarted : SlotsState → Fuse → SlotsState
 restarted s fuse = store_on (record s.medium { fuse = fuse })
-
--- The length that stands in a slot's header.
-abbrev pub header_length : Slot → ℕ
-header_length s = from_le_bytes w32 (take 4 (drop 4 s.header))
 
 -- What stands in the active slot.
 abbrev pub active_slot : SlotsState → Slot
@@ -79,7 +75,7 @@ abbrev pub writes_of : SlotsState → Call → List Write
 writes_of s Begin = begin_writes (gate_of s.medium) s.medium.bytes
 writes_of s (Put at bytes) = put_writes s.medium.unit (data_place s (at - length s.held)) s.held bytes
 writes_of s (Commit len) = part_writes s.medium.unit (data_place s (held_at s)) s.held ++ commit_writes
-    (gate_of s.medium) s.medium.bytes len
+    (gate_of s.medium) s.medium.bytes len (register (take len (spare_of s)))
 
 -- What a store holds back after a call that is Ok.
 abbrev pub next_held : SlotsState → Call → List ℕ

@@ -2,6 +2,7 @@
 use Rattle.std.specs.Prelude.{ℕ, zero, suc, ◌+◌, ◌*◌, min, List, [], ◌∷◌, ◌++◌, length, take, drop, if◌then◌else◌, ◌==◌}
 use Rattle.dfu_slots.specs.declared.unit.Unit.{Unit as WriteUnit}
 use Rattle.dfu_slots.specs.Units.{unit_size, whole_part, filled}
+use Rattle.dfu_suffix.specs.Register.{register}
 use Rattle.dfu_slots.specs.Medium.{Write}
 use Rattle.dfu_slots.specs.Layout.{slot, slot_size, OPEN, generation, next_generation, gate_unit, header_unit}
 use Rattle.dfu_slots.specs.Image.{active_at, spare_at, spare}
@@ -34,12 +35,12 @@ abbrev pub part_writes : WriteUnit → ℕ → List ℕ → List Write
 part_writes unit at held = write_some at (filled unit held)
 
 -- The header of the slot that begins there is written, and then its gate is opened.
-abbrev pub open_writes : ℕ → ℕ → ℕ → ℕ → List Write
-open_writes g at gen len = record { at = at + g; bytes = header_unit g gen len } ∷ record { at = at; bytes = gate_unit g OPEN } ∷ []
+abbrev pub open_writes : ℕ → ℕ → ℕ → ℕ → ℕ → List Write
+open_writes g at gen len crc = record { at = at + g; bytes = header_unit g gen len crc } ∷ record { at = at; bytes = gate_unit g OPEN } ∷ []
 
 -- Last `commit` opens the spare, with the generation after the active one's.
-abbrev pub commit_writes : ℕ → List ℕ → ℕ → List Write
-commit_writes g bytes len = open_writes g (spare_at g bytes) (next_generation (generation (slot g bytes (active_at g bytes)))) len
+abbrev pub commit_writes : ℕ → List ℕ → ℕ → ℕ → List Write
+commit_writes g bytes len crc = open_writes g (spare_at g bytes) (next_generation (generation (slot g bytes (active_at g bytes)))) len crc
 
 -- These bytes from there on, in pieces of 4096 and a shorter last one; the first number is at least their length.
 abbrev pub piece_writes : ℕ → ℕ → List ℕ → List Write
@@ -57,4 +58,4 @@ image_writes unit g image = piece_writes (length (filled unit image)) (2 * g) (f
 
 -- `format` closes both gates, writes the image, and opens the first slot with generation 0.
 abbrev pub format_writes : WriteUnit → ℕ → List ℕ → List ℕ → List Write
-format_writes unit g bytes image = close_writes g bytes ++ image_writes unit g image ++ open_writes g 0 0 (length image)
+format_writes unit g bytes image = close_writes g bytes ++ image_writes unit g image ++ open_writes g 0 0 (length image) (register image)

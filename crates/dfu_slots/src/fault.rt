@@ -17,20 +17,23 @@ pub enum FormatFault {
 }
 
 /// Why `open` gave the medium back, unchanged. It looks for them in this order.
+///
+/// A slot counts where its gate is open and, if its header is of version 2, that header is well formed: its zero
+/// bytes are 0, its length is at most C, and its register is that of so many bytes from the front of the slot's data.
 #[derive(Clone, Copy, Debug, PartialEq, Eq, Drop, Error)]
 pub enum OpenFault {
     /// The medium's length is not 2 * (2 * G + C) with C from 1 to 16,777,216 and whole in the unit, G being
     /// 16 or the unit's size where that is more.
     #[error("the medium has no length that two slots can have")]
     WrongSize,
-    /// Neither slot's gate is open.
+    /// Neither slot counts.
     #[error("no slot of the medium has an image")]
     NoImage,
-    /// Both gates are open, and neither generation is the other's plus 1 modulo 256.
+    /// Both slots count, and neither generation is the other's plus 1 modulo 256.
     #[error("two slots of the medium have an image, and neither follows the other")]
     TwoImages,
-    /// The active slot's header has a version other than 1, a byte other than 0 where zero is due,
-    /// or a length over C.
+    /// The active slot's header is of another version than 1 and 2; or it is of version 1 and has a byte other
+    /// than 0 where zero is due, or a length over C.
     #[error("the header of the active slot is not well formed")]
     BadHeader,
 }

@@ -25,12 +25,22 @@ pub(crate) fn gate_size(unit: Unit) -> u32
     HEADER_SIZE.max(unit.size())
 }
 
-/// A header: generation, version 1, two zeros, the length in little-endian order, and then zeros.
-pub(crate) fn make_header(generation: u8, len: u32) -> [u8; 16]
-    ensures { result ≡ header generation len }
+/// The version of a header that is written. In it stands the register over the image.
+pub const VERSION: u8 = 2;
+
+/// The version of a header without a register, which is read and never written.
+pub const OLD_VERSION: u8 = 1;
+
+/// A header: generation, version, two zeros, the length, the register over the image, both in little-endian order,
+/// and four zeros. In version 1 zeros stand in place of the register.
+pub(crate) fn make_header(version: u8, generation: u8, len: u32, register: u32) -> [u8; 16]
+    ensures { result ≡ header version generation len register }
 {
     let [a, b, c, d] = len.to_le_bytes();
-    [generation, 1, 0, 0, a, b, c, d, 0, 0, 0, 0, 0, 0, 0, 0]
+    let [e, f, g, h] = register.to_le_bytes();
+    [
+        generation, version, 0, 0, a, b, c, d, e, f, g, h, 0, 0, 0, 0,
+    ]
 }
 
 /// How many zeros fill so many bytes up to the end of a unit, from 0 to 255.

@@ -11,6 +11,7 @@ mod medium;
 mod open;
 mod puts;
 mod read;
+mod register;
 mod sim;
 mod slots;
 mod steps;

@@ -1,10 +1,23 @@
 //! What is read of a medium to tell which slot is active. Nothing of it is kept between calls.
-ghost use Rattle.std.specs.Prelude.{◌≡◌, ℕ, ◌+◌, ◌*◌, ◌≤◌, ◌<◌, length, slice_index, slice_range, ◌==◌, IfSome, IfNone};
-ghost use Rattle.dfu_slots.specs.Layout.{OPEN, slot_size, generation, HasHeader};
-ghost use Rattle.dfu_slots.specs.Image.{gate_of, IsSized, slot_of, capacity_of, counts, is_newest, active_at, spare_at};
+ghost use Rattle.std.specs.Prelude.{◌≡◌, ℕ, ◌+◌, ◌*◌, ◌≤◌, ◌<◌, length, take, drop, slice_index, slice_range, ◌==◌, IfSome, IfNone};
+ghost use Rattle.std.specs.Int.{w32, from_le_bytes};
+ghost use Rattle.dfu_slots.specs.Layout.{OPEN, slot_size, generation, version, HasHeader};
+ghost use Rattle.dfu_slots.specs.Image.{
+  gate_of,
+  IsSized,
+  slot_of,
+  capacity_of,
+  Counts,
+  is_intact,
+  counts,
+  is_newest,
+  active_at,
+  spare_at,
+};
 
 use crate::Medium;
-use crate::layout::{OPEN_GATE, gate_size, make_header};
+use crate::layout::{OLD_VERSION, OPEN_GATE, VERSION, gate_size, make_header};
+use crate::register::register_of;
 
 /// Where the active slot stands, and where the spare one does.
 #[derive(Clone, Copy, Drop)]
@@ -46,12 +59,45 @@ pub(crate) fn is_open<M: Medium>(medium: &M, at: u32) -> bool
     byte_at(medium, at) == OPEN_GATE
 }
 
+// The 16 bytes of the header of the slot that begins there.
+fn header_of<M: Medium>(medium: &M, at: u32) -> [u8; 16]
+    requires sized { IsSized (M.state medium.now) }
+    requires within { at + slot_size (M.state medium.now).bytes ≤ length (M.state medium.now).bytes }
+    ensures { result ≡ (slot_of (M.state medium.now) at).header }
+{
+    let mut header = [0; 16];
+    medium.read(at + gate_of(medium), &mut header);
+    header
+}
+
+// The length that stands in a header.
+fn length_in(header: &[u8; 16]) -> u32
+    ensures { result ≡ from_le_bytes w32 (take 4 (drop 4 header.now)) }
+{
+    u32::from_le_bytes([header[4], header[5], header[6], header[7]])
+}
+
+// Whether the slot that begins there has a well-formed header of version 2: its register is that of the image.
+fn is_intact<M: Medium>(medium: &M, at: u32) -> bool
+    requires sized { IsSized (M.state medium.now) }
+    requires within { at + slot_size (M.state medium.now).bytes ≤ length (M.state medium.now).bytes }
+    ensures { result ≡ is_intact (slot_of (M.state medium.now) at) }
+{
+    let header = header_of(medium, at);
+    let len = length_in(&header);
+    if len > capacity_of(medium) {
+        return false;
+    }
+    header == make_header(VERSION, header[0], len, register_of(medium, at, len))
+}
+
 /// Whether the slot that begins there counts.
 pub(crate) fn counts<M: Medium>(medium: &M, at: u32) -> bool
-    requires { at < length (M.state medium.now).bytes }
+    requires sized { IsSized (M.state medium.now) }
+    requires within { at + slot_size (M.state medium.now).bytes ≤ length (M.state medium.now).bytes }
     ensures { result ≡ counts (slot_of (M.state medium.now) at) }
 {
-    is_open(medium, at)
+    is_open(medium, at) && (header_of(medium, at)[1] != VERSION || is_intact(medium, at))
 }
 
 /// The generation in the header of the slot that begins there.
@@ -66,8 +112,8 @@ pub(crate) fn generation<M: Medium>(medium: &M, at: u32) -> u8
 /// Whether the first of two slots counts, and the other one does not, or is one generation behind.
 pub(crate) fn is_newest<M: Medium>(medium: &M, mine: u32, other: u32) -> bool
     requires sized { IsSized (M.state medium.now) }
-    requires mine { mine + gate_of (M.state medium.now) < length (M.state medium.now).bytes }
-    requires other { other + gate_of (M.state medium.now) < length (M.state medium.now).bytes }
+    requires mine { mine + slot_size (M.state medium.now).bytes ≤ length (M.state medium.now).bytes }
+    requires other { other + slot_size (M.state medium.now).bytes ≤ length (M.state medium.now).bytes }
     ensures { result ≡ is_newest (slot_of (M.state medium.now) mine) (slot_of (M.state medium.now) other) }
 {
     counts(medium, mine)
@@ -95,17 +141,21 @@ pub(crate) fn find_places<M: Medium>(medium: &M) -> Places
     }
 }
 
-/// The length in the header of the slot that begins there, if that is a well-formed header of an image that fits.
+/// The length in the header of a slot that counts, if that is a well-formed header of an image that fits. One of
+/// version 2 is, or the slot would not count.
 pub(crate) fn header_len<M: Medium>(medium: &M, at: u32) -> Option<u32>
     requires sized { IsSized (M.state medium.now) }
     requires within { at + slot_size (M.state medium.now).bytes ≤ length (M.state medium.now).bytes }
+    requires counts { Counts (slot_of (M.state medium.now) at) }
     ensures some { IfSome result (λ len. HasHeader (slot_of (M.state medium.now) at) len) }
     ensures none { IfNone result ((len : ℕ) → ¬ HasHeader (slot_of (M.state medium.now) at) len) }
 {
-    let mut header = [0; 16];
-    medium.read(at + gate_of(medium), &mut header);
-    let len = u32::from_le_bytes([header[4], header[5], header[6], header[7]]);
-    if header == make_header(header[0], len) && len <= capacity_of(medium) {
+    let header = header_of(medium, at);
+    let len = length_in(&header);
+    if header[1] == VERSION {
+        return Some(len);
+    }
+    if header == make_header(OLD_VERSION, header[0], len, 0) && len <= capacity_of(medium) {
         Some(len)
     } else {
         None

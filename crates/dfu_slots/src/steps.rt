@@ -90,6 +90,7 @@ fn open_spare<M: Medium>(
     requires puts { HasPuts (store_of (M.state medium.old) puts.now.held.items puts.now.end) }
     requires active { places.active ≡ active_at (gate_of (M.state medium.old)) (M.state medium.old).bytes }
     requires spare { places.spare ≡ spare_at (gate_of (M.state medium.old)) (M.state medium.old).bytes }
+    requires end { len ≤ puts.now.end }
     ensures { let was = store_of (M.state medium.old) puts.now.held.items puts.now.end in
         Series (M.state medium.old) (writes_of was (Commit len)) result (M.state medium.new) }
 {

@@ -1,14 +1,16 @@
 //! The one function through which the store writes, and the writes that are made of it.
-ghost use Rattle.std.specs.Prelude.{◌≡◌, ℕ, ◌+◌, ◌-◌, ◌*◌, ◌≤◌, ◌++◌, length, replicate, OnOk, OnErr};
+ghost use Rattle.std.specs.Prelude.{◌≡◌, ℕ, ◌+◌, ◌-◌, ◌*◌, ◌≤◌, ◌++◌, length, take, replicate, OnOk, OnErr};
 ghost use Rattle.dfu_slots.specs.Units.{IsMultiple, filled};
 ghost use Rattle.dfu_slots.specs.Medium.{Wrote, FailedWrite};
 ghost use Rattle.dfu_slots.specs.inside.Series.{Series};
-ghost use Rattle.dfu_slots.specs.Layout.{gate_unit};
-ghost use Rattle.dfu_slots.specs.Image.{gate_of, IsSized};
+ghost use Rattle.dfu_suffix.specs.Register.{register};
+ghost use Rattle.dfu_slots.specs.Layout.{slot_size, gate_unit};
+ghost use Rattle.dfu_slots.specs.Image.{gate_of, capacity_of, slot_of, IsSized};
 ghost use Rattle.dfu_slots.specs.Writes.{write_some, open_writes};
 
-use crate::layout::{OPEN_GATE, fill_size, fill_up, make_header};
+use crate::layout::{OPEN_GATE, VERSION, fill_size, fill_up, make_header};
 use crate::read::gate_of;
+use crate::register::register_of;
 use crate::{Failed, Medium};
 
 /// Writes these bytes there. All writes of the store go through it.
@@ -83,7 +85,8 @@ pub(crate) fn write_gate<M: Medium>(medium: &mut M, at: u32, gate: u8) -> Result
     write_unit(medium, at, &[gate], size)
 }
 
-/// Writes the header of the slot that begins there, and then, in a write of its own, opens its gate.
+/// Writes the header of the slot that begins there, with the register over the first `len` bytes of its data as
+/// they stand on the medium, and then, in a write of its own, opens its gate.
 pub(crate) fn open_slot<M: Medium>(
     medium: &mut M,
     at: u32,
@@ -91,13 +94,16 @@ pub(crate) fn open_slot<M: Medium>(
     len: u32,
 ) -> Result<(), Failed>
     requires sized { IsSized (M.state medium.old) }
-    requires within { at + 2 * gate_of (M.state medium.old) ≤ length (M.state medium.old).bytes }
+    requires slot { at + slot_size (M.state medium.old).bytes ≤ length (M.state medium.old).bytes }
     requires place { IsMultiple (M.state medium.old).unit at }
+    requires room { len ≤ capacity_of (M.state medium.old) }
     ensures { let was = M.state medium.old in
-        Series was (open_writes (gate_of was) at generation len) result (M.state medium.new) }
+        Series was (open_writes (gate_of was) at generation len (register (take len (slot_of was at).data_bytes)))
+        result (M.state medium.new) }
 {
     let size = gate_of(medium);
-    match write_unit(medium, at + size, &make_header(generation, len), size) {
+    let header = make_header(VERSION, generation, len, register_of(medium, at, len));
+    match write_unit(medium, at + size, &header, size) {
         Err(failed) => Err(failed),
         Ok(()) => write_gate(medium, at, OPEN_GATE),
     }

@@ -2,6 +2,7 @@
 
 use super::bench::{Setup, world_on};
 use super::dice::{Dice, event, payload};
+use super::plain::plain_image;
 use crate::{Event, World};
 use dfu_device::Device;
 use dfu_host::Report;
@@ -67,43 +68,6 @@ fn setup(dice: &mut Dice) -> Setup {
         busy_ms: dice.roll(3),
         manifest_ms: 1 + dice.roll(3),
         capacity: ROOM,
-    }
-}
-
-/// The active image of a medium's bytes, where it is one, read by the layout that the profile has.
-fn plain_image(bytes: &[u8], gate: usize) -> Option<&[u8]> {
-    let (first, second) = bytes.split_at(bytes.len() / 2);
-    let slot = match (is_open(first), is_open(second)) {
-        (true, false) => first,
-        (false, true) => second,
-        (false, false) => return None,
-        (true, true) => {
-            let a = *first.get(gate)?;
-            let b = *second.get(gate)?;
-            if b == a.wrapping_add(1) {
-                second
-            } else if a == b.wrapping_add(1) {
-                first
-            } else {
-                return None;
-            }
-        }
-    };
-    let header = slot.get(gate..)?;
-    match header {
-        [_, 1, 0, 0, a, b, c, d, 0, 0, 0, 0, 0, 0, 0, 0, ..] => {
-            let len = u32::from_le_bytes([*a, *b, *c, *d]);
-            header.get(gate..)?.get(..len as usize)
-        }
-        _ => None,
-    }
-}
-
-/// The gate of a slot is open.
-fn is_open(slot: &[u8]) -> bool {
-    match slot {
-        [0xa5, ..] => true,
-        _ => false,
     }
 }
 

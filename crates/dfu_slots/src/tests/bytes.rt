@@ -7,16 +7,16 @@ use std::test::Fail;
 
 // An install of FFh four times over 00h, on 192 bytes that are written in bytes: runs of a byte, each with its length.
 #[rattlefmt::skip]
-static IN_BYTES: [(u8, u32); 14] = [
-    (0xa5, 1), (0, 16), (1, 1), (0, 2), (1, 1), (0, 12), (0xff, 63),
-    (0xa5, 1), (0, 15), (1, 2), (0, 2), (4, 1), (0, 11), (0xff, 64),
+static IN_BYTES: [(u8, u32); 20] = [
+    (0xa5, 1), (0, 16), (2, 1), (0, 2), (1, 1), (0, 3), (0x72, 1), (0x10, 1), (0xfd, 1), (0x2d, 1), (0, 5), (0xff, 63),
+    (0xa5, 1), (0, 15), (1, 1), (2, 1), (0, 2), (4, 1), (0, 11), (0xff, 64),
 ];
 
 // The same on 384 bytes in units of 64.
 #[rattlefmt::skip]
-static IN_UNITS: [(u8, u32); 14] = [
-    (0xa5, 1), (0, 64), (1, 1), (0, 2), (1, 1), (0, 123),
-    (0xa5, 1), (0, 63), (1, 2), (0, 2), (4, 1), (0, 59), (0xff, 4), (0, 60),
+static IN_UNITS: [(u8, u32); 20] = [
+    (0xa5, 1), (0, 64), (2, 1), (0, 2), (1, 1), (0, 3), (0x72, 1), (0x10, 1), (0xfd, 1), (0x2d, 1), (0, 116),
+    (0xa5, 1), (0, 63), (1, 1), (2, 1), (0, 2), (4, 1), (0, 59), (0xff, 4), (0, 60),
 ];
 
 // A medium of 192 bytes at first.

@@ -19,8 +19,9 @@ fn open_len(medium: SimMedium) -> Result<u32, OpenFault> {
     Ok(slots.active_len())
 }
 
-// A gate unit and a header unit with this gate, generation, version and length, as they stand at the front of a slot.
-fn slot_front([gate, generation, version, len]: [u8; 4]) -> [u8; 32] {
+// A gate unit and a header unit with this gate, generation, version and length, as they stand at the front of a slot
+// of version 1.
+pub(super) fn slot_front([gate, generation, version, len]: [u8; 4]) -> [u8; 32] {
     let mut front = [0; 32];
     front[0] = gate;
     front[16] = generation;
@@ -31,7 +32,7 @@ fn slot_front([gate, generation, version, len]: [u8; 4]) -> [u8; 32] {
 
 // A medium with these two slots, and all else FFh.
 #[rattlefmt::skip]
-fn with_slots(rt: &impl Abort, alloc: Global, first: [u8; 4], second: [u8; 4]) -> Result<SimMedium, Fail> {
+pub(super) fn with_slots(rt: &impl Abort, alloc: Global, first: [u8; 4], second: [u8; 4]) -> Result<SimMedium, Fail> {
     let mut medium = SimMedium::new(alloc, 192)?;
     medium.write(0, &slot_front(first))?;
     assert!(rt; medium.len() == 192);

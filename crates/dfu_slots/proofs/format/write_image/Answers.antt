@@ -1,4 +1,4 @@
-use Rattle.dfu_slots.proofs.Formatting.{pieces_broken, pieces_sized, front_within, pieces_opened}
+use Rattle.dfu_slots.proofs.Formatting.{pieces_broken, pieces_sized, front_within, image_within, pieces_opened}
 use Rattle.dfu_slots.proofs.format.write_image.Goals as goal
 
 pub open_slot-requires-clause-sized : goal.open_slot-requires-clause-sized
@@ -7,9 +7,15 @@ open_slot-requires-clause-sized g c =
     (g.M.Medium.state c.close_gates.new.medium) c.args.image.now c.requires c.data_at-data.result c.data_at-data.ensures c.in-Ok.ensures
     (g.M.Medium.state c.write_pieces.new.medium) c.in-Ok-write_pieces.ensures
 
-pub open_slot-requires-clause-within : goal.open_slot-requires-clause-within
-open_slot-requires-clause-within g c =
+pub open_slot-requires-clause-slot : goal.open_slot-requires-clause-slot
+open_slot-requires-clause-slot g c =
     front_within (g.M.Medium.state c.args.medium.now)
+    (g.M.Medium.state c.close_gates.new.medium) c.args.image.now c.requires c.data_at-data.result c.data_at-data.ensures c.in-Ok.ensures
+    (g.M.Medium.state c.write_pieces.new.medium) c.in-Ok-write_pieces.ensures
+
+pub open_slot-requires-clause-room : goal.open_slot-requires-clause-room
+open_slot-requires-clause-room g c =
+    image_within (g.M.Medium.state c.args.medium.now)
     (g.M.Medium.state c.close_gates.new.medium) c.args.image.now c.requires c.data_at-data.result c.data_at-data.ensures c.in-Ok.ensures
     (g.M.Medium.state c.write_pieces.new.medium) c.in-Ok-write_pieces.ensures
 

@@ -1,14 +1,14 @@
-use Rattle.std.proofs.Common.{◌≡◌, ◌∙◌, ap, subst, arith, Bool, true, false, List, ℕ}
+use Rattle.std.proofs.Common.{◌≡◌, sym, ◌∙◌, ap, subst, arith, Bool, true, false, List, ℕ}
 use Rattle.std.proofs.lemmas.Result.{err_from_is_err_and}
 use Rattle.std.specs.Io.KnownBytes.{Appends}
 use Rattle.dfu_suffix.specs.Writing.{IsOutInPart}
 use Rattle.dfu_device.specs.Shown.{Shown}
-use Rattle.dfu_link.specs.Bench.{LinkState}
+use Rattle.dfu_link.specs.Bench.{Bench, LinkState}
 use Rattle.dfu_link.specs.Texts.{image_line}
-use Rattle.dfu_link.specs.ScriptRun.{point}
+use Rattle.dfu_link.specs.ScriptRun.{at_rest, point}
 use Rattle.dfu_link.specs.Source.{Next}
 use Rattle.dfu_link.specs.Falls.{LineFalls}
-use Rattle.dfu_link.specs.Moving.{Steps}
+use Rattle.dfu_link.specs.Moving.{Moves, Steps}
 use Rattle.dfu_link.proofs.MoveLaws.{moves_none, moves_then, ends_now}
 use Rattle.dfu_link.proofs.FallLaws.{given_falls, image_falls, source_falls}
 use Rattle.dfu_link.proofs.scripting.after_start.follow.Goals as goal
@@ -81,3 +81,14 @@ lines-preserved g c =
       room = omega (arith, c.lines.invariant.room, c.next.ensures.room);
       moves = moves_then c.lines.invariant.moves given step;
     }
+
+pub returns-in-Ok-clause-ok : goal.returns-in-Ok-clause-ok
+returns-in-Ok-clause-ok g c =
+    let b = c.lines.world.bench in
+    let over = c.in-Ok.ensures.ok in
+    let rests : b ≡ at_rest c.in-Ok.device = λ i. record { device = sym over.1 i; session = over.0 i } in (
+      c.in-Ok.ensures.unarmed,
+      subst
+          (λ (x : Bench). Moves (point c.args.limits.now c.args.world.bench) c.args.source.now (g.W.Write.contents c.args.writer.now)
+          (point c.lines.limits x) c.lines.source (g.W.Write.contents c.lines.writer)) rests c.lines.invariant.moves,
+    )

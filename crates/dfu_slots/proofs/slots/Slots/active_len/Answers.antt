@@ -2,9 +2,16 @@ use Rattle.std.proofs.Common.{◌∙◌, ap, length}
 use Rattle.dfu_slots.specs.Seen.{SlotsState, store_of}
 use Rattle.dfu_slots.specs.Image.{gate_of}
 use Rattle.dfu_slots.proofs.Stands.{standing}
-use Rattle.dfu_slots.proofs.Unique.{active_header, active_len_is}
+use Rattle.dfu_slots.proofs.Unique.{active_counts, active_header, active_len_is}
 use Rattle.dfu_slots.proofs.Seeing.{image_is, image_active}
 use Rattle.dfu_slots.proofs.slots.Slots.active_len.Goals as goal
+
+pub header_len-requires-clause-counts : goal.header_len-requires-clause-counts
+header_len-requires-clause-counts g c =
+    let s = g.M.Medium.state c.self.inside.medium in
+    let has = c.self.invariant.has_image in
+    active_counts (gate_of s) s.bytes c.find_places-places.result.active c.find_places-places.ensures.active has.active.at
+    has.active.spare has.image (standing has.active)
 
 pub unreachable-requires : goal.unreachable-requires
 unreachable-requires g c =

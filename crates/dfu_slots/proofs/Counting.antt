@@ -1,0 +1,97 @@
+-- Headers, and what a slot counts by.
+use Rattle.std.proofs.Common.{◌≡◌, inl, inr, ⊎_elim, Bool, true, false, not, IsTrue, ◌↔◌, ◌==◌, nat_le, ℕ, ◌<◌, ◌^◌, List, length, take, drop, slice_index, refl, sym, ◌∙◌, ap, subst, arith, eq-eqb}
+use Rattle.std.specs.Int.{w32, from_le_bytes}
+use Rattle.std.proofs.lemmas.Nat.{from_le_bytes-to_le_bytes_4}
+use Rattle.std.proofs.lemmas.Bool.{cases_Bool, both_ways, and_from, and_parts, or_left, or_right, or_cases, not_from_false, not-true, eqb-true, eqb-false, ne_eqb, le-leb, leb-true, cases_eq}
+use lib.Pointwise.{bytes_decides}
+use Rattle.dfu_suffix.specs.Register.{register}
+use Rattle.dfu_slots.specs.Layout.{Slot, OPEN, IsOpen, generation, version, header_length, header, HasHeader}
+use Rattle.dfu_slots.specs.Image.{Counts, is_intact, counts}
+
+-- The length that stands in a well-formed header is that of its image.
+pub header_length_is : (s : Slot) (len : ℕ) → HasHeader s len → len < 2 ^ 32 → header_length s ≡ len
+header_length_is s len has fits = ⊎_elim
+    (λ e. ap (λ (h : List ℕ). from_le_bytes w32 (take 4 (drop 4 h))) e ∙ from_le_bytes-to_le_bytes_4 len fits)
+    (λ e. ap (λ (h : List ℕ). from_le_bytes w32 (take 4 (drop 4 h))) e ∙ from_le_bytes-to_le_bytes_4 len fits)
+    has.well_formed
+
+-- A well-formed header depends on the header and the data alone.
+pub header_same : (s t : Slot) (len : ℕ) → s.header ≡ t.header → s.data_bytes ≡ t.data_bytes → HasHeader s len → HasHeader t len
+header_same s t len head body has = record {
+  well_formed = ⊎_elim
+      (λ e. inl (sym head ∙ e ∙ ap (λ (h : List ℕ). header 1 (slice_index h 0) len 0) head))
+      (λ e. inr (sym head ∙ e ∙ (λ i. header 2 (slice_index (head i) 0) len (register (take len (body i))))))
+      has.well_formed;
+  fits = omega (arith, ap length body, has.fits);
+}
+
+-- An open slot counts where one with the same header and the same data does.
+pub counts_same : (s t : Slot) → s.header ≡ t.header → s.data_bytes ≡ t.data_bytes → IsOpen t → Counts s → Counts t
+counts_same s t head body is_open c = record {
+  is_open = is_open;
+  intact = λ two.
+      subst (λ (n : ℕ). HasHeader t n) (ap (λ (h : List ℕ). from_le_bytes w32 (take 4 (drop 4 h))) head)
+      (header_same s t (header_length s) head body (c.intact (ap (λ (h : List ℕ). slice_index h 1) head ∙ two)));
+}
+
+-- In a header of version 2 that is well formed stands the register of the image.
+two_well_formed : (s : Slot) (len : ℕ) → version s ≡ 2 → HasHeader s len → s.header ≡ header 2 (generation s) len (register (take len s.data_bytes))
+two_well_formed s len two has = ⊎_elim
+    (λ e. let one : version s ≡ 1 = ap (λ (h : List ℕ). slice_index h 1) e in absurd (omega (arith, one, two)))
+    (λ e. e)
+    has.well_formed
+
+intact_true : (s : Slot) → version s ≡ 2 → HasHeader s (header_length s) → is_intact s ≡ true
+unfolding is_intact
+intact_true s two has =
+    and_from (nat_le (header_length s) (length s.data_bytes)) _ (le-leb _ _ has.fits)
+    ((bytes_decides s.header (header 2 (generation s) (header_length s) (register (take (header_length s) s.data_bytes)))).1
+    (two_well_formed s (header_length s) two has))
+
+intact_from : (s : Slot) → is_intact s ≡ true → HasHeader s (header_length s)
+unfolding is_intact
+intact_from s test =
+    let parts = and_parts (nat_le (header_length s) (length s.data_bytes)) _ test in
+    record {
+      well_formed = inr ((bytes_decides s.header
+          (header 2 (generation s) (header_length s) (register (take (header_length s) s.data_bytes)))).0 parts.1);
+      fits = leb-true _ _ parts.0;
+    }
+
+-- The test takes a slot that counts to count.
+pub counts_true : (s : Slot) → Counts s → counts s ≡ true
+counts_true s c =
+    and_from (s.gate == OPEN) _ (eq-eqb s.gate OPEN c.is_open)
+    (⊎_elim
+    (λ two. or_right (not (version s == 2)) _ (intact_true s two (c.intact two)))
+    (λ other. or_left _ _ (not_from_false _ (ne_eqb (version s) 2 other)))
+    (cases_eq (version s) 2))
+
+-- A slot that the test takes to count counts.
+pub counts_from : (s : Slot) → counts s ≡ true → Counts s
+counts_from s test =
+    let parts = and_parts (s.gate == OPEN) _ test in
+    record {
+      is_open = eqb-true s.gate OPEN parts.0;
+      intact = λ two.
+          ⊎_elim (λ other. absurd (eqb-false (version s) 2 (not-true _ other) two)) (λ whole. intact_from s whole)
+          (or_cases (not (version s == 2)) _ parts.1);
+    }
+
+-- A slot that the test takes not to count does not.
+pub counts_not : (s : Slot) → counts s ≡ false → ¬ Counts s
+counts_not s test c = both_ways (counts s) test (counts_true s c)
+
+-- The test takes a slot that does not count not to count.
+pub counts_false : (s : Slot) → ¬ Counts s → counts s ≡ false
+counts_false s off = ⊎_elim (λ on. absurd (off (counts_from s on))) (λ same. same) (cases_Bool (counts s))
+
+-- Where the first of two slots is found not to count, neither does where the second one is found not to.
+pub neither_where_first_not : (x y : Slot) (p q : Bool) → p ≡ counts x → q ≡ counts y → p ≡ false
+    → IsTrue (not q) ↔ ((¬ Counts x) × (¬ Counts y))
+neither_where_first_not x y p true a b off = (λ t. absurd (cc), λ none. absurd (none.1 (counts_from y (sym b))))
+neither_where_first_not x y p false a b off = (λ t. (counts_not x (sym a ∙ off), counts_not y (sym b)), λ none. refl)
+
+-- Where the first one is found to count, not both do not.
+pub neither_where_first : (x y : Slot) (p : Bool) → p ≡ counts x → p ≡ true → IsTrue (not p) ↔ ((¬ Counts x) × (¬ Counts y))
+neither_where_first x y p a on = (λ t. absurd (cc), λ none. absurd (none.0 (counts_from x (sym a ∙ on))))
