@@ -13,7 +13,7 @@ use Rattle.dfu_slots.proofs.Multiples.{gate_wide}
 use Rattle.dfu_slots.proofs.Series.{Ends, ends_unit, changes_ends, changes_rose}
 use Rattle.dfu_slots.proofs.Begun.{begin_outside, begin_keeps, begin_data, begin_shuts}
 use Rattle.dfu_slots.proofs.Seeing.{closed_begun, spare_fresh, fresh_store, image_active, shaped}
-use Rattle.dfu_slots.proofs.Stays.{Stays, stays_has, stays_same, stays_image, stays_room, spare_there}
+use Rattle.dfu_slots.proofs.Stays.{Stays, SamePlaces, stays_places, stays_has, stays_same, stays_image, stays_room, spare_there}
 use Rattle.dfu_slots.proofs.Answered.{begin_fresh, did_begin}
 
 -- Its write worked or failed.
@@ -32,6 +32,11 @@ begin_stays : {T : Type 0} (s now : SlotsState) (has : HasImage s.medium) (resul
     → Stays s now has
 begin_stays s now has result changes = ⊎_elim (λ ends. stays_after s now has ends) (λ same. stays_same s now has same)
     (changes_ends s now Begin result changes)
+
+-- The places of the slots stay, whatever it answered.
+pub begin_places : {T : Type 0} (s now : SlotsState) (has : HasImage s.medium) (result : Result T PutFault) → Changes s Begin result now
+    → SamePlaces s.medium now.medium
+begin_places s now has result changes = stays_places s now has (begin_stays s now has result changes)
 
 begin_store : {T : Type 0} (s now : SlotsState) (has : HasImage s.medium) (result : Result T PutFault)
     → OnErr result (IsErrOf result Failed) → Changes s Begin result now → IsStore now

@@ -19,7 +19,7 @@ use Rattle.dfu_slots.proofs.Series.{AllInside, Ends, ends_unit, changes_rose, on
 use Rattle.dfu_slots.proofs.SpareData.{data_kept, data_keeps, data_spare, data_gate, data_written}
 use Rattle.dfu_slots.proofs.Put.{whole_le, rest_length, put_inside, put_written, put_joined, put_behind}
 use Rattle.dfu_slots.proofs.Seeing.{spare_is, fresh_store, image_active, shaped, begun_from_gate}
-use Rattle.dfu_slots.proofs.Stays.{Stays, stays_has, stays_same, stays_image, stays_room, spare_there}
+use Rattle.dfu_slots.proofs.Stays.{Stays, SamePlaces, stays_places, stays_has, stays_same, stays_image, stays_room, spare_there}
 use Rattle.dfu_slots.proofs.Answered.{was_shut, was_small, came_or_not, failed_fresh, not_begun_is, too_large_is, did_change}
 
 module _ (s now : SlotsState) (store : IsStore s) (at : ℕ) (new : List ℕ) (here : at ≡ s.put_end) where
@@ -185,6 +185,14 @@ put_ends : {T : Type 0} (s now : SlotsState) (at : ℕ) (new : List ℕ) (result
     → OnOk result (now.put_end ≡ at + length new)
 put_ends s now at new (Err e) changes = tt
 put_ends s now at new (Ok x) worked = worked.end_is
+
+-- The places of the slots stay, whatever it answered.
+pub put_places : {T : Type 0} (s now : SlotsState) (store : IsStore s) (at : ℕ) (new : List ℕ) → at ≡ s.put_end → (result : Result T PutFault)
+    → (IsErrOf result NotBegun ↔ IsOpen (spare_slot s))
+    → (IsErrOf result TooLarge ↔ ((¬ IsOpen (spare_slot s)) × (capacity_of s.medium < at + length new)))
+    → Changes s (Put at new) result now → SamePlaces s.medium now.medium
+put_places {T} s now store at new here result a b changes =
+    stays_places s now store.has_image (put_stays {T = T} s now store at new here result a b changes)
 
 -- What a store that was seen as `v` is after `put`, whatever it answered.
 pub record PutLeaves {T : Type 0} (v now : SlotsState) (at : ℕ) (new : List ℕ) (result : Result T PutFault) : Type 0 where

@@ -1,5 +1,5 @@
 -- Headers, and what a slot counts by.
-use Rattle.std.proofs.Common.{◌≡◌, inl, inr, ⊎_elim, Bool, true, false, not, IsTrue, ◌↔◌, ◌==◌, nat_le, ℕ, ◌<◌, ◌^◌, List, length, take, drop, slice_index, refl, sym, ◌∙◌, ap, subst, arith, eq-eqb}
+use Rattle.std.proofs.Common.{◌≡◌, inl, inr, ⊎_elim, Bool, true, false, not, ◌&&◌, ◌==◌, nat_le, ℕ, ◌<◌, ◌^◌, List, length, take, drop, slice_index, sym, ◌∙◌, ap, subst, arith, eq-eqb}
 use Rattle.std.specs.Int.{w32, from_le_bytes}
 use Rattle.std.proofs.lemmas.Nat.{from_le_bytes-to_le_bytes_4}
 use Rattle.std.proofs.lemmas.Bool.{cases_Bool, both_ways, and_from, and_parts, or_left, or_right, or_cases, not_from_false, not-true, eqb-true, eqb-false, ne_eqb, le-leb, leb-true, cases_eq}
@@ -86,12 +86,15 @@ counts_not s test c = both_ways (counts s) test (counts_true s c)
 pub counts_false : (s : Slot) → ¬ Counts s → counts s ≡ false
 counts_false s off = ⊎_elim (λ on. absurd (off (counts_from s on))) (λ same. same) (cases_Bool (counts s))
 
--- Where the first of two slots is found not to count, neither does where the second one is found not to.
-pub neither_where_first_not : (x y : Slot) (p q : Bool) → p ≡ counts x → q ≡ counts y → p ≡ false
-    → IsTrue (not q) ↔ ((¬ Counts x) × (¬ Counts y))
-neither_where_first_not x y p true a b off = (λ t. absurd (cc), λ none. absurd (none.1 (counts_from y (sym b))))
-neither_where_first_not x y p false a b off = (λ t. (counts_not x (sym a ∙ off), counts_not y (sym b)), λ none. refl)
+-- Where both of two slots are found not to count, neither does.
+pub neither_counts : (x y : Slot) (p q : Bool) → p ≡ counts x → q ≡ counts y → (not p && not q) ≡ true → (¬ Counts x) × (¬ Counts y)
+neither_counts x y p q a b e =
+    let parts = and_parts (not p) (not q) e in
+    (counts_not x (sym a ∙ not-true p parts.0), counts_not y (sym b ∙ not-true q parts.1))
 
--- Where the first one is found to count, not both do not.
-pub neither_where_first : (x y : Slot) (p : Bool) → p ≡ counts x → p ≡ true → IsTrue (not p) ↔ ((¬ Counts x) × (¬ Counts y))
-neither_where_first x y p a on = (λ t. absurd (cc), λ none. absurd (none.0 (counts_from x (sym a ∙ on))))
+-- Where not both are, not both do not count.
+pub some_counts : (x y : Slot) (p q : Bool) → p ≡ counts x → q ≡ counts y → (not p && not q) ≡ false
+    → ¬ ((¬ Counts x) × (¬ Counts y))
+some_counts x y p q a b e none =
+    both_ways (not p && not q) e (and_from (not p) (not q) (not_from_false p (a ∙ counts_false x none.0))
+    (not_from_false q (b ∙ counts_false y none.1)))

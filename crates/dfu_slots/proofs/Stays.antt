@@ -1,12 +1,14 @@
 -- The active slot and its image stay, and what a store is seen as then.
-use Rattle.std.proofs.Common.{◌≡◌, length, sym, ◌∙◌, ap, subst}
+use Rattle.std.proofs.Common.{◌≡◌, ℕ, length, sym, ◌∙◌, ap, subst}
 use Rattle.dfu_slots.specs.declared.unit.Unit.{Unit as WriteUnit}
 use Rattle.dfu_slots.specs.Units.{gate_size}
 use Rattle.dfu_slots.specs.Medium.{MediumState}
 use Rattle.dfu_slots.specs.Layout.{Slot}
-use Rattle.dfu_slots.specs.Image.{gate_of, Active, HasImage, spare}
+use Rattle.dfu_slots.specs.Image.{gate_of, Active, HasImage, active_at, spare_at, spare}
 use Rattle.dfu_slots.specs.Seen.{SlotsState, image_of, room_of}
+use Rattle.dfu_slots.specs.inside.Store.{IsStore, IsKept}
 use Rattle.dfu_slots.proofs.Stands.{ActiveAt, standing}
+use Rattle.dfu_slots.proofs.Newest.{places_are}
 use Rattle.dfu_slots.proofs.Seeing.{image_is, active_on, room_from}
 
 -- The active slot and its image stay.
@@ -31,6 +33,32 @@ module _ (s now : SlotsState) (has : HasImage s.medium) (stays : Stays s now has
   -- It has the room that it had.
   pub stays_room : room_of now ≡ room_of s
   stays_room = room_from s now stays.unit stays.size
+
+-- The slots of two media stand at the same places, and the same one is active.
+pub record SamePlaces (m n : MediumState) : Type 0 where
+  pub active : active_at (gate_of n) n.bytes ≡ active_at (gate_of m) m.bytes
+  pub spare : spare_at (gate_of n) n.bytes ≡ spare_at (gate_of m) m.bytes
+
+-- They do where the image stays.
+pub stays_places : (s now : SlotsState) (has : HasImage s.medium) → Stays s now has → SamePlaces s.medium now.medium
+stays_places s now has stays =
+    let a = has.active in
+    let g = gate_of s.medium in
+    let was = places_are g s.medium.bytes a.at a.spare has.image (standing a) in
+    let is = places_are g now.medium.bytes a.at a.spare has.image stays.stands in
+    record {
+      active = ap (λ (u : WriteUnit). active_at (gate_size u) now.medium.bytes) stays.unit ∙ sym is.0 ∙ was.0;
+      spare = ap (λ (u : WriteUnit). spare_at (gate_size u) now.medium.bytes) stays.unit ∙ sym is.1 ∙ was.1;
+    }
+
+-- So places that were kept may be kept on.
+pub kept_on : (s now : SlotsState) (active spare : ℕ) → IsKept s active spare → IsStore now → SamePlaces s.medium now.medium
+    → IsKept now active spare
+kept_on s now active spare kept store same = record {
+  store = store;
+  active_there = kept.active_there ∙ sym same.active;
+  spare_there = kept.spare_there ∙ sym same.spare;
+}
 
 -- They do where the store is as it was.
 pub stays_same : (s now : SlotsState) (has : HasImage s.medium) → now ≡ s → Stays s now has

@@ -5,6 +5,7 @@ ghost use Rattle.dfu_slots.specs.Image.{Active, HasImage};
 ghost use Rattle.dfu_slots.specs.Seen.{store_on, spare_slot, image_of, spare_of, is_begun, room_of, is_shaped, Begin, Put, Commit, DidCall};
 ghost use Rattle.dfu_slots.specs.Changes.{Changes};
 
+use crate::places::look;
 use crate::{Medium, PutFault, Slots, steps};
 
 impl<M: Medium> Slots<M> {
@@ -33,7 +34,7 @@ impl<M: Medium> Slots<M> {
         ensures shut { OnOk result (is_begun self.new ≡ true) }
         ensures spare { OnOk result (spare_of self.new ≡ (spare_slot self.old).data_bytes) }
     {
-        steps::begin(&mut self.medium, &mut self.puts)
+        steps::begin(&mut self.medium, &mut self.puts, self.places)
     }
 
     /// Puts up to 4,096 bytes into the data of the spare slot, at `at`, where the puts before end (`put_end`).
@@ -73,7 +74,7 @@ impl<M: Medium> Slots<M> {
         ensures gate { OnOk result ((spare_slot self.new).gate ≡ (spare_slot self.old).gate) }
         ensures spare { OnOk result (spare_of self.new ≡ written (spare_of self.old) at bytes.now) }
     {
-        steps::put(&mut self.medium, &mut self.puts, at, bytes)
+        steps::put(&mut self.medium, &mut self.puts, self.places, at, bytes)
     }
 
     /// Makes the first `len` bytes of what was put the active image; `len` is at most `put_end`. The slot that
@@ -107,6 +108,8 @@ impl<M: Medium> Slots<M> {
         ensures done { OnOk result (self.new ≡ store_on self.new.medium) }
         ensures failed { IsErrOf result PutFault.Failed → self.new ≡ store_on self.new.medium }
     {
-        steps::commit(&mut self.medium, &mut self.puts, len)
+        let done = steps::commit(&mut self.medium, &mut self.puts, self.places, len);
+        self.places = look(&self.medium);
+        done
     }
 }

@@ -9,6 +9,7 @@ pub mod laws;
 mod layout;
 mod medium;
 mod open;
+mod places;
 mod puts;
 mod read;
 mod register;

@@ -1,11 +1,12 @@
 //! Opening a medium: the tests that tell whether it has an active image.
-ghost use Rattle.std.specs.Prelude.{◌≡◌, ◌/◌, OnOk, IfErr, length, IsTrue, ◌↔◌};
+ghost use Rattle.std.specs.Prelude.{◌≡◌, ◌/◌, OnOk, IfOk, IfErr, length, IsTrue, ◌↔◌};
 ghost use Rattle.dfu_slots.specs.Units.{IsMultiple};
-ghost use Rattle.dfu_slots.specs.Image.{HasImage, IsSized};
-ghost use Rattle.dfu_slots.specs.Changes.{IsOpenFault, FirstCounts, SecondCounts};
+ghost use Rattle.dfu_slots.specs.Image.{HasImage, IsSized, gate_of, active_at, spare_at};
+ghost use Rattle.dfu_slots.specs.Changes.{IsOpenFault};
 
 use crate::layout::{MAX_CAPACITY, gate_size};
-use crate::read::{counts, find_places, header_len, is_newest};
+use crate::places::{Places, count_slots, find_places, has_newest, is_none};
+use crate::read::header_len;
 use crate::{Medium, OpenFault, Unit};
 
 // Whether a length is a multiple of the unit's size.
@@ -28,31 +29,26 @@ pub fn is_sized<M: Medium>(medium: &M) -> bool
         && is_multiple(unit, len / 2 - units)
 }
 
-// Whether neither slot counts.
-fn neither_counts<M: Medium>(medium: &M) -> bool
-    requires { IsSized (M.state medium.now) }
-    ensures { IsTrue result ↔ ((¬ FirstCounts (M.state medium.now)) × (¬ SecondCounts (M.state medium.now))) }
-{
-    !counts(medium, 0) && !counts(medium, medium.len() / 2)
-}
-
-/// Whether the medium has an active image, or else the first fault of it.
-pub fn check<M: Medium>(medium: &M) -> Result<(), OpenFault>
+/// Where the slots of a medium stand that has an active image, or else the first fault of it.
+pub fn check<M: Medium>(medium: &M) -> Result<Places, OpenFault>
     ensures ok { OnOk result (HasImage (M.state medium.now)) }
+    ensures active { IfOk result (λ p. p.active ≡ active_at (gate_of (M.state medium.now)) (M.state medium.now).bytes) }
+    ensures spare { IfOk result (λ p. p.spare ≡ spare_at (gate_of (M.state medium.now)) (M.state medium.now).bytes) }
     ensures fault { IfErr result (λ fault. IsOpenFault fault (M.state medium.now)) }
 {
     if !is_sized(medium) {
         return Err(OpenFault::WrongSize);
     }
-    if neither_counts(medium) {
+    let counted = count_slots(medium);
+    if is_none(counted) {
         return Err(OpenFault::NoImage);
     }
-    let places = find_places(medium);
-    if !is_newest(medium, places.active, places.spare) {
+    let places = find_places(medium, counted);
+    if !has_newest(medium, places, counted) {
         return Err(OpenFault::TwoImages);
     }
     match header_len(medium, places.active) {
-        Some(_) => Ok(()),
+        Some(_) => Ok(places),
         None => Err(OpenFault::BadHeader),
     }
 }

@@ -1,4 +1,4 @@
-//! What is read of a medium to tell which slot is active. Nothing of it is kept between calls.
+//! What is read of the slots of a medium.
 ghost use Rattle.std.specs.Prelude.{◌≡◌, ℕ, ◌+◌, ◌*◌, ◌≤◌, ◌<◌, length, take, drop, slice_index, slice_range, ◌==◌, IfSome, IfNone};
 ghost use Rattle.std.specs.Int.{w32, from_le_bytes};
 ghost use Rattle.dfu_slots.specs.Layout.{OPEN, slot_size, generation, version, HasHeader};
@@ -10,21 +10,11 @@ ghost use Rattle.dfu_slots.specs.Image.{
   Counts,
   is_intact,
   counts,
-  is_newest,
-  active_at,
-  spare_at,
 };
 
 use crate::Medium;
 use crate::layout::{OLD_VERSION, OPEN_GATE, VERSION, gate_size, make_header};
 use crate::register::register_of;
-
-/// Where the active slot stands, and where the spare one does.
-#[derive(Clone, Copy, Drop)]
-pub struct Places {
-    pub active: u32,
-    pub spare: u32,
-}
 
 fn byte_at<M: Medium>(medium: &M, at: u32) -> u8
     requires { at < length (M.state medium.now).bytes }
@@ -107,38 +97,6 @@ pub(crate) fn generation<M: Medium>(medium: &M, at: u32) -> u8
     ensures { result ≡ generation (slot_of (M.state medium.now) at) }
 {
     byte_at(medium, at + gate_of(medium))
-}
-
-/// Whether the first of two slots counts, and the other one does not, or is one generation behind.
-pub(crate) fn is_newest<M: Medium>(medium: &M, mine: u32, other: u32) -> bool
-    requires sized { IsSized (M.state medium.now) }
-    requires mine { mine + slot_size (M.state medium.now).bytes ≤ length (M.state medium.now).bytes }
-    requires other { other + slot_size (M.state medium.now).bytes ≤ length (M.state medium.now).bytes }
-    ensures { result ≡ is_newest (slot_of (M.state medium.now) mine) (slot_of (M.state medium.now) other) }
-{
-    counts(medium, mine)
-        && (!counts(medium, other)
-            || generation(medium, mine) == generation(medium, other).wrapping_add(1))
-}
-
-/// Where the two slots stand.
-pub(crate) fn find_places<M: Medium>(medium: &M) -> Places
-    requires { IsSized (M.state medium.now) }
-    ensures active { result.active ≡ active_at (gate_of (M.state medium.now)) (M.state medium.now).bytes }
-    ensures spare { result.spare ≡ spare_at (gate_of (M.state medium.now)) (M.state medium.now).bytes }
-{
-    let second = medium.len() / 2;
-    if is_newest(medium, 0, second) {
-        Places {
-            active: 0,
-            spare: second,
-        }
-    } else {
-        Places {
-            active: second,
-            spare: 0,
-        }
-    }
 }
 
 /// The length in the header of a slot that counts, if that is a well-formed header of an image that fits. One of

@@ -6,30 +6,34 @@ ghost use Rattle.dfu_slots.specs.Image.{capacity_of, Active, HasImage};
 ghost use Rattle.dfu_slots.specs.Seen.{store_on, fused, image_of, spare_of, is_begun, room_of, is_shaped, format_series};
 ghost use Rattle.dfu_slots.specs.Changes.{CanFormat, IsFormatFault, IsOpenFault};
 
+use crate::places::{Places, look};
 use crate::puts::Puts;
-use crate::read::{capacity_of, find_places, header_len, read_data};
+use crate::read::{capacity_of, header_len, read_data};
 use crate::{Faulty, FormatFault, Medium, OpenFault, format, open};
 use std::marker::Model;
 
 /// Two image slots on a medium. One of them is active and holds the image; the other one is the
-/// spare, which takes the next image piece by piece. Which one is active is read from the medium at each call.
+/// spare, which takes the next image piece by piece. Which one is active is found
+/// when the store is made, and again after each `commit`.
 ///
 /// The medium is written in whole units; of the bytes put, what makes no whole unit yet is held back.
 #[derive(Drop)]
 pub struct Slots<M: Medium> {
     pub(crate) medium: M,
     pub(crate) puts: Puts,
+    // Found when the store was made, and again after each `commit`: to look costs a register over each open slot.
+    pub(crate) places: Places,
 }
 
 impl<M: Medium> Model for Slots<M> {
     ghost use Rattle.dfu_slots.specs.Seen.{SlotsState, store_of};
-    ghost use Rattle.dfu_slots.specs.inside.Store.{IsStore};
+    ghost use Rattle.dfu_slots.specs.inside.Store.{IsKept};
 
     ghost Value = { SlotsState };
 
     ghost view = { λ s. store_of (M.state s.medium) s.puts.held.items s.puts.end };
 
-    ghost invariant = { λ s. IsStore (store_of (M.state s.medium) s.puts.held.items s.puts.end) };
+    ghost invariant = { λ s. IsKept (store_of (M.state s.medium) s.puts.held.items s.puts.end) s.places.active s.places.spare };
 }
 
 impl<M: Medium> Slots<M> {
@@ -65,10 +69,14 @@ impl<M: Medium> Slots<M> {
         }
         let mut medium = medium;
         match format::write_image(&mut medium, image) {
-            Ok(()) => Ok(Slots {
-                medium,
-                puts: Puts::nothing(),
-            }),
+            Ok(()) => {
+                let places = look(&medium);
+                Ok(Slots {
+                    medium,
+                    puts: Puts::nothing(),
+                    places,
+                })
+            }
             Err(_) => Err((FormatFault::Failed, medium)),
         }
     }
@@ -91,13 +99,14 @@ impl<M: Medium> Slots<M> {
         ensures fault { IfErr result (λ e. IsOpenFault e.0 (M.state medium)) }
         ensures refused { OnErr result (¬ HasImage (M.state medium)) }
     {
-        if let Err(fault) = open::check(&medium) {
-            return Err((fault, medium));
+        match open::check(&medium) {
+            Ok(places) => Ok(Slots {
+                medium,
+                puts: Puts::nothing(),
+                places,
+            }),
+            Err(fault) => Err((fault, medium)),
         }
-        Ok(Slots {
-            medium,
-            puts: Puts::nothing(),
-        })
     }
 
     /// How many bytes an image may have: C, from 1 to 16,777,216.
@@ -125,8 +134,7 @@ impl<M: Medium> Slots<M> {
         ensures active { Active self.now.medium (image_of self.now) }
         ensures has_image { HasImage self.now.medium }
     {
-        let places = find_places(&self.medium);
-        match header_len(&self.medium, places.active) {
+        match header_len(&self.medium, self.places.active) {
             Some(len) => len,
             None => unreachable!(),
         }
@@ -138,8 +146,7 @@ impl<M: Medium> Slots<M> {
         ensures bytes { out.new ≡ slice_range (image_of self.now) at (at + length out.old) }
         ensures active { Active self.now.medium (image_of self.now) }
     {
-        let places = find_places(&self.medium);
-        read_data(&self.medium, places.active, at, out);
+        read_data(&self.medium, self.places.active, at, out);
     }
 
     /// Opens its own medium anew, as after a loss of power: what was put is forgotten. `open` would not
@@ -151,7 +158,7 @@ impl<M: Medium> Slots<M> {
     {
         self.puts.clear();
         match open::check(&self.medium) {
-            Ok(()) => {}
+            Ok(places) => self.places = places,
             Err(_) => unreachable!(),
         }
     }
@@ -169,7 +176,11 @@ impl<M: Medium> Slots<M> {
         ensures medium { M.state result ≡ self.medium }
         ensures has_image { HasImage (M.state result) }
     {
-        let Slots { medium, puts: _ } = self;
+        let Slots {
+            medium,
+            puts: _,
+            places: _,
+        } = self;
         medium
     }
 }

@@ -9,18 +9,19 @@ ghost use Rattle.dfu_slots.specs.inside.Store.{HasPuts};
 ghost use Rattle.dfu_slots.specs.Changes.{Changes};
 
 use crate::layout::CLOSED_GATE;
+use crate::places::Places;
 use crate::puts::{Puts, put_units};
-use crate::read::{Places, capacity_of, data_at, find_places, generation, is_open};
+use crate::read::{capacity_of, data_at, generation, is_open};
 use crate::writes::{open_slot, write_filled, write_gate};
 use crate::{Failed, Medium, PutFault};
 
 // Closes the spare's gate, where it reads open.
-fn close_spare<M: Medium>(medium: &mut M) -> Result<(), Failed>
-    requires { IsSized (M.state medium.old) }
+fn close_spare<M: Medium>(medium: &mut M, places: Places) -> Result<(), Failed>
+    requires sized { IsSized (M.state medium.old) }
+    requires spare { places.spare ≡ spare_at (gate_of (M.state medium.old)) (M.state medium.old).bytes }
     ensures { let was = M.state medium.old in
         Series was (begin_writes (gate_of was) was.bytes) result (M.state medium.new) }
 {
-    let places = find_places(medium);
     if is_open(medium, places.spare) {
         return write_gate(medium, places.spare, CLOSED_GATE);
     }
@@ -28,14 +29,19 @@ fn close_spare<M: Medium>(medium: &mut M) -> Result<(), Failed>
 }
 
 /// Closes the spare's gate, where it reads open, and forgets what was put.
-pub(crate) fn begin<M: Medium>(medium: &mut M, puts: &mut Puts) -> Result<(), PutFault>
-    requires { IsSized (M.state medium.old) }
+pub(crate) fn begin<M: Medium>(
+    medium: &mut M,
+    puts: &mut Puts,
+    places: Places,
+) -> Result<(), PutFault>
+    requires sized { IsSized (M.state medium.old) }
+    requires spare { places.spare ≡ spare_at (gate_of (M.state medium.old)) (M.state medium.old).bytes }
     ensures changes { Changes (store_of (M.state medium.old) puts.old.held.items puts.old.end) (Begin) result
         (store_of (M.state medium.new) puts.new.held.items puts.new.end) }
     ensures fault { OnErr result (IsErrOf result PutFault.Failed) }
 {
     puts.clear();
-    match close_spare(medium) {
+    match close_spare(medium, places) {
         Ok(()) => Ok(()),
         Err(_) => Err(PutFault::Failed),
     }
@@ -45,10 +51,12 @@ pub(crate) fn begin<M: Medium>(medium: &mut M, puts: &mut Puts) -> Result<(), Pu
 pub(crate) fn put<M: Medium>(
     medium: &mut M,
     puts: &mut Puts,
+    places: Places,
     at: u32,
     bytes: &[u8],
 ) -> Result<(), PutFault>
     requires sized { IsSized (M.state medium.old) }
+    requires spare { places.spare ≡ spare_at (gate_of (M.state medium.old)) (M.state medium.old).bytes }
     requires puts { HasPuts (store_of (M.state medium.old) puts.old.held.items puts.old.end) }
     requires place { at ≡ puts.old.end }
     requires short { length bytes.now ≤ 4096 }
@@ -59,7 +67,6 @@ pub(crate) fn put<M: Medium>(
         ((¬ IsOpen (spare_slot (store_on (M.state medium.old)))) ×
         (capacity_of (M.state medium.old) < at + length bytes.now)) }
 {
-    let places = find_places(medium);
     if is_open(medium, places.spare) {
         return Err(PutFault::NotBegun);
     }
@@ -103,8 +110,15 @@ fn open_spare<M: Medium>(
 }
 
 /// Makes the first `len` bytes of what was put the image of the spare, and opens it. It forgets what was put.
-pub(crate) fn commit<M: Medium>(medium: &mut M, puts: &mut Puts, len: u32) -> Result<(), PutFault>
+pub(crate) fn commit<M: Medium>(
+    medium: &mut M,
+    puts: &mut Puts,
+    places: Places,
+    len: u32,
+) -> Result<(), PutFault>
     requires sized { IsSized (M.state medium.old) }
+    requires active { places.active ≡ active_at (gate_of (M.state medium.old)) (M.state medium.old).bytes }
+    requires spare { places.spare ≡ spare_at (gate_of (M.state medium.old)) (M.state medium.old).bytes }
     requires puts { HasPuts (store_of (M.state medium.old) puts.old.held.items puts.old.end) }
     requires end { len ≤ puts.old.end }
     ensures changes { Changes (store_of (M.state medium.old) puts.old.held.items puts.old.end) (Commit len) result
@@ -112,7 +126,6 @@ pub(crate) fn commit<M: Medium>(medium: &mut M, puts: &mut Puts, len: u32) -> Re
     ensures not_begun { IsErrOf result PutFault.NotBegun ↔ IsOpen (spare_slot (store_on (M.state medium.old))) }
     ensures fits { ¬ IsErrOf result PutFault.TooLarge }
 {
-    let places = find_places(medium);
     if is_open(medium, places.spare) {
         return Err(PutFault::NotBegun);
     }

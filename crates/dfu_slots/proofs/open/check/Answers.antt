@@ -1,19 +1,29 @@
 use Rattle.std.proofs.Common.{sym, ◌∙◌, arith}
-use Rattle.std.proofs.lemmas.Bool.{both_ways}
+use Rattle.dfu_slots.specs.Layout.{slot_size}
 use Rattle.dfu_slots.specs.Image.{gate_of, slot_of}
+use Rattle.dfu_slots.proofs.Counting.{neither_counts, some_counts}
 use Rattle.dfu_slots.proofs.Stands.{two_slots}
 use Rattle.dfu_slots.proofs.Newest.{newest_from, active_end}
 use Rattle.dfu_slots.proofs.Opening.{two_images_there, has_image_there, bad_header_there}
 use Rattle.dfu_slots.proofs.open.check.Goals as goal
 
-pub returns-then-not-is_newest-clause-fault : goal.returns-then-not-is_newest-clause-fault
-returns-then-not-is_newest-clause-fault g c =
+pub returns-then-is_none-clause-fault : goal.returns-then-is_none-clause-fault
+returns-then-is_none-clause-fault g c =
     let m = g.M.Medium.state c.args.medium.now in
-    let sized = c.is_sized.ensures.0 c.if-not-is_sized.false in
+    let counted = c.count_slots-counted in
+    let none = neither_counts (slot_of m 0) (slot_of m (slot_size m.bytes)) counted.result.first counted.result.second
+    counted.ensures.first counted.ensures.second (sym c.is_none.ensures ∙ c.if-is_none.true) in
+    (c.is_sized.ensures.0 c.if-not-is_sized.false, none.0, none.1)
+
+pub returns-then-not-has_newest-clause-fault : goal.returns-then-not-has_newest-clause-fault
+returns-then-not-has_newest-clause-fault g c =
+    let m = g.M.Medium.state c.args.medium.now in
     let found = c.find_places-places in
+    let counted = c.count_slots-counted in
     let both = two_images_there m found.result.active found.result.spare found.ensures.active found.ensures.spare
-    (sym c.is_newest.ensures ∙ c.if-not-is_newest.true) (λ none. both_ways _ c.if-neither_counts.false (c.neither_counts.ensures.1 none)) in
-    (sized, both.0, both.1, both.2)
+    (sym c.has_newest.ensures ∙ c.if-not-has_newest.true) (some_counts (slot_of m 0) (slot_of m (slot_size m.bytes))
+    counted.result.first counted.result.second counted.ensures.first counted.ensures.second (sym c.is_none.ensures ∙ c.if-is_none.false)) in
+    (c.is_sized.ensures.0 c.if-not-is_sized.false, both.0, both.1, both.2)
 
 pub returns-in-Some-clause-ok : goal.returns-in-Some-clause-ok
 returns-in-Some-clause-ok g c =
@@ -21,7 +31,7 @@ returns-in-Some-clause-ok g c =
     let sized = c.is_sized.ensures.0 c.if-not-is_sized.false in
     let found = c.find_places-places in
     has_image_there m found.result.active found.result.spare found.ensures.active found.ensures.spare c.in-Some.field-0 sized
-    (sym c.is_newest.ensures ∙ c.if-not-is_newest.false) c.in-Some.ensures.some
+    (sym c.has_newest.ensures ∙ c.if-not-has_newest.false) c.in-Some.ensures.some
 
 pub returns-in-None-clause-fault : goal.returns-in-None-clause-fault
 returns-in-None-clause-fault g c =
@@ -30,14 +40,14 @@ returns-in-None-clause-fault g c =
     let found = c.find_places-places in (
       sized,
       bad_header_there m found.result.active found.result.spare found.ensures.active found.ensures.spare
-          (sym c.is_newest.ensures ∙ c.if-not-is_newest.false) c.in-None.ensures.none,
+          (sym c.has_newest.ensures ∙ c.if-not-has_newest.false) c.in-None.ensures.none,
     )
 
 pub header_len-requires-clause-counts : goal.header_len-requires-clause-counts
 header_len-requires-clause-counts g c =
     let m = g.M.Medium.state c.args.medium.now in
     let found = c.find_places-places in
-    (newest_from (slot_of m found.result.active) (slot_of m found.result.spare) (sym c.is_newest.ensures ∙ c.if-not-is_newest.false)).counts
+    (newest_from (slot_of m found.result.active) (slot_of m found.result.spare) (sym c.has_newest.ensures ∙ c.if-not-has_newest.false)).counts
 
 pub header_len-requires-clause-within : goal.header_len-requires-clause-within
 header_len-requires-clause-within g c =

@@ -10,9 +10,9 @@ returns-clause-room g c =
 pub returns-clause-shape : goal.returns-clause-shape
 returns-clause-shape g c =
     let s : SlotsState = store_of (g.M.Medium.state c.self.inside.medium) c.self.inside.puts.held.items c.self.inside.puts.end in
-    rw (← c.self.view_is) (shaped s c.self.invariant)
+    rw (← c.self.view_is) (shaped s c.self.invariant.store)
 
 pub returns-clause-image : goal.returns-clause-image
 returns-clause-image g c =
     let s : SlotsState = store_of (g.M.Medium.state c.self.inside.medium) c.self.inside.puts.held.items c.self.inside.puts.end in
-    rw (← c.self.view_is) (image_active s c.self.invariant.has_image)
+    rw (← c.self.view_is) (image_active s c.self.invariant.store.has_image)

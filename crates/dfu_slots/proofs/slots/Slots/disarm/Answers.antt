@@ -1,21 +1,29 @@
+use Rattle.std.proofs.Common.{sym, ◌∙◌, ap}
+use Rattle.dfu_slots.specs.Medium.{MediumState}
 use Rattle.dfu_slots.specs.Medium.Fuse.{Whole}
+use Rattle.dfu_slots.specs.Image.{gate_of, active_at, spare_at}
 use Rattle.dfu_slots.proofs.Seeing.{fuse_leaves}
 use Rattle.dfu_slots.proofs.slots.Slots.disarm.Goals as goal
 
 pub invariant_of-self : goal.invariant_of-self
-invariant_of-self g c = (fuse_leaves c.self.view_is c.self.invariant (g.M.Medium.state c.disarm.new.self) Whole c.disarm.ensures).store
+invariant_of-self g c =
+    record {
+      store = (fuse_leaves c.self.view_is c.self.invariant.store (g.M.Medium.state c.disarm.new.self) Whole c.disarm.ensures).store;
+      active_there = c.self.invariant.active_there ∙ sym (ap (λ (m : MediumState). active_at (gate_of m) m.bytes) c.disarm.ensures);
+      spare_there = c.self.invariant.spare_there ∙ sym (ap (λ (m : MediumState). spare_at (gate_of m) m.bytes) c.disarm.ensures);
+    }
 
 pub returns-clause-image : goal.returns-clause-image
-returns-clause-image g c = (fuse_leaves c.self.view_is c.self.invariant (g.M.Medium.state c.disarm.new.self) Whole c.disarm.ensures).image
+returns-clause-image g c = (fuse_leaves c.self.view_is c.self.invariant.store (g.M.Medium.state c.disarm.new.self) Whole c.disarm.ensures).image
 
 pub returns-clause-spare : goal.returns-clause-spare
-returns-clause-spare g c = (fuse_leaves c.self.view_is c.self.invariant (g.M.Medium.state c.disarm.new.self) Whole c.disarm.ensures).spare
+returns-clause-spare g c = (fuse_leaves c.self.view_is c.self.invariant.store (g.M.Medium.state c.disarm.new.self) Whole c.disarm.ensures).spare
 
 pub returns-clause-begun : goal.returns-clause-begun
-returns-clause-begun g c = (fuse_leaves c.self.view_is c.self.invariant (g.M.Medium.state c.disarm.new.self) Whole c.disarm.ensures).begun
+returns-clause-begun g c = (fuse_leaves c.self.view_is c.self.invariant.store (g.M.Medium.state c.disarm.new.self) Whole c.disarm.ensures).begun
 
 pub returns-clause-room : goal.returns-clause-room
-returns-clause-room g c = (fuse_leaves c.self.view_is c.self.invariant (g.M.Medium.state c.disarm.new.self) Whole c.disarm.ensures).room
+returns-clause-room g c = (fuse_leaves c.self.view_is c.self.invariant.store (g.M.Medium.state c.disarm.new.self) Whole c.disarm.ensures).room
 
 pub returns-clause-shape : goal.returns-clause-shape
-returns-clause-shape g c = (fuse_leaves c.self.view_is c.self.invariant (g.M.Medium.state c.disarm.new.self) Whole c.disarm.ensures).shape
+returns-clause-shape g c = (fuse_leaves c.self.view_is c.self.invariant.store (g.M.Medium.state c.disarm.new.self) Whole c.disarm.ensures).shape

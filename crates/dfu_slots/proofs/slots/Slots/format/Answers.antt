@@ -1,3 +1,4 @@
+use Rattle.std.proofs.Common.{[], refl}
 use Rattle.dfu_slots.specs.Seen.{format_series}
 use Rattle.dfu_slots.proofs.Formatting.{can_format, format_leaves}
 use Rattle.dfu_slots.proofs.Series.{broken_rose}
@@ -5,10 +6,21 @@ use Rattle.dfu_slots.proofs.slots.Slots.format.Goals as goal
 
 pub invariant_of-result : goal.invariant_of-result
 invariant_of-result g c =
+    record {
+      store = (format_leaves (g.M.Medium.state c.args.medium) (g.M.Medium.state c.write_image.new.medium) c.args.image.now
+          (can_format (g.M.Medium.state c.args.medium) c.args.image.now c.capacity_of.result c.from.result
+          (c.is_sized.ensures.0 c.if-not-is_sized.false) c.if-image-from.false c.from.ensures c.capacity_of.ensures)
+          c.in-Ok.ensures c.nothing.result.held.items c.nothing.result.end c.nothing.ensures.held c.nothing.ensures.end).fresh.store;
+      active_there = c.look-places.ensures.active;
+      spare_there = c.look-places.ensures.spare;
+    }
+
+pub look-places-requires : goal.look-places-requires
+look-places-requires g c =
     (format_leaves (g.M.Medium.state c.args.medium) (g.M.Medium.state c.write_image.new.medium) c.args.image.now
     (can_format (g.M.Medium.state c.args.medium) c.args.image.now c.capacity_of.result c.from.result
     (c.is_sized.ensures.0 c.if-not-is_sized.false) c.if-image-from.false c.from.ensures c.capacity_of.ensures)
-    c.in-Ok.ensures c.nothing.result.held.items c.nothing.result.end c.nothing.ensures.held c.nothing.ensures.end).fresh.store
+    c.in-Ok.ensures [] 0 refl refl).fresh.store.has_image.active.sized
 
 pub returns-in-Ok-clause-active : goal.returns-in-Ok-clause-active
 returns-in-Ok-clause-active g c =

@@ -11,12 +11,12 @@ read_data-requires-clause-within g c =
     let s : SlotsState = store_of (g.M.Medium.state c.self.inside.medium) c.self.inside.puts.held.items c.self.inside.puts.end in
     let asked : c.args.at + length c.args.out.now ≤ length (image_of s) =
     subst (λ (z : SlotsState). c.args.at + length c.args.out.now ≤ length (image_of z)) (sym c.self.view_is) c.requires in
-    let a : Active s.medium (image_of s) = image_active s c.self.invariant.has_image in
+    let a : Active s.medium (image_of s) = image_active s c.self.invariant.store.has_image in
     omega (
       arith,
       asked,
-      active_fits (gate_of s.medium) s.medium.bytes c.find_places-places.result.active
-          c.find_places-places.ensures.active a.at a.spare (image_of s) (standing a),
+      active_fits (gate_of s.medium) s.medium.bytes c.self.inside.places.active
+          c.self.invariant.active_there a.at a.spare (image_of s) (standing a),
     )
 
 pub returns-clause-bytes : goal.returns-clause-bytes
@@ -24,12 +24,12 @@ returns-clause-bytes g c =
     let s : SlotsState = store_of (g.M.Medium.state c.self.inside.medium) c.self.inside.puts.held.items c.self.inside.puts.end in
     let asked : c.args.at + length c.args.out.now ≤ length (image_of s) =
     subst (λ (z : SlotsState). c.args.at + length c.args.out.now ≤ length (image_of z)) (sym c.self.view_is) c.requires in
-    let a : Active s.medium (image_of s) = image_active s c.self.invariant.has_image in
+    let a : Active s.medium (image_of s) = image_active s c.self.invariant.store.has_image in
     rw (← c.self.view_is) (c.read_data.ensures
-    ∙ active_part (gate_of s.medium) s.medium.bytes c.find_places-places.result.active c.find_places-places.ensures.active a.at a.spare
+    ∙ active_part (gate_of s.medium) s.medium.bytes c.self.inside.places.active c.self.invariant.active_there a.at a.spare
     (image_of s) (standing a) c.args.at (c.args.at + length c.args.out.now) asked)
 
 pub returns-clause-active : goal.returns-clause-active
 returns-clause-active g c =
     let s : SlotsState = store_of (g.M.Medium.state c.self.inside.medium) c.self.inside.puts.held.items c.self.inside.puts.end in
-    rw (← c.self.view_is) (image_active s c.self.invariant.has_image)
+    rw (← c.self.view_is) (image_active s c.self.invariant.store.has_image)

@@ -6,24 +6,29 @@ use Rattle.dfu_slots.proofs.slots.Slots.reopen.Goals as goal
 
 pub unreachable-requires : goal.unreachable-requires
 unreachable-requires g c =
-    no_fault c.in-Err.field-0 (g.M.Medium.state c.self.inside.medium) c.in-Err.ensures.fault c.self.invariant.has_image
+    no_fault c.in-Err.field-0 (g.M.Medium.state c.self.inside.medium) c.in-Err.ensures.fault c.self.invariant.store.has_image
 
 pub invariant_of-self : goal.invariant_of-self
-invariant_of-self g c = (fresh_leaves (g.M.Medium.state c.self.inside.medium) c.self.invariant.has_image c.clear.new.self.held.items
-    c.clear.new.self.end c.clear.ensures.held c.clear.ensures.end).store
+invariant_of-self g c =
+    record {
+      store = (fresh_leaves (g.M.Medium.state c.self.inside.medium) c.self.invariant.store.has_image c.clear.new.self.held.items
+          c.clear.new.self.end c.clear.ensures.held c.clear.ensures.end).store;
+      active_there = c.in-Ok.ensures.active;
+      spare_there = c.in-Ok.ensures.spare;
+    }
 
 pub returns-clause-store : goal.returns-clause-store
 returns-clause-store g c =
-    rw (← c.self.view_is) (fresh_leaves (g.M.Medium.state c.self.inside.medium) c.self.invariant.has_image c.clear.new.self.held.items
+    rw (← c.self.view_is) (fresh_leaves (g.M.Medium.state c.self.inside.medium) c.self.invariant.store.has_image c.clear.new.self.held.items
     c.clear.new.self.end c.clear.ensures.held c.clear.ensures.end).fresh
 
 pub returns-clause-image : goal.returns-clause-image
 returns-clause-image g c =
     let inside = c.self.inside in
     let s : SlotsState = store_of (g.M.Medium.state inside.medium) inside.puts.held.items inside.puts.end in
-    rw (← c.self.view_is) (ap image_of (fresh_leaves s.medium c.self.invariant.has_image c.clear.new.self.held.items c.clear.new.self.end
+    rw (← c.self.view_is) (ap image_of (fresh_leaves s.medium c.self.invariant.store.has_image c.clear.new.self.held.items c.clear.new.self.end
     c.clear.ensures.held c.clear.ensures.end).fresh ∙ reopened_image s)
 
 pub returns-clause-shape : goal.returns-clause-shape
-returns-clause-shape g c = (fresh_leaves (g.M.Medium.state c.self.inside.medium) c.self.invariant.has_image c.clear.new.self.held.items
+returns-clause-shape g c = (fresh_leaves (g.M.Medium.state c.self.inside.medium) c.self.invariant.store.has_image c.clear.new.self.held.items
     c.clear.new.self.end c.clear.ensures.held c.clear.ensures.end).shape

@@ -1,0 +1,107 @@
+//! Where the active slot and the spare one stand.
+ghost use Rattle.std.specs.Prelude.{◌≡◌, ◌+◌, ◌≤◌, ◌&&◌, not, length};
+ghost use Rattle.dfu_slots.specs.Layout.{slot_size};
+ghost use Rattle.dfu_slots.specs.Image.{gate_of, IsSized, slot_of, counts, is_newest, active_at, spare_at};
+
+use crate::Medium;
+use crate::read::{counts, generation};
+
+/// Where the active slot stands, and where the spare one does.
+#[derive(Clone, Copy, Drop)]
+pub struct Places {
+    pub active: u32,
+    pub spare: u32,
+}
+
+/// Which of the two slots count.
+#[derive(Clone, Copy, Drop)]
+pub struct Counted {
+    pub first: bool,
+    pub second: bool,
+}
+
+/// Which of the two slots count. Of an open slot of version 2 the whole image is read, once, for its register.
+pub(crate) fn count_slots<M: Medium>(medium: &M) -> Counted
+    requires { IsSized (M.state medium.now) }
+    ensures first { result.first ≡ counts (slot_of (M.state medium.now) 0) }
+    ensures second { result.second ≡ counts (slot_of (M.state medium.now) (slot_size (M.state medium.now).bytes)) }
+{
+    Counted {
+        first: counts(medium, 0),
+        second: counts(medium, medium.len() / 2),
+    }
+}
+
+/// Whether neither slot counts.
+pub(crate) fn is_none(counted: Counted) -> bool
+    ensures { result ≡ (not counted.first && not counted.second) }
+{
+    !counted.first && !counted.second
+}
+
+// Whether the first of two slots counts, and the other one does not, or is one generation behind.
+fn is_newest<M: Medium>(
+    medium: &M,
+    mine: u32,
+    other: u32,
+    mine_counts: bool,
+    other_counts: bool,
+) -> bool
+    requires sized { IsSized (M.state medium.now) }
+    requires mine { mine + slot_size (M.state medium.now).bytes ≤ length (M.state medium.now).bytes }
+    requires other { other + slot_size (M.state medium.now).bytes ≤ length (M.state medium.now).bytes }
+    requires mine_counts { mine_counts ≡ counts (slot_of (M.state medium.now) mine) }
+    requires other_counts { other_counts ≡ counts (slot_of (M.state medium.now) other) }
+    ensures { result ≡ is_newest (slot_of (M.state medium.now) mine) (slot_of (M.state medium.now) other) }
+{
+    mine_counts
+        && (!other_counts || generation(medium, mine) == generation(medium, other).wrapping_add(1))
+}
+
+/// Where the two slots stand; where neither is the newest, as if the second were.
+pub(crate) fn find_places<M: Medium>(medium: &M, counted: Counted) -> Places
+    requires sized { IsSized (M.state medium.now) }
+    requires first { counted.first ≡ counts (slot_of (M.state medium.now) 0) }
+    requires second { counted.second ≡ counts (slot_of (M.state medium.now) (slot_size (M.state medium.now).bytes)) }
+    ensures active { result.active ≡ active_at (gate_of (M.state medium.now)) (M.state medium.now).bytes }
+    ensures spare { result.spare ≡ spare_at (gate_of (M.state medium.now)) (M.state medium.now).bytes }
+{
+    let second = medium.len() / 2;
+    if is_newest(medium, 0, second, counted.first, counted.second) {
+        Places {
+            active: 0,
+            spare: second,
+        }
+    } else {
+        Places {
+            active: second,
+            spare: 0,
+        }
+    }
+}
+
+/// Whether the slot that was found to be the active one is the newest.
+pub(crate) fn has_newest<M: Medium>(medium: &M, places: Places, counted: Counted) -> bool
+    requires sized { IsSized (M.state medium.now) }
+    requires active { places.active ≡ active_at (gate_of (M.state medium.now)) (M.state medium.now).bytes }
+    requires spare { places.spare ≡ spare_at (gate_of (M.state medium.now)) (M.state medium.now).bytes }
+    requires first { counted.first ≡ counts (slot_of (M.state medium.now) 0) }
+    requires second { counted.second ≡ counts (slot_of (M.state medium.now) (slot_size (M.state medium.now).bytes)) }
+    ensures { result ≡ is_newest (slot_of (M.state medium.now) places.active) (slot_of (M.state medium.now) places.spare) }
+{
+    let Places { active, spare } = places;
+    if active == 0 {
+        is_newest(medium, active, spare, counted.first, counted.second)
+    } else {
+        is_newest(medium, active, spare, counted.second, counted.first)
+    }
+}
+
+/// Looks where the two slots stand.
+pub(crate) fn look<M: Medium>(medium: &M) -> Places
+    requires { IsSized (M.state medium.now) }
+    ensures active { result.active ≡ active_at (gate_of (M.state medium.now)) (M.state medium.now).bytes }
+    ensures spare { result.spare ≡ spare_at (gate_of (M.state medium.now)) (M.state medium.now).bytes }
+{
+    find_places(medium, count_slots(medium))
+}
