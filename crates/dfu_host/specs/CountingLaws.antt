@@ -1,5 +1,5 @@
 -- Laws of what an upload keeps: it stays counted, row by row, whatever is heard.
-use Rattle.std.proofs.Common.{◌≡◌, ℕ, zero, suc, pred, ◌*◌, ◌<◌, ◌≤◌, nat_lt, ◌==◌, Bool, true, false, cond, List, [], ◌∷◌, length, refl, sym, ap, ◌∙◌, subst, arith, length-append}
+use Rattle.std.proofs.Common.{◌≡◌, ℕ, zero, suc, pred, ◌*◌, ◌<◌, ◌≤◌, nat_lt, ◌==◌, Bool, true, false, List, [], ◌∷◌, length, refl, sym, ap, ◌∙◌, subst, arith, length-append}
 use Rattle.std.proofs.Math.Nat.{suc-mul, mul-le-mul_right}
 use Rattle.std.proofs.lemmas.Bool.{eqb-true, eqb-false, ltb-true}
 use Rattle.dfu_wire.specs.declared.codes.Code.{Code}
@@ -8,48 +8,57 @@ use Rattle.dfu_wire.specs.declared.states.State.{State}
 use Rattle.dfu_wire.specs.declared.states.State.TheVariants as state
 use Rattle.dfu_host.specs.declared.report.Report.TheVariants as report
 use Rattle.dfu_host.specs.declared.seen.Seen.{Seen}
-use Rattle.dfu_host.specs.Table.{Goal, ToLoad, ToFetch, Task, Phase, Find, FindAgain, Detach, Enter, Clear, Quit, WaitFind, ResetFind, Block, Ask, Poll, WaitPoll, Close, AskLast, Manifest, WaitManifest, WaitLast, Trouble, Fetch, LastUploaded, Last, GiveUp, Over, OverUploaded, Heard, Acked, Status, StateIs, Part, Stalled, Waited, WasReset, Restarted, start_of, pieces, listed, troubled, polled, manifested, asked, asked_last, on_status, on_state, on_ack, on_waited, on_reset, on_part, row}
+use Rattle.dfu_host.specs.Table.{Goal, ToLoad, ToFetch, Task, Phase, Find, Block, Ask, Poll, WaitPoll, Close, AskLast, Manifest, WaitManifest, WaitLast, Trouble, Fetch, LastUploaded, Last, GiveUp, Over, OverUploaded, Heard, Part, Restarted, start_of, pieces, troubled, polled, manifested, asked, asked_last, on_part, row}
 use Rattle.dfu_host.specs.Host.{HostState, budgeted, restarted, told, after_phase, after, HostRows, seen_all, sees}
+use Rattle.dfu_host.specs.CommonPhases.{IsCommon, CommonHolds}
+use Rattle.dfu_host.specs.RowLaws.{after_choice, after_ack, after_wait, after_reset, after_status, after_state, after_trouble, after_common}
 use Rattle.dfu_host.specs.Counting.{IsCounted, StaysCounted}
 
 start_counted : (task : Task) (goal : Goal) → task.goal ≡ goal → IsCounted task (start_of goal)
 start_counted task (ToLoad payload) e = tt
 start_counted task ToFetch e = (e, omega arith, omega arith)
 
-listed_counted : (task : Task) (start : Phase) (s : State) (poll : ℕ) → IsCounted task start → IsCounted task (listed start s poll)
-listed_counted task start state.DfuIdle poll c = c
-listed_counted task start s poll c = tt
+anywhere_counted : (task : Task) (phase : Phase) → IsCommon phase → IsCounted task phase
+anywhere_counted task (Fetch k kept) h = elim h [ ]
+anywhere_counted task (LastUploaded kept) h = elim h [ ]
+anywhere_counted task (Last r) h = elim h [ ]
+anywhere_counted task (Over r) h = elim h [ ]
+anywhere_counted task (OverUploaded kept) h = elim h [ ]
+anywhere_counted task phase h = tt
 
-troubled_counted : (task : Task) (start : Phase) (c : Code) (poll : ℕ) (s : State) → IsCounted task start
-    → IsCounted task (troubled start c poll s)
-troubled_counted task start code.Ok poll s h = listed_counted task start s poll h
-troubled_counted task start code.StalledPkt poll s h = listed_counted task start s poll h
-troubled_counted task start c poll state.Error h = tt
-troubled_counted task start c poll s h = listed_counted task start s poll h
+-- Nothing has to be known of what is heard.
+abbrev Any : Heard → Type 0
+Any heard = Unit {0}
 
-either_counted : (task : Task) (b : Bool) (x y : Phase) → (b ≡ true → IsCounted task x) → (b ≡ false → IsCounted task y)
-    → IsCounted task (cond b x y)
-either_counted task true x y p q = p refl
-either_counted task false x y p q = q refl
+common_counted : (task : Task) → CommonHolds task (IsCounted task) Any
+common_counted task = record {
+  anywhere = anywhere_counted task;
+  begins = λ c poll k. start_counted task task.goal refl;
+  refused = λ c. tt;
+  aborted = tt;
+}
 
-polled_counted : (task : Task) (start : Phase) (b n : ℕ) (c : Code) (poll : ℕ) (s : State) → IsCounted task start
-    → IsCounted task (polled start b n c poll s)
-polled_counted task start b n c poll state.DownloadSync h = tt
-polled_counted task start b n c poll state.DownloadBusy h = tt
-polled_counted task start b n c poll state.DownloadIdle h = either_counted task (suc n == b) Close (Block (suc n)) (λ e. tt) (λ e. tt)
-polled_counted task start b n c poll s h = troubled_counted task start c poll s h
+troubled_counted : (task : Task) (c : Code) (poll : ℕ) (s : State) → IsCounted task (troubled (start_of task.goal) c poll s)
+troubled_counted task c poll s = after_trouble task (IsCounted task) Any (common_counted task) c poll s tt
 
-manifested_counted : (task : Task) (start : Phase) (tolerant : Bool) (c : Code) (poll : ℕ) (s : State) → IsCounted task start
-    → IsCounted task (manifested start tolerant c poll s)
-manifested_counted task start true c poll state.ManifestSync h = tt
-manifested_counted task start true c poll state.Manifest h = tt
-manifested_counted task start true code.Ok poll state.DfuIdle h = tt
-manifested_counted task start true c poll s h = troubled_counted task start c poll s h
-manifested_counted task start false c poll state.ManifestSync h = tt
-manifested_counted task start false c poll state.Manifest h = tt
-manifested_counted task start false c poll state.DfuIdle h = tt
-manifested_counted task start false c poll state.ManifestWaitReset h = tt
-manifested_counted task start false c poll s h = troubled_counted task start c poll s h
+polled_counted : (task : Task) (b n : ℕ) (c : Code) (poll : ℕ) (s : State) → IsCounted task (polled (start_of task.goal) b n c poll s)
+polled_counted task b n c poll state.DownloadSync = tt
+polled_counted task b n c poll state.DownloadBusy = tt
+polled_counted task b n c poll state.DownloadIdle =
+    after_choice (IsCounted task) (suc n == b) Close (Block (suc n)) (λ e. tt) (λ e. tt)
+polled_counted task b n c poll s = troubled_counted task c poll s
+
+manifested_counted : (task : Task) (tolerant : Bool) (c : Code) (poll : ℕ) (s : State)
+    → IsCounted task (manifested (start_of task.goal) tolerant c poll s)
+manifested_counted task true c poll state.ManifestSync = tt
+manifested_counted task true c poll state.Manifest = tt
+manifested_counted task true code.Ok poll state.DfuIdle = tt
+manifested_counted task true c poll s = troubled_counted task c poll s
+manifested_counted task false c poll state.ManifestSync = tt
+manifested_counted task false c poll state.Manifest = tt
+manifested_counted task false c poll state.DfuIdle = tt
+manifested_counted task false c poll state.ManifestWaitReset = tt
+manifested_counted task false c poll s = troubled_counted task c poll s
 
 asked_counted : (task : Task) (n : ℕ) (s : State) → IsCounted task (asked n s)
 asked_counted task n state.DownloadSync = tt
@@ -62,46 +71,17 @@ asked_last_counted task state.ManifestSync = tt
 asked_last_counted task state.DownloadIdle = tt
 asked_last_counted task s = tt
 
-status_counted : (task : Task) (heard : Heard) (told : Code → ℕ → State → Phase) (stalled nothing : Phase)
-    → ((c : Code) (poll : ℕ) (s : State) → IsCounted task (told c poll s)) → IsCounted task stalled → IsCounted task nothing
-    → IsCounted task (on_status heard told stalled nothing)
-status_counted task (Status c poll s) told stalled nothing p q r = p c poll s
-status_counted task Stalled told stalled nothing p q r = q
-status_counted task heard told stalled nothing p q r = r
-
-state_counted : (task : Task) (heard : Heard) (told : State → Phase) (stalled nothing : Phase) → ((s : State) → IsCounted task (told s))
-    → IsCounted task stalled → IsCounted task nothing → IsCounted task (on_state heard told stalled nothing)
-state_counted task (StateIs s) told stalled nothing p q r = p s
-state_counted task Stalled told stalled nothing p q r = q
-state_counted task heard told stalled nothing p q r = r
-
-ack_counted : (task : Task) (heard : Heard) (acked stalled nothing : Phase) → IsCounted task acked → IsCounted task stalled
-    → IsCounted task nothing → IsCounted task (on_ack heard acked stalled nothing)
-ack_counted task Acked acked stalled nothing p q r = p
-ack_counted task Stalled acked stalled nothing p q r = q
-ack_counted task heard acked stalled nothing p q r = r
-
-waited_counted : (task : Task) (heard : Heard) (waited again : Phase) → IsCounted task waited → IsCounted task again
-    → IsCounted task (on_waited heard waited again)
-waited_counted task Waited waited again p q = p
-waited_counted task heard waited again p q = q
-
-reset_counted : (task : Task) (heard : Heard) (done again : Phase) → IsCounted task done → IsCounted task again
-    → IsCounted task (on_reset heard done again)
-reset_counted task WasReset done again p q = p
-reset_counted task heard done again p q = q
-
 part_counted : (task : Task) (k : ℕ) (kept : List ℕ) (heard : Heard) → 0 < task.transfer → IsCounted task (Fetch k kept)
     → IsCounted task (on_part task.transfer k kept heard)
 part_counted task k kept (Part bytes) some c =
     let t = task.transfer in
-    either_counted task (length bytes == t) _ _
-    (λ full. either_counted task (suc k == 65535) _ _ (λ e. tt) (λ more.
+    after_choice (IsCounted task) (length bytes == t) _ _
+    (λ full. after_choice (IsCounted task) (suc k == 65535) _ _ (λ e. tt) (λ more.
     let f : length bytes ≡ t = eqb-true _ _ full in
     let n : suc k ≡ 65535 → ⊥ = eqb-false _ _ more in
     let g : suc k < 65535 = omega (arith, c.1, n) in
     (c.0, g, omega (arith, c.2, f, length-append kept bytes, suc-mul k t))))
-    (λ other. either_counted task (nat_lt (length bytes) t) _ _
+    (λ other. after_choice (IsCounted task) (nat_lt (length bytes) t) _ _
     (λ short.
     let f : length bytes < t = ltb-true _ _ short in
     let g : suc k * t ≤ 65535 * t = mul-le-mul_right t (omega (arith, c.1)) in
@@ -111,42 +91,25 @@ part_counted task k kept heard some c = tt
 
 row_counted : (task : Task) (phase : Phase) (heard : Heard) → 0 < task.transfer → IsCounted task phase
     → IsCounted task (row task phase heard)
-row_counted task Find heard some c =
-    status_counted task heard _ FindAgain Find
-    (λ a poll s. listed_counted task (start_of task.goal) s poll (start_counted task task.goal refl)) tt tt
-row_counted task FindAgain heard some c =
-    status_counted task heard _ ResetFind FindAgain
-    (λ a poll s. listed_counted task (start_of task.goal) s poll (start_counted task task.goal refl)) tt tt
-row_counted task Detach heard some c = ack_counted task heard Enter Find Find tt tt tt
-row_counted task Enter heard some c =
-    either_counted task task.will_detach _ _ (λ x. waited_counted task heard Find Enter tt tt)
-    (λ x. reset_counted task heard Find Enter tt tt)
-row_counted task Clear heard some c = tt
-row_counted task Quit heard some c = tt
-row_counted task (WaitFind poll) heard some c = waited_counted task heard Find (WaitFind poll) tt tt
-row_counted task ResetFind heard some c = reset_counted task heard Find ResetFind tt tt
-row_counted task (Block n) heard some c = ack_counted task heard (Poll n) Trouble (Ask n) tt tt tt
-row_counted task (Ask n) heard some c = state_counted task heard (asked n) Trouble (Ask n) (asked_counted task n) tt tt
-row_counted task (Poll n) heard some c =
-    status_counted task heard _ Trouble (Poll n)
-    (λ a poll s. polled_counted task (start_of task.goal) (length (pieces task)) n a poll s (start_counted task task.goal refl)) tt tt
-row_counted task (WaitPoll n poll) heard some c = waited_counted task heard (Poll n) (WaitPoll n poll) tt tt
-row_counted task Close heard some c = ack_counted task heard Manifest Trouble AskLast tt tt tt
-row_counted task AskLast heard some c = state_counted task heard asked_last Trouble AskLast (asked_last_counted task) tt tt
-row_counted task Manifest heard some c =
-    status_counted task heard _ Trouble Manifest
-    (λ a poll s. manifested_counted task (start_of task.goal) task.tolerant a poll s (start_counted task task.goal refl)) tt tt
-row_counted task (WaitManifest poll) heard some c = waited_counted task heard Manifest (WaitManifest poll) tt tt
-row_counted task (WaitLast poll) heard some c = waited_counted task heard (Last report.Unconfirmed) (WaitLast poll) tt tt
-row_counted task Trouble heard some c =
-    status_counted task heard _ FindAgain Trouble
-    (λ a poll s. troubled_counted task (start_of task.goal) a poll s (start_counted task task.goal refl)) tt tt
+row_counted task (Block n) heard some c = after_ack (IsCounted task) heard (Poll n) Trouble (Ask n) tt tt tt
+row_counted task (Ask n) heard some c =
+    after_state (IsCounted task) Any heard (asked n) Trouble (Ask n) (λ s k. asked_counted task n s) tt tt tt
+row_counted task (Poll n) heard some c = after_status (IsCounted task) Any heard _ Trouble (Poll n)
+    (λ a poll s k. polled_counted task (length (pieces task)) n a poll s) tt tt tt
+row_counted task (WaitPoll n poll) heard some c = after_wait (IsCounted task) heard (Poll n) (WaitPoll n poll) tt tt
+row_counted task Close heard some c = after_ack (IsCounted task) heard Manifest Trouble AskLast tt tt tt
+row_counted task AskLast heard some c =
+    after_state (IsCounted task) Any heard asked_last Trouble AskLast (λ s k. asked_last_counted task s) tt tt tt
+row_counted task Manifest heard some c = after_status (IsCounted task) Any heard _ Trouble Manifest
+    (λ a poll s k. manifested_counted task task.tolerant a poll s) tt tt tt
+row_counted task (WaitManifest poll) heard some c = after_wait (IsCounted task) heard Manifest (WaitManifest poll) tt tt
+row_counted task (WaitLast poll) heard some c = after_wait (IsCounted task) heard (Last report.Unconfirmed) (WaitLast poll) tt tt
 row_counted task (Fetch k kept) heard some c = part_counted task k kept heard some c
-row_counted task (LastUploaded kept) heard some c = reset_counted task heard (OverUploaded kept) (LastUploaded kept) c c
-row_counted task (Last r) heard some c = reset_counted task heard (Over r) (Last r) c c
-row_counted task GiveUp heard some c = tt
+row_counted task (LastUploaded kept) heard some c = after_reset (IsCounted task) heard (OverUploaded kept) (LastUploaded kept) c c
+row_counted task (Last r) heard some c = after_reset (IsCounted task) heard (Over r) (Last r) c c
 row_counted task (Over r) heard some c = c
 row_counted task (OverUploaded kept) heard some c = c
+row_counted task phase heard some c = after_common task (IsCounted task) Any (common_counted task) phase heard c (λ x. tt)
 
 budgeted_counted : (task : Task) (left : ℕ) (phase : Phase) → IsCounted task phase → IsCounted task (budgeted left phase)
 budgeted_counted task left (Over r) c = c

@@ -10,6 +10,8 @@ pub mod Budget
 pub mod Aborting
 pub mod WireLaws
 pub mod Uploading
+pub mod CommonPhases
+pub mod RowLaws
 pub mod Counting
 pub mod CountingLaws
 pub mod FaultName

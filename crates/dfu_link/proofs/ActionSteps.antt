@@ -16,8 +16,8 @@ use Rattle.dfu_link.specs.Agreement.{live_goal, live_of, IsLiveOffer}
 use Rattle.dfu_link.specs.Fact.{GoalFact, HasBlocks, HostFact, SessionFact}
 use Rattle.dfu_link.proofs.Quiet.{Quiet, stays, forgets, commits}
 use Rattle.dfu_link.proofs.Blocks.{ImageMoves, quietly, takes_block, loses_block}
-use Rattle.dfu_link.proofs.Go.{go}
-use Rattle.dfu_link.proofs.GoUp.{go_up}
+use Rattle.dfu_link.proofs.GoDownload.{go_download}
+use Rattle.dfu_link.proofs.GoUpload.{go_upload}
 use Rattle.dfu_link.proofs.Taking.{shown, load_taken, fetch_taken, task_by}
 
 record Moved (t : ℕ) (m m' : Machine) : Type 0 where
@@ -73,16 +73,16 @@ module _ (c : Profile) (sized : 0 < c.transfer) (offers : List (List ℕ)) where
       } in Simulated c offers w up AGo (gone c w w.session fate l k room) offers
   goal_simulated s (ToLoad p) phase left again up fate l k room q o on f some =
       let d = acted c s (deed (task_for c (ToLoad p)) phase) (course_of fate) l k in
-      let g = go c offers p some sized phase s on f q o (course_of fate) l k in
+      let g = go_download c offers p some sized phase s on f q o (course_of fate) l k in
       let m = moved up g.moves in
       let t = load_taken c offers s d.device p up phase left again room d.heard on o some f g.next in
       record { step = goes m.first_part m.last_part t.says; sound = g.sound; offer = t.offer; fact = t.fact; done = t.done }
   goal_simulated s ToFetch phase left again up fate l k room q o on f some =
       let d = acted c s (deed (task_for c ToFetch) phase) (course_of fate) l k in
-      let g = go_up c offers phase s on f q (course_of fate) l k in
-      let m = moved_quiet Fetching up g.moves in
+      let g = go_upload c offers phase s on f q (course_of fate) l k in
+      let m = moved_quiet Fetching up g.quiet.moves in
       let t = fetch_taken c offers d.device up phase left again room d.heard on g.next in
-      record { step = goes m.first_part m.last_part t.says; sound = g.sound; offer = t.offer; fact = t.fact; done = t.done }
+      record { step = goes m.first_part m.last_part t.says; sound = g.quiet.sound; offer = t.offer; fact = t.fact; done = t.done }
 
   -- Each action of a live host is one step of the session machine, and what holds of the link holds after it.
   pub go_simulated : (s : Situation) (h : HostState) (up : List ℕ) (fate : Fate) (l k : Luck) (room : Bool) → IsSound offers s.stage

@@ -3,7 +3,7 @@ use Rattle.std.proofs.Common.{ℕ, Bool, true, false, List}
 use Rattle.dfu_device.specs.Stage.{Request, GetStatus, GetState, Profile}
 use Rattle.dfu_device.specs.Table.{plan, reset_stage}
 use Rattle.dfu_device.specs.Outcome.{Situation, Luck, handled, was_reset, powered}
-use Rattle.dfu_host.specs.Table.{Phase, Heard, Nothing, Waited, WasReset, Restarted}
+use Rattle.dfu_host.specs.Table.{Phase, Heard, Nothing, Restarted}
 use Rattle.dfu_link.specs.declared.course.Handling.{Handling}
 use Rattle.dfu_link.specs.declared.course.Handling.TheVariants.{Unseen, Once, Again, Late}
 use Rattle.dfu_link.specs.declared.course.Harming.{Harming}
@@ -20,16 +20,6 @@ use Rattle.dfu_link.proofs.Kept.{AsksStatus, AsksState, fact_status, fact_state,
 abbrev pub IfHeard : Heard → (Heard → Type 0) → Type 0
 IfHeard Restarted P = Unit {0}
 IfHeard heard P = P heard
-
--- The host heard that its wait is over, and nothing else.
-abbrev pub IsWaited : Heard → Type 0
-IsWaited Waited = Unit {0}
-IsWaited heard = ⊥
-
--- The host heard that its reset is done, and nothing else.
-abbrev pub IsReset : Heard → Type 0
-IsReset WasReset = Unit {0}
-IsReset heard = ⊥
 
 -- What holds of what is heard holds also where that is no restart.
 pub if_some : (heard : Heard) (P : Heard → Type 0) → P heard → IfHeard heard P
@@ -161,19 +151,8 @@ module _ (c : Profile) (offers : List (List ℕ)) where
   state_knows p phase s course l k a h =
       sent_knows p phase course.harming course.back _ (state_reached p phase s course.handling l k a h)
 
-  -- A wait keeps what is known.
-  pub waited_keeps : (p : List ℕ) (phase : Phase) (s : Situation) (ms : ℕ) (course : Course) (l : Luck) → Fact c p phase s
-      → IfHeard (waited c s ms course l).heard (λ heard. IsWaited heard × Fact c p phase (waited c s ms course l).device)
-  waited_keeps p phase s ms course l h = if_ended course.harming _ (λ heard x. IsWaited heard × Fact c p phase x)
-      (tt, fact_time c s.image p phase (waits_for course.handling ms) s.stage h l)
-
-  slipped_fact : (p : List ℕ) (phase : Phase) (s : Situation) (how : Handling) (l : Luck) → Fact c p phase (was_reset s)
+  -- After a reset of the bus.
+  pub slipped_fact : (p : List ℕ) (phase : Phase) (s : Situation) (how : Handling) (l : Luck) → Fact c p phase (was_reset s)
       → Fact c p phase (slipped c (was_reset s) how l)
   slipped_fact p phase s (Late ms) l h = fact_time c s.image p phase ms (reset_stage s.stage) h l
   slipped_fact p phase s how l h = h
-
-  -- After a reset.
-  pub reset_keeps : (p : List ℕ) (phase : Phase) (s : Situation) (course : Course) (l : Luck) → Fact c p phase (was_reset s)
-      → IfHeard (bus_reset c s course l).heard (λ heard. IsReset heard × Fact c p phase (bus_reset c s course l).device)
-  reset_keeps p phase s course l h = if_ended course.harming _ (λ heard x. IsReset heard × Fact c p phase x)
-      (tt, slipped_fact p phase s course.handling l h)

@@ -8,7 +8,7 @@ use Rattle.dfu_device.specs.Table.{Plan, Sure, error, plan, upload_plan, next_nu
 use Rattle.dfu_device.specs.Outcome.{Situation, Luck, outcome}
 use Rattle.dfu_device.specs.Cases.{either_way}
 use Rattle.dfu_host.specs.declared.report.Report.TheVariants.{TooManyBlocks}
-use Rattle.dfu_host.specs.Table.{Find, Fetch, LastUploaded, Over, Nothing, fetched, on_part}
+use Rattle.dfu_host.specs.Table.{ToFetch, Find, Fetch, LastUploaded, Over, Nothing, fetched, on_part}
 use Rattle.dfu_link.specs.declared.course.Handling.{Handling}
 use Rattle.dfu_link.specs.declared.course.Handling.TheVariants.{Unseen, Once, Again, Late}
 use Rattle.dfu_link.specs.declared.course.Harming.{Harming}
@@ -18,14 +18,13 @@ use Rattle.dfu_link.specs.Play.{heard_as, Passed, reached, heard_back, ends_by, 
 use Rattle.dfu_link.specs.LinkAgreement.{pending_of, IsSound}
 use Rattle.dfu_link.specs.Fact.{Fetches, FetchFact}
 use Rattle.dfu_link.proofs.Quiet.{Quiet, stays, forgets, quiet_on}
-use Rattle.dfu_link.proofs.Fates.{IfHeard, if_some}
+use Rattle.dfu_link.proofs.Fates.{if_some}
+use Rattle.dfu_link.proofs.GoCommon.{GoesQuietly}
 
 module _ (c : Profile) (offers : List (List ℕ)) (k : ℕ) (kept : List ℕ) where
-  -- A request for part k goes well by its course: the image moves quietly, and the fact of the next phase holds.
-  pub record Fetched (s : Situation) (d : Passed) : Type 0 where
-    pub moves : Quiet offers s.image (pending_of s.stage) d.device.image (pending_of d.device.stage)
-    pub sound : IsSound offers d.device.stage
-    pub next : IfHeard d.heard (λ heard. FetchFact (on_part c.transfer k kept heard) d.device)
+  -- A request for part k goes quietly by its course.
+  abbrev pub Fetched : Situation → Passed → Type 0
+  Fetched s d = GoesQuietly c offers ToFetch (on_part c.transfer k kept) s d
 
   -- What such a request comes to where its answer comes back; where it is lost, the host looks for the device.
   record Reached (s : Situation) (d : Passed) : Type 0 where
@@ -34,9 +33,9 @@ module _ (c : Profile) (offers : List (List ℕ)) (k : ℕ) (kept : List ℕ) wh
     next : FetchFact (on_part c.transfer k kept d.heard) d.device
 
   ended_fetch : (s : Situation) (harming : Harming) (d : Passed) → Reached s d → Fetched s (ends_by harming d)
-  ended_fetch s NoWrite d r = record { moves = r.moves; sound = r.sound; next = if_some d.heard _ r.next }
-  ended_fetch s CutsPower d r = record { moves = quiet_on r.moves forgets; sound = tt; next = tt }
-  ended_fetch s FailsWrite d r = record { moves = r.moves; sound = r.sound; next = if_some d.heard _ r.next }
+  ended_fetch s NoWrite d r = record { quiet = record { moves = r.moves; sound = r.sound }; next = if_some d.heard _ r.next }
+  ended_fetch s CutsPower d r = record { quiet = record { moves = quiet_on r.moves forgets; sound = tt }; next = tt }
+  ended_fetch s FailsWrite d r = record { quiet = record { moves = r.moves; sound = r.sound }; next = if_some d.heard _ r.next }
 
   fetched_by : (s : Situation) (harming : Harming) (back : Bool) (d : Passed) → Reached s d
       → Fetched s (ends_by harming (record { device = d.device; heard = heard_back back d.heard }))

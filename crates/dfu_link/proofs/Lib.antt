@@ -2,12 +2,14 @@ pub mod Quiet
 pub mod Tells
 pub mod Kept
 pub mod Fates
+pub mod CommonFacts
+pub mod GoCommon
 pub mod Next
 pub mod Blank
 pub mod Blocks
-pub mod Go
+pub mod GoDownload
 pub mod Fetch
-pub mod GoUp
+pub mod GoUpload
 pub mod Taking
 pub mod ActionSteps
 pub mod EachEvent

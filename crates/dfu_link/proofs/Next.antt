@@ -1,39 +1,29 @@
--- What the host's rows make of a fact.
+-- What the rows of a download make of a fact.
 use Rattle.std.proofs.Common.{◌≡◌, ℕ, zero, suc, ◌<◌, ◌≤◌, ◌==◌, Bool, true, false, cond, IsTrue, List, length, refl, ap, ◌∙◌, arith}
 use Rattle.std.proofs.lemmas.Bool.Decides.{nat_tests}
 use Rattle.dfu_wire.specs.declared.codes.Code.{Code}
-use Rattle.dfu_wire.specs.declared.codes.Code.TheVariants.{Ok as NoFault, StalledPkt as ErrStalledPkt}
+use Rattle.dfu_wire.specs.declared.codes.Code.TheVariants.{Ok as NoFault}
 use Rattle.dfu_wire.specs.declared.states.State.{State}
-use Rattle.dfu_wire.specs.declared.states.State.TheVariants.{DfuIdle, DownloadSync, DownloadBusy, DownloadIdle, ManifestSync, Manifest as Manifesting, ManifestWaitReset, Error as InError}
+use Rattle.dfu_wire.specs.declared.states.State.TheVariants.{DfuIdle, DownloadSync, DownloadBusy, DownloadIdle, ManifestSync, Manifest as Manifesting, ManifestWaitReset}
 use Rattle.dfu_device.specs.Stage.{Profile, Stage, InDfuIdle, InDownloadSync, InDownloadSyncWritten, InDownloadIdle, InManifestSync, InManifestSyncComplete}
 use Rattle.dfu_device.specs.Outcome.{Situation}
 use Rattle.dfu_host.specs.Blocks.{blocks, first}
 use Rattle.dfu_host.specs.BlockLaws.{first_all}
-use Rattle.dfu_host.specs.Table.{Phase, Block, Close, Heard, Acked, Status, StateIs, Stalled, Waited, WasReset, listed, troubled, polled, manifested, asked, asked_last, on_status, on_state, on_ack, on_waited, on_reset}
+use Rattle.dfu_host.specs.Table.{ToLoad, Block, Close, troubled, polled, manifested, asked, asked_last}
+use Rattle.dfu_host.specs.RowLaws.{after_trouble}
+use Rattle.dfu_link.specs.Play.{task_for}
 use Rattle.dfu_link.specs.Fact.{IsIdle, Begun, Asking, BlockIn, AllTaken, AskingLast, Managing, Fact}
 use Rattle.dfu_link.proofs.Tells.{Tells, ToldBy}
-use Rattle.dfu_link.proofs.Fates.{IsWaited, IsReset}
+use Rattle.dfu_link.proofs.CommonFacts.{common_facts}
 
 module _ (c : Profile) (p : List ℕ) (some : 0 < length (blocks p c.transfer)) (sized : 0 < c.transfer) where
   abbrev b : ℕ
   b = length (blocks p c.transfer)
 
-  begun_zero : (stage : Stage) → Tells DfuIdle stage → Begun p c.transfer 0 stage
-  begun_zero InDfuIdle h = refl
-  begun_zero stage h = elim h [ ]
-
-  -- The fact of the phase that a state leads to.
-  pub listed_fact : (state : State) (poll : ℕ) (s : Situation) → Tells state s.stage → Fact c p (listed (Block 0) state poll) s
-  listed_fact DfuIdle poll s h = (some, begun_zero s.stage h)
-  listed_fact state poll s h = tt
-
-  -- The fact of the phase after a status in trouble.
-  pub troubled_fact : (code : Code) (poll : ℕ) (state : State) (s : Situation) → Tells state s.stage
+  troubled_fact : (code : Code) (poll : ℕ) (state : State) (s : Situation) → Tells state s.stage
       → Fact c p (troubled (Block 0) code poll state) s
-  troubled_fact NoFault poll state s h = listed_fact state poll s h
-  troubled_fact ErrStalledPkt poll state s h = listed_fact state poll s h
-  troubled_fact code poll InError s h = tt
-  troubled_fact code poll state s h = listed_fact state poll s h
+  troubled_fact code poll state s h = after_trouble (task_for c (ToLoad p)) (λ x. Fact c p x s) (λ x. ToldBy x s.stage)
+      (common_facts c (ToLoad p) some s) code poll state h
 
   whole_holds : (n : ℕ) (stage : Stage) → suc n ≡ b → Tells DownloadIdle stage → BlockIn (first p c.transfer (suc n)) stage
       → AllTaken p stage
@@ -117,38 +107,3 @@ module _ (c : Profile) (p : List ℕ) (some : 0 < length (blocks p c.transfer)) 
   asked_last_fact ManifestSync s h t = last_manages s.image s.stage t h
   asked_last_fact DownloadIdle s h t = last_whole s.stage t h
   asked_last_fact state s h t = tt
-
-  -- The fact of the phase after what is heard of GETSTATUS.
-  pub on_status_fact : (heard : Heard) (f : Code → ℕ → State → Phase) (stalled nothing : Phase) (s : Situation)
-      → ((code : Code) (poll : ℕ) (state : State) → Tells state s.stage → Fact c p (f code poll state) s) → Fact c p stalled s
-      → Fact c p nothing s → ToldBy heard s.stage → Fact c p (on_status heard f stalled nothing) s
-  on_status_fact (Status code poll state) f stalled nothing s ff fs fn t = ff code poll state t
-  on_status_fact Stalled f stalled nothing s ff fs fn t = fs
-  on_status_fact heard f stalled nothing s ff fs fn t = fn
-
-  -- The fact of the phase after what is heard of GETSTATE.
-  pub on_state_fact : (heard : Heard) (f : State → Phase) (stalled nothing : Phase) (s : Situation)
-      → ((state : State) → Tells state s.stage → Fact c p (f state) s) → Fact c p stalled s → Fact c p nothing s → ToldBy heard s.stage
-      → Fact c p (on_state heard f stalled nothing) s
-  on_state_fact (StateIs state) f stalled nothing s ff fs fn t = ff state t
-  on_state_fact Stalled f stalled nothing s ff fs fn t = fs
-  on_state_fact heard f stalled nothing s ff fs fn t = fn
-
-  -- The fact of the phase after what is heard of a request that is acknowledged.
-  pub on_ack_fact : (heard : Heard) (acked stalled nothing : Phase) (s : Situation) → Fact c p acked s → Fact c p stalled s
-      → Fact c p nothing s → Fact c p (on_ack heard acked stalled nothing) s
-  on_ack_fact Acked acked stalled nothing s fa fs fn = fa
-  on_ack_fact Stalled acked stalled nothing s fa fs fn = fs
-  on_ack_fact heard acked stalled nothing s fa fs fn = fn
-
-  -- The fact of the phase after a wait.
-  pub on_waited_fact : (heard : Heard) (next again : Phase) (s : Situation) → Fact c p next s → IsWaited heard
-      → Fact c p (on_waited heard next again) s
-  on_waited_fact Waited next again s h w = h
-  on_waited_fact heard next again s h w = elim w [ ]
-
-  -- The fact of the phase after a reset of the bus.
-  pub on_reset_fact : (heard : Heard) (next again : Phase) (s : Situation) → Fact c p next s → IsReset heard
-      → Fact c p (on_reset heard next again) s
-  on_reset_fact WasReset next again s h w = h
-  on_reset_fact heard next again s h w = elim w [ ]

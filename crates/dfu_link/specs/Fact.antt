@@ -5,7 +5,8 @@ use Rattle.dfu_host.specs.declared.report.Report.TheVariants.{Installed}
 use Rattle.dfu_host.specs.Blocks.{blocks, first}
 use Rattle.dfu_device.specs.Stage.{Profile, Stage, InAppIdle, InDfuIdle, InDownloadSync, InDownloadSyncWritten, InDownloadBusy, InDownloadIdle, InManifestSync, InManifestSyncComplete, InManifest, InManifestWaitReset, InUploadIdle, InError}
 use Rattle.dfu_device.specs.Outcome.{Situation}
-use Rattle.dfu_host.specs.Table.{Goal, ToLoad, ToFetch, Task, Phase, Find, FindAgain, Detach, Enter, Clear, Quit, WaitFind, ResetFind, Trouble, GiveUp, Block, Ask, Poll, WaitPoll, Close, AskLast, Manifest, WaitManifest, WaitLast, Fetch, LastUploaded, Last, Over, OverUploaded}
+use Rattle.dfu_host.specs.Table.{Goal, ToLoad, ToFetch, Task, Phase, Block, Ask, Poll, WaitPoll, Close, AskLast, Manifest, WaitManifest, WaitLast, Fetch, LastUploaded, Last, Over, OverUploaded}
+use Rattle.dfu_host.specs.CommonPhases.{IsCommon}
 use Rattle.dfu_host.specs.Host.{HostState, IsOn}
 use Rattle.dfu_link.specs.Session.{PromisesNothing}
 use Rattle.dfu_link.specs.Bench.{Session, Nobody, Hosted}
@@ -81,20 +82,7 @@ Fetches k kept image stage = ⊥
 
 -- The fact.
 
--- The phases of which nothing is known of the device, whatever a session is for: those that look for its state and bring it to dfuIDLE or
--- to appIDLE, and the last of a session that is given up.
-abbrev pub IsAnywhere : Phase → Type 0
-IsAnywhere Find = Unit {0}
-IsAnywhere FindAgain = Unit {0}
-IsAnywhere Detach = Unit {0}
-IsAnywhere Enter = Unit {0}
-IsAnywhere Clear = Unit {0}
-IsAnywhere Quit = Unit {0}
-IsAnywhere (WaitFind poll) = Unit {0}
-IsAnywhere ResetFind = Unit {0}
-IsAnywhere Trouble = Unit {0}
-IsAnywhere GiveUp = Unit {0}
-IsAnywhere phase = ⊥
+-- Nothing is known of the device in the common phases, whatever a session is for.
 
 -- In a download's phases. Those of an upload do not occur.
 abbrev pub Fact : Profile → List ℕ → Phase → Situation → Type 0
@@ -109,7 +97,7 @@ Fact c p (WaitManifest poll) s = Managing p s.image s.stage
 Fact c p (WaitLast poll) s = Unit {0}
 Fact c p (Last report) s = EndsAs c p s IsIdle report
 Fact c p (Over report) s = EndsAs c p s IsInApp report
-Fact c p phase s = IsAnywhere phase
+Fact c p phase s = IsCommon phase
 
 -- In an upload's phases. Those of a download do not occur.
 abbrev pub FetchFact : Phase → Situation → Type 0
@@ -117,7 +105,7 @@ FetchFact (Fetch k kept) s = (k < 65535) × Fetches k kept s.image s.stage
 FetchFact (LastUploaded kept) s = (kept ≡ s.image) × IsIdle s.stage
 FetchFact (OverUploaded kept) s = kept ≡ s.image
 FetchFact (Over report) s = PromisesNothing report
-FetchFact phase s = IsAnywhere phase
+FetchFact phase s = IsCommon phase
 
 -- By what the session is for.
 abbrev pub GoalFact : Profile → Goal → Phase → Situation → Type 0

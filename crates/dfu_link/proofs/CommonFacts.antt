@@ -1,0 +1,63 @@
+-- What is known in the phases that each session has: nothing, whatever it is for; and in dfuIDLE its work may begin.
+use Rattle.std.proofs.Common.{ℕ, List, [], refl, arith}
+use Rattle.dfu_wire.specs.declared.states.State.TheVariants.{DfuIdle}
+use Rattle.dfu_device.specs.Stage.{Profile, Stage, InDfuIdle}
+use Rattle.dfu_device.specs.Outcome.{Situation}
+use Rattle.dfu_host.specs.Table.{Goal, ToLoad, ToFetch, Phase, Find, FindAgain, Detach, Enter, Clear, Quit, WaitFind, ResetFind, Trouble, Fetch, LastUploaded, GiveUp, Over, OverUploaded}
+use Rattle.dfu_host.specs.CommonPhases.{IsCommon, CommonHolds}
+use Rattle.dfu_link.specs.Play.{task_for}
+use Rattle.dfu_link.specs.Fact.{Begun, Fetches, Fact, FetchFact, GoalFact, HasBlocks}
+use Rattle.dfu_link.proofs.Tells.{Tells, ToldBy}
+
+module _ (c : Profile) where
+  load_anywhere : (p : List ℕ) (d : Situation) (phase : Phase) → IsCommon phase → Fact c p phase d
+  load_anywhere p d Find h = tt
+  load_anywhere p d FindAgain h = tt
+  load_anywhere p d Detach h = tt
+  load_anywhere p d Enter h = tt
+  load_anywhere p d Clear h = tt
+  load_anywhere p d Quit h = tt
+  load_anywhere p d (WaitFind poll) h = tt
+  load_anywhere p d ResetFind h = tt
+  load_anywhere p d Trouble h = tt
+  load_anywhere p d GiveUp h = tt
+  load_anywhere p d phase h = elim h [ ]
+
+  fetch_anywhere : (d : Situation) (phase : Phase) → IsCommon phase → FetchFact phase d
+  fetch_anywhere d (Fetch k kept) h = elim h [ ]
+  fetch_anywhere d (LastUploaded kept) h = elim h [ ]
+  fetch_anywhere d (Over report) h = elim h [ ]
+  fetch_anywhere d (OverUploaded kept) h = elim h [ ]
+  fetch_anywhere d phase h = h
+
+  -- Nothing has to be known of the device in a common phase.
+  pub goal_anywhere : (g : Goal) (d : Situation) (phase : Phase) → IsCommon phase → GoalFact c g phase d
+  goal_anywhere (ToLoad p) d phase h = load_anywhere p d phase h
+  goal_anywhere ToFetch d phase h = fetch_anywhere d phase h
+
+  load_begins : (p : List ℕ) (stage : Stage) → Tells DfuIdle stage → Begun p c.transfer 0 stage
+  load_begins p InDfuIdle h = refl
+  load_begins p stage h = elim h [ ]
+
+  fetch_begins : (image : List ℕ) (stage : Stage) → Tells DfuIdle stage → Fetches 0 [] image stage
+  fetch_begins image InDfuIdle h = (refl, refl)
+  fetch_begins image stage h = elim h [ ]
+
+  -- What the facts of a session say of a device, by the state that was heard.
+  abbrev pub CommonFacts : Goal → Situation → Type 0
+  CommonFacts g d = CommonHolds (task_for c g) (λ phase. GoalFact c g phase d) (λ heard. ToldBy heard d.stage)
+
+  -- The facts of each session hold after the common phases.
+  pub common_facts : (g : Goal) → HasBlocks c g → (d : Situation) → CommonFacts g d
+  common_facts (ToLoad p) some d = record {
+    anywhere = goal_anywhere (ToLoad p) d;
+    begins = λ code poll t. (some, load_begins p d.stage t);
+    refused = λ code. tt;
+    aborted = tt;
+  }
+  common_facts ToFetch some d = record {
+    anywhere = goal_anywhere ToFetch d;
+    begins = λ code poll t. (omega arith, fetch_begins d.image d.stage t);
+    refused = λ code. tt;
+    aborted = tt;
+  }
