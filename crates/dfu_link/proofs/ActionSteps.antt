@@ -18,7 +18,7 @@ use Rattle.dfu_link.proofs.Quiet.{Quiet, stays, forgets, commits}
 use Rattle.dfu_link.proofs.Blocks.{ImageMoves, quietly, takes_block, loses_block}
 use Rattle.dfu_link.proofs.GoDownload.{go_download}
 use Rattle.dfu_link.proofs.GoUpload.{go_upload}
-use Rattle.dfu_link.proofs.Taking.{shown, load_taken, fetch_taken, task_by}
+use Rattle.dfu_link.proofs.Taking.{shown, goal_taken, task_by}
 
 record Moved (t : ℕ) (m m' : Machine) : Type 0 where
   mid : Machine
@@ -75,13 +75,13 @@ module _ (c : Profile) (sized : 0 < c.transfer) (offers : List (List ℕ)) where
       let d = acted c s (deed (task_for c (ToLoad p)) phase) (course_of fate) l k in
       let g = go_download c offers p some sized phase s on f q o (course_of fate) l k in
       let m = moved up g.moves in
-      let t = load_taken c offers s d.device p up phase left again room d.heard on o some f g.next in
+      let t = goal_taken c offers (ToLoad p) s d.device up phase left again room d.heard on o some f g.next in
       record { step = goes m.first_part m.last_part t.says; sound = g.sound; offer = t.offer; fact = t.fact; done = t.done }
   goal_simulated s ToFetch phase left again up fate l k room q o on f some =
       let d = acted c s (deed (task_for c ToFetch) phase) (course_of fate) l k in
       let g = go_upload c offers phase s on f q (course_of fate) l k in
       let m = moved_quiet Fetching up g.quiet.moves in
-      let t = fetch_taken c offers d.device up phase left again room d.heard on g.next in
+      let t = goal_taken c offers ToFetch s d.device up phase left again room d.heard on o some f g.next in
       record { step = goes m.first_part m.last_part t.says; sound = g.quiet.sound; offer = t.offer; fact = t.fact; done = t.done }
 
   -- Each action of a live host is one step of the session machine, and what holds of the link holds after it.

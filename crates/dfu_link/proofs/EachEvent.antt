@@ -17,7 +17,8 @@ use Rattle.dfu_link.specs.Agreement.{live_goal, live_of, IsLiveOffer}
 use Rattle.dfu_link.specs.Fact.{IsIdle, Fetches, FetchFact, GoalFact, SessionFact}
 use Rattle.dfu_link.specs.Headline.{Follows}
 use Rattle.dfu_link.proofs.Kept.{fact_time}
-use Rattle.dfu_link.proofs.Taking.{shown, restart_taken, restart_plain, stop_fact, goes_by}
+use Rattle.dfu_link.proofs.CommonFacts.{goal_anywhere}
+use Rattle.dfu_link.proofs.Taking.{shown, restart_taken, restart_plain, goes_by}
 use Rattle.dfu_link.proofs.Saying.{step_live}
 use Rattle.dfu_link.proofs.ActionSteps.{Simulated, go_simulated}
 
@@ -184,7 +185,7 @@ module _ (c : Profile) where
           task_is = f.task_is;
           on = tt;
           some = f.some;
-          fact = stop_fact c offers h.task.goal s;
+          fact = goal_anywhere c h.task.goal s GiveUp tt;
         };
         done = λ e. cc;
       })

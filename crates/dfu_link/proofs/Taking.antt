@@ -1,19 +1,19 @@
 -- What a session's host makes of what it hears: the session goes on, or it is over with a report that is allowed.
-use Rattle.std.proofs.Common.{◌≡◌, ◌≢◌, ℕ, zero, suc, pred, ◌<◌, Bool, true, false, List, length, Option, Some, None, refl, sym, ap, subst}
+use Rattle.std.proofs.Common.{◌≡◌, ◌≢◌, ℕ, zero, suc, pred, Bool, true, false, List, Option, Some, None, refl, sym, ap, subst}
 use Rattle.dfu_device.specs.Stage.{Profile, Stage, InAppIdle}
 use Rattle.dfu_device.specs.Outcome.{Situation}
 use Rattle.dfu_host.specs.declared.report.Report.{Report}
 use Rattle.dfu_host.specs.declared.report.Report.TheVariants.{Installed, Aborted, RestartsSpent, Uploaded}
-use Rattle.dfu_host.specs.Blocks.{blocks}
 use Rattle.dfu_host.specs.Table.{Goal, ToLoad, ToFetch, Task, Phase, Find, Fetch, GiveUp, Over, OverUploaded, Heard, Part, NoRoom, Restarted, row}
 use Rattle.dfu_host.specs.Host.{HostState, IsOn, budgeted, restarted, after_phase, told as host_told}
-use Rattle.dfu_link.specs.Session.{Machine, Live, NoOne, Loading, Fetching, IsOneOf, PromisesNothing, Says, says_not, says_installed, says_uploaded, says_other, SaysNoPromise}
+use Rattle.dfu_link.specs.Session.{Machine, Live, NoOne, Loading, Fetching, PromisesNothing, Says, says_not, says_installed, says_uploaded, says_other, SaysNoPromise}
 use Rattle.dfu_link.specs.Bench.{Nobody}
 use Rattle.dfu_link.specs.Play.{given, task_for, Took, settled, took, remembered}
 use Rattle.dfu_link.specs.LinkAgreement.{pending_of}
 use Rattle.dfu_link.specs.Agreement.{live_goal, live_of, IsLiveOffer}
-use Rattle.dfu_link.specs.Fact.{IsInApp, EndsAs, Fact, FetchFact, GoalFact, HasBlocks, GoesBy, SessionFact}
+use Rattle.dfu_link.specs.Fact.{IsInApp, EndsAs, GoalFact, HasBlocks, GoesBy, SessionFact}
 use Rattle.dfu_link.proofs.Fates.{IfHeard}
+use Rattle.dfu_link.proofs.CommonFacts.{goal_anywhere}
 
 -- The machine that a link shows.
 abbrev pub shown : List (List ℕ) → List ℕ → Option (List ℕ) → Live → List ℕ → Machine
@@ -108,34 +108,28 @@ module _ (c : Profile) (offers : List (List ℕ)) where
     done = λ e. cc;
   }
 
-  load_well : (s : Situation) (p up : List ℕ) (phase : Phase) (left again : ℕ) → Lives (task_for c (ToLoad p)) → Fact c p phase s
-      → TookWell s (ToLoad p) up (budget (task_for c (ToLoad p)) phase left again)
-  load_well s p up (Over report) left again v f = over_well s.image s.stage p up report f
-  load_well s p up (OverUploaded kept) left again v f = elim f [ ]
-  load_well s p up phase left again v f = budget_well s (task_for c (ToLoad p)) up phase left again v tt f
+  ended_well : (s : Situation) (g : Goal) (up : List ℕ) (report : Report) → GoalFact c g (Over report) s
+      → TookWell s g up (record { session = Nobody; answer = record { report = Some report; gave = None } })
+  ended_well s (ToLoad p) up report f = over_well s.image s.stage p up report f
+  ended_well s ToFetch up report f = plain_well s ToFetch up report f
 
-  fetch_well : (s : Situation) (up : List ℕ) (phase : Phase) (left again : ℕ) → FetchFact phase s
-      → TookWell s ToFetch up (budget (task_for c ToFetch) phase left again)
-  fetch_well s up (Over report) left again f = plain_well s ToFetch up report f
-  fetch_well s up (OverUploaded kept) left again f = uploaded_well s up kept f
-  fetch_well s up phase left again f = budget_well s (task_for c ToFetch) up phase left again
-      (record { task_is = goes_by c ToFetch; offer = tt; some = tt }) tt f
+  kept_well : (s : Situation) (g : Goal) (up kept : List ℕ) → GoalFact c g (OverUploaded kept) s
+      → TookWell s g up (record { session = Nobody; answer = record { report = Some Uploaded; gave = Some kept } })
+  kept_well s (ToLoad p) up kept f = elim f [ ]
+  kept_well s ToFetch up kept f = uploaded_well s up kept f
 
-  -- Nothing has to be known of the device where the host looks for it.
-  pub find_fact : (g : Goal) (s : Situation) → GoalFact c g Find s
-  find_fact (ToLoad p) s = tt
-  find_fact ToFetch s = tt
-
-  -- Nor where it gives up.
-  pub stop_fact : (g : Goal) (s : Situation) → GoalFact c g GiveUp s
-  stop_fact (ToLoad p) s = tt
-  stop_fact ToFetch s = tt
+  spent_well : (s : Situation) (task : Task) (up : List ℕ) (phase : Phase) (left again : ℕ) → Lives task
+      → GoalFact c task.goal phase s → TookWell s task.goal up (budget task phase left again)
+  spent_well s task up (Over report) left again v f = ended_well s task.goal up report f
+  spent_well s task up (OverUploaded kept) left again v f = kept_well s task.goal up kept f
+  spent_well s task up phase left again v f = budget_well s task up phase left again v tt f
 
   restarted_well : (s : Situation) (h : HostState) (up : List ℕ) (phase : Phase) (again : ℕ) → Lives h.task
       → let q = restarted h phase again in TookWell s h.task.goal up (settled q q.phase)
   restarted_well s h up GiveUp again v = plain_well s h.task.goal up Aborted tt
   restarted_well s h up phase zero v = plain_well s h.task.goal up RestartsSpent tt
-  restarted_well s h up phase (suc again) v = budget_well s h.task up Find (pred h.actions) again v tt (find_fact h.task.goal s)
+  restarted_well s h up phase (suc again) v = budget_well s h.task up Find (pred h.actions) again v tt
+      (goal_anywhere c h.task.goal s Find tt)
 
   -- A restart of the device, told to a live host.
   pub restart_taken : (s : Situation) (h : HostState) (up : List ℕ) → IsOn h.phase → GoesBy c h.task
@@ -158,67 +152,39 @@ module _ (c : Profile) (offers : List (List ℕ)) where
   restart_plain h on = subst (λ (q : HostState). SaysNoPromise (settled q q.phase).answer.report) (sym (after_on h h.phase Restarted on))
       (restarted_plain h h.phase h.restarts)
 
-  -- What a download's host makes of what it hears.
-  load_told : (s : Situation) (p up : List ℕ) (phase : Phase) (left again : ℕ) (heard : Heard) → Lives (task_for c (ToLoad p))
-      → IfHeard heard (λ x. Fact c p (row (task_for c (ToLoad p)) phase x) s)
-      → let q = host_told (record { task = task_for c (ToLoad p); phase = phase; actions = left; restarts = again }) phase heard in
-      TookWell s (ToLoad p) up (settled q q.phase)
-  load_told s p up phase left again Restarted v n = restarted_well s
-      (record { task = task_for c (ToLoad p); phase = phase; actions = left; restarts = again }) up phase again v
-  load_told s p up phase left again heard v n = load_well s p up (row (task_for c (ToLoad p)) phase heard) (pred left) again v n
+  module _ (g : Goal) where
+    -- What the row of a phase makes of what is heard.
+    abbrev Next : Situation → Phase → Heard → Type 0
+    Next s phase heard = GoalFact c g (row (task_for c g) phase heard) s
 
-  fetch_told : (s : Situation) (up : List ℕ) (phase : Phase) (left again : ℕ) (heard : Heard)
-      → IfHeard heard (λ x. FetchFact (row (task_for c ToFetch) phase x) s)
-      → let q = host_told (record { task = task_for c ToFetch; phase = phase; actions = left; restarts = again }) phase heard in
-      TookWell s ToFetch up (settled q q.phase)
-  fetch_told s up phase left again Restarted n = restarted_well s
-      (record { task = task_for c ToFetch; phase = phase; actions = left; restarts = again }) up phase again
-      (record { task_is = goes_by c ToFetch; offer = tt; some = tt })
-  fetch_told s up phase left again heard n = fetch_well s up (row (task_for c ToFetch) phase heard) (pred left) again n
+    abbrev At : Phase → (left again : ℕ) → HostState
+    At phase left again = record { task = task_for c g; phase = phase; actions = left; restarts = again }
 
-  -- With or without memory for a part.
-  load_room : (p : List ℕ) (phase : Phase) (s d : Situation) (room : Bool) (heard : Heard) → Fact c p phase s
-      → IfHeard heard (λ x. Fact c p (row (task_for c (ToLoad p)) phase x) d)
-      → IfHeard (remembered heard room) (λ x. Fact c p (row (task_for c (ToLoad p)) phase x) d)
-  load_room p phase s d false (Part bytes) f n = no_part phase f n
-    where
-      no_part : (phase : Phase) → Fact c p phase s → Fact c p (row (task_for c (ToLoad p)) phase (Part bytes)) d
-          → Fact c p (row (task_for c (ToLoad p)) phase NoRoom) d
-      no_part (Fetch k kept) f h = elim f [ ]
-      no_part phase f h = h
-  load_room p phase s d true (Part bytes) f n = n
-  load_room p phase s d room heard f n = n
+    told_well : (s : Situation) (up : List ℕ) (phase : Phase) (left again : ℕ) (heard : Heard) → Lives (task_for c g)
+        → IfHeard heard (Next s phase) → let q = host_told (At phase left again) phase heard in TookWell s g up (settled q q.phase)
+    told_well s up phase left again Restarted v n = restarted_well s (At phase left again) up phase again v
+    told_well s up phase left again heard v n =
+        spent_well s (task_for c g) up (row (task_for c g) phase heard) (pred left) again v n
 
-  fetch_room : (phase : Phase) (d : Situation) (room : Bool) (heard : Heard)
-      → IfHeard heard (λ x. FetchFact (row (task_for c ToFetch) phase x) d)
-      → IfHeard (remembered heard room) (λ x. FetchFact (row (task_for c ToFetch) phase x) d)
-  fetch_room phase d false (Part bytes) n = no_part phase n
-    where
-      no_part : (phase : Phase) → FetchFact (row (task_for c ToFetch) phase (Part bytes)) d
-          → FetchFact (row (task_for c ToFetch) phase NoRoom) d
-      no_part (Fetch k kept) h = tt
-      no_part phase h = h
-  fetch_room phase d true (Part bytes) n = n
-  fetch_room phase d room heard n = n
+    -- With or without memory for a part.
+    room_well : (phase : Phase) (s d : Situation) (room : Bool) (heard : Heard) → GoalFact c g phase s → IfHeard heard (Next d phase)
+        → IfHeard (remembered heard room) (Next d phase)
+    room_well phase s d false (Part bytes) f n = no_part g phase f n
+      where
+        no_part : (g : Goal) (phase : Phase) → GoalFact c g phase s → GoalFact c g (row (task_for c g) phase (Part bytes)) d
+            → GoalFact c g (row (task_for c g) phase NoRoom) d
+        no_part (ToLoad p) (Fetch k kept) f h = elim f [ ]
+        no_part ToFetch (Fetch k kept) f h = tt
+        no_part g phase f h = h
+    room_well phase s d true (Part bytes) f n = n
+    room_well phase s d room heard f n = n
 
-  -- A download's host takes what it hears, and what holds of the link holds after it.
-  pub load_taken : (s d : Situation) (p up : List ℕ) (phase : Phase) (left again : ℕ) (room : Bool) (heard : Heard) → IsOn phase
-      → IsOneOf p offers → 0 < length (blocks p c.transfer) → Fact c p phase s
-      → IfHeard heard (λ x. Fact c p (row (task_for c (ToLoad p)) phase x) d)
-      → TookWell d (ToLoad p) up (took (record { task = task_for c (ToLoad p); phase = phase; actions = left; restarts = again })
-      (remembered heard room))
-  load_taken s d p up phase left again room heard on o some f n =
-      let h : HostState = record { task = task_for c (ToLoad p); phase = phase; actions = left; restarts = again } in
-      subst (λ (q : HostState). TookWell d (ToLoad p) up (settled q q.phase)) (sym (after_on h phase (remembered heard room) on))
-      (load_told d p up phase left again (remembered heard room) (record { task_is = goes_by c (ToLoad p); offer = o; some = some })
-      (load_room p phase s d room heard f n))
-
-  -- An upload's host takes what it hears, and what holds of the link holds after it.
-  pub fetch_taken : (d : Situation) (up : List ℕ) (phase : Phase) (left again : ℕ) (room : Bool) (heard : Heard) → IsOn phase
-      → IfHeard heard (λ x. FetchFact (row (task_for c ToFetch) phase x) d)
-      → TookWell d ToFetch up (took (record { task = task_for c ToFetch; phase = phase; actions = left; restarts = again })
-      (remembered heard room))
-  fetch_taken d up phase left again room heard on n =
-      let h : HostState = record { task = task_for c ToFetch; phase = phase; actions = left; restarts = again } in
-      subst (λ (q : HostState). TookWell d ToFetch up (settled q q.phase)) (sym (after_on h phase (remembered heard room) on))
-      (fetch_told d up phase left again (remembered heard room) (fetch_room phase d room heard n))
+    -- A host takes what it hears, and what holds of the link holds after it.
+    pub goal_taken : (s d : Situation) (up : List ℕ) (phase : Phase) (left again : ℕ) (room : Bool) (heard : Heard) → IsOn phase
+        → IsLiveOffer offers (live_goal g) → HasBlocks c g → GoalFact c g phase s → IfHeard heard (Next d phase)
+        → TookWell d g up (took (At phase left again) (remembered heard room))
+    goal_taken s d up phase left again room heard on o some f n =
+        subst (λ (q : HostState). TookWell d g up (settled q q.phase))
+        (sym (after_on (At phase left again) phase (remembered heard room) on))
+        (told_well d up phase left again (remembered heard room) (record { task_is = goes_by c g; offer = o; some = some })
+        (room_well phase s d room heard f n))
