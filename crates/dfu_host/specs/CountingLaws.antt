@@ -8,7 +8,7 @@ use Rattle.dfu_wire.specs.declared.states.State.{State}
 use Rattle.dfu_wire.specs.declared.states.State.TheVariants as state
 use Rattle.dfu_host.specs.declared.report.Report.TheVariants as report
 use Rattle.dfu_host.specs.declared.seen.Seen.{Seen}
-use Rattle.dfu_host.specs.Table.{Goal, ToLoad, ToFetch, Task, Phase, Find, Block, Ask, Poll, WaitPoll, Close, AskLast, Manifest, WaitManifest, WaitLast, Trouble, Fetch, LastUploaded, Last, GiveUp, Over, OverUploaded, Heard, Part, Restarted, start_of, pieces, troubled, polled, manifested, asked, asked_last, on_part, row}
+use Rattle.dfu_host.specs.Table.{Goal, ToLoad, ToFetch, Task, Phase, Find, Block, Ask, Poll, WaitPoll, Close, AskLast, Manifest, WaitManifest, WaitLast, Trouble, Fetch, LastUploaded, Last, GiveUp, Over, OverUploaded, Heard, Part, Restarted, start_of, pieces, troubled, polled, manifested, asked, asked_last, on_part, row, task_after}
 use Rattle.dfu_host.specs.Host.{HostState, budgeted, restarted, told, after_phase, after, HostRows, seen_all, sees}
 use Rattle.dfu_host.specs.CommonPhases.{IsCommon, CommonHolds}
 use Rattle.dfu_host.specs.RowLaws.{after_choice, after_ack, after_wait, after_reset, after_status, after_state, after_trouble, after_common}
@@ -90,7 +90,7 @@ part_counted task k kept (Part bytes) some c =
 part_counted task k kept heard some c = tt
 
 row_counted : (task : Task) (phase : Phase) (heard : Heard) → 0 < task.transfer → IsCounted task phase
-    → IsCounted task (row task phase heard)
+    → IsCounted (task_after task phase heard) (row task phase heard)
 row_counted task (Block n) heard some c = after_ack (IsCounted task) heard (Poll n) Trouble (Ask n) tt tt tt
 row_counted task (Ask n) heard some c =
     after_state (IsCounted task) Any heard (asked n) Trouble (Ask n) (λ s k. asked_counted task n s) tt tt tt
@@ -118,18 +118,18 @@ budgeted_counted task zero phase c = tt
 budgeted_counted task (suc left) phase c = c
 
 told_counted : (h : HostState) (phase : Phase) (heard : Heard) → 0 < h.task.transfer → IsCounted h.task phase
-    → IsCounted h.task (told h phase heard).phase
+    → let q = told h phase heard in IsCounted q.task q.phase
 told_counted h phase Restarted some c = restarted_counted phase h.restarts
   where
-    restarted_counted : (phase : Phase) (restarts : ℕ) → IsCounted h.task (restarted h phase restarts).phase
+    restarted_counted : (phase : Phase) (restarts : ℕ) → let q = restarted h phase restarts in IsCounted q.task q.phase
     restarted_counted GiveUp restarts = tt
     restarted_counted phase zero = tt
     restarted_counted phase (suc restarts) = budgeted_counted h.task (pred h.actions) Find tt
 told_counted h phase heard some c =
-    budgeted_counted h.task (pred h.actions) (row h.task phase heard) (row_counted h.task phase heard some c)
+    budgeted_counted (task_after h.task phase heard) (pred h.actions) (row h.task phase heard) (row_counted h.task phase heard some c)
 
 after_counted : (h : HostState) (phase : Phase) (heard : Heard) → h.phase ≡ phase → 0 < h.task.transfer → IsCounted h.task phase
-    → IsCounted h.task (after_phase h phase heard).phase
+    → let q = after_phase h phase heard in IsCounted q.task q.phase
 after_counted h (Over r) heard same some c = rw same c
 after_counted h (OverUploaded kept) heard same some c = rw same c
 after_counted h Find heard same some c = told_counted h Find heard some c
@@ -151,11 +151,11 @@ same_task h Find heard = told_task h Find heard
 same_task h phase heard = told_task h phase heard
 
 -- What is kept is counted, whatever is heard.
-pub after_stays : (h : HostState) (heard : Heard) → 0 < h.task.transfer → IsCounted h.task h.phase → IsCounted h.task (after h heard).phase
+pub after_stays : (h : HostState) (heard : Heard) → 0 < h.task.transfer → IsCounted h.task h.phase
+    → IsCounted (after h heard).task (after h heard).phase
 after_stays h heard some c = after_counted h h.phase heard refl some c
 
--- The task stays, whatever is heard.
-pub after_same_task : (h : HostState) (heard : Heard) → (after h heard).task ≡ h.task
+after_same_task : (h : HostState) (heard : Heard) → (after h heard).task ≡ h.task
 after_same_task h heard = same_task h h.phase heard
 
 stays_in : (task : Task) (h h' : HostState) (seens : List Seen) → h.task ≡ task → 0 < task.transfer → IsCounted task h.phase
@@ -163,13 +163,9 @@ stays_in : (task : Task) (h h' : HostState) (seens : List Seen) → h.task ≡ t
 stays_in task h h' [] e some c seen_all = c
 stays_in task h h' (seen ∷ more) e some c (sees {mid = mid} step rows) =
     let f : mid.task ≡ task = ap (λ (z : HostState). z.task) step.same ∙ after_same_task h step.heard ∙ e in
-    let d : IsCounted h.task (after h step.heard).phase =
-    after_stays h step.heard (subst (λ (z : Task). 0 < z.transfer) (sym e) some)
-    (subst (λ (z : Task). IsCounted z h.phase) (sym e) c) in
-    let g : IsCounted task mid.phase =
-    subst (λ (z : HostState). IsCounted task z.phase) (sym step.same)
-    (subst (λ (z : Task). IsCounted z (after h step.heard).phase) e d) in
-    stays_in task mid h' more f some g rows
+    let d : IsCounted mid.task mid.phase = subst (λ (z : HostState). IsCounted z.task z.phase) (sym step.same)
+    (after_stays h step.heard (subst (λ (z : Task). 0 < z.transfer) (sym e) some) (subst (λ (z : Task). IsCounted z h.phase) (sym e) c)) in
+    stays_in task mid h' more f some (subst (λ (z : Task). IsCounted z mid.phase) f d) rows
 
 -- What a host keeps stays counted.
 pub stays_counted : StaysCounted

@@ -5,7 +5,7 @@ use Rattle.dfu_host.specs.declared.limits.Limits.{Limits}
 use Rattle.dfu_host.specs.declared.report.Report.TheVariants as report
 use Rattle.dfu_host.specs.declared.action.Action.{Action}
 use Rattle.dfu_host.specs.declared.seen.Seen.{Seen}
-use Rattle.dfu_host.specs.Table.{Goal, Task, Phase, Find, FindAgain, Detach, Enter, Clear, Quit, WaitFind, ResetFind, Block, Ask, Poll, WaitPoll, Close, AskLast, Manifest, WaitManifest, WaitLast, Trouble, Fetch, LastUploaded, Last, GiveUp, Over, OverUploaded, deed, Heard, Restarted, row}
+use Rattle.dfu_host.specs.Table.{Goal, Task, Phase, Find, FindAgain, Detach, Enter, Clear, Quit, WaitFind, ResetFind, Block, Ask, Poll, WaitPoll, Close, AskLast, Manifest, WaitManifest, WaitLast, Trouble, Fetch, LastUploaded, Last, GiveUp, Over, OverUploaded, deed, Heard, Restarted, row, task_after}
 use Rattle.dfu_host.specs.Wire.{Hears, Spells}
 
 -- A host: its task, its phase, the actions that it has left, and the restarts of its device that it still takes.
@@ -88,10 +88,10 @@ restarted h GiveUp restarts = spent h (Over report.Aborted) restarts
 restarted h phase zero = spent h (Over report.RestartsSpent) zero
 restarted h phase (suc restarts) = spent h Find restarts
 
--- What is heard: a restart, or else what the table's row takes.
+-- What is heard: a restart, or else what the table's row takes, with the task that the table has beside it.
 abbrev pub told : HostState → Phase → Heard → HostState
 told h phase Restarted = restarted h phase h.restarts
-told h phase heard = spent h (row h.task phase heard) h.restarts
+told h phase heard = spent (record h { task = task_after h.task phase heard }) (row h.task phase heard) h.restarts
 
 -- A host that is done stays as it is, and every other takes what it is told.
 abbrev pub after_phase : HostState → Phase → Heard → HostState

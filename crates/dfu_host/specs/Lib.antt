@@ -10,6 +10,7 @@ pub mod Budget
 pub mod Aborting
 pub mod WireLaws
 pub mod Uploading
+pub mod TaskLaws
 pub mod CommonPhases
 pub mod RowLaws
 pub mod Counting

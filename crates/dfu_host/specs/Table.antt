@@ -243,3 +243,7 @@ row task (Last report) heard = on_reset heard (Over report) (Last report)
 row task GiveUp heard = Over report.Aborted
 row task (Over report) heard = Over report
 row task (OverUploaded kept) heard = OverUploaded kept
+
+-- The task that follows, beside the phase: a session's task stays, in each phase and whatever is heard.
+abbrev pub task_after : Task → Phase → Heard → Task
+task_after task phase heard = task

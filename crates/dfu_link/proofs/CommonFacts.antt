@@ -43,11 +43,11 @@ module _ (c : Profile) where
   fetch_begins image InDfuIdle h = (refl, refl)
   fetch_begins image stage h = elim h [ ]
 
-  -- What the facts of a session say of a device, by the state that was heard.
+  -- The facts of a session with this goal, of this device, are such as hold after the common phases.
   abbrev pub CommonFacts : Goal → Situation → Type 0
   CommonFacts g d = CommonHolds (task_for c g) (λ phase. GoalFact c g phase d) (λ heard. ToldBy heard d.stage)
 
-  -- The facts of each session hold after the common phases.
+  -- The facts of each session are.
   pub common_facts : (g : Goal) → HasBlocks c g → (d : Situation) → CommonFacts g d
   common_facts (ToLoad p) some d = record {
     anywhere = goal_anywhere (ToLoad p) d;

@@ -5,7 +5,8 @@ use Rattle.dfu_host.specs.declared.report.Report.TheVariants.{Uploaded}
 use Rattle.dfu_host.specs.Table.{Task, Phase, Over, OverUploaded, Heard, Restarted}
 use Rattle.dfu_host.specs.Host.{HostState, after, aborted_in}
 use Rattle.dfu_host.specs.Counting.{IsCounted}
-use Rattle.dfu_host.specs.CountingLaws.{after_stays, after_same_task}
+use Rattle.dfu_host.specs.CountingLaws.{after_stays}
+use Rattle.dfu_host.specs.TaskLaws.{after_same_device}
 use Rattle.dfu_device.specs.Stage.{Profile}
 use Rattle.dfu_device.specs.Outcome.{Situation}
 use Rattle.dfu_link.specs.Course.{Course}
@@ -49,14 +50,14 @@ settled_fits task h phase c = tt
 -- A host that took something.
 pub after_counted_in : (h : HostState) (heard : Heard) → 0 < h.task.transfer → IsCounted h.task h.phase
     → IsCountedIn (Hosted (after h heard))
-after_counted_in h heard some c = subst (λ (task : Task). IsCounted task (after h heard).phase) (sym (after_same_task h heard))
-    (after_stays h heard some c)
+after_counted_in h heard some c = after_stays h heard some c
 
 took_counted : (h : HostState) (heard : Heard) → SendsBytes (Hosted h) → IsCountedIn (Hosted h) → IsCountedIn (took h heard).session
 took_counted h heard some c = settled_counted (after h heard) (after h heard).phase refl (after_counted_in h heard some c)
 
 took_fits : (h : HostState) (heard : Heard) → SendsBytes (Hosted h) → IsCountedIn (Hosted h) → Fits h.task.transfer (took h heard).answer
-took_fits h heard some c = settled_fits h.task (after h heard) (after h heard).phase (after_stays h heard some c)
+took_fits h heard some c = subst (λ (t : ℕ). Fits t (took h heard).answer) (after_same_device h heard).transfer
+    (settled_fits (after h heard).task (after h heard) (after h heard).phase (after_stays h heard some c))
 
 told_counted : (session : Session) → SendsBytes session → IsCountedIn session → IsCountedIn (told session).session
 told_counted Nobody some c = tt

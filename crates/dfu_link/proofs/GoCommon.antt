@@ -40,9 +40,11 @@ module _ (c : Profile) (offers : List (List ℕ)) (g : Goal) where
   }
 
   module _ (some : HasBlocks c g) where
+    -- The phase that follows, by what is heard.
     abbrev Follows : Phase → Heard → Phase
     Follows phase = row (task_for c g) phase
 
+    -- A phase that asks for the status. What is known of the device is what is known in Find, which is nothing.
     seeks : (phase : Phase) (s : Situation) → IsCommon phase → IsSound offers s.stage → (course : Course) (l k : Luck)
         → GoesQuietly (Follows phase) s (sent c s GetStatus course l k)
     seeks phase s a q course l k = let d = sent c s GetStatus course l k in
@@ -54,6 +56,7 @@ module _ (c : Profile) (offers : List (List ℕ)) (g : Goal) where
               (status_knows c offers [] Find s course l k tt tt);
         }
 
+    -- A phase that brings the device on, whatever is heard.
     brings : (phase : Phase) (s : Situation) (d : Passed) → IsCommon phase → (IsSeeking phase → ⊥) → IsQuiet offers s d.device
         → GoesQuietly (Follows phase) s d
     brings phase s d a n q = record {

@@ -27,9 +27,11 @@ module _ (c : Profile) (offers : List (List ℕ)) (p : List ℕ) (some : 0 < len
   abbrev b : ℕ
   b = length (blocks p c.transfer)
 
+  -- An action of a download goes quietly.
   abbrev Quietly : (Heard → Phase) → Situation → Passed → Type 0
   Quietly follows s d = GoesQuietly c offers (ToLoad p) follows s d
 
+  -- So it goes well.
   well : (phase : Phase) {s : Situation} {d : Passed} → Quietly (row (task_for c (ToLoad p)) phase) s d → GoesWell c offers p phase s d
   well phase g = record { moves = quietly g.quiet.moves; sound = g.quiet.sound; next = g.next }
 

@@ -153,10 +153,11 @@ module _ (c : Profile) (offers : List (List ℕ)) where
       (restarted_plain h h.phase h.restarts)
 
   module _ (g : Goal) where
-    -- What the row of a phase makes of what is heard.
+    -- The fact of the phase that follows, by what is heard.
     abbrev Next : Situation → Phase → Heard → Type 0
     Next s phase heard = GoalFact c g (row (task_for c g) phase heard) s
 
+    -- The host of a session with this goal, in this phase.
     abbrev At : Phase → (left again : ℕ) → HostState
     At phase left again = record { task = task_for c g; phase = phase; actions = left; restarts = again }
 
