@@ -3,7 +3,8 @@ use Rattle.std.proofs.Common.{◌↔◌, Bool, true, false, inl, inr, subst}
 use Rattle.std.proofs.lemmas.Nat.{xor_lt}
 use Rattle.std.proofs.lemmas.Bool.Decides.{eqb_tells}
 use Rattle.std.proofs.Math.Nat.{mul_comm}
-use Rattle.byteorder.specs.Endian.{little_from}
+use Rattle.byteorder.specs.Endian.{little_from, little_number}
+use Rattle.dfu_suffix.specs.Laws.{AreBytes}
 use Rattle.std.proofs.Math.Seq.{drop-cons}
 use Rattle.std.proofs.Common.{length, get_or, take, drop, ◌≡◌, ℕ, zero, suc, ◌+◌, ◌*◌, ◌/◌, ◌%◌, ◌^◌, ◌<◌, ◌≤◌, cond, eqb, List, ◌∷◌, ◌++◌, refl, sym, ap, ◌∙◌, arith}
 use Rattle.std.specs.Int.Bits.{bit_xor, xor_assoc, xor_self, xor_zero_l, xor_zero_r}
@@ -142,6 +143,23 @@ shifts_by_fours n s h =
     let last : s / 2 ^ 24 ≡ s / 2 ^ 24 % 256 = omega arith in
     let e3 = ap (shifts (8 + n)) last in
     simp xor_assoc (cc)
+
+-- Four bytes make a number below 2^32.
+pub four_small : (xs : List ℕ) → AreBytes xs → little_number 4 xs < 2 ^ 32
+four_small xs f = omega (arith, f 0, f 1, f 2, f 3)
+
+-- Shifts of the number in four bytes by 32 + n bits are those of each byte, as far as it has to go.
+pub shifts_of_four : (n : ℕ) (xs : List ℕ) → AreBytes xs →
+    shifts (32 + n) (little_number 4 xs) ≡ bit_xor (bit_xor (bit_xor (shifts (32 + n) (get_or xs 0 0)) (shifts (24 + n) (get_or xs 1 0)))
+    (shifts (16 + n) (get_or xs 2 0))) (shifts (8 + n) (get_or xs 3 0))
+shifts_of_four n xs f =
+    let s = little_number 4 xs in
+    let e0 : s % 256 ≡ get_or xs 0 0 = omega (arith, f 0, f 1, f 2, f 3) in
+    let e1 : s / 2 ^ 8 % 256 ≡ get_or xs 1 0 = omega (arith, f 0, f 1, f 2, f 3) in
+    let e2 : s / 2 ^ 16 % 256 ≡ get_or xs 2 0 = omega (arith, f 0, f 1, f 2, f 3) in
+    let e3 : s / 2 ^ 24 % 256 ≡ get_or xs 3 0 = omega (arith, f 0, f 1, f 2, f 3) in
+    let whole = shifts_by_fours n s (four_small xs f) in
+    cc
 
 -- Shifts of two numbers together, by 32 bits and then n more, are those of each.
 pub absorb : (n t x : ℕ) → shifts n (shifts 32 (bit_xor t x)) ≡ bit_xor (shifts (32 + n) t) (shifts (32 + n) x)

@@ -1,13 +1,13 @@
 -- What stands in the table, and what a byte does.
-use Rattle.std.proofs.Common.{inl, inr, append-nil, subst, fold, ◌≡◌, ℕ, zero, suc, ◌+◌, ◌/◌, ◌%◌, ◌^◌, ◌<◌, ◌≤◌, Bool, true, false, cond, eqb, List, [], ◌∷◌, ◌++◌, length, take, get_or, bit_and, bit_xor, refl, sym, ap, ◌∙◌, arith}
+use Rattle.std.proofs.Common.{inl, inr, append-nil, subst, fold, ◌≡◌, ℕ, zero, suc, ◌+◌, ◌/◌, ◌%◌, ◌^◌, ◌<◌, ◌≤◌, Bool, true, false, cond, eqb, List, [], ◌∷◌, ◌++◌, length, take, drop, get_or, bit_and, bit_xor, refl, sym, ap, ◌∙◌, arith}
 use Rattle.std.proofs.lemmas.Bool.{eqb-true}
 use Rattle.std.proofs.lemmas.Nat.{and_mask}
 use Rattle.std.proofs.Math.Nat.{eq-or-lt_of_le}
 use Rattle.std.specs.List.{flat_map}
-use Rattle.std.proofs.lemmas.List.{take_more, take_all}
+use Rattle.std.proofs.lemmas.List.{take_more, take_all, take-append-drop}
 use Rattle.std.proofs.lemmas.List.Sums.{fold-append}
 use Rattle.std.proofs.lemmas.List.Concat.{flat_map-append}
-use Rattle.dfu_suffix.proofs.Shifts.{absorb, bits_little, byte_step, four_step, four_turned, shifts_add, shifts_of_xor}
+use Rattle.dfu_suffix.proofs.Shifts.{absorb, bits_little, byte_step, four_small, four_step, four_turned, shifts_add, shifts_of_xor}
 use Rattle.dfu_suffix.specs.Laws.{AreBytes}
 use Rattle.byteorder.specs.Endian.{little_number}
 use Rattle.dfu_suffix.specs.Register.{after_bit, after_bits, low_bits, bits_of, register, shifts}
@@ -154,6 +154,15 @@ unfolding after_bits bits_of
 after-append r xs ys = ap (fold after_bit r) (flat_map-append (low_bits 8) xs ys)
     ∙ fold-append after_bit r (flat_map (low_bits 8) xs) (flat_map (low_bits 8) ys)
 
+-- The register after all of some bytes, from that after the first n of them.
+pub in_two : (n r t u : ℕ) (xs ys zs : List ℕ) → xs ≡ take n zs → ys ≡ drop n zs → t ≡ after_bits r (bits_of xs) →
+    u ≡ after_bits t (bits_of ys) → u ≡ after_bits r (bits_of zs)
+in_two n r t u xs ys zs front back first second =
+    let joined : xs ++ ys ≡ zs = ap (λ (ts : List ℕ). ts ++ ys) front
+    ∙ (ap (λ (ts : List ℕ). take n zs ++ ts) back ∙ take-append-drop n zs) in
+    second ∙ (ap (λ (z : ℕ). after_bits z (bits_of ys)) first
+    ∙ (sym (after-append r xs ys) ∙ ap (λ (ts : List ℕ). after_bits r (bits_of ts)) joined))
+
 after_one : (r b : ℕ) → after_bits r (bits_of (b ∷ [])) ≡ after_bits r (low_bits 8 b)
 unfolding bits_of
 after_one r b = ap (after_bits r) (append-nil (low_bits 8 b))
@@ -203,6 +212,10 @@ pub record Quarter (x : ℕ) (xs : List ℕ) : Type 0 where
   pub bytes : AreBytes xs
   pub number : x ≡ little_number 4 xs
   pub small : x < 2 ^ 32
+
+-- Four bytes are a quarter, by the number that they make.
+pub quarter : (xs : List ℕ) → length xs ≡ 4 → AreBytes xs → Quarter (little_number 4 xs) xs
+quarter xs h f = record { long = h; bytes = f; number = refl; small = four_small xs f }
 
 -- Sixteen bytes more, as four numbers.
 pub sixteen_step : (r a b c d : ℕ) (xs ys zs ws : List ℕ) → Quarter a xs → Quarter b ys → Quarter c zs → Quarter d ws →

@@ -2,10 +2,7 @@
 
 ghost use Rattle.std.specs.Prelude.{◌≡◌, ℕ, List, ◌++◌, [], length, slice_index, bit_and};
 
-use crate::table::{
-    AFTER_8, AFTER_16, AFTER_24, AFTER_32, AFTER_40, AFTER_48, AFTER_56, AFTER_64, AFTER_72,
-    AFTER_80, AFTER_88, AFTER_96, AFTER_104, AFTER_112, AFTER_120, AFTER_128,
-};
+use crate::table::TABLES;
 use byteorder::{ByteOrder, LittleEndian};
 use std::marker::Model;
 
@@ -54,6 +51,7 @@ impl Crc {
     }
 }
 
+ghost use Rattle.byteorder.specs.Endian.{little_number};
 ghost use Rattle.dfu_suffix.specs.Register.{after_bits, bits_of, low_bits, shifts};
 
 // What stands in a table for the lowest byte of a number.
@@ -69,40 +67,51 @@ fn entry(table: &[u32; 256], number: u32) -> u32
 fn after_byte(register: u32, byte: u8) -> u32
     ensures { result ≡ after_bits register (low_bits 8 byte) }
 {
-    (register >> 8) ^ entry(&AFTER_8, register ^ u32::from(byte))
+    (register >> 8) ^ entry(&TABLES[15], register ^ u32::from(byte))
 }
 
-// What 32 bits 0 make of a number.
+// What stands in a table for a byte.
 #[inline(always)]
-fn after_32_zeros(number: u32) -> u32
-    ensures { result ≡ shifts 32 number }
+fn byte_entry(table: &[u32; 256], byte: u8) -> u32
+    ensures { result ≡ slice_index table.now byte }
 {
-    entry(&AFTER_32, number)
-        ^ entry(&AFTER_24, number >> 8)
-        ^ entry(&AFTER_16, number >> 16)
-        ^ entry(&AFTER_8, number >> 24)
+    table[usize::from(byte)]
 }
 
-// What 64 bits 0 make of a number.
+// What 32 bits 0 make of the number in four bytes.
 #[inline(always)]
-fn after_64_zeros(number: u32) -> u32
-    ensures { result ≡ shifts 64 number }
+fn after_32_zeros(bytes: &[u8]) -> u32
+    requires { length bytes.now ≡ 4 }
+    ensures { result ≡ shifts 32 (little_number 4 bytes.now) }
 {
-    entry(&AFTER_64, number)
-        ^ entry(&AFTER_56, number >> 8)
-        ^ entry(&AFTER_48, number >> 16)
-        ^ entry(&AFTER_40, number >> 24)
+    byte_entry(&TABLES[12], bytes[0])
+        ^ byte_entry(&TABLES[13], bytes[1])
+        ^ byte_entry(&TABLES[14], bytes[2])
+        ^ byte_entry(&TABLES[15], bytes[3])
 }
 
-// What 96 bits 0 make of a number.
+// What 64 bits 0 make of the number in four bytes.
 #[inline(always)]
-fn after_96_zeros(number: u32) -> u32
-    ensures { result ≡ shifts 96 number }
+fn after_64_zeros(bytes: &[u8]) -> u32
+    requires { length bytes.now ≡ 4 }
+    ensures { result ≡ shifts 64 (little_number 4 bytes.now) }
 {
-    entry(&AFTER_96, number)
-        ^ entry(&AFTER_88, number >> 8)
-        ^ entry(&AFTER_80, number >> 16)
-        ^ entry(&AFTER_72, number >> 24)
+    byte_entry(&TABLES[8], bytes[0])
+        ^ byte_entry(&TABLES[9], bytes[1])
+        ^ byte_entry(&TABLES[10], bytes[2])
+        ^ byte_entry(&TABLES[11], bytes[3])
+}
+
+// What 96 bits 0 make of the number in four bytes.
+#[inline(always)]
+fn after_96_zeros(bytes: &[u8]) -> u32
+    requires { length bytes.now ≡ 4 }
+    ensures { result ≡ shifts 96 (little_number 4 bytes.now) }
+{
+    byte_entry(&TABLES[4], bytes[0])
+        ^ byte_entry(&TABLES[5], bytes[1])
+        ^ byte_entry(&TABLES[6], bytes[2])
+        ^ byte_entry(&TABLES[7], bytes[3])
 }
 
 // What 128 bits 0 make of a number.
@@ -110,13 +119,14 @@ fn after_96_zeros(number: u32) -> u32
 fn after_128_zeros(number: u32) -> u32
     ensures { result ≡ shifts 128 number }
 {
-    entry(&AFTER_128, number)
-        ^ entry(&AFTER_120, number >> 8)
-        ^ entry(&AFTER_112, number >> 16)
-        ^ entry(&AFTER_104, number >> 24)
+    entry(&TABLES[0], number)
+        ^ entry(&TABLES[1], number >> 8)
+        ^ entry(&TABLES[2], number >> 16)
+        ^ entry(&TABLES[3], number >> 24)
 }
 
-// The register after sixteen bytes more. Only the first four bytes wait for the register.
+// The register after sixteen bytes more. Only the first four bytes wait for the register, as one number;
+// the others are loaded each by itself, which takes fewer instructions than to cut them out of words.
 #[inline(always)]
 fn after_sixteen(register: u32, bytes: &[u8]) -> u32
     requires { length bytes.now ≡ 16 }
@@ -125,9 +135,9 @@ fn after_sixteen(register: u32, bytes: &[u8]) -> u32
     let (first, rest) = bytes.split_at(4);
     let (second, rest) = rest.split_at(4);
     let (third, fourth) = rest.split_at(4);
-    after_32_zeros(LittleEndian::read_u32(fourth))
-        ^ after_64_zeros(LittleEndian::read_u32(third))
-        ^ after_96_zeros(LittleEndian::read_u32(second))
+    after_32_zeros(fourth)
+        ^ after_64_zeros(third)
+        ^ after_96_zeros(second)
         ^ after_128_zeros(register ^ LittleEndian::read_u32(first))
 }
 
@@ -143,15 +153,35 @@ fn after_each(start: u32, bytes: &[u8]) -> u32
     register
 }
 
-/// The register after more bytes, sixteen at a time, and the last ones each by itself.
+// The register after thirty-two bytes more.
+#[inline(always)]
+fn after_thirty_two(register: u32, bytes: &[u8]) -> u32
+    requires { length bytes.now ≡ 32 }
+    ensures { result ≡ after_bits register (bits_of bytes.now) }
+{
+    let (first, second) = bytes.split_at(16);
+    after_sixteen(after_sixteen(register, first), second)
+}
+
+// The register after a few bytes more: the first sixteen at once where there are so many.
+fn after_few(register: u32, bytes: &[u8]) -> u32
+    ensures { result ≡ after_bits register (bits_of bytes.now) }
+{
+    match bytes.split_first_chunk::<16>() {
+        Some((sixteen, more)) => after_each(after_sixteen(register, sixteen), more),
+        None => after_each(register, bytes),
+    }
+}
+
+// The register after more bytes, thirty-two at a time, so that two steps share one turn of the loop.
 fn after_bytes(start: u32, bytes: &[u8]) -> u32
     ensures { result ≡ after_bits start (bits_of bytes.now) }
 {
     let mut register = start;
     let mut rest = bytes;
-    while let Some((sixteen, more)) = rest.split_first_chunk::<16>() {
-        register = after_sixteen(register, sixteen);
+    while let Some((front, more)) = rest.split_first_chunk::<32>() {
+        register = after_thirty_two(register, front);
         rest = more;
     }
-    after_each(register, rest)
+    after_few(register, rest)
 }

@@ -19,19 +19,26 @@ mod bits_80;
 mod bits_88;
 mod bits_96;
 
-pub(crate) use bits_8::AFTER_8;
-pub(crate) use bits_16::AFTER_16;
-pub(crate) use bits_24::AFTER_24;
-pub(crate) use bits_32::AFTER_32;
-pub(crate) use bits_40::AFTER_40;
-pub(crate) use bits_48::AFTER_48;
-pub(crate) use bits_56::AFTER_56;
-pub(crate) use bits_64::AFTER_64;
-pub(crate) use bits_72::AFTER_72;
-pub(crate) use bits_80::AFTER_80;
-pub(crate) use bits_88::AFTER_88;
-pub(crate) use bits_96::AFTER_96;
-pub(crate) use bits_104::AFTER_104;
-pub(crate) use bits_112::AFTER_112;
-pub(crate) use bits_120::AFTER_120;
-pub(crate) use bits_128::AFTER_128;
+use bits_8::AFTER_8;
+use bits_16::AFTER_16;
+use bits_24::AFTER_24;
+use bits_32::AFTER_32;
+use bits_40::AFTER_40;
+use bits_48::AFTER_48;
+use bits_56::AFTER_56;
+use bits_64::AFTER_64;
+use bits_72::AFTER_72;
+use bits_80::AFTER_80;
+use bits_88::AFTER_88;
+use bits_96::AFTER_96;
+use bits_104::AFTER_104;
+use bits_112::AFTER_112;
+use bits_120::AFTER_120;
+use bits_128::AFTER_128;
+
+/// The table for each place of sixteen bytes: from where the first byte begins 128 bits are to come, from
+/// where the last one does 8. They lie behind one another, so that one address serves for all of them.
+pub(crate) static TABLES: [[u32; 256]; 16] = [
+    AFTER_128, AFTER_120, AFTER_112, AFTER_104, AFTER_96, AFTER_88, AFTER_80, AFTER_72, AFTER_64,
+    AFTER_56, AFTER_48, AFTER_40, AFTER_32, AFTER_24, AFTER_16, AFTER_8,
+];

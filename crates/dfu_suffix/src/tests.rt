@@ -60,7 +60,7 @@ fn registers_of_known_bytes(rt: HostRuntime) {
     }
 }
 
-// The fast body and the plain one agree at each length around a step of sixteen bytes, and
+// The fast body and the plain one agree at each length around steps of sixteen and thirty-two bytes, and
 // however the bytes are cut.
 #[test]
 fn register_in_pieces(rt: HostRuntime) {

@@ -1,18 +1,16 @@
-use Rattle.std.proofs.Common.{◌∙◌, ◌/◌, ◌^◌, arith}
-use Rattle.dfu_suffix.specs.declared.table.bits_8.TheConstants.{AFTER_8}
-use Rattle.dfu_suffix.specs.declared.table.bits_16.TheConstants.{AFTER_16}
-use Rattle.dfu_suffix.specs.declared.table.bits_24.TheConstants.{AFTER_24}
-use Rattle.dfu_suffix.specs.declared.table.bits_32.TheConstants.{AFTER_32}
-use Rattle.dfu_suffix.proofs.Shifts.{shifts_by_fours}
-use Rattle.dfu_suffix.proofs.Tables.{entry_at, right_8, right_16, right_24, right_32}
+use Rattle.std.proofs.Common.{◌∙◌, get_or, arith}
+use Rattle.dfu_suffix.specs.Laws.{AreBytes}
+use Rattle.dfu_suffix.proofs.Shifts.{shifts_of_four}
+use Rattle.dfu_suffix.proofs.Tables.{right_8, right_16, right_24, right_32}
 use Rattle.dfu_suffix.proofs.crc.after_32_zeros.Goals as goal
 
 pub returns : goal.returns
 returns c =
-    let s = c.args.number in
-    let e0 = c.entry.ensures ∙ entry_at 32 AFTER_32 s right_32 in
-    let e1 = c.entry-2.ensures ∙ entry_at 24 AFTER_24 (s / 2 ^ 8) right_24 in
-    let e2 = c.entry-3.ensures ∙ entry_at 16 AFTER_16 (s / 2 ^ 16) right_16 in
-    let e3 = c.entry-4.ensures ∙ entry_at 8 AFTER_8 (s / 2 ^ 24) right_8 in
-    let joined = shifts_by_fours 0 s (omega arith) in
+    let xs = c.args.bytes.now in
+    let each : AreBytes xs = λ k. omega (arith, c.type_inv.bytes k) in
+    let e0 = c.byte_entry.ensures ∙ right_32 (get_or xs 0 0) (each 0) in
+    let e1 = c.byte_entry-2.ensures ∙ right_24 (get_or xs 1 0) (each 1) in
+    let e2 = c.byte_entry-3.ensures ∙ right_16 (get_or xs 2 0) (each 2) in
+    let e3 = c.byte_entry-4.ensures ∙ right_8 (get_or xs 3 0) (each 3) in
+    let joined = shifts_of_four 0 xs each in
     cc

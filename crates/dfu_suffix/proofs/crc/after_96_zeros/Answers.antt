@@ -1,18 +1,16 @@
-use Rattle.std.proofs.Common.{◌∙◌, ◌/◌, ◌^◌, arith}
-use Rattle.dfu_suffix.specs.declared.table.bits_72.TheConstants.{AFTER_72}
-use Rattle.dfu_suffix.specs.declared.table.bits_80.TheConstants.{AFTER_80}
-use Rattle.dfu_suffix.specs.declared.table.bits_88.TheConstants.{AFTER_88}
-use Rattle.dfu_suffix.specs.declared.table.bits_96.TheConstants.{AFTER_96}
-use Rattle.dfu_suffix.proofs.Shifts.{shifts_by_fours}
-use Rattle.dfu_suffix.proofs.Tables.{entry_at, right_72, right_80, right_88, right_96}
+use Rattle.std.proofs.Common.{◌∙◌, get_or, arith}
+use Rattle.dfu_suffix.specs.Laws.{AreBytes}
+use Rattle.dfu_suffix.proofs.Shifts.{shifts_of_four}
+use Rattle.dfu_suffix.proofs.Tables.{right_72, right_80, right_88, right_96}
 use Rattle.dfu_suffix.proofs.crc.after_96_zeros.Goals as goal
 
 pub returns : goal.returns
 returns c =
-    let s = c.args.number in
-    let e0 = c.entry.ensures ∙ entry_at 96 AFTER_96 s right_96 in
-    let e1 = c.entry-2.ensures ∙ entry_at 88 AFTER_88 (s / 2 ^ 8) right_88 in
-    let e2 = c.entry-3.ensures ∙ entry_at 80 AFTER_80 (s / 2 ^ 16) right_80 in
-    let e3 = c.entry-4.ensures ∙ entry_at 72 AFTER_72 (s / 2 ^ 24) right_72 in
-    let joined = shifts_by_fours 64 s (omega arith) in
+    let xs = c.args.bytes.now in
+    let each : AreBytes xs = λ k. omega (arith, c.type_inv.bytes k) in
+    let e0 = c.byte_entry.ensures ∙ right_96 (get_or xs 0 0) (each 0) in
+    let e1 = c.byte_entry-2.ensures ∙ right_88 (get_or xs 1 0) (each 1) in
+    let e2 = c.byte_entry-3.ensures ∙ right_80 (get_or xs 2 0) (each 2) in
+    let e3 = c.byte_entry-4.ensures ∙ right_72 (get_or xs 3 0) (each 3) in
+    let joined = shifts_of_four 64 xs each in
     cc

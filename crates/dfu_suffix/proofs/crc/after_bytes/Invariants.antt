@@ -3,8 +3,8 @@ use Rattle.dfu_suffix.specs.Register.{after_bits, bits_of}
 use Rattle.dfu_suffix.proofs.crc.after_bytes.Given as goal
 
 -- The rest from here gives what all of it gives from the start.
-abbrev pub invariant-loop-sixteen : goal.invariant-loop-sixteen
-invariant-loop-sixteen l = after_bits l.register (bits_of l.rest) ≡ after_bits l.start (bits_of l.bytes)
+abbrev pub invariant-loop-front : goal.invariant-loop-front
+invariant-loop-front l = after_bits l.register (bits_of l.rest) ≡ after_bits l.start (bits_of l.bytes)
 
-abbrev pub decreases-loop-sixteen : goal.decreases-loop-sixteen
-decreases-loop-sixteen l = length l.rest
+abbrev pub decreases-loop-front : goal.decreases-loop-front
+decreases-loop-front l = length l.rest

@@ -1,8 +1,9 @@
 use Rattle.std.proofs.Common.{◌≡◌, ℕ, List, subst, ◌++◌, ◌∙◌, sym, ap, take, drop, bit_xor, arith}
 use Rattle.std.proofs.lemmas.List.{take-append-drop}
+use Rattle.byteorder.specs.Endian.{little_number}
 use Rattle.dfu_suffix.specs.Register.{after_bits, bits_of, shifts}
 use Rattle.dfu_suffix.proofs.Bytes.{AreBytes-drop, AreBytes-take}
-use Rattle.dfu_suffix.proofs.Tables.{Quarter, sixteen_step}
+use Rattle.dfu_suffix.proofs.Tables.{Quarter, quarter, sixteen_step}
 use Rattle.dfu_suffix.specs.Laws.{AreBytes}
 use Rattle.dfu_suffix.proofs.crc.after_sixteen.Goals as goal
 
@@ -28,35 +29,20 @@ returns c =
     let each : AreBytes bytes = λ k. omega (arith, c.type_inv.bytes k) in
     let e1 : AreBytes r1 = back_bytes 4 r1 bytes c.split_at.ensures.back each in
     let e2 : AreBytes r2 = back_bytes 4 r2 r1 c.split_at-2.ensures.back e1 in
-    let p : Quarter c.read_u32-4.result xs = record {
+    let p : Quarter c.read_u32.result xs = record {
       long = omega arith;
       bytes =
           front_bytes 4 xs bytes c.split_at.ensures.front each;
-      number = c.read_u32-4.ensures;
-      small = omega arith;
-    } in
-    let q : Quarter c.read_u32-3.result ys = record {
-      long = omega arith;
-      bytes =
-          front_bytes 4 ys r1 c.split_at-2.ensures.front e1;
-      number = c.read_u32-3.ensures;
-      small = omega arith;
-    } in
-    let u : Quarter c.read_u32-2.result zs = record {
-      long = omega arith;
-      bytes =
-          front_bytes 4 zs r2 c.split_at-3.ensures.front e2;
-      number = c.read_u32-2.ensures;
-      small = omega arith;
-    } in
-    let v : Quarter c.read_u32.result ws = record {
-      long = omega arith;
-      bytes =
-          back_bytes 4 ws r2 c.split_at-3.ensures.back e2;
       number = c.read_u32.ensures;
       small = omega arith;
     } in
-    let step = sixteen_step c.args.register c.read_u32-4.result c.read_u32-3.result c.read_u32-2.result c.read_u32.result xs ys
+    let fb : AreBytes ys = front_bytes 4 ys r1 c.split_at-2.ensures.front e1 in
+    let fc : AreBytes zs = front_bytes 4 zs r2 c.split_at-3.ensures.front e2 in
+    let fd : AreBytes ws = back_bytes 4 ws r2 c.split_at-3.ensures.back e2 in
+    let q : Quarter (little_number 4 ys) ys = quarter ys (omega arith) fb in
+    let u : Quarter (little_number 4 zs) zs = quarter zs (omega arith) fc in
+    let v : Quarter (little_number 4 ws) ws = quarter ws (omega arith) fd in
+    let step = sixteen_step c.args.register c.read_u32.result (little_number 4 ys) (little_number 4 zs) (little_number 4 ws) xs ys
     zs ws p q u v in
     let j2 : zs ++ ws ≡ r2 = parts 4 zs ws r2 c.split_at-3.ensures.front c.split_at-3.ensures.back in
     let j1 : ys ++ r2 ≡ r1 = parts 4 ys r2 r1 c.split_at-2.ensures.front c.split_at-2.ensures.back in
@@ -70,6 +56,6 @@ returns c =
     let f128 = c.after_128_zeros.ensures in
     let turned : bit_xor (bit_xor (bit_xor c.after_32_zeros.result c.after_64_zeros.result) c.after_96_zeros.result)
     c.after_128_zeros.result
-    ≡ bit_xor (bit_xor (bit_xor (shifts 32 c.read_u32.result) (shifts 64 c.read_u32-2.result)) (shifts 96 c.read_u32-3.result))
-    (shifts 128 (bit_xor c.args.register c.read_u32-4.result)) = cc in
+    ≡ bit_xor (bit_xor (bit_xor (shifts 32 (little_number 4 ws)) (shifts 64 (little_number 4 zs))) (shifts 96 (little_number 4 ys)))
+    (shifts 128 (bit_xor c.args.register c.read_u32.result)) = cc in
     turned ∙ (step ∙ whole)
