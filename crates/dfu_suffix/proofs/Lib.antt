@@ -3,7 +3,9 @@ pub mod OneReading
 pub mod Progress
 pub mod Bytes
 pub mod Shifts
+pub mod Fours
 pub mod Tables
+pub mod SmallTable
 pub mod NoFault
 pub mod FileLaws
 pub mod ReadLaws

@@ -1,10 +1,9 @@
 -- Bits by shifts: how many bits at once change the register.
-use Rattle.std.proofs.Common.{◌↔◌, Bool, true, false, inl, inr, subst}
+use Rattle.std.proofs.Common.{◌↔◌, Bool, true, false, inl, inr}
 use Rattle.std.proofs.lemmas.Nat.{xor_lt}
 use Rattle.std.proofs.lemmas.Bool.Decides.{eqb_tells}
-use Rattle.std.proofs.Math.Nat.{mul_comm}
-use Rattle.byteorder.specs.Endian.{little_from, little_number}
-use Rattle.dfu_suffix.specs.Laws.{AreBytes}
+use Rattle.std.proofs.Math.Nat.{div-eq_of_lt, mul_comm}
+use Rattle.byteorder.specs.Endian.{little_from}
 use Rattle.std.proofs.Math.Seq.{drop-cons}
 use Rattle.std.proofs.Common.{length, get_or, take, drop, ◌≡◌, ℕ, zero, suc, ◌+◌, ◌*◌, ◌/◌, ◌%◌, ◌^◌, ◌<◌, ◌≤◌, cond, eqb, List, ◌∷◌, ◌++◌, refl, sym, ap, ◌∙◌, arith}
 use Rattle.std.specs.Int.Bits.{bit_xor, xor_assoc, xor_self, xor_zero_l, xor_zero_r}
@@ -91,19 +90,25 @@ split_xor n s =
     ∙ (ap (λ (z : ℕ). z * 2 ^ n + bit_xor (s % 2 ^ n) 0) (xor_zero_l (s / 2 ^ n))
     ∙ (ap (λ (z : ℕ). s / 2 ^ n * 2 ^ n + z) (xor_zero_r (s % 2 ^ n)) ∙ shr_split s n)))))
 
+-- The low bits of a number below 2^n go into the register as the number.
+pub bits_step : (n r x : ℕ) → x < 2 ^ n → after_bits r (low_bits n x) ≡ shifts n (bit_xor r x)
+bits_step n r x h =
+    let none : x / 2 ^ n ≡ 0 = div-eq_of_lt h in
+    sym (shifts_xor n r x ∙ (ap (bit_xor (after_bits r (low_bits n x))) none ∙ xor_zero_r (after_bits r (low_bits n x))))
+
+-- Shifts of a number by n bits are those of its n lowest bits, and the others wait.
+pub shifts_low : (n s : ℕ) → shifts n s ≡ bit_xor (s / 2 ^ n) (shifts n (s % 2 ^ n))
+shifts_low n s =
+    ap (shifts n) (split_xor n s)
+    ∙ (shifts_of_xor n (s % 2 ^ n) (s / 2 ^ n * 2 ^ n)
+    ∙ (ap (bit_xor (shifts n (s % 2 ^ n))) (shifts_whole n (s / 2 ^ n)) ∙ xor_comm (shifts n (s % 2 ^ n)) (s / 2 ^ n)))
+
 -- A byte changes the register so.
 pub byte_step : (r b : ℕ) → b < 256 → after_bits r (low_bits 8 b) ≡ bit_xor (r / 256) (shifts 8 (bit_xor r b % 256))
 byte_step r b h =
     let none : b / 256 ≡ 0 = omega arith in
-    let s = bit_xor r b in
-    let whole : shifts 8 s ≡ after_bits r (low_bits 8 b) = shifts_xor 8 r b
-    ∙ (ap (bit_xor (after_bits r (low_bits 8 b))) none ∙ xor_zero_r (after_bits r (low_bits 8 b))) in
-    let high : s / 256 ≡ r / 256 = xor_shr r b 8 ∙ (ap (bit_xor (r / 256)) none ∙ xor_zero_r (r / 256)) in
-    sym whole
-    ∙ (ap (shifts 8) (split_xor 8 s)
-    ∙ (shifts_of_xor 8 (s % 256) (s / 256 * 256)
-    ∙ (ap (bit_xor (shifts 8 (s % 256))) (shifts_whole 8 (s / 256) ∙ high)
-    ∙ xor_comm (shifts 8 (s % 256)) (r / 256))))
+    let high : bit_xor r b / 256 ≡ r / 256 = xor_shr r b 8 ∙ (ap (bit_xor (r / 256)) none ∙ xor_zero_r (r / 256)) in
+    bits_step 8 r b h ∙ (shifts_low 8 (bit_xor r b) ∙ ap (λ (z : ℕ). bit_xor z (shifts 8 (bit_xor r b % 256))) high)
 
 -- ---- many bits at once
 
@@ -126,51 +131,6 @@ zero-shifts : (n : ℕ) → shifts n 0 ≡ 0
 unfolding shifts
 zero-shifts zero = refl
 zero-shifts (suc n) = zero-shifts n
-
-peel : (m n s : ℕ) → m ≡ 8 + n → shifts m s ≡ bit_xor (shifts m (s % 256)) (shifts n (s / 256))
-peel m n s e = subst (λ (k : ℕ). shifts k s ≡ bit_xor (shifts k (s % 256)) (shifts n (s / 256))) (sym e) (shifts_peel n s)
-
--- Shifts by 32 + n bits are those of the four bytes of a number below 2^32.
-pub shifts_by_fours : (n s : ℕ) → s < 2 ^ 32 →
-    shifts (32 + n) s ≡ bit_xor (bit_xor (bit_xor (shifts (32 + n) (s % 256)) (shifts (24 + n) (s / 2 ^ 8 % 256)))
-    (shifts (16 + n) (s / 2 ^ 16 % 256))) (shifts (8 + n) (s / 2 ^ 24 % 256))
-shifts_by_fours n s h =
-    let e0 = peel (32 + n) (24 + n) s (omega arith) in
-    let e1 = peel (24 + n) (16 + n) (s / 2 ^ 8) (omega arith)
-    ∙ ap (λ (z : ℕ). bit_xor (shifts (24 + n) (s / 2 ^ 8 % 256)) (shifts (16 + n) z)) (shr-shr s 8 8) in
-    let e2 = peel (16 + n) (8 + n) (s / 2 ^ 16) (omega arith)
-    ∙ ap (λ (z : ℕ). bit_xor (shifts (16 + n) (s / 2 ^ 16 % 256)) (shifts (8 + n) z)) (shr-shr s 16 8) in
-    let last : s / 2 ^ 24 ≡ s / 2 ^ 24 % 256 = omega arith in
-    let e3 = ap (shifts (8 + n)) last in
-    simp xor_assoc (cc)
-
--- Four bytes make a number below 2^32.
-pub four_small : (xs : List ℕ) → AreBytes xs → little_number 4 xs < 2 ^ 32
-four_small xs f = omega (arith, f 0, f 1, f 2, f 3)
-
--- Shifts of the number in four bytes by 32 + n bits are those of each byte, as far as it has to go.
-pub shifts_of_four : (n : ℕ) (xs : List ℕ) → AreBytes xs →
-    shifts (32 + n) (little_number 4 xs) ≡ bit_xor (bit_xor (bit_xor (shifts (32 + n) (get_or xs 0 0)) (shifts (24 + n) (get_or xs 1 0)))
-    (shifts (16 + n) (get_or xs 2 0))) (shifts (8 + n) (get_or xs 3 0))
-shifts_of_four n xs f =
-    let s = little_number 4 xs in
-    let e0 : s % 256 ≡ get_or xs 0 0 = omega (arith, f 0, f 1, f 2, f 3) in
-    let e1 : s / 2 ^ 8 % 256 ≡ get_or xs 1 0 = omega (arith, f 0, f 1, f 2, f 3) in
-    let e2 : s / 2 ^ 16 % 256 ≡ get_or xs 2 0 = omega (arith, f 0, f 1, f 2, f 3) in
-    let e3 : s / 2 ^ 24 % 256 ≡ get_or xs 3 0 = omega (arith, f 0, f 1, f 2, f 3) in
-    let whole = shifts_by_fours n s (four_small xs f) in
-    cc
-
--- Shifts of two numbers together, by 32 bits and then n more, are those of each.
-pub absorb : (n t x : ℕ) → shifts n (shifts 32 (bit_xor t x)) ≡ bit_xor (shifts (32 + n) t) (shifts (32 + n) x)
-absorb n t x = sym (shifts_add 32 n (bit_xor t x)) ∙ shifts_of_xor (32 + n) t x
-
--- Four numbers give the same in the other order.
-pub four_turned : (a b c d : ℕ) → bit_xor (bit_xor (bit_xor a b) c) d ≡ bit_xor (bit_xor (bit_xor d c) b) a
-four_turned a b c d =
-    xor_comm (bit_xor (bit_xor a b) c) d
-    ∙ (ap (bit_xor d) (xor_comm (bit_xor a b) c ∙ ap (bit_xor c) (xor_comm a b))
-    ∙ (sym (xor_assoc d c (bit_xor b a)) ∙ sym (xor_assoc (bit_xor d c) b a)))
 
 -- The low bits of a number are had in two parts.
 pub low_bits-add : (m n x : ℕ) → low_bits (m + n) x ≡ low_bits m x ++ low_bits n (x / 2 ^ m)
@@ -218,12 +178,6 @@ bits_little (suc n) i xs h f =
     ∙ (ap (λ (bs : List ℕ). low_bits 8 b ++ bs) (bits_little n (suc i) xs (omega arith) f)
     ∙ ap (λ (zs : List ℕ). bits_of (take (suc n) zs)) (sym front))))
 
--- Four bytes more go into the register as one number.
-pub four_step : (r x : ℕ) → x < 2 ^ 32 → after_bits r (low_bits 32 x) ≡ shifts 32 (bit_xor r x)
-four_step r x h =
-    let none : x / 2 ^ 32 ≡ 0 = omega arith in
-    sym (shifts_xor 32 r x ∙ (ap (bit_xor (after_bits r (low_bits 32 x))) none ∙ xor_zero_r (after_bits r (low_bits 32 x))))
-
 -- ---- the register over a whole file
 
 shift-fits : (s : ℕ) → s < 2 ^ 32 → shift s < 2 ^ 32
@@ -254,9 +208,7 @@ shifts-zero (suc n) s h e = shift-zero s h (shifts-zero n (shift s) (shift-fits 
 -- Four bytes more make the register 0 exactly where they are the register.
 pub four_more : (r x : ℕ) → r < 2 ^ 32 → x < 2 ^ 32 → (after_bits r (low_bits 32 x) ≡ 0) ↔ (x ≡ r)
 four_more r x p q =
-    let none : x / 2 ^ 32 ≡ 0 = omega arith in
-    let step : shifts 32 (bit_xor r x) ≡ after_bits r (low_bits 32 x) =
-    shifts_xor 32 r x ∙ (ap (bit_xor (after_bits r (low_bits 32 x))) none ∙ xor_zero_r (after_bits r (low_bits 32 x))) in (
+    let step : shifts 32 (bit_xor r x) ≡ after_bits r (low_bits 32 x) = sym (bits_step 32 r x q) in (
       λ e. sym (xor_zero_same r x (shifts-zero 32 (bit_xor r x) (xor_lt 32 r x p q) (step ∙ e))),
       λ e. sym step ∙ (ap (λ (z : ℕ). shifts 32 (bit_xor r z)) e ∙ (ap (shifts 32) (xor_self r) ∙ zero-shifts 32)),
     )

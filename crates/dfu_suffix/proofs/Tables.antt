@@ -7,7 +7,8 @@ use Rattle.std.specs.List.{flat_map}
 use Rattle.std.proofs.lemmas.List.{take_more, take_all, take-append-drop}
 use Rattle.std.proofs.lemmas.List.Sums.{fold-append}
 use Rattle.std.proofs.lemmas.List.Concat.{flat_map-append}
-use Rattle.dfu_suffix.proofs.Shifts.{absorb, bits_little, byte_step, four_small, four_step, four_turned, shifts_add, shifts_of_xor}
+use Rattle.dfu_suffix.proofs.Shifts.{bits_little, bits_step, byte_step, shifts_add, shifts_of_xor}
+use Rattle.dfu_suffix.proofs.Fours.{absorb, four_small, four_turned}
 use Rattle.dfu_suffix.specs.Laws.{AreBytes}
 use Rattle.byteorder.specs.Endian.{little_number}
 use Rattle.dfu_suffix.specs.Register.{after_bit, after_bits, low_bits, bits_of, register, shifts}
@@ -28,36 +29,38 @@ use Rattle.dfu_suffix.specs.declared.table.bits_112.TheConstants.{AFTER_112}
 use Rattle.dfu_suffix.specs.declared.table.bits_120.TheConstants.{AFTER_120}
 use Rattle.dfu_suffix.specs.declared.table.bits_128.TheConstants.{AFTER_128}
 
--- Whether n numbers of a list, from place i on, are those of another after 8 bits 0.
-abbrev right_from : (ℕ → ℕ) → List ℕ → ℕ → ℕ → Bool
-right_from earlier xs i zero = true
-right_from earlier xs i (suc n) = cond (eqb (get_or xs i 0) (shifts 8 (earlier i))) (right_from earlier xs (suc i) n) false
+-- Whether n numbers of a list, from place i on, are those of another after k bits 0.
+abbrev pub right_from : ℕ → (ℕ → ℕ) → List ℕ → ℕ → ℕ → Bool
+right_from k earlier xs i zero = true
+right_from k earlier xs i (suc n) =
+    cond (eqb (get_or xs i 0) (shifts k (earlier i))) (right_from k earlier xs (suc i) n) false
 
 both : (a b : Bool) → cond a b false ≡ true → (a ≡ true) × (b ≡ true)
 both true b h = (refl, h)
 both false b h = (h, cc)
 
-right_at : (earlier : ℕ → ℕ) (xs : List ℕ) (i n j : ℕ) → right_from earlier xs i n ≡ true → i ≤ j → j < i + n →
-    get_or xs j 0 ≡ shifts 8 (earlier j)
-right_at earlier xs i zero j h p q = absurd (omega arith)
-right_at earlier xs i (suc n) j h p q =
-    let here = both (eqb (get_or xs i 0) (shifts 8 (earlier i))) (right_from earlier xs (suc i) n) h in
+-- Where they are, each of them is.
+pub right_at : (k : ℕ) (earlier : ℕ → ℕ) (xs : List ℕ) (i n j : ℕ) → right_from k earlier xs i n ≡ true → i ≤ j → j < i + n →
+    get_or xs j 0 ≡ shifts k (earlier j)
+right_at k earlier xs i zero j h p q = absurd (omega arith)
+right_at k earlier xs i (suc n) j h p q =
+    let here = both (eqb (get_or xs i 0) (shifts k (earlier i))) (right_from k earlier xs (suc i) n) h in
     elim (eq-or-lt_of_le p) [
-      | inl e ↦ subst (λ (m : ℕ). get_or xs m 0 ≡ shifts 8 (earlier m)) e (eqb-true (get_or xs i 0) (shifts 8 (earlier i)) here.0)
-      | inr l ↦ right_at earlier xs (suc i) n j here.1 l (omega arith)
+      | inl e ↦ subst (λ (m : ℕ). get_or xs m 0 ≡ shifts k (earlier m)) e (eqb-true (get_or xs i 0) (shifts k (earlier i)) here.0)
+      | inr l ↦ right_at k earlier xs (suc i) n j here.1 l (omega arith)
     ]
 
 -- The table has what k bits 0 make of each number below 256.
 abbrev pub Holds : ℕ → List ℕ → Type 0
 Holds k xs = (j : ℕ) → j < 256 → get_or xs j 0 ≡ shifts k j
 
-holds_8 : (xs : List ℕ) → right_from (λ j. j) xs 0 256 ≡ true → Holds 8 xs
-holds_8 xs h j l = right_at (λ j. j) xs 0 256 j h (omega arith) (omega arith)
+holds_8 : (xs : List ℕ) → right_from 8 (λ j. j) xs 0 256 ≡ true → Holds 8 xs
+holds_8 xs h j l = right_at 8 (λ j. j) xs 0 256 j h (omega arith) (omega arith)
 
 -- A table from the one for 8 bits fewer.
-holds_more : (k : ℕ) (ys xs : List ℕ) → Holds k ys → right_from (λ j. get_or ys j 0) xs 0 256 ≡ true → Holds (k + 8) xs
+holds_more : (k : ℕ) (ys xs : List ℕ) → Holds k ys → right_from 8 (λ j. get_or ys j 0) xs 0 256 ≡ true → Holds (k + 8) xs
 holds_more k ys xs earlier h j l =
-    right_at (λ j. get_or ys j 0) xs 0 256 j h (omega arith) (omega arith)
+    right_at 8 (λ j. get_or ys j 0) xs 0 256 j h (omega arith) (omega arith)
     ∙ (ap (shifts 8) (earlier j l) ∙ sym (shifts_add k 8 j))
 
 -- The entry for the low byte of a number.
@@ -188,7 +191,7 @@ four_bytes : (r x : ℕ) (xs : List ℕ) → length xs ≡ 4 → AreBytes xs →
 four_bytes r x xs h f e small =
     let all : take 4 xs ≡ xs = take_all 4 xs (omega arith) in
     let bits : low_bits 32 x ≡ bits_of xs = ap (low_bits 32) e ∙ (bits_little 4 0 xs (omega arith) f ∙ ap bits_of all) in
-    sym (ap (after_bits r) bits) ∙ four_step r x small
+    sym (ap (after_bits r) bits) ∙ bits_step 32 r x small
 
 -- Four bytes and then others.
 then_rest : (r t : ℕ) (xs ys : List ℕ) → after_bits r (bits_of xs) ≡ t → after_bits r (bits_of (xs ++ ys)) ≡ after_bits t (bits_of ys)

@@ -2,6 +2,7 @@
 
 ghost use Rattle.std.specs.Prelude.{◌≡◌, ℕ, List, ◌++◌, [], length, slice_index, bit_and};
 
+use crate::small;
 use crate::table::TABLES;
 use byteorder::{ByteOrder, LittleEndian};
 use std::marker::Model;
@@ -33,13 +34,26 @@ impl Crc {
         }
     }
 
-    /// Takes more bytes: a register over some bytes becomes the one over those and these.
+    /// Takes more bytes: a register over some bytes becomes the one over those and these. A program that
+    /// calls it links 16,384 bytes of tables; `update_small` does the same without them.
     pub fn update(&mut self, bytes: &[u8])
         ensures bits { self.new ≡ after_bits self.old (bits_of bytes.now) }
         ensures more { (before : List ℕ) → self.old ≡ register before → self.new ≡ register (before ++ bytes.now) }
     {
         *self = Crc {
             register: after_bytes(self.register, bytes),
+        };
+    }
+
+    /// Takes more bytes, as `update` does, by a table of 64 bytes, in about five times as many instructions:
+    /// for a device that has no room for the large tables. Only a program that nowhere calls `update`
+    /// links without these.
+    pub fn update_small(&mut self, bytes: &[u8])
+        ensures bits { self.new ≡ after_bits self.old (bits_of bytes.now) }
+        ensures more { (before : List ℕ) → self.old ≡ register before → self.new ≡ register (before ++ bytes.now) }
+    {
+        *self = Crc {
+            register: small::after_bytes(self.register, bytes),
         };
     }
 

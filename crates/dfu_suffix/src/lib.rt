@@ -18,6 +18,7 @@ pub mod laws;
 mod limits;
 mod making;
 mod parse;
+mod small;
 mod summary;
 mod table;
 mod window;

@@ -17,6 +17,12 @@ fn register(bytes: &[u8]) -> u32 {
     crc.value()
 }
 
+fn register_small(bytes: &[u8]) -> u32 {
+    let mut crc = Crc::new();
+    crc.update_small(bytes);
+    crc.value()
+}
+
 /// The register bit by bit, as appendix B has it.
 fn register_by_bits(bytes: &[u8]) -> u32 {
     let mut register: u32 = 0xffff_ffff;
@@ -53,15 +59,15 @@ fn registers_of_known_bytes(rt: HostRuntime) {
     for (bytes, value, usual) in &KNOWN {
         let over = register(bytes);
         assert_eq!(rt;
-            (over, !over, register_by_bits(bytes)),
-            (*value, *usual, *value),
+            (over, !over, register_small(bytes), register_by_bits(bytes)),
+            (*value, *usual, *value, *value),
             "over {bytes:?}"
         );
     }
 }
 
-// The fast body and the plain one agree at each length around steps of sixteen and thirty-two bytes, and
-// however the bytes are cut.
+// The fast body, the small one and the plain one agree at each length around steps of sixteen and
+// thirty-two bytes, however the bytes are cut, and where both take a part.
 #[test]
 fn register_in_pieces(rt: HostRuntime) {
     let mut bytes = [0u8; 67];
@@ -76,10 +82,18 @@ fn register_in_pieces(rt: HostRuntime) {
         let mut crc = Crc::new();
         crc.update(front);
         crc.update(back);
+        let mut mixed = Crc::new();
+        mixed.update_small(front);
+        mixed.update(back);
         let value = register_by_bits(whole);
         assert_eq!(rt;
-            (register(whole), crc.value()),
-            (value, value),
+            (
+                register(whole),
+                register_small(whole),
+                crc.value(),
+                mixed.value()
+            ),
+            (value, value, value, value),
             "over {end} bytes, whole and in two pieces"
         );
     }

@@ -3,7 +3,7 @@ use Rattle.dfu_suffix.specs.declared.table.bits_104.TheConstants.{AFTER_104}
 use Rattle.dfu_suffix.specs.declared.table.bits_112.TheConstants.{AFTER_112}
 use Rattle.dfu_suffix.specs.declared.table.bits_120.TheConstants.{AFTER_120}
 use Rattle.dfu_suffix.specs.declared.table.bits_128.TheConstants.{AFTER_128}
-use Rattle.dfu_suffix.proofs.Shifts.{shifts_by_fours}
+use Rattle.dfu_suffix.proofs.Fours.{shifts_by_fours}
 use Rattle.dfu_suffix.proofs.Tables.{entry_at, right_104, right_112, right_120, right_128}
 use Rattle.dfu_suffix.proofs.crc.after_128_zeros.Goals as goal
 

@@ -1,6 +1,6 @@
 use Rattle.std.proofs.Common.{◌∙◌, get_or, arith}
 use Rattle.dfu_suffix.specs.Laws.{AreBytes}
-use Rattle.dfu_suffix.proofs.Shifts.{shifts_of_four}
+use Rattle.dfu_suffix.proofs.Fours.{shifts_of_four}
 use Rattle.dfu_suffix.proofs.Tables.{right_40, right_48, right_56, right_64}
 use Rattle.dfu_suffix.proofs.crc.after_64_zeros.Goals as goal
 

@@ -1,6 +1,6 @@
 use Rattle.std.proofs.Common.{◌∙◌, get_or, arith}
 use Rattle.dfu_suffix.specs.Laws.{AreBytes}
-use Rattle.dfu_suffix.proofs.Shifts.{shifts_of_four}
+use Rattle.dfu_suffix.proofs.Fours.{shifts_of_four}
 use Rattle.dfu_suffix.proofs.Tables.{right_72, right_80, right_88, right_96}
 use Rattle.dfu_suffix.proofs.crc.after_96_zeros.Goals as goal
 

@@ -1,0 +1,53 @@
+-- Four bytes at once.
+use Rattle.std.proofs.Common.{subst, get_or, List, ◌≡◌, ℕ, ◌+◌, ◌/◌, ◌%◌, ◌^◌, ◌<◌, sym, ap, ◌∙◌, arith}
+use Rattle.std.specs.Int.Bits.{bit_xor, xor_assoc}
+use Rattle.std.proofs.lemmas.Nat.{xor_comm, shr-shr}
+use Rattle.byteorder.specs.Endian.{little_number}
+use Rattle.dfu_suffix.specs.Laws.{AreBytes}
+use Rattle.dfu_suffix.specs.Register.{shifts}
+use Rattle.dfu_suffix.proofs.Shifts.{shifts_add, shifts_of_xor, shifts_peel}
+
+peel : (m n s : ℕ) → m ≡ 8 + n → shifts m s ≡ bit_xor (shifts m (s % 256)) (shifts n (s / 256))
+peel m n s e = subst (λ (k : ℕ). shifts k s ≡ bit_xor (shifts k (s % 256)) (shifts n (s / 256))) (sym e) (shifts_peel n s)
+
+-- Shifts by 32 + n bits are those of the four bytes of a number below 2^32.
+pub shifts_by_fours : (n s : ℕ) → s < 2 ^ 32 →
+    shifts (32 + n) s ≡ bit_xor (bit_xor (bit_xor (shifts (32 + n) (s % 256)) (shifts (24 + n) (s / 2 ^ 8 % 256)))
+    (shifts (16 + n) (s / 2 ^ 16 % 256))) (shifts (8 + n) (s / 2 ^ 24 % 256))
+shifts_by_fours n s h =
+    let e0 = peel (32 + n) (24 + n) s (omega arith) in
+    let e1 = peel (24 + n) (16 + n) (s / 2 ^ 8) (omega arith)
+    ∙ ap (λ (z : ℕ). bit_xor (shifts (24 + n) (s / 2 ^ 8 % 256)) (shifts (16 + n) z)) (shr-shr s 8 8) in
+    let e2 = peel (16 + n) (8 + n) (s / 2 ^ 16) (omega arith)
+    ∙ ap (λ (z : ℕ). bit_xor (shifts (16 + n) (s / 2 ^ 16 % 256)) (shifts (8 + n) z)) (shr-shr s 16 8) in
+    let last : s / 2 ^ 24 ≡ s / 2 ^ 24 % 256 = omega arith in
+    let e3 = ap (shifts (8 + n)) last in
+    simp xor_assoc (cc)
+
+-- Four bytes make a number below 2^32.
+pub four_small : (xs : List ℕ) → AreBytes xs → little_number 4 xs < 2 ^ 32
+four_small xs f = omega (arith, f 0, f 1, f 2, f 3)
+
+-- Shifts of the number in four bytes by 32 + n bits are those of each byte, as far as it has to go.
+pub shifts_of_four : (n : ℕ) (xs : List ℕ) → AreBytes xs →
+    shifts (32 + n) (little_number 4 xs) ≡ bit_xor (bit_xor (bit_xor (shifts (32 + n) (get_or xs 0 0)) (shifts (24 + n) (get_or xs 1 0)))
+    (shifts (16 + n) (get_or xs 2 0))) (shifts (8 + n) (get_or xs 3 0))
+shifts_of_four n xs f =
+    let s = little_number 4 xs in
+    let e0 : s % 256 ≡ get_or xs 0 0 = omega (arith, f 0, f 1, f 2, f 3) in
+    let e1 : s / 2 ^ 8 % 256 ≡ get_or xs 1 0 = omega (arith, f 0, f 1, f 2, f 3) in
+    let e2 : s / 2 ^ 16 % 256 ≡ get_or xs 2 0 = omega (arith, f 0, f 1, f 2, f 3) in
+    let e3 : s / 2 ^ 24 % 256 ≡ get_or xs 3 0 = omega (arith, f 0, f 1, f 2, f 3) in
+    let whole = shifts_by_fours n s (four_small xs f) in
+    cc
+
+-- Shifts of two numbers together, by 32 bits and then n more, are those of each.
+pub absorb : (n t x : ℕ) → shifts n (shifts 32 (bit_xor t x)) ≡ bit_xor (shifts (32 + n) t) (shifts (32 + n) x)
+absorb n t x = sym (shifts_add 32 n (bit_xor t x)) ∙ shifts_of_xor (32 + n) t x
+
+-- Four numbers give the same in the other order.
+pub four_turned : (a b c d : ℕ) → bit_xor (bit_xor (bit_xor a b) c) d ≡ bit_xor (bit_xor (bit_xor d c) b) a
+four_turned a b c d =
+    xor_comm (bit_xor (bit_xor a b) c) d
+    ∙ (ap (bit_xor d) (xor_comm (bit_xor a b) c ∙ ap (bit_xor c) (xor_comm a b))
+    ∙ (sym (xor_assoc d c (bit_xor b a)) ∙ sym (xor_assoc (bit_xor d c) b a)))
