@@ -1,5 +1,5 @@
 -- GETSTATUS in dfuDNLOAD-SYNC and in dfuMANIFEST-SYNC: at once where no time is asked for, or later.
-use Rattle.std.proofs.Common.{◌≡◌, inl, inr, Bool, ◌==◌, true, false, ℕ, ◌+◌, ◌<◌, ◌≤◌, min, List, [], ◌++◌, length, take, slice_index, refl, sym, ◌∙◌, ap, subst, arith, Result, Ok, Err, IsOk, OnOk}
+use Rattle.std.proofs.Common.{◌≡◌, inl, inr, ◌==◌, true, ℕ, ◌+◌, ◌<◌, ◌≤◌, min, List, [], ◌++◌, length, take, slice_index, refl, sym, ◌∙◌, ap, subst, arith, Result, Ok, Err, IsOk, OnOk, IfErr}
 use Rattle.std.proofs.lemmas.List.{take_min, length-take}
 use Rattle.std.proofs.lemmas.Bool.{ne_eqb, false≢true}
 use Rattle.dfu_wire.specs.declared.requests.Request.TheVariants as asked
@@ -7,6 +7,7 @@ use Rattle.dfu_wire.specs.declared.codes.Code.{Code}
 use Rattle.dfu_wire.specs.declared.states.State.{State}
 use Rattle.dfu_wire.specs.declared.statuses.Status.{Status}
 use Rattle.dfu_wire.specs.Status.{IsStatus}
+use Rattle.dfu_slots.specs.declared.fault.WriteFault.{WriteFault}
 use Rattle.dfu_slots.specs.Seen.{SlotsState, room_of}
 use Rattle.dfu_device.specs.declared.answer.Answer.{Answer}
 use Rattle.dfu_device.specs.declared.answer.Answer.TheVariants as answer
@@ -14,7 +15,7 @@ use Rattle.dfu_device.specs.Setting.{Setting}
 use Rattle.dfu_device.specs.Stage.{StatusOf, Stage, InDfuIdle, InDownloadSync, InDownloadBusy, InDownloadIdle, InManifestSync, InManifest, status_of}
 use Rattle.dfu_device.specs.Shown.{Shown, profile, profile_of}
 use Rattle.dfu_device.specs.Rows.{Answers, Serves, Committed, FailedCommit, WroteBlock, FailedBlock}
-use Rattle.dfu_device.proofs.Passing.{either_ok}
+use Rattle.dfu_device.proofs.Passing.{either_way_ended}
 
 -- The status of a stage that was entered is that of the stage, by its name.
 told : (len : ℕ) (a : Answer) (out : List ℕ) (w' : Shown) (stage : Stage) → w'.stage ≡ stage
@@ -23,14 +24,14 @@ told : (len : ℕ) (a : Answer) (out : List ℕ) (w' : Shown) (stage : Stage) �
 told len a out w' stage is says = subst (λ (st : Stage). Answers len (status_of (profile w') st) a out) is says
 
 -- With no manifestation time the image is put in place, and then the status is told.
-pub commit_now : (config : Setting) (s : SlotsState) (t body : List ℕ) (len : ℕ) (a : Answer) (out : List ℕ) (w' : Shown) (ok : Bool)
-    → config.manifest_ms ≡ 0 → (ok ≡ true → Committed t config s InDfuIdle w') → (ok ≡ false → FailedCommit t config s w')
+pub commit_now : {Done : Type 0} (config : Setting) (s : SlotsState) (t body : List ℕ) (len : ℕ) (a : Answer) (out : List ℕ) (w' : Shown) (r : Result Done WriteFault)
+    → config.manifest_ms ≡ 0 → OnOk r (Committed t config s InDfuIdle w') → IfErr r (λ fault. FailedCommit fault t config s w')
     → Answers len (status_of (profile w') w'.stage) a out
     → Serves (asked.GetStatus len) body (record { config = config; slots = s; stage = InManifestSync t }) a out w'
-commit_now config s t body len a out w' ok none good bad says =
+commit_now config s t body len a out w' r none good bad says =
     let at_once : (config.manifest_ms == 0) ≡ true = ap (λ (n : ℕ). n == 0) none in
-    rw at_once (either_ok ok good bad (λ g. inl (told len a out w' _ g.stage_is says, g))
-    (λ b. inr (told len a out w' _ b.stage_is says, b)))
+    rw at_once (either_way_ended r good bad (λ g. inl (told len a out w' _ g.stage_is says, g))
+    (λ fault b. inr (fault, told len a out w' _ b.stage_is says, b)))
 
 -- With one it is put in place later.
 pub commit_later : (config : Setting) (s : SlotsState) (t body : List ℕ) (len : ℕ) (a : Answer) (out : List ℕ) → 0 < config.manifest_ms
@@ -40,16 +41,16 @@ pub commit_later : (config : Setting) (s : SlotsState) (t body : List ℕ) (len 
 commit_later config s t body len a out some says = rw (ne_eqb config.manifest_ms 0 (λ e. omega (arith, some, e))) (says, refl)
 
 -- With no busy time the block is written, and then the status is told.
-pub write_now : (config : Setting) (s : SlotsState) (t block body : List ℕ) (number len : ℕ) (a : Answer) (out : List ℕ) (w' : Shown)
-    (ok : Bool)
-    → config.busy_ms ≡ 0 → (ok ≡ true → WroteBlock t block config s (InDownloadIdle (t ++ block) number) w')
-    → (ok ≡ false → FailedBlock t block config s w')
+pub write_now : {Done : Type 0} (config : Setting) (s : SlotsState) (t block body : List ℕ) (number len : ℕ) (a : Answer) (out : List ℕ) (w' : Shown)
+    (r : Result Done WriteFault)
+    → config.busy_ms ≡ 0 → OnOk r (WroteBlock t block config s (InDownloadIdle (t ++ block) number) w')
+    → IfErr r (λ fault. FailedBlock fault t block config s w')
     → Answers len (status_of (profile w') w'.stage) a out
     → Serves (asked.GetStatus len) body (record { config = config; slots = s; stage = InDownloadSync t block number }) a out w'
-write_now config s t block body number len a out w' ok none good bad says =
+write_now config s t block body number len a out w' r none good bad says =
     let at_once : (config.busy_ms == 0) ≡ true = ap (λ (n : ℕ). n == 0) none in
-    rw at_once (either_ok ok good bad (λ g. inl (told len a out w' _ g.stage_is says, g))
-    (λ b. inr (told len a out w' _ b.stage_is says, b)))
+    rw at_once (either_way_ended r good bad (λ g. inl (told len a out w' _ g.stage_is says, g))
+    (λ fault b. inr (fault, told len a out w' _ b.stage_is says, b)))
 
 -- With one it is written later.
 pub write_later : (config : Setting) (s : SlotsState) (t block body : List ℕ) (number len : ℕ) (a : Answer) (out : List ℕ)

@@ -1,45 +1,49 @@
 -- The calls of the slot store that write a block.
-use Rattle.std.proofs.Common.{◌≡◌, ◌⊎◌, inl, inr, ◌==◌, Bool, true, false, if◌then◌else◌, ℕ, ◌+◌, ◌≤◌, ◌<◌, List, [], ◌∷◌, ◌++◌, length, take, drop, refl, sym, ◌∙◌, ap, subst, arith, length-append, Result, Ok, Err, OnOk, OnErr, is_ok}
+use Rattle.std.proofs.Common.{◌≡◌, ◌⊎◌, inl, inr, ◌==◌, Bool, true, false, if◌then◌else◌, ℕ, ◌+◌, ◌≤◌, ◌<◌, List, [], ◌∷◌, ◌++◌, length, take, drop, refl, sym, ◌∙◌, ap, subst, arith, length-append, Result, Ok, Err, OnOk, OnErr}
 use Rattle.std.proofs.lemmas.Grind.{common_steps}
 use Rattle.std.proofs.lemmas.List.{length-take-le, take_at}
 use Rattle.std.proofs.lemmas.Bool.{ne_eqb, and_parts}
+use Rattle.dfu_slots.specs.declared.fault.WriteFault.{WriteFault}
+use Rattle.dfu_slots.specs.declared.fault.PutFault.{PutFault}
 use Rattle.dfu_slots.specs.Medium.{Rose, written}
-use Rattle.dfu_slots.specs.Seen.{SlotsState, spare_of, is_begun, room_of, is_shaped, Call, Begin, Put, DidCall, Called}
+use Rattle.dfu_slots.specs.Seen.{SlotsState, spare_of, is_begun, room_of, is_shaped, Call, Begin, Put, Ending, AllWorked, BrokenBy, DidCall, Called}
+use Rattle.dfu_slots.specs.Changes.{fault_of, ending_of}
 use Rattle.dfu_device.specs.inside.Fields.{is_put}
 use Rattle.dfu_device.specs.Rows.{block_calls}
 
 -- One call that was made is a series of one call.
-pub called_one : (s now : SlotsState) (call : Call) (ok : Bool) → DidCall s call ok now → Called s (call ∷ []) ok now
-called_one s now call true d = (now, d.calls, refl)
-called_one s now call false d = inl d.calls
+pub called_one : (s now : SlotsState) (call : Call) (ending : Ending) → DidCall s call ending now → Called s (call ∷ []) ending now
+called_one s now call AllWorked d = (now, d.calls, refl)
+called_one s now call (BrokenBy fault) d = inl d.calls
 
-called_two : (s mid now : SlotsState) (first second : Call) (ok : Bool) → DidCall s first true mid → DidCall mid second ok now
-    → Called s (first ∷ second ∷ []) ok now
-called_two s mid now first second true d e = (mid, d.calls, (now, e.calls, refl))
-called_two s mid now first second false d e = inr (mid, d.calls, inl e.calls)
+called_two : (s mid now : SlotsState) (first second : Call) (ending : Ending) → DidCall s first AllWorked mid → DidCall mid second ending now
+    → Called s (first ∷ second ∷ []) ending now
+called_two s mid now first second AllWorked d e = (mid, d.calls, (now, e.calls, refl))
+called_two s mid now first second (BrokenBy fault) d e = inr (mid, d.calls, inl e.calls)
 
 -- The first block is a `begin` that worked and then a `put`, whatever comes of this one.
-pub block_begun : (s mid now : SlotsState) (n : ℕ) (block : List ℕ) (ok : Bool) → n ≡ 0 → DidCall s Begin true mid
-    → DidCall mid (Put 0 block) ok now → Called s (block_calls (take n (spare_of s)) block) ok now
-block_begun s mid now n block ok none d e =
-    subst (λ (k : ℕ). Called s (block_calls (take k (spare_of s)) block) ok now) (sym none)
-    (called_two s mid now Begin (Put 0 block) ok d e)
+pub block_begun : (s mid now : SlotsState) (n : ℕ) (block : List ℕ) (ending : Ending) → n ≡ 0 → DidCall s Begin AllWorked mid
+    → DidCall mid (Put 0 block) ending now → Called s (block_calls (take n (spare_of s)) block) ending now
+block_begun s mid now n block ending none d e =
+    subst (λ (k : ℕ). Called s (block_calls (take k (spare_of s)) block) ending now) (sym none)
+    (called_two s mid now Begin (Put 0 block) ending d e)
 
 -- Where the `begin` before the first block failed, nothing more is called.
-pub block_not_begun : (s now : SlotsState) (n : ℕ) (block : List ℕ) → n ≡ 0 → DidCall s Begin false now
-    → Called s (block_calls (take n (spare_of s)) block) false now
-block_not_begun s now n block none d = subst (λ (k : ℕ). Called s (block_calls (take k (spare_of s)) block) false now) (sym none)
+pub block_not_begun : (fault : WriteFault) (s now : SlotsState) (n : ℕ) (block : List ℕ) → n ≡ 0 → DidCall s Begin (BrokenBy fault) now
+    → Called s (block_calls (take n (spare_of s)) block) (BrokenBy fault) now
+block_not_begun fault s now n block none d =
+    subst (λ (k : ℕ). Called s (block_calls (take k (spare_of s)) block) (BrokenBy fault) now) (sym none)
     (inl d.calls)
 
 -- A block behind others is one `put`, whatever comes of it.
-pub block_further : (s now : SlotsState) (n : ℕ) (block : List ℕ) (ok : Bool) → 0 < n → n ≤ length (spare_of s)
-    → DidCall s (Put n block) ok now → Called s (block_calls (take n (spare_of s)) block) ok now
-block_further s now n block ok some fits d =
+pub block_further : (s now : SlotsState) (n : ℕ) (block : List ℕ) (ending : Ending) → 0 < n → n ≤ length (spare_of s)
+    → DidCall s (Put n block) ending now → Called s (block_calls (take n (spare_of s)) block) ending now
+block_further s now n block ending some fits d =
     let front : length (take n (spare_of s)) ≡ n = length-take-le n (spare_of s) fits in
     let behind : (n == 0) ≡ false = ne_eqb n 0 (λ e. omega (arith, some, e)) in
-    subst (λ (k : ℕ). Called s (if k == 0 then Begin ∷ Put 0 block ∷ [] else Put k block ∷ []) ok now) (sym front)
-    (subst (λ (b : Bool). Called s (if b then Begin ∷ Put 0 block ∷ [] else Put n block ∷ []) ok now) (sym behind)
-    (called_one s now (Put n block) ok d))
+    subst (λ (k : ℕ). Called s (if k == 0 then Begin ∷ Put 0 block ∷ [] else Put k block ∷ []) ending now) (sym front)
+    (subst (λ (b : Bool). Called s (if b then Begin ∷ Put 0 block ∷ [] else Put n block ∷ []) ending now) (sym behind)
+    (called_one s now (Put n block) ending d))
 
 -- Where bytes were put, the spare was closed before.
 pub begun_before : (n : ℕ) (s : SlotsState) → 0 < n → (n ≡ 0) ⊎ (is_put n s ≡ true) → is_begun s ≡ true
@@ -71,7 +75,7 @@ put_on (Ok x) here now n begun shut end = grind (arith, common_steps)
 put_on (Err e) here now n begun shut end = tt
 
 -- The count of failures rose, also from what it was before.
-pub rose_since : {T E : Type 0} (result : Result T E) (before mid now : ℕ) → before ≤ mid → (is_ok result ≡ false → Rose mid now)
-    → OnErr result (Rose before now)
+pub rose_since : {T : Type 0} (result : Result T PutFault) (before mid now : ℕ) → before ≤ mid
+    → ((fault : WriteFault) → ending_of result ≡ BrokenBy fault → Rose mid now) → OnErr result (Rose before now)
 rose_since (Ok x) before mid now le rose = tt
-rose_since (Err e) before mid now le rose = omega (arith, le, rose refl)
+rose_since (Err e) before mid now le rose = omega (arith, le, rose (fault_of e) refl)

@@ -1,13 +1,14 @@
 -- The call of the slot store that puts an image in place.
-use Rattle.std.proofs.Common.{◌≡◌, ◌⊎◌, ◌&&◌, inl, inr, Bool, true, false, IsTrue, ℕ, ◌+◌, ◌≤◌, ◌<◌, ◌==◌, ◌||◌, nat_le, nat_lt, List, [], ◌∷◌, length, take, refl, sym, subst, arith}
+use Rattle.std.proofs.Common.{◌≡◌, ◌⊎◌, ◌&&◌, inl, inr, true, IsTrue, ℕ, ◌+◌, ◌≤◌, ◌<◌, ◌==◌, ◌||◌, nat_le, nat_lt, List, [], ◌∷◌, length, take, refl, sym, subst, arith}
 use Rattle.std.proofs.lemmas.Grind.{common_steps}
 use Rattle.std.proofs.lemmas.List.{length-take-le}
-use Rattle.dfu_wire.specs.declared.codes.Code.TheVariants.{Prog}
-use Rattle.dfu_slots.specs.Seen.{SlotsState, image_of, spare_of, is_begun, room_of, is_shaped, Commit, DidCall, Called}
+use Rattle.dfu_slots.specs.declared.fault.WriteFault.{WriteFault}
+use Rattle.dfu_slots.specs.Seen.{SlotsState, image_of, spare_of, is_begun, room_of, is_shaped, Commit, Ending, AllWorked, BrokenBy, DidCall, Called}
 use Rattle.dfu_device.specs.Setting.{Setting}
 use Rattle.dfu_device.specs.declared.mode.Mode.{Mode}
 use Rattle.dfu_device.specs.declared.mode.Mode.TheVariants as mode
 use Rattle.dfu_device.specs.inside.Fields.{shows, stage_of, is_put, is_sound}
+use Rattle.dfu_device.specs.Table.{commit_code}
 use Rattle.dfu_device.specs.Rows.{Committed, FailedCommit}
 use Rattle.dfu_device.proofs.Calls.{called_one}
 
@@ -36,10 +37,10 @@ commit_ready m b n s (inl (passed, e)) sound = committing_ready b n passed s (su
 commit_ready m b n s (inr e) sound = closed_ready b n s (subst (λ (k : Mode). IsTrue (is_sound k b s)) e sound)
 
 -- A commit of the bytes taken is one call, whether it worked or not.
-commit_calls : (s now : SlotsState) (n : ℕ) (ok : Bool) → n ≤ length (spare_of s) → DidCall s (Commit n) ok now
-    → Called s (Commit (length (take n (spare_of s))) ∷ []) ok now
-commit_calls s now n ok fits d =
-    subst (λ (k : ℕ). Called s (Commit k ∷ []) ok now) (sym (length-take-le n (spare_of s) fits)) (called_one s now (Commit n) ok d)
+commit_calls : (s now : SlotsState) (n : ℕ) (ending : Ending) → n ≤ length (spare_of s) → DidCall s (Commit n) ending now
+    → Called s (Commit (length (take n (spare_of s))) ∷ []) ending now
+commit_calls s now n ending fits d =
+    subst (λ (k : ℕ). Called s (Commit k ∷ []) ending now) (sym (length-take-le n (spare_of s) fits)) (called_one s now (Commit n) ending d)
 
 rested : (m : Mode) → (m ≡ mode.DfuIdle) ⊎ (m ≡ mode.ManifestSyncComplete) ⊎ (m ≡ mode.ManifestWaitReset) → (xs ys : List ℕ)
     → stage_of m xs ys ≡ stage_of m [] []
@@ -94,7 +95,7 @@ block_room m b n number s (inl (passed, e)) sound = room_found n b s (subst (λ 
 block_room m b n number s (inr e) sound = room_found n b s (subst (λ (k : Mode). IsTrue (is_sound k b s)) e sound)
 
 -- A commit that worked is what the table says of it.
-pub committed : (config : Setting) (s now : SlotsState) (next : Mode) (block : List ℕ) (n : ℕ) → IsReady s n → DidCall s (Commit n) true now
+pub committed : (config : Setting) (s now : SlotsState) (next : Mode) (block : List ℕ) (n : ℕ) → IsReady s n → DidCall s (Commit n) AllWorked now
     → image_of now ≡ take n (spare_of s) → room_of now ≡ room_of s
     → (next ≡ mode.DfuIdle) ⊎ (next ≡ mode.ManifestSyncComplete) ⊎ (next ≡ mode.ManifestWaitReset)
     → Committed (take n (spare_of s)) config s (stage_of next [] []) (shows config now next block)
@@ -102,19 +103,19 @@ committed config s now next block n ready d image room three = record {
   config_is = refl;
   room = room;
   stage_is = rested next three (spare_of now) block;
-  calls = commit_calls s now n true ready.spare d;
+  calls = commit_calls s now n AllWorked ready.spare d;
   image = image;
 }
 
 -- A commit that failed is what the table says of it.
-pub not_committed : (config : Setting) (s now : SlotsState) (block : List ℕ) (n : ℕ) → IsReady s n → DidCall s (Commit n) false now
+pub not_committed : (fault : WriteFault) (config : Setting) (s now : SlotsState) (block : List ℕ) (n : ℕ) → IsReady s n → DidCall s (Commit n) (BrokenBy fault) now
     → (image_of now ≡ image_of s) ⊎ (image_of now ≡ take n (spare_of s)) → room_of now ≡ room_of s
-    → FailedCommit (take n (spare_of s)) config s (shows config now (mode.Error Prog) block)
-not_committed config s now block n ready d image room = record {
+    → FailedCommit fault (take n (spare_of s)) config s (shows config now (mode.Error (commit_code fault)) block)
+not_committed fault config s now block n ready d image room = record {
   config_is = refl;
   room = room;
   stage_is = refl;
-  calls = commit_calls s now n false ready.spare d;
+  calls = commit_calls s now n (BrokenBy fault) ready.spare d;
   image = image;
-  failed = d.rose refl;
+  failed = d.rose fault refl;
 }

@@ -18,9 +18,9 @@ done_works (Sure reply stage) len w a out w' well (says, is) broken =
     inl (well (subst IsMediumError (ap (λ (z : Shown). z.stage) is) broken))
 done_works (Writes before block reply stage bad) len w a out w' well (inl (says, h)) broken =
     inl (well (subst IsMediumError h.stage_is broken))
-done_works (Writes before block reply stage bad) len w a out w' well (inr (says, h)) broken = inr h.failed
+done_works (Writes before block reply stage bad) len w a out w' well (inr (fault, says, h)) broken = inr h.failed
 done_works (Commits taken reply stage bad) len w a out w' well (inl (says, h)) broken = inl (well (subst IsMediumError h.stage_is broken))
-done_works (Commits taken reply stage bad) len w a out w' well (inr (says, h)) broken = inr h.failed
+done_works (Commits taken reply stage bad) len w a out w' well (inr (fault, says, h)) broken = inr h.failed
 
 reset_works : (st : Stage) → IsMediumError (reset_stage st) → ⊥
 reset_works InAppIdle x = x

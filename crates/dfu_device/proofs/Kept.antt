@@ -1,11 +1,11 @@
 -- What a row does to the slot store, and so to the image.
-use Rattle.std.specs.Prelude.{◌≡◌, ◌⊎◌, ℕ, true, false, List, [], ◌∷◌, length}
+use Rattle.std.specs.Prelude.{◌≡◌, ◌⊎◌, ℕ, List, [], ◌∷◌, length}
 use Rattle.std.proofs.Common.{sym, ap, ◌∙◌, inl, inr, subst}
-use Rattle.std.proofs.lemmas.Bool.{true≢false}
 use Rattle.dfu_wire.specs.declared.setups.Setup.{Setup}
 use Rattle.dfu_wire.specs.declared.requests.Request.{Request as Asked}
 use Rattle.dfu_wire.specs.declared.codes.Code.{Code}
-use Rattle.dfu_slots.specs.Seen.{image_of, Commit, Called}
+use Rattle.dfu_slots.specs.declared.fault.WriteFault.{WriteFault}
+use Rattle.dfu_slots.specs.Seen.{image_of, Commit, AllWorked, BrokenBy, Called}
 use Rattle.dfu_device.specs.declared.answer.Answer.{Answer}
 use Rattle.dfu_device.specs.declared.answer.Answer.TheVariants as answer
 use Rattle.dfu_device.specs.Stage.{Request, GetStatus, ClrStatus, GetState, Profile, Stage, InError}
@@ -17,6 +17,10 @@ use Rattle.dfu_device.specs.Cases.{either_way}
 use Rattle.dfu_device.proofs.Leads.{CallsFor, row_leads, time_leads}
 use Rattle.dfu_device.specs.Kept.{KeepsImage, RowKeeps, ErrorKeeps}
 
+-- What broke a call off is one fault.
+ended_one : {f g : WriteFault} → BrokenBy f ≡ BrokenBy g → f ≡ g
+ended_one q = cc
+
 -- The image.
 
 done_keeps : (p : Plan) (len : ℕ) (w : Shown) (a : Answer) (out : List ℕ) (w' : Shown)
@@ -27,32 +31,32 @@ done_keeps (Writes before block reply stage bad) len w a out w' only (inl (says,
   block = block;
   behind = only.0;
   all = only.1;
-  ok = true;
+  ending = AllWorked;
   calls = h.calls;
   image = h.image;
-  failed = λ e. absurd (true≢false e);
+  failed = λ f e. absurd (cc);
 }))
-done_keeps (Writes before block reply stage bad) len w a out w' only (inr (says, h)) = inr (inl (record {
+done_keeps (Writes before block reply stage bad) len w a out w' only (inr (fault, says, h)) = inr (inl (record {
   before = before;
   block = block;
   behind = only.0;
   all = only.1;
-  ok = false;
+  ending = BrokenBy fault;
   calls = h.calls;
   image = h.image;
-  failed = λ e. h.stage_is;
+  failed = λ f e. rw (← ended_one e) h.stage_is;
 }))
 done_keeps (Commits taken reply stage bad) len w a out w' only (inl (says, h)) = inr (inr (record {
-  ok = true;
-  calls = subst (λ (x : List ℕ). Called w.slots (Commit (length x) ∷ []) true w'.slots) only h.calls;
+  ending = AllWorked;
+  calls = subst (λ (x : List ℕ). Called w.slots (Commit (length x) ∷ []) AllWorked w'.slots) only h.calls;
   image = λ e. h.image ∙ only;
-  failed = λ e. absurd (true≢false e);
+  failed = λ f e. absurd (cc);
 }))
-done_keeps (Commits taken reply stage bad) len w a out w' only (inr (says, h)) = inr (inr (record {
-  ok = false;
-  calls = subst (λ (x : List ℕ). Called w.slots (Commit (length x) ∷ []) false w'.slots) only h.calls;
-  image = λ e. absurd (true≢false (sym e));
-  failed = λ e. (h.stage_is, subst (λ (x : List ℕ). (image_of w'.slots ≡ image_of w.slots) ⊎ (image_of w'.slots ≡ x)) only h.image);
+done_keeps (Commits taken reply stage bad) len w a out w' only (inr (fault, says, h)) = inr (inr (record {
+  ending = BrokenBy fault;
+  calls = subst (λ (x : List ℕ). Called w.slots (Commit (length x) ∷ []) (BrokenBy fault) w'.slots) only h.calls;
+  image = λ e. absurd (cc);
+  failed = λ f e. (rw (← ended_one e) h.stage_is, subst (λ (x : List ℕ). (image_of w'.slots ≡ image_of w.slots) ⊎ (image_of w'.slots ≡ x)) only h.image);
 }))
 
 setup_calls : (w : Shown) (p : Setup) (q : Asked) (body : List ℕ)

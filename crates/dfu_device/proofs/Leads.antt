@@ -110,7 +110,7 @@ time_leads c i (InDownloadBusy before block number passed) ms =
 time_leads c i (InManifest taken passed) ms =
     let P : Plan → Type 0 = Leads i (InManifest taken passed) in
     either_way P (ms == 0) _ _ (tt, λ y. absurd y) (either_way P (nat_le c.manifest (passed + ms)) _ _
-    (either_way (λ (st : Stage). P (Commits taken Ack st Ack)) c.tolerant InManifestSyncComplete InManifestWaitReset (refl, λ y. absurd y)
+    (either_way (λ (st : Stage). P (Commits taken Ack st (λ fault. Ack))) c.tolerant InManifestSyncComplete InManifestWaitReset (refl, λ y. absurd y)
     (refl, λ y. absurd y)) (tt, λ y. absurd y))
 time_leads c i InAppIdle ms = (tt, λ y. absurd y)
 time_leads c i InDfuIdle ms = (tt, λ y. absurd y)

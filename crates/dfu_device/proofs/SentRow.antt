@@ -40,11 +40,11 @@ none_sent i x (InError code) off = refl
 elsewhere : (i : List ℕ) (st : Stage) (r : Request) (p : Plan) → Elsewhere p → Sends i st r p
 elsewhere i st r (Sure reply stage) off luck = none_sent i (sent_in i st ++ sent_by r reply) stage off
 elsewhere i st r (Writes before block reply stage bad) off Works = none_sent i (sent_in i st ++ sent_by r reply) stage off
-elsewhere i st r (Writes before block reply stage bad) off FailsOld = refl
-elsewhere i st r (Writes before block reply stage bad) off FailsNew = refl
+elsewhere i st r (Writes before block reply stage bad) off (FailsOld fault) = refl
+elsewhere i st r (Writes before block reply stage bad) off (FailsNew fault) = refl
 elsewhere i st r (Commits taken reply stage bad) off Works = none_sent taken (sent_in i st ++ sent_by r reply) stage off
-elsewhere i st r (Commits taken reply stage bad) off FailsOld = refl
-elsewhere i st r (Commits taken reply stage bad) off FailsNew = refl
+elsewhere i st r (Commits taken reply stage bad) off (FailsOld fault) = refl
+elsewhere i st r (Commits taken reply stage bad) off (FailsNew fault) = refl
 
 -- Either branch ends in another state.
 either_off : (b : Bool) (x y : Plan) → Elsewhere x → Elsewhere y → Elsewhere (if b then x else y)
@@ -181,7 +181,7 @@ time_sends c i (InDownloadBusy before block number passed) ms =
 time_sends c i (InManifest taken passed) ms =
     elsewhere i (InManifest taken passed) OtherRequest (time_plan c (InManifest taken passed) ms)
     (either_off (ms == 0) _ _ refl (either_off (nat_le c.manifest (passed + ms)) _ _
-    (either_way (λ (st : Stage). Elsewhere (Commits taken Ack st Ack)) c.tolerant InManifestSyncComplete InManifestWaitReset refl refl)
+    (either_way (λ (st : Stage). Elsewhere (Commits taken Ack st (λ fault. Ack))) c.tolerant InManifestSyncComplete InManifestWaitReset refl refl)
     refl))
 time_sends c i (InUploadIdle place number) ms = λ luck. sym (append-nil (take place i))
 time_sends c i st ms = elsewhere i st OtherRequest (time_plan c st ms) refl

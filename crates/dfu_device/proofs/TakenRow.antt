@@ -2,6 +2,7 @@
 use Rattle.std.specs.Prelude.{◌≡◌, ℕ, ◌+◌, ◌==◌, nat_lt, nat_le, max, not, List, [], ◌∷◌, ◌++◌, length, take, drop}
 use Rattle.std.proofs.Common.{refl, sym, ap}
 use Rattle.std.proofs.lemmas.List.{append-nil}
+use Rattle.dfu_slots.specs.declared.fault.WriteFault.{WriteFault}
 use Rattle.dfu_device.specs.Stage.{Data, Request, Detach, Dnload, Upload, GetStatus, ClrStatus, GetState, Abort, OtherRequest, Reply, Ack, Profile, Stage, InAppIdle, InAppDetach, InDfuIdle, InDownloadSync, InDownloadSyncWritten, InDownloadBusy, InDownloadIdle, InManifestSync, InManifestSyncComplete, InManifest, InManifestWaitReset, InUploadIdle, InError}
 use Rattle.dfu_device.specs.Table.{next_number, Plan, Sure, Writes, Commits, plan, time_plan, further_plan, block_plan, upload_plan, is_empty}
 use Rattle.dfu_device.specs.Outcome.{Luck, Works, FailsOld, FailsNew, outcome}
@@ -36,35 +37,35 @@ ready_keeps c i taken number k [] = either_way (Keeps i (InDownloadIdle taken nu
     (λ luck. sym (append-nil taken)) (λ luck. refl)
 ready_keeps c i taken number k (b ∷ bs) = block_keeps c i taken (InDownloadIdle taken number) number k (b ∷ bs) refl
 
-asked_write : (i before block : List ℕ) (number : ℕ) (reply bad : Reply)
+asked_write : (i before block : List ℕ) (number : ℕ) (reply : Reply) (bad : WriteFault → Reply)
     → Keeps i (InDownloadSync before block number) GetStatus (Writes before block reply (InDownloadIdle (before ++ block) number) bad)
 asked_write i before block number reply bad Works = refl
-asked_write i before block number reply bad FailsOld = refl
-asked_write i before block number reply bad FailsNew = refl
+asked_write i before block number reply bad (FailsOld fault) = refl
+asked_write i before block number reply bad (FailsNew fault) = refl
 
-late_write : (i before block : List ℕ) (number passed : ℕ) (reply bad : Reply)
+late_write : (i before block : List ℕ) (number passed : ℕ) (reply : Reply) (bad : WriteFault → Reply)
     → Keeps i (InDownloadBusy before block number passed) OtherRequest
     (Writes before block reply (InDownloadSyncWritten (before ++ block) number) bad)
 late_write i before block number passed reply bad Works = refl
-late_write i before block number passed reply bad FailsOld = refl
-late_write i before block number passed reply bad FailsNew = refl
+late_write i before block number passed reply bad (FailsOld fault) = refl
+late_write i before block number passed reply bad (FailsNew fault) = refl
 
-asked_commit : (i taken : List ℕ) (reply bad : Reply) → Keeps i (InManifestSync taken) GetStatus (Commits taken reply InDfuIdle bad)
+asked_commit : (i taken : List ℕ) (reply : Reply) (bad : WriteFault → Reply) → Keeps i (InManifestSync taken) GetStatus (Commits taken reply InDfuIdle bad)
 asked_commit i taken reply bad Works = refl
-asked_commit i taken reply bad FailsOld = refl
-asked_commit i taken reply bad FailsNew = refl
+asked_commit i taken reply bad (FailsOld fault) = refl
+asked_commit i taken reply bad (FailsNew fault) = refl
 
-late_complete : (i taken : List ℕ) (passed : ℕ) (reply bad : Reply)
+late_complete : (i taken : List ℕ) (passed : ℕ) (reply : Reply) (bad : WriteFault → Reply)
     → Keeps i (InManifest taken passed) OtherRequest (Commits taken reply InManifestSyncComplete bad)
 late_complete i taken passed reply bad Works = refl
-late_complete i taken passed reply bad FailsOld = refl
-late_complete i taken passed reply bad FailsNew = refl
+late_complete i taken passed reply bad (FailsOld fault) = refl
+late_complete i taken passed reply bad (FailsNew fault) = refl
 
-late_waiting : (i taken : List ℕ) (passed : ℕ) (reply bad : Reply)
+late_waiting : (i taken : List ℕ) (passed : ℕ) (reply : Reply) (bad : WriteFault → Reply)
     → Keeps i (InManifest taken passed) OtherRequest (Commits taken reply InManifestWaitReset bad)
 late_waiting i taken passed reply bad Works = refl
-late_waiting i taken passed reply bad FailsOld = refl
-late_waiting i taken passed reply bad FailsNew = refl
+late_waiting i taken passed reply bad (FailsOld fault) = refl
+late_waiting i taken passed reply bad (FailsNew fault) = refl
 
 -- Each row by state and request.
 pub row_keeps : (c : Profile) (i : List ℕ) (st : Stage) (r : Request) → Keeps i st r (plan c i st r)
@@ -131,8 +132,8 @@ time_keeps c i (InDownloadBusy before block number passed) ms luck =
 time_keeps c i (InManifest taken passed) ms luck =
     let P : Plan → Type 0 = Keeps i (InManifest taken passed) OtherRequest in
     either_way P (ms == 0) _ _ (λ luck. refl) (either_way P (nat_le c.manifest (passed + ms)) _ _
-    (either_way (λ (st : Stage). P (Commits taken Ack st Ack)) c.tolerant InManifestSyncComplete InManifestWaitReset
-    (late_complete i taken passed Ack Ack) (late_waiting i taken passed Ack Ack)) (λ luck. refl)) luck
+    (either_way (λ (st : Stage). P (Commits taken Ack st (λ fault. Ack))) c.tolerant InManifestSyncComplete InManifestWaitReset
+    (late_complete i taken passed Ack (λ fault. Ack)) (late_waiting i taken passed Ack (λ fault. Ack))) (λ luck. refl)) luck
 time_keeps c i InAppIdle ms luck = refl
 time_keeps c i InDfuIdle ms luck = refl
 time_keeps c i (InDownloadSync before block number) ms luck = refl

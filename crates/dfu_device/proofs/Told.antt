@@ -3,12 +3,11 @@ use Rattle.std.specs.Prelude.{◌≡◌, ◌⊎◌, ℕ, ◌==◌, Bool, true, f
 use Rattle.std.proofs.Common.{refl, sym, ap, inl, inr, subst}
 use Rattle.std.proofs.lemmas.Bool.{false≢true}
 use Rattle.dfu_wire.specs.declared.requests.Request.TheVariants as asked
-use Rattle.dfu_wire.specs.declared.codes.Code.TheVariants.{Write as ErrWrite}
 use Rattle.dfu_slots.specs.Seen.{image_of}
 use Rattle.dfu_device.specs.declared.answer.Answer.{Answer}
 use Rattle.dfu_device.specs.declared.answer.Answer.TheVariants as answer
 use Rattle.dfu_device.specs.Stage.{GetStatus, GetState, Reply, StateOf, Stall, Profile, Stage, InAppIdle, InAppDetach, InDfuIdle, InDownloadSync, InDownloadSyncWritten, InDownloadBusy, InDownloadIdle, InManifestSync, InManifestSyncComplete, InManifest, InManifestWaitReset, InUploadIdle, InError, state_of, status_of}
-use Rattle.dfu_device.specs.Table.{Plan, Writes, plan, commit_and_report}
+use Rattle.dfu_device.specs.Table.{write_and_report, Plan, plan, commit_and_report}
 use Rattle.dfu_device.specs.Outcome.{Luck, Works, FailsOld, FailsNew, Outcome, outcome}
 use Rattle.dfu_device.specs.Shown.{profile, situation}
 use Rattle.dfu_device.specs.Rows.{Answers}
@@ -32,11 +31,10 @@ status_tells c i (InDownloadSync before block number) luck = written_tells luck
     P : Plan → Type 0
     P p = (luck : Luck) → Tells c (outcome i p luck)
 
-    now : P (Writes before block (status_of c (InDownloadIdle (before ++ block) number)) (InDownloadIdle (before ++ block) number)
-        (status_of c (InError ErrWrite)))
+    now : P (write_and_report c before block (InDownloadIdle (before ++ block) number))
     now Works = inl refl
-    now FailsOld = inl refl
-    now FailsNew = inl refl
+    now (FailsOld fault) = inl refl
+    now (FailsNew fault) = inl refl
 
     written_tells : P (plan c i (InDownloadSync before block number) GetStatus)
     written_tells = either_way P (c.busy == 0) _ _ now (λ luck. inl refl)
@@ -50,8 +48,8 @@ status_tells c i (InManifestSync taken) luck = committed_tells luck
 
     now : P (commit_and_report c taken InDfuIdle)
     now Works = inl refl
-    now FailsOld = inl refl
-    now FailsNew = inl refl
+    now (FailsOld fault) = inl refl
+    now (FailsNew fault) = inl refl
 
     committed_tells : P (plan c i (InManifestSync taken) GetStatus)
     committed_tells = either_way P (c.manifest == 0) _ _ now (λ luck. inl refl)

@@ -70,14 +70,14 @@ came (Writes before block reply stage bad) len w a out w' (inl (says, h)) = reco
   is_luck = tt;
   unarmed = λ e. (refl, called_whole w.slots w'.slots (block_calls before block) e h.calls);
 }
-came (Writes before block reply stage bad) len w a out w' (inr (says, h)) = record {
-  luck = FailsOld;
-  reply = bad;
-  same = after_is bad w' (image_of w.slots) _ h.image h.stage_is;
+came (Writes before block reply stage bad) len w a out w' (inr (fault, says, h)) = record {
+  luck = FailsOld fault;
+  reply = bad fault;
+  same = after_is (bad fault) w' (image_of w.slots) _ h.image h.stage_is;
   answers = says;
   fixed = fixed_by w w' h.config_is h.room;
   is_luck = h.failed;
-  unarmed = λ e. absurd (called_works w.slots w'.slots (block_calls before block) e h.calls);
+  unarmed = λ e. absurd (called_works fault w.slots w'.slots (block_calls before block) e h.calls);
 }
 came (Commits taken reply stage bad) len w a out w' (inl (says, h)) = record {
   luck = Works;
@@ -88,24 +88,24 @@ came (Commits taken reply stage bad) len w a out w' (inl (says, h)) = record {
   is_luck = tt;
   unarmed = λ e. (refl, called_whole w.slots w'.slots (Commit (length taken) ∷ []) e h.calls);
 }
-came (Commits taken reply stage bad) len w a out w' (inr (says, h)) = elim (h.image) [
+came (Commits taken reply stage bad) len w a out w' (inr (fault, says, h)) = elim (h.image) [
   | inl old ↦ record {
-    luck = FailsOld;
-    reply = bad;
-    same = after_is bad w' (image_of w.slots) _ old h.stage_is;
+    luck = FailsOld fault;
+    reply = bad fault;
+    same = after_is (bad fault) w' (image_of w.slots) _ old h.stage_is;
     answers = says;
     fixed = fixed_by w w' h.config_is h.room;
     is_luck = h.failed;
-    unarmed = λ e. absurd (called_works w.slots w'.slots (Commit (length taken) ∷ []) e h.calls);
+    unarmed = λ e. absurd (called_works fault w.slots w'.slots (Commit (length taken) ∷ []) e h.calls);
   }
   | inr new ↦ record {
-    luck = FailsNew;
-    reply = bad;
-    same = after_is bad w' taken _ new h.stage_is;
+    luck = FailsNew fault;
+    reply = bad fault;
+    same = after_is (bad fault) w' taken _ new h.stage_is;
     answers = says;
     fixed = fixed_by w w' h.config_is h.room;
     is_luck = h.failed;
-    unarmed = λ e. absurd (called_works w.slots w'.slots (Commit (length taken) ∷ []) e h.calls);
+    unarmed = λ e. absurd (called_works fault w.slots w'.slots (Commit (length taken) ∷ []) e h.calls);
   }
 ]
 

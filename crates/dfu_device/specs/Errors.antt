@@ -1,23 +1,24 @@
 -- Where an error of the medium comes from.
 use Rattle.std.specs.Prelude.{◌⊎◌, ℕ, List}
-use Rattle.dfu_wire.specs.declared.codes.Code.TheVariants.{Write as ErrWrite, Prog as ErrProg}
+use Rattle.dfu_wire.specs.declared.codes.Code.TheVariants.{Write as ErrWrite, Prog as ErrProg, Verify as ErrVerify}
 use Rattle.dfu_device.specs.declared.answer.Answer.{Answer}
 use Rattle.dfu_slots.specs.Medium.{Rose}
 use Rattle.dfu_device.specs.Stage.{Stage, InError}
 use Rattle.dfu_device.specs.Shown.{Shown}
 use Rattle.dfu_device.specs.Rows.{Cause, Row}
 
--- dfuERROR with errWRITE or errPROG.
+-- dfuERROR with errWRITE, errPROG or errVERIFY.
 abbrev pub IsMediumError : Stage → Type 0
 IsMediumError (InError ErrWrite) = Unit {0}
 IsMediumError (InError ErrProg) = Unit {0}
+IsMediumError (InError ErrVerify) = Unit {0}
 IsMediumError stage = ⊥
 
 -- The count of the medium's failures rose.
 abbrev pub MediumFailed : Shown → Shown → Type 0
 MediumFailed w w' = Rose w.slots.medium.failures w'.slots.medium.failures
 
--- errWRITE and errPROG come only where the medium failed, and then stay.
+-- errWRITE, errPROG and errVERIFY come only where the medium failed, and then stay.
 abbrev pub ErrorsHaveCause : Type 0
 ErrorsHaveCause = (w : Shown) (cause : Cause) (a : Answer) (out : List ℕ) (w' : Shown) → Row w cause a out w' → IsMediumError w'.stage
     → IsMediumError w.stage ⊎ MediumFailed w w'

@@ -1,32 +1,34 @@
 -- What a row does to the slot store, and so to the image.
-use Rattle.std.specs.Prelude.{◌≡◌, ◌⊎◌, ℕ, Bool, true, false, List, [], ◌∷◌, ◌++◌, length}
+use Rattle.std.specs.Prelude.{◌≡◌, ◌⊎◌, ℕ, List, [], ◌∷◌, ◌++◌, length}
 use Rattle.dfu_wire.specs.declared.codes.Code.{Code}
-use Rattle.dfu_wire.specs.declared.codes.Code.TheVariants.{Write as ErrWrite, Prog as ErrProg}
-use Rattle.dfu_slots.specs.Seen.{store_on, image_of, Commit, Called}
+use Rattle.dfu_slots.specs.declared.fault.WriteFault.{WriteFault}
+use Rattle.dfu_slots.specs.Seen.{store_on, image_of, Commit, Ending, AllWorked, BrokenBy, Called}
 use Rattle.dfu_device.specs.declared.answer.Answer.{Answer}
 use Rattle.dfu_device.specs.Stage.{InError}
+use Rattle.dfu_device.specs.Table.{write_code, commit_code}
 use Rattle.dfu_device.specs.Shown.{Shown, situation, written_in}
 use Rattle.dfu_device.specs.Rows.{block_calls, Cause, Row}
 use Rattle.dfu_device.specs.Taken.{taken_of}
 
--- The last block taken was written behind those before it, all the bytes written: the image stays, and where that failed the code is
--- errWRITE.
+-- The last block taken was written behind those before it, all the bytes written: the image stays, and where a write had a
+-- fault the code tells it.
 pub record WroteOn (w w' : Shown) : Type 0 where
   pub before : List ℕ
   pub block : List ℕ
   pub behind : before ≡ written_in w.stage
   pub all : before ++ block ≡ taken_of (situation w)
-  pub ok : Bool
-  pub calls : Called w.slots (block_calls before block) ok w'.slots
+  pub ending : Ending
+  pub calls : Called w.slots (block_calls before block) ending w'.slots
   pub image : image_of w'.slots ≡ image_of w.slots
-  pub failed : ok ≡ false → w'.stage ≡ InError ErrWrite
+  pub failed : (fault : WriteFault) → ending ≡ BrokenBy fault → w'.stage ≡ InError (write_code fault)
 
--- The bytes taken were committed and are the image; where that failed the code is errPROG, and the image is the old one or the bytes taken.
+-- The bytes taken were committed and are the image; where a write had a fault the code tells it, and the image is the old
+-- one or the bytes taken.
 pub record PutInPlace (w w' : Shown) : Type 0 where
-  pub ok : Bool
-  pub calls : Called w.slots (Commit (length (taken_of (situation w))) ∷ []) ok w'.slots
-  pub image : ok ≡ true → image_of w'.slots ≡ taken_of (situation w)
-  pub failed : ok ≡ false → (w'.stage ≡ InError ErrProg)
+  pub ending : Ending
+  pub calls : Called w.slots (Commit (length (taken_of (situation w))) ∷ []) ending w'.slots
+  pub image : ending ≡ AllWorked → image_of w'.slots ≡ taken_of (situation w)
+  pub failed : (fault : WriteFault) → ending ≡ BrokenBy fault → (w'.stage ≡ InError (commit_code fault))
       × ((image_of w'.slots ≡ image_of w.slots) ⊎ (image_of w'.slots ≡ taken_of (situation w)))
 
 -- The slot store stays as it is, or it was opened again on its medium.

@@ -1,34 +1,38 @@
 -- What a row leads to, once it is said what the medium did.
 use Rattle.std.specs.Prelude.{ℕ, List}
-use Rattle.dfu_wire.specs.declared.codes.Code.TheVariants.{Write as ErrWrite, Prog as ErrProg}
+use Rattle.dfu_slots.specs.declared.fault.WriteFault.{WriteFault}
 use Rattle.dfu_device.specs.Stage.{Request, Reply, Profile, Stage, InAppIdle, InError}
-use Rattle.dfu_device.specs.Table.{Plan, Sure, Writes, Commits, plan, time_plan, reset_stage}
+use Rattle.dfu_device.specs.Table.{Plan, Sure, Writes, Commits, write_code, commit_code, plan, time_plan, reset_stage}
 
 -- The active image, and the state with what it keeps.
 pub record Situation : Type 0 where
   pub image : List ℕ
   pub stage : Stage
 
--- What the medium did: it worked, or it failed and left the old image active, or the new one.
+-- What the medium did: it worked, or a write had this fault, and the old image is active, or the new one.
 pub data Luck : Type 0 where
   Works : Luck
-  FailsOld : Luck
-  FailsNew : Luck
+  FailsOld : WriteFault → Luck
+  FailsNew : WriteFault → Luck
 
 -- What was answered, and the situation after it.
 pub record Outcome : Type 0 where
   pub reply : Reply
   pub after : Situation
 
--- The outcome of a row: a failed write enters dfuERROR with errWRITE and keeps the image, a failed commit enters it with errPROG.
+-- The outcome of a row: a fault enters dfuERROR with its code; at a block it keeps the image.
 abbrev pub outcome : List ℕ → Plan → Luck → Outcome
 outcome image (Sure reply stage) luck = record { reply = reply; after = record { image = image; stage = stage } }
 outcome image (Writes before block reply stage bad) Works = record { reply = reply; after = record { image = image; stage = stage } }
-outcome image (Writes before block reply stage bad) luck =
-    record { reply = bad; after = record { image = image; stage = InError ErrWrite } }
+outcome image (Writes before block reply stage bad) (FailsOld fault) =
+    record { reply = bad fault; after = record { image = image; stage = InError (write_code fault) } }
+outcome image (Writes before block reply stage bad) (FailsNew fault) =
+    record { reply = bad fault; after = record { image = image; stage = InError (write_code fault) } }
 outcome image (Commits taken reply stage bad) Works = record { reply = reply; after = record { image = taken; stage = stage } }
-outcome image (Commits taken reply stage bad) FailsOld = record { reply = bad; after = record { image = image; stage = InError ErrProg } }
-outcome image (Commits taken reply stage bad) FailsNew = record { reply = bad; after = record { image = taken; stage = InError ErrProg } }
+outcome image (Commits taken reply stage bad) (FailsOld fault) =
+    record { reply = bad fault; after = record { image = image; stage = InError (commit_code fault) } }
+outcome image (Commits taken reply stage bad) (FailsNew fault) =
+    record { reply = bad fault; after = record { image = taken; stage = InError (commit_code fault) } }
 
 -- What comes of a request.
 abbrev pub handled : Profile → Situation → Request → Luck → Outcome

@@ -1,19 +1,19 @@
 -- The rows of a device: what it answers to its bytes, what becomes of it, and which calls of the slot store it makes.
-use Rattle.std.specs.Prelude.{◌≡◌, ◌⊎◌, ℕ, ◌==◌, List, [], ◌∷◌, length, take, Bool, true, false, if◌then◌else◌, slice_index}
+use Rattle.std.specs.Prelude.{◌≡◌, ◌⊎◌, ℕ, ◌==◌, List, [], ◌∷◌, length, take, Bool, false, if◌then◌else◌, slice_index}
 use Rattle.dfu_wire.specs.declared.setups.Setup.{Setup}
 use Rattle.dfu_wire.specs.declared.requests.Request.{Request as Asked}
 use Rattle.dfu_wire.specs.declared.requests.Request.TheVariants as asked
-use Rattle.dfu_wire.specs.declared.codes.Code.TheVariants.{Write as ErrWrite, Prog as ErrProg}
 use Rattle.dfu_wire.specs.Setup.{IsSetup}
 use Rattle.dfu_wire.specs.Request.{Asks}
 use Rattle.dfu_wire.specs.Status.{IsStatus}
 use Rattle.dfu_wire.specs.State.{state_byte}
+use Rattle.dfu_slots.specs.declared.fault.WriteFault.{WriteFault}
 use Rattle.dfu_slots.specs.Medium.{Rose}
-use Rattle.dfu_slots.specs.Seen.{SlotsState, store_on, image_of, room_of, Call, Begin, Put, Commit, Called}
+use Rattle.dfu_slots.specs.Seen.{SlotsState, store_on, image_of, room_of, Call, Begin, Put, Commit, AllWorked, BrokenBy, Called}
 use Rattle.dfu_device.specs.declared.answer.Answer.{Answer}
 use Rattle.dfu_device.specs.declared.answer.Answer.TheVariants as answer
 use Rattle.dfu_device.specs.Stage.{Request, Detach, Dnload, Upload, GetStatus, ClrStatus, GetState, Abort, OtherRequest, Reply, Ack, StatusOf, StateOf, Data, Stall, Stage, InAppIdle, InError}
-use Rattle.dfu_device.specs.Table.{Plan, Sure, Writes, Commits, plan, time_plan, reset_stage}
+use Rattle.dfu_device.specs.Table.{Plan, Sure, Writes, Commits, write_code, commit_code, plan, time_plan, reset_stage}
 use Rattle.dfu_device.specs.Setting.{Setting}
 use Rattle.dfu_device.specs.Shown.{Shown, profile}
 
@@ -40,15 +40,15 @@ pub record WroteBlock (before block : List ℕ) (config : Setting) (s : SlotsSta
   pub config_is : w'.config ≡ config
   pub room : room_of w'.slots ≡ room_of s
   pub stage_is : w'.stage ≡ stage
-  pub calls : Called s (block_calls before block) true w'.slots
+  pub calls : Called s (block_calls before block) AllWorked w'.slots
   pub image : image_of w'.slots ≡ image_of s
 
--- The medium failed at the block: the image stays, and the code is errWRITE.
-pub record FailedBlock (before block : List ℕ) (config : Setting) (s : SlotsState) (w' : Shown) : Type 0 where
+-- A write of the block had this fault: the image stays, and the code tells it.
+pub record FailedBlock (fault : WriteFault) (before block : List ℕ) (config : Setting) (s : SlotsState) (w' : Shown) : Type 0 where
   pub config_is : w'.config ≡ config
   pub room : room_of w'.slots ≡ room_of s
-  pub stage_is : w'.stage ≡ InError ErrWrite
-  pub calls : Called s (block_calls before block) false w'.slots
+  pub stage_is : w'.stage ≡ InError (write_code fault)
+  pub calls : Called s (block_calls before block) (BrokenBy fault) w'.slots
   pub image : image_of w'.slots ≡ image_of s
   pub failed : Rose s.medium.failures w'.slots.medium.failures
 
@@ -57,15 +57,15 @@ pub record Committed (taken : List ℕ) (config : Setting) (s : SlotsState) (sta
   pub config_is : w'.config ≡ config
   pub room : room_of w'.slots ≡ room_of s
   pub stage_is : w'.stage ≡ stage
-  pub calls : Called s (Commit (length taken) ∷ []) true w'.slots
+  pub calls : Called s (Commit (length taken) ∷ []) AllWorked w'.slots
   pub image : image_of w'.slots ≡ taken
 
--- The medium failed there: the image is the old one or the bytes taken, and the code is errPROG.
-pub record FailedCommit (taken : List ℕ) (config : Setting) (s : SlotsState) (w' : Shown) : Type 0 where
+-- A write of the commit had this fault: the image is the old one or the bytes taken, and the code tells it.
+pub record FailedCommit (fault : WriteFault) (taken : List ℕ) (config : Setting) (s : SlotsState) (w' : Shown) : Type 0 where
   pub config_is : w'.config ≡ config
   pub room : room_of w'.slots ≡ room_of s
-  pub stage_is : w'.stage ≡ InError ErrProg
-  pub calls : Called s (Commit (length taken) ∷ []) false w'.slots
+  pub stage_is : w'.stage ≡ InError (commit_code fault)
+  pub calls : Called s (Commit (length taken) ∷ []) (BrokenBy fault) w'.slots
   pub image : (image_of w'.slots ≡ image_of s) ⊎ (image_of w'.slots ≡ taken)
   pub failed : Rose s.medium.failures w'.slots.medium.failures
 
@@ -74,9 +74,10 @@ abbrev pub Done : Plan → ℕ → Shown → Answer → List ℕ → Shown → T
 Done (Sure reply stage) len w a out w' = Answers len reply a out × (w' ≡ record w { stage = stage })
 Done (Writes before block reply stage bad) len w a out w' =
     (Answers len reply a out × WroteBlock before block w.config w.slots stage w')
-    ⊎ (Answers len bad a out × FailedBlock before block w.config w.slots w')
+    ⊎ ((fault : WriteFault) × Answers len (bad fault) a out × FailedBlock fault before block w.config w.slots w')
 Done (Commits taken reply stage bad) len w a out w' =
-    (Answers len reply a out × Committed taken w.config w.slots stage w') ⊎ (Answers len bad a out × FailedCommit taken w.config w.slots w')
+    (Answers len reply a out × Committed taken w.config w.slots stage w')
+    ⊎ ((fault : WriteFault) × Answers len (bad fault) a out × FailedCommit fault taken w.config w.slots w')
 
 -- The three rules before the table.
 

@@ -2,17 +2,32 @@
 -- A star marks a rule where a reader may find the appendix otherwise; docs/PROFILE.md, "Where we choose", has the other reading of each.
 use Rattle.std.specs.Prelude.{ℕ, ◌+◌, ◌%◌, ◌==◌, nat_lt, nat_le, min, max, Bool, true, false, not, if◌then◌else◌, List, [], ◌∷◌, ◌++◌, length, take, drop}
 use Rattle.dfu_wire.specs.declared.codes.Code.{Code}
-use Rattle.dfu_wire.specs.declared.codes.Code.TheVariants.{Write as ErrWrite, Prog as ErrProg, Address as ErrAddress, NotDone as ErrNotDone, StalledPkt as ErrStalledPkt}
+use Rattle.dfu_wire.specs.declared.codes.Code.TheVariants.{Write as ErrWrite, Prog as ErrProg, Verify as ErrVerify, Address as ErrAddress, NotDone as ErrNotDone, StalledPkt as ErrStalledPkt}
+use Rattle.dfu_slots.specs.declared.fault.WriteFault.{WriteFault}
+use Rattle.dfu_slots.specs.declared.fault.WriteFault.TheVariants.{Failed, NotVerified}
 use Rattle.dfu_device.specs.Stage.{Request, Detach, Dnload, Upload, GetStatus, ClrStatus, GetState, Abort, Reply, Ack, StateOf, Data, Stall, Profile, Stage, InAppIdle, InAppDetach, InDfuIdle, InDownloadSync, InDownloadSyncWritten, InDownloadBusy, InDownloadIdle, InManifestSync, InManifestSyncComplete, InManifest, InManifestWaitReset, InUploadIdle, InError, state_of, status_of}
 
--- What a row does. Only the medium is left open: where it works the first reply and stage come, where it fails the last reply and dfuERROR.
+-- What a row does. Only the medium is left open: where it works the first reply and stage come, where a write has a fault the last reply and
+-- dfuERROR.
 pub data Plan : Type 0 where
   -- It answers and enters a stage, and calls nothing of the slot store.
   Sure : Reply → Stage → Plan
-  -- It first writes a block behind the bytes taken before, and enters dfuERROR with errWRITE where that fails.
-  Writes : (before block : List ℕ) → Reply → Stage → Reply → Plan
-  -- It first makes the bytes taken the active image, and enters dfuERROR with errPROG where that fails.
-  Commits : (taken : List ℕ) → Reply → Stage → Reply → Plan
+  -- It first writes a block behind the bytes taken before, and enters dfuERROR with errWRITE where that fails, with errVERIFY where it is not
+  -- there.
+  Writes : (before block : List ℕ) → Reply → Stage → (WriteFault → Reply) → Plan
+  -- It first makes the bytes taken the active image, and enters dfuERROR with errPROG where that fails, with errVERIFY where a write is not
+  -- there.
+  Commits : (taken : List ℕ) → Reply → Stage → (WriteFault → Reply) → Plan
+
+-- The code of a block whose write failed, or was not there when it was read back.
+abbrev pub write_code : WriteFault → Code
+write_code Failed = ErrWrite
+write_code NotVerified = ErrVerify
+
+-- The code of a commit of which a write failed, or was not there.
+abbrev pub commit_code : WriteFault → Code
+commit_code Failed = ErrProg
+commit_code NotVerified = ErrVerify
 
 -- The request is acknowledged, and this stage entered.
 abbrev pub ack : Stage → Plan
@@ -30,13 +45,15 @@ error code = stall (InError code)
 abbrev pub report : Profile → Stage → Plan
 report c stage = Sure (status_of c stage) stage
 
--- GETSTATUS writes the block first; its answer tells errWRITE where that fails.
+-- GETSTATUS writes the block first; its answer tells the code of a fault.
 abbrev pub write_and_report : Profile → List ℕ → List ℕ → Stage → Plan
-write_and_report c before block stage = Writes before block (status_of c stage) stage (status_of c (InError ErrWrite))
+write_and_report c before block stage =
+    Writes before block (status_of c stage) stage (λ fault. status_of c (InError (write_code fault)))
 
--- GETSTATUS puts the image in place first; its answer tells errPROG where that fails.
+-- GETSTATUS puts the image in place first; its answer tells the code of a fault.
 abbrev pub commit_and_report : Profile → List ℕ → Stage → Plan
-commit_and_report c taken stage = Commits taken (status_of c stage) stage (status_of c (InError ErrProg))
+commit_and_report c taken stage =
+    Commits taken (status_of c stage) stage (λ fault. status_of c (InError (commit_code fault)))
 
 -- GETSTATE is answered with the state as it stands.
 abbrev pub tell : Stage → Plan
@@ -159,12 +176,12 @@ time_plan c (InAppDetach timer passed) ms =
 -- dfuDNBUSY.
 time_plan c (InDownloadBusy before block number passed) ms =
     if ms == 0 then ack (InDownloadBusy before block number passed)
-    else if nat_le c.busy (passed + ms) then Writes before block Ack (InDownloadSyncWritten (before ++ block) number) Ack
+    else if nat_le c.busy (passed + ms) then Writes before block Ack (InDownloadSyncWritten (before ++ block) number) (λ fault. Ack)
     else ack (InDownloadBusy before block number (passed + ms))
 -- dfuMANIFEST. A device that is not tolerant of manifestation waits for a reset.
 time_plan c (InManifest taken passed) ms =
     if ms == 0 then ack (InManifest taken passed)
-    else if nat_le c.manifest (passed + ms) then Commits taken Ack (if c.tolerant then InManifestSyncComplete else InManifestWaitReset) Ack
+    else if nat_le c.manifest (passed + ms) then Commits taken Ack (if c.tolerant then InManifestSyncComplete else InManifestWaitReset) (λ fault. Ack)
     else ack (InManifest taken (passed + ms))
 time_plan c stage ms = ack stage
 

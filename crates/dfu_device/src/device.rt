@@ -2,7 +2,7 @@
 
 ghost use Rattle.std.specs.Prelude.{◌≡◌, take, OnOk, OnErr, IfOk, IfErr};
 ghost use Rattle.dfu_slots.specs.Seen.{fused};
-ghost use Rattle.dfu_slots.specs.Medium.Fuse.{Whole, Armed};
+ghost use Rattle.dfu_slots.specs.Medium.Fuse.{Whole, Armed, Lying};
 ghost use Rattle.dfu_slots.specs.Image.{HasImage};
 ghost use Rattle.dfu_slots.specs.Changes.{IsOpenFault};
 ghost use Rattle.dfu_device.specs.Stage.{InAppIdle, state_of, code_of};
@@ -191,6 +191,13 @@ impl<M: Faulty> Device<M> {
         ensures { self.new ≡ record self.old { slots = fused self.old.slots (Armed writes (take 4096 tear.now) stop) } }
     {
         self.machine.slots.arm(writes, tear, stop);
+    }
+
+    /// Arms the medium to lie, as `Slots::arm_lie`.
+    pub fn arm_lie(&mut self, writes: u32, tear: &[u8])
+        ensures { self.new ≡ record self.old { slots = fused self.old.slots (Lying writes (take 4096 tear.now)) } }
+    {
+        self.machine.slots.arm_lie(writes, tear);
     }
 
     /// Disarms the medium, as `Slots::disarm`.

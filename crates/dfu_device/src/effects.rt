@@ -1,10 +1,11 @@
 //! What the states of a device do: a function for each effect.
 
-ghost use Rattle.std.specs.Prelude.{◌≡◌, ◌<◌, ◌≤◌, ◌+◌, ◌++◌, ◌^◌, ◌⊎◌, ℕ, length, take, List, [], true, false, if◌then◌else◌, OnOk, OnErr, is_ok};
+ghost use Rattle.std.specs.Prelude.{◌≡◌, ◌<◌, ◌≤◌, ◌+◌, ◌++◌, ◌^◌, ◌⊎◌, ℕ, length, take, List, [], true, false, if◌then◌else◌, OnOk, OnErr, IfErr};
 ghost use Rattle.dfu_slots.specs.Medium.{Rose};
 ghost use Rattle.dfu_slots.specs.Seen.{image_of, spare_of, room_of, is_shaped, Called};
+ghost use Rattle.dfu_slots.specs.Changes.{fault_of, ending_of};
 ghost use Rattle.dfu_device.specs.Stage.{StateOf, InDownloadSyncWritten, InDownloadIdle, InError, state_of, poll_of, status_of};
-ghost use Rattle.dfu_device.specs.Table.{block_plan};
+ghost use Rattle.dfu_device.specs.Table.{write_code, commit_code, block_plan};
 ghost use Rattle.dfu_device.specs.Shown.{profile};
 ghost use Rattle.dfu_device.specs.inside.Fields.{is_put, stage_of};
 ghost use Rattle.dfu_device.specs.Rows.{Answers, Done, WroteBlock, FailedBlock, Committed, FailedCommit, block_calls};
@@ -14,7 +15,7 @@ use crate::Answer;
 use crate::machine::Machine;
 use crate::mode::Mode;
 use arrayvec::ArrayVec;
-use dfu_slots::{Medium, PutFault, Slots};
+use dfu_slots::{Medium, PutFault, Slots, WriteFault};
 use dfu_wire::{Code, Status};
 
 impl<M: Medium> Machine<M> {
@@ -95,17 +96,22 @@ impl<M: Medium> Machine<M> {
         Answer::Ack
     }
 
-    /// Writes the block. It answers whether the medium worked; `late` is said where time passed, so
+    /// Writes the block. It answers the fault of a write that had one; `late` is said where time passed, so
     /// that the host has to ask for the status once more.
-    pub(crate) fn write_block(&mut self, written: u32, number: u16, late: bool) -> bool
+    pub(crate) fn write_block(
+        &mut self,
+        written: u32,
+        number: u16,
+        late: bool,
+    ) -> Result<(), WriteFault>
         requires { ((passed : ℕ) × (self.old.mode ≡ Mode.DownloadBusy written number passed))
             ⊎ (self.old.mode ≡ Mode.DownloadSync written number) }
         ensures done { let before = take written (spare_of self.old.slots) in
             let block = self.old.block.items in
             let next = if late then InDownloadSyncWritten (before ++ block) number else InDownloadIdle (before ++ block) number in
-            result ≡ true → WroteBlock before block self.old.config self.old.slots next (shown self.new) }
-        ensures failed { result ≡ false → FailedBlock
-            (take written (spare_of self.old.slots)) self.old.block.items self.old.config self.old.slots (shown self.new) }
+            OnOk result (WroteBlock before block self.old.config self.old.slots next (shown self.new)) }
+        ensures failed { IfErr result (λ fault. FailedBlock fault
+            (take written (spare_of self.old.slots)) self.old.block.items self.old.config self.old.slots (shown self.new)) }
     {
         match put_block(&mut self.slots, written, self.block.as_slice()) {
             Ok(()) => {
@@ -115,35 +121,71 @@ impl<M: Medium> Machine<M> {
                 } else {
                     Mode::DownloadIdle { written, number }
                 };
-                true
+                Ok(())
             }
-            Err(_) => {
-                self.mode = Mode::Error { code: Code::Write };
-                false
+            Err(fault) => {
+                let fault = write_fault(fault);
+                self.mode = Mode::Error {
+                    code: write_code(fault),
+                };
+                Err(fault)
             }
         }
     }
 
-    /// Makes the bytes taken the active image, and goes on to the next state. It answers whether the
-    /// medium worked.
-    pub(crate) fn commit_taken(&mut self, written: u32, next: Mode) -> bool
+    /// Makes the bytes taken the active image, and goes on to the next state. It answers the fault of a
+    /// write that had one.
+    pub(crate) fn commit_taken(&mut self, written: u32, next: Mode) -> Result<(), WriteFault>
         requires mode { ((passed : ℕ) × (self.old.mode ≡ Mode.Manifest written passed)) ⊎ (self.old.mode ≡ Mode.ManifestSync written) }
         requires next { (next ≡ Mode.DfuIdle) ⊎ (next ≡ Mode.ManifestSyncComplete) ⊎ (next ≡ Mode.ManifestWaitReset) }
-        ensures done { result ≡ true → Committed (take written (spare_of self.old.slots)) self.old.config self.old.slots
-            (stage_of next [] []) (shown self.new) }
-        ensures failed { result ≡ false → FailedCommit (take written (spare_of self.old.slots)) self.old.config self.old.slots
-            (shown self.new) }
+        ensures done { OnOk result (Committed (take written (spare_of self.old.slots)) self.old.config self.old.slots
+            (stage_of next [] []) (shown self.new)) }
+        ensures failed { IfErr result (λ fault. FailedCommit fault (take written (spare_of self.old.slots)) self.old.config self.old.slots
+            (shown self.new)) }
     {
         match self.slots.commit(written) {
             Ok(()) => {
                 self.mode = next;
-                true
+                Ok(())
             }
-            Err(_) => {
-                self.mode = Mode::Error { code: Code::Prog };
-                false
+            Err(fault) => {
+                let fault = write_fault(fault);
+                self.mode = Mode::Error {
+                    code: commit_code(fault),
+                };
+                Err(fault)
             }
         }
+    }
+}
+
+/// The fault of the write that broke a call of the slot store off.
+fn write_fault(fault: PutFault) -> WriteFault
+    ensures { result ≡ fault_of fault }
+{
+    match fault {
+        PutFault::NotVerified => WriteFault::NotVerified,
+        PutFault::TooLarge | PutFault::Failed | PutFault::NotBegun => WriteFault::Failed,
+    }
+}
+
+/// The code of a block whose write had this fault.
+fn write_code(fault: WriteFault) -> Code
+    ensures { result ≡ write_code fault }
+{
+    match fault {
+        WriteFault::Failed => Code::Write,
+        WriteFault::NotVerified => Code::Verify,
+    }
+}
+
+/// The code of a commit of which a write had this fault.
+fn commit_code(fault: WriteFault) -> Code
+    ensures { result ≡ commit_code fault }
+{
+    match fault {
+        WriteFault::Failed => Code::Prog,
+        WriteFault::NotVerified => Code::Verify,
     }
 }
 
@@ -157,7 +199,7 @@ fn put_block<M: Medium>(slots: &mut Slots<M>, written: u32, block: &[u8]) -> Res
     ensures shape { is_shaped slots.new ≡ true }
     ensures room { room_of slots.new ≡ room_of slots.old }
     ensures image { image_of slots.new ≡ image_of slots.old }
-    ensures calls { Called slots.old (block_calls (take written (spare_of slots.old)) block.now) (is_ok result) slots.new }
+    ensures calls { Called slots.old (block_calls (take written (spare_of slots.old)) block.now) (ending_of result) slots.new }
     ensures put { OnOk result (is_put (written + length block.now) slots.new ≡ true) }
     ensures spare { OnOk result (take (written + length block.now) (spare_of slots.new) ≡ take written (spare_of slots.old) ++ block.now) }
     ensures err { OnErr result (Rose slots.old.medium.failures slots.new.medium.failures) }
@@ -165,6 +207,8 @@ fn put_block<M: Medium>(slots: &mut Slots<M>, written: u32, block: &[u8]) -> Res
     if written > 0 {
         return slots.put(written, block);
     }
-    slots.begin()?;
-    slots.put(0, block)
+    match slots.begin() {
+        Err(fault) => Err(fault),
+        Ok(()) => slots.put(0, block),
+    }
 }

@@ -52,8 +52,8 @@ pub fn rows_tell()
 {}
 
 /// A row calls nothing of the slot store, or writes the last block taken behind the bytes written, or
-/// commits the bytes taken; the image changes by such a commit alone, and in dfuERROR it stays. errWRITE and errPROG come only
-/// where the medium failed.
+/// commits the bytes taken; the image changes by such a commit alone, and in dfuERROR it stays. errWRITE,
+/// errPROG and errVERIFY come only where the medium failed.
 pub fn rows_keep()
     ensures image { RowKeeps }
     ensures error { ErrorKeeps }

@@ -11,6 +11,7 @@ use std::test::Fail;
 mod all_setups;
 mod blocks;
 mod cells;
+mod lies;
 mod many_pieces;
 mod restart;
 mod rows;

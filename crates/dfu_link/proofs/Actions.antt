@@ -17,7 +17,7 @@ use Rattle.dfu_link.specs.declared.back.Back.{Back}
 use Rattle.dfu_link.specs.declared.course.Handling.{Handling}
 use Rattle.dfu_link.specs.declared.course.Handling.TheVariants.{Late}
 use Rattle.dfu_link.specs.declared.course.Harming.{Harming}
-use Rattle.dfu_link.specs.declared.course.Harming.TheVariants.{NoWrite, CutsPower, FailsWrite}
+use Rattle.dfu_link.specs.declared.course.Harming.TheVariants.{NoWrite, CutsPower, FailsWrite, LiesInWrite}
 use Rattle.dfu_link.specs.Course.{Course}
 use Rattle.dfu_link.specs.Play.{heard_as, remembered, reached, heard_back, heard_over, over, waits_for, slipped, acted}
 use Rattle.dfu_link.specs.Bytes.{armed, bus_was_reset, HearsAnswer, HearsBack, Reaches, unseen, once, again, late, came_back, ended_back, Sends, Waits, Slips, ResetsBus, Acts}
@@ -54,7 +54,9 @@ heard_by_course d CutsPower back came out heard x f h = (true, h)
 heard_by_course d NoWrite true came out heard x f h = f heard h
 heard_by_course d NoWrite false came out heard x f h = (true, h)
 heard_by_course d FailsWrite true came out heard x f h = f heard h
+heard_by_course d LiesInWrite true came out heard x f h = f heard h
 heard_by_course d FailsWrite false came out heard x f h = (true, h)
+heard_by_course d LiesInWrite false came out heard x f h = (true, h)
 
 module _ (q : Asked) (setup body : List ℕ) (is : IsHosts q body) (asked : IsAsked q setup) where
   came_by : (w w' : Shown) (a : Answer) (out : List ℕ) → Handles setup body w a out w'

@@ -12,7 +12,7 @@ use Rattle.dfu_host.specs.Table.{Deed, Send, Wait, Reset, Heard, Waited, WasRese
 use Rattle.dfu_host.specs.Wire.{Spells, Hears}
 use Rattle.dfu_link.specs.declared.back.Back.{Back}
 use Rattle.dfu_link.specs.declared.course.Harming.{Harming}
-use Rattle.dfu_link.specs.declared.course.Harming.TheVariants.{NoWrite, CutsPower, FailsWrite}
+use Rattle.dfu_link.specs.declared.course.Harming.TheVariants.{NoWrite, CutsPower, FailsWrite, LiesInWrite}
 use Rattle.dfu_link.specs.Course.{Course}
 use Rattle.dfu_link.specs.Happening.{Harm}
 use Rattle.dfu_link.specs.Play.{heard_over, waits_for}
@@ -36,12 +36,14 @@ waited_heard : (harming : Harming) (d : Deed) (heard : Heard) → Hears d (seen_
 waited_heard NoWrite d heard h = h
 waited_heard CutsPower d heard h = h
 waited_heard FailsWrite d heard h = h
+waited_heard LiesInWrite d heard h = h
 
 reset_heard : (harming : Harming) (d : Deed) (heard : Heard) → Hears d (seen_over harming seen.WasReset) heard
     → heard ≡ heard_over harming WasReset
 reset_heard NoWrite d heard h = h
 reset_heard CutsPower d heard h = h
 reset_heard FailsWrite d heard h = h
+reset_heard LiesInWrite d heard h = h
 
 -- A wait in which this time passes, and of which this is seen.
 pub waits_by : {ms time : ℕ} {w w' : Shown} (course : Course) {seen_is : Seen} → Elapses time w w' → time ≡ waits_for course.handling ms

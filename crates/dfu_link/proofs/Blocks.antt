@@ -13,7 +13,7 @@ use Rattle.dfu_link.specs.Session.{IsOneOf, IsFirst}
 use Rattle.dfu_link.specs.declared.course.Handling.{Handling}
 use Rattle.dfu_link.specs.declared.course.Handling.TheVariants.{Unseen, Once, Again, Late}
 use Rattle.dfu_link.specs.declared.course.Harming.{Harming}
-use Rattle.dfu_link.specs.declared.course.Harming.TheVariants.{NoWrite, CutsPower, FailsWrite}
+use Rattle.dfu_link.specs.declared.course.Harming.TheVariants.{NoWrite, CutsPower, FailsWrite, LiesInWrite}
 use Rattle.dfu_link.specs.Course.{Course}
 use Rattle.dfu_link.specs.Play.{task_for, Passed, reached, heard_back, ends_by, sent}
 use Rattle.dfu_link.specs.LinkAgreement.{pending_of, IsSound}
@@ -61,6 +61,7 @@ module _ (c : Profile) (offers : List (List ℕ)) (p : List ℕ) where
   ended_well phase s NoWrite d m h n = record { moves = m; sound = h; next = if_some d.heard _ n }
   ended_well phase s CutsPower d m h n = record { moves = cut_moves m; sound = tt; next = tt }
   ended_well phase s FailsWrite d m h n = record { moves = m; sound = h; next = if_some d.heard _ n }
+  ended_well phase s LiesInWrite d m h n = record { moves = m; sound = h; next = if_some d.heard _ n }
 
   goes_well : (phase : Phase) (s : Situation) (harming : Harming) (back : Bool) (d : Passed) → Reached phase s d
       → GoesWell phase s (ends_by harming (record { device = d.device; heard = heard_back back d.heard }))

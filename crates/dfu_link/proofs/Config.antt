@@ -10,7 +10,7 @@ use Rattle.dfu_link.specs.declared.back.Back.{Back}
 use Rattle.dfu_link.specs.declared.course.Handling.{Handling}
 use Rattle.dfu_link.specs.declared.course.Handling.TheVariants.{Late}
 use Rattle.dfu_link.specs.declared.course.Harming.{Harming}
-use Rattle.dfu_link.specs.declared.course.Harming.TheVariants.{NoWrite, CutsPower, FailsWrite}
+use Rattle.dfu_link.specs.declared.course.Harming.TheVariants.{NoWrite, CutsPower, FailsWrite, LiesInWrite}
 use Rattle.dfu_link.specs.Course.{Course, course_of}
 use Rattle.dfu_link.specs.Happening.{Happening, Offers, Uploads, Aborts, Goes, Passes, Resets, Cuts}
 use Rattle.dfu_link.specs.Play.{waits_for, Answered}
@@ -20,9 +20,9 @@ use Rattle.dfu_link.specs.Bench.{Bench}
 done_config : (p : Plan) (len : ℕ) (w : Shown) (a : Answer) (out : List ℕ) (w' : Shown) → Done p len w a out w' → w'.config ≡ w.config
 done_config (Sure reply stage) len w a out w' (says, is) = ap (λ (x : Shown). x.config) is
 done_config (Writes before block reply stage bad) len w a out w' (inl (says, h)) = h.config_is
-done_config (Writes before block reply stage bad) len w a out w' (inr (says, h)) = h.config_is
+done_config (Writes before block reply stage bad) len w a out w' (inr (fault, says, h)) = h.config_is
 done_config (Commits taken reply stage bad) len w a out w' (inl (says, h)) = h.config_is
-done_config (Commits taken reply stage bad) len w a out w' (inr (says, h)) = h.config_is
+done_config (Commits taken reply stage bad) len w a out w' (inr (fault, says, h)) = h.config_is
 
 handles_config : {setup body out : List ℕ} {w w' : Shown} {a : Answer} → Handles setup body w a out w' → w'.config ≡ w.config
 handles_config {body = body} {out = out} {w = w} {w' = w'} {a = a} (handled_as p q reads asks done) =
@@ -52,6 +52,7 @@ after_config : (harming : Harming) (w : Shown) → (left_by harming w).config �
 after_config NoWrite w = refl
 after_config CutsPower w = refl
 after_config FailsWrite w = refl
+after_config LiesInWrite w = refl
 
 -- No event changes what a device is set up as.
 pub happens_config : (event : Happening) (b b' : Bench) (answer : Answered) → Happens event b b' answer

@@ -7,7 +7,7 @@ use Rattle.dfu_host.specs.Table.{Phase, Heard, Nothing, Restarted}
 use Rattle.dfu_link.specs.declared.course.Handling.{Handling}
 use Rattle.dfu_link.specs.declared.course.Handling.TheVariants.{Unseen, Once, Again, Late}
 use Rattle.dfu_link.specs.declared.course.Harming.{Harming}
-use Rattle.dfu_link.specs.declared.course.Harming.TheVariants.{NoWrite, CutsPower, FailsWrite}
+use Rattle.dfu_link.specs.declared.course.Harming.TheVariants.{NoWrite, CutsPower, FailsWrite, LiesInWrite}
 use Rattle.dfu_link.specs.Course.{Course}
 use Rattle.dfu_link.specs.Play.{heard_as, Passed, reached, heard_back, over, ends_by, slipped, waits_for, sent, waited, bus_reset}
 use Rattle.dfu_link.specs.LinkAgreement.{IsSound}
@@ -32,6 +32,7 @@ pub if_ended : (harming : Harming) (d : Passed) (P : Heard → Situation → Typ
 if_ended CutsPower d P h = tt
 if_ended NoWrite d P h = if_some d.heard (λ heard. P heard d.device) h
 if_ended FailsWrite d P h = if_some d.heard (λ heard. P heard d.device) h
+if_ended LiesInWrite d P h = if_some d.heard (λ heard. P heard d.device) h
 
 -- What holds of what is heard may be weakened.
 pub if_heard : {P Q : Heard → Type 0} (heard : Heard) → ((x : Heard) → P x → Q x) → IfHeard heard P → IfHeard heard Q
@@ -57,6 +58,7 @@ module _ (c : Profile) (offers : List (List ℕ)) where
   ended_quiet s d NoWrite q = q
   ended_quiet s d CutsPower q = quiet_then q (quiet_power _)
   ended_quiet s d FailsWrite q = q
+  ended_quiet s d LiesInWrite q = q
 
   reached_quiet : (s : Situation) (r : Request) (how : Handling) (l k : Luck) → IsPolite r → IsSound offers s.stage
       → IsQuiet offers s (reached c s r (plan c s.image s.stage r) how l k).device

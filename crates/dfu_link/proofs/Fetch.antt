@@ -12,7 +12,7 @@ use Rattle.dfu_host.specs.Table.{ToFetch, Find, Fetch, LastUploaded, Over, Nothi
 use Rattle.dfu_link.specs.declared.course.Handling.{Handling}
 use Rattle.dfu_link.specs.declared.course.Handling.TheVariants.{Unseen, Once, Again, Late}
 use Rattle.dfu_link.specs.declared.course.Harming.{Harming}
-use Rattle.dfu_link.specs.declared.course.Harming.TheVariants.{NoWrite, CutsPower, FailsWrite}
+use Rattle.dfu_link.specs.declared.course.Harming.TheVariants.{NoWrite, CutsPower, FailsWrite, LiesInWrite}
 use Rattle.dfu_link.specs.Course.{Course}
 use Rattle.dfu_link.specs.Play.{heard_as, Passed, reached, heard_back, ends_by, sent}
 use Rattle.dfu_link.specs.LinkAgreement.{pending_of, IsSound}
@@ -36,6 +36,7 @@ module _ (c : Profile) (offers : List (List ℕ)) (k : ℕ) (kept : List ℕ) wh
   ended_fetch s NoWrite d r = record { quiet = record { moves = r.moves; sound = r.sound }; next = if_some d.heard _ r.next }
   ended_fetch s CutsPower d r = record { quiet = record { moves = quiet_on r.moves forgets; sound = tt }; next = tt }
   ended_fetch s FailsWrite d r = record { quiet = record { moves = r.moves; sound = r.sound }; next = if_some d.heard _ r.next }
+  ended_fetch s LiesInWrite d r = record { quiet = record { moves = r.moves; sound = r.sound }; next = if_some d.heard _ r.next }
 
   fetched_by : (s : Situation) (harming : Harming) (back : Bool) (d : Passed) → Reached s d
       → Fetched s (ends_by harming (record { device = d.device; heard = heard_back back d.heard }))

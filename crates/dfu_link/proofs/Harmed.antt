@@ -1,12 +1,14 @@
 -- An action in which a write is harmed has one result.
-use Rattle.std.proofs.Common.{◌≡◌, inl, inr, ℕ, Bool, true, false, List, ◌∷◌, [], length, refl, sym, ap, ◌∙◌, subst}
+use Rattle.std.proofs.Common.{◌≡◌, inl, inr, ℕ, Bool, true, List, ◌∷◌, [], length, refl, sym, ap, ◌∙◌, subst}
 use Rattle.dfu_wire.specs.declared.requests.Request.{Request as Asked}
+use Rattle.dfu_slots.specs.declared.fault.WriteFault.{WriteFault}
 use Rattle.dfu_slots.specs.Medium.Fuse.{Whole}
-use Rattle.dfu_slots.specs.Seen.{SlotsState, image_of, Call, Commit, Called}
-use Rattle.dfu_slots.specs.Determined.{IsKnown, SameStore, called_same_end, called_never_both}
+use Rattle.dfu_slots.specs.Seen.{SlotsState, image_of, Call, Commit, Ending, AllWorked, BrokenBy, Called}
+use Rattle.dfu_slots.specs.Determined.{IsKnown, SameStore, called_one, called_same_end}
 use Rattle.dfu_device.specs.declared.answer.Answer.{Answer}
 use Rattle.dfu_device.specs.declared.answer.Answer.TheVariants as answer
-use Rattle.dfu_device.specs.Table.{Plan, Sure, Writes, Commits, plan, time_plan}
+use Rattle.dfu_device.specs.Stage.{InError}
+use Rattle.dfu_device.specs.Table.{Plan, Sure, Writes, Commits, write_code, commit_code, plan, time_plan}
 use Rattle.dfu_device.specs.Outcome.{Luck, Works, FailsOld, outcome}
 use Rattle.dfu_device.specs.Shown.{Shown, profile}
 use Rattle.dfu_device.specs.Rows.{meant, asked_length, Answers, block_calls, Done, Handles}
@@ -18,9 +20,9 @@ use Rattle.dfu_link.specs.declared.back.Back.{Back}
 use Rattle.dfu_link.specs.declared.back.Back.TheVariants as back
 use Rattle.dfu_link.specs.declared.course.Handling.TheVariants.{Once}
 use Rattle.dfu_link.specs.declared.course.Harming.{Harming}
-use Rattle.dfu_link.specs.declared.course.Harming.TheVariants.{NoWrite, CutsPower, FailsWrite}
+use Rattle.dfu_link.specs.declared.course.Harming.TheVariants.{NoWrite, CutsPower, FailsWrite, LiesInWrite}
 use Rattle.dfu_link.specs.Course.{course_of}
-use Rattle.dfu_link.specs.Happening.{Fate, CutIn, Fail, Harm, Happening}
+use Rattle.dfu_link.specs.Happening.{Fate, CutIn, Fail, Lie, Harm, Happening}
 use Rattle.dfu_link.specs.Bench.{Hosted, Bench}
 use Rattle.dfu_link.specs.Play.{Answered, took, heard_as, remembered}
 use Rattle.dfu_link.specs.Bytes.{fuse_of, armed, powered_up, HearsBack, Reaches, once, Sends, Acts, left_by, NextAction, Happens}
@@ -68,13 +70,25 @@ record DoneOnce (p : Plan) (len : ℕ) (w w' v' : Shown) (a b : Answer) (out oth
   device : SameDevice w' v'
 
 -- The same calls with the same end leave the same device, where they leave the same of the rest.
-same_calls : (calls : List Call) (ok : Bool) (w w' v' : Shown) → IsKnown w.slots.medium.fuse → w'.config ≡ v'.config → w'.stage ≡ v'.stage
-    → Called w.slots calls ok w'.slots → Called w.slots calls ok v'.slots → SameDevice w' v'
-same_calls calls ok w w' v' known config stage h k = record {
+same_calls : (calls : List Call) (ending : Ending) (w w' v' : Shown) → IsKnown w.slots.medium.fuse → w'.config ≡ v'.config → w'.stage ≡ v'.stage
+    → Called w.slots calls ending w'.slots → Called w.slots calls ending v'.slots → SameDevice w' v'
+same_calls calls ending w w' v' known config stage h k = record {
   config = config;
   stage = stage;
-  store = called_same_end calls ok w.slots w.slots w'.slots v'.slots (same_store w.slots) known h k;
+  store = called_same_end calls ending w.slots w.slots w'.slots v'.slots (same_store w.slots) known h k;
 }
+
+-- What broke a call off is one fault, and a call that worked was not broken off.
+fault_one : {f g : WriteFault} → BrokenBy f ≡ BrokenBy g → f ≡ g
+fault_one q = cc
+
+not_broken : {f : WriteFault} → AllWorked ≡ BrokenBy f → ⊥
+not_broken q = cc
+
+-- The same calls end alike.
+ends_alike : (calls : List Call) (e d : Ending) (w w' v' : Shown) → IsKnown w.slots.medium.fuse → Called w.slots calls e w'.slots
+    → Called w.slots calls d v'.slots → e ≡ d
+ends_alike calls e d w w' v' known h k = called_one calls e d w.slots w.slots w'.slots v'.slots (same_store w.slots) known h k
 
 done_once : (p : Plan) (len : ℕ) (w w' v' : Shown) (a b : Answer) (out other : List ℕ) → IsKnown w.slots.medium.fuse
     → Done p len w a out w' → Done p len w b other v' → DoneOnce p len w w' v' a b out other
@@ -84,34 +98,44 @@ done_once (Writes before block reply stage bad) len w w' v' a b out other known 
   luck = Works;
   first = says;
   second = says2;
-  device = same_calls (block_calls before block) true w w' v' known (h.config_is ∙ sym k.config_is) (h.stage_is ∙ sym k.stage_is) h.calls k.calls;
+  device = same_calls (block_calls before block) AllWorked w w' v' known (h.config_is ∙ sym k.config_is) (h.stage_is ∙ sym k.stage_is)
+      h.calls k.calls;
 }
-done_once (Writes before block reply stage bad) len w w' v' a b out other known (inr (says, h)) (inr (says2, k)) = record {
-  luck = FailsOld;
-  first = says;
-  second = says2;
-  device = same_calls (block_calls before block) false w w' v' known (h.config_is ∙ sym k.config_is) (h.stage_is ∙ sym k.stage_is) h.calls k.calls;
-}
-done_once (Writes before block reply stage bad) len w w' v' a b out other known (inl (says, h)) (inr (says2, k)) =
-    absurd (called_never_both (block_calls before block) w.slots w.slots w'.slots v'.slots (same_store w.slots) known h.calls k.calls)
-done_once (Writes before block reply stage bad) len w w' v' a b out other known (inr (says, h)) (inl (says2, k)) =
-    absurd (called_never_both (block_calls before block) w.slots w.slots v'.slots w'.slots (same_store w.slots) known k.calls h.calls)
+done_once (Writes before block reply stage bad) len w w' v' a b out other known (inr (f, says, h)) (inr (g, says2, k)) =
+    let one : f ≡ g = fault_one (ends_alike (block_calls before block) (BrokenBy f) (BrokenBy g) w w' v' known h.calls k.calls) in
+    record {
+      luck = FailsOld f;
+      first = says;
+      second = subst (λ (x : WriteFault). Answers len (bad x) b other) (sym one) says2;
+      device = same_calls (block_calls before block) (BrokenBy f) w w' v' known (h.config_is ∙ sym k.config_is)
+          (h.stage_is ∙ ap (λ (x : WriteFault). InError (write_code x)) one ∙ sym k.stage_is) h.calls
+          (subst (λ (x : WriteFault). Called w.slots (block_calls before block) (BrokenBy x) v'.slots) (sym one) k.calls);
+    }
+done_once (Writes before block reply stage bad) len w w' v' a b out other known (inl (says, h)) (inr (g, says2, k)) =
+    absurd (not_broken (ends_alike (block_calls before block) AllWorked (BrokenBy g) w w' v' known h.calls k.calls))
+done_once (Writes before block reply stage bad) len w w' v' a b out other known (inr (f, says, h)) (inl (says2, k)) =
+    absurd (not_broken (ends_alike (block_calls before block) AllWorked (BrokenBy f) w v' w' known k.calls h.calls))
 done_once (Commits taken reply stage bad) len w w' v' a b out other known (inl (says, h)) (inl (says2, k)) = record {
   luck = Works;
   first = says;
   second = says2;
-  device = same_calls (Commit (length taken) ∷ []) true w w' v' known (h.config_is ∙ sym k.config_is) (h.stage_is ∙ sym k.stage_is) h.calls k.calls;
+  device = same_calls (Commit (length taken) ∷ []) AllWorked w w' v' known (h.config_is ∙ sym k.config_is) (h.stage_is ∙ sym k.stage_is)
+      h.calls k.calls;
 }
-done_once (Commits taken reply stage bad) len w w' v' a b out other known (inr (says, h)) (inr (says2, k)) = record {
-  luck = FailsOld;
-  first = says;
-  second = says2;
-  device = same_calls (Commit (length taken) ∷ []) false w w' v' known (h.config_is ∙ sym k.config_is) (h.stage_is ∙ sym k.stage_is) h.calls k.calls;
-}
-done_once (Commits taken reply stage bad) len w w' v' a b out other known (inl (says, h)) (inr (says2, k)) =
-    absurd (called_never_both (Commit (length taken) ∷ []) w.slots w.slots w'.slots v'.slots (same_store w.slots) known h.calls k.calls)
-done_once (Commits taken reply stage bad) len w w' v' a b out other known (inr (says, h)) (inl (says2, k)) =
-    absurd (called_never_both (Commit (length taken) ∷ []) w.slots w.slots v'.slots w'.slots (same_store w.slots) known k.calls h.calls)
+done_once (Commits taken reply stage bad) len w w' v' a b out other known (inr (f, says, h)) (inr (g, says2, k)) =
+    let one : f ≡ g = fault_one (ends_alike (Commit (length taken) ∷ []) (BrokenBy f) (BrokenBy g) w w' v' known h.calls k.calls) in
+    record {
+      luck = FailsOld f;
+      first = says;
+      second = subst (λ (x : WriteFault). Answers len (bad x) b other) (sym one) says2;
+      device = same_calls (Commit (length taken) ∷ []) (BrokenBy f) w w' v' known (h.config_is ∙ sym k.config_is)
+          (h.stage_is ∙ ap (λ (x : WriteFault). InError (commit_code x)) one ∙ sym k.stage_is) h.calls
+          (subst (λ (x : WriteFault). Called w.slots (Commit (length taken) ∷ []) (BrokenBy x) v'.slots) (sym one) k.calls);
+    }
+done_once (Commits taken reply stage bad) len w w' v' a b out other known (inl (says, h)) (inr (g, says2, k)) =
+    absurd (not_broken (ends_alike (Commit (length taken) ∷ []) AllWorked (BrokenBy g) w w' v' known h.calls k.calls))
+done_once (Commits taken reply stage bad) len w w' v' a b out other known (inr (f, says, h)) (inl (says2, k)) =
+    absurd (not_broken (ends_alike (Commit (length taken) ∷ []) AllWorked (BrokenBy f) w v' w' known k.calls h.calls))
 
 -- What two results of an action have in common: the devices are the same, and one thing is heard, but for want of memory.
 record ActedOnce (w' v' : Shown) (heard other : Heard) : Type 0 where
@@ -139,6 +163,24 @@ module _ (q : Asked) (body : List ℕ) (is : IsHosts q body) (w : Shown) (known 
       done_once (plan (profile w) (image_of w.slots) w.stage (meant q body)) (asked_length q) w w' v' a b out other known
       (goes_by setup w' a out asked h) (goes_by setup2 v' b other asked2 k)
 
+  -- A request whose answer comes back: one thing is heard of it.
+  answered_once : (setup setup2 : List ℕ) (w' v' : Shown) (heard heard2 : Heard) (came came2 : Back) (out out2 : List ℕ)
+      → IsAsked q setup → IsAsked q setup2 → Reaches setup body Once w came out w' → Reaches setup2 body Once w came2 out2 v'
+      → HearsBack (Send q body) came out heard → HearsBack (Send q body) came2 out2 heard2 → ActedOnce w' v' heard heard2
+  answered_once setup setup2 w' v' heard heard2 came came2 out out2 asked asked2 h k says says2 =
+      let a = reached_once h in
+      let b = reached_once k in
+      let x = handled_once setup setup2 w' v' a.0 b.0 out out2 asked asked2 a.2 b.2 in
+      let p = plan (profile w) (image_of w.slots) w.stage (meant q body) in
+      record {
+        device = x.device;
+        hears = heard_as (outcome (image_of w.slots) p x.luck).reply;
+        first = plan_heard q body (profile w) (image_of w.slots) w.stage x.luck a.0 out heard is x.first
+            (subst (λ (c : Back). HearsBack (Send q body) c out heard) a.1 says);
+        second = plan_heard q body (profile w) (image_of w.slots) w.stage x.luck b.0 out2 heard2 is x.second
+            (subst (λ (c : Back). HearsBack (Send q body) c out2 heard2) b.1 says2);
+      }
+
   sends_once : (fate : Fate) (setup setup2 : List ℕ) (w' v' : Shown) (heard heard2 : Heard) → HarmsAWrite (course_of fate).harming
       → IsAsked q setup → IsAsked q setup2 → Sends q setup body (course_of fate) w w' heard
       → Sends q setup2 body (course_of fate) w v' heard2
@@ -149,18 +191,9 @@ module _ (q : Asked) (body : List ℕ) (is : IsHosts q body) (w : Shown) (known 
       let x = handled_once setup setup2 w' v' a.0 b.0 h.out k.out asked asked2 a.2 b.2 in
       record { device = x.device; hears = Restarted; first = (true, h.hears); second = (true, k.hears) }
   sends_once Fail setup setup2 w' v' heard heard2 harms asked asked2 h k =
-      let a = reached_once h.reaches in
-      let b = reached_once k.reaches in
-      let x = handled_once setup setup2 w' v' a.0 b.0 h.out k.out asked asked2 a.2 b.2 in
-      let p = plan (profile w) (image_of w.slots) w.stage (meant q body) in
-      record {
-        device = x.device;
-        hears = heard_as (outcome (image_of w.slots) p x.luck).reply;
-        first = plan_heard q body (profile w) (image_of w.slots) w.stage x.luck a.0 h.out heard is x.first
-            (subst (λ (c : Back). HearsBack (Send q body) c h.out heard) a.1 h.hears);
-        second = plan_heard q body (profile w) (image_of w.slots) w.stage x.luck b.0 k.out heard2 is x.second
-            (subst (λ (c : Back). HearsBack (Send q body) c k.out heard2) b.1 k.hears);
-      }
+      answered_once setup setup2 w' v' heard heard2 h.came k.came h.out k.out asked asked2 h.reaches k.reaches h.hears k.hears
+  sends_once Lie setup setup2 w' v' heard heard2 harms asked asked2 h k =
+      answered_once setup setup2 w' v' heard heard2 h.came k.came h.out k.out asked asked2 h.reaches k.reaches h.hears k.hears
   sends_once fate setup setup2 w' v' heard heard2 harms asked asked2 h k = elim harms [ ]
 
 -- An action in which a write is harmed, from one device.
@@ -175,9 +208,14 @@ acts_once (Wait ms) CutIn w w' v' heard heard2 is harms known (h, e) (k, f) =
 acts_once (Wait ms) Fail w w' v' heard heard2 is harms known (h, e) (k, f) =
     let x = done_once (time_plan (profile w) w.stage ms) 0 w w' v' answer.Ack answer.Ack [] [] known h k in
     record { device = x.device; hears = Waited; first = (true, e); second = (true, f) }
+acts_once (Wait ms) Lie w w' v' heard heard2 is harms known (h, e) (k, f) =
+    let x = done_once (time_plan (profile w) w.stage ms) 0 w w' v' answer.Ack answer.Ack [] [] known h k in
+    record { device = x.device; hears = Waited; first = (true, e); second = (true, f) }
 acts_once Reset CutIn w w' v' heard heard2 is harms known (h, e) (k, f) =
     record { device = same_device (h ∙ sym k); hears = Restarted; first = (true, e); second = (true, f) }
 acts_once Reset Fail w w' v' heard heard2 is harms known (h, e) (k, f) =
+    record { device = same_device (h ∙ sym k); hears = WasReset; first = (true, e); second = (true, f) }
+acts_once Reset Lie w w' v' heard heard2 is harms known (h, e) (k, f) =
     record { device = same_device (h ∙ sym k); hears = WasReset; first = (true, e); second = (true, f) }
 acts_once (Wait ms) fate w w' v' heard heard2 is harms known h k = elim harms [ ]
 acts_once Reset fate w w' v' heard heard2 is harms known h k = elim harms [ ]
@@ -188,11 +226,13 @@ fuse_known : (harming : Harming) (harm : Harm) → HarmsAWrite harming → IsKno
 fuse_known NoWrite harm harms = elim harms [ ]
 fuse_known CutsPower harm harms = tt
 fuse_known FailsWrite harm harms = tt
+fuse_known LiesInWrite harm harms = tt
 
 left_same : (harming : Harming) {w v : Shown} → SameDevice w v → SameDevice (left_by harming w) (left_by harming v)
 left_same NoWrite same = disarmed_same same
 left_same CutsPower same = powered_same same
 left_same FailsWrite same = disarmed_same same
+left_same LiesInWrite same = disarmed_same same
 
 hosted_one : (h k : HostState) → Hosted h ≡ Hosted k → k ≡ h
 hosted_one h k e = sym cc

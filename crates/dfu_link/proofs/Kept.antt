@@ -17,7 +17,7 @@ module _ (c : Profile) (i : List ℕ) where
 
   holds_status : (x : List ℕ) (stage : Stage) → BlockIn x stage → Then (λ s. BlockIn x s.stage) (plan c i stage GetStatus)
   holds_status x (InDownloadSync before block number) h =
-      either_way (Then (λ s. BlockIn x s.stage)) (c.busy == 0) _ _ (elim [ Works ↦ h | FailsOld ↦ tt | FailsNew ↦ tt ]) (λ luck. h)
+      either_way (Then (λ s. BlockIn x s.stage)) (c.busy == 0) _ _ (elim [ Works ↦ h | FailsOld fault ↦ tt | FailsNew fault ↦ tt ]) (λ luck. h)
   holds_status x (InDownloadSyncWritten taken number) h = λ luck. h
   holds_status x (InDownloadBusy before block number passed) h = λ luck. tt
   holds_status x (InDownloadIdle taken number) h = λ luck. h
@@ -28,7 +28,7 @@ module _ (c : Profile) (i : List ℕ) where
   holds_time x ms (InDownloadBusy before block number passed) h =
       let F : Plan → Type 0 = Then (λ s. BlockIn x s.stage) in
       either_way F (ms == 0) _ _ (λ luck. h)
-      (either_way F (nat_le c.busy (passed + ms)) _ _ (elim [ Works ↦ h | FailsOld ↦ tt | FailsNew ↦ tt ]) (λ luck. h))
+      (either_way F (nat_le c.busy (passed + ms)) _ _ (elim [ Works ↦ h | FailsOld fault ↦ tt | FailsNew fault ↦ tt ]) (λ luck. h))
   holds_time x ms (InDownloadSync before block number) h = λ luck. h
   holds_time x ms (InDownloadSyncWritten taken number) h = λ luck. h
   holds_time x ms (InDownloadIdle taken number) h = λ luck. h
@@ -37,7 +37,7 @@ module _ (c : Profile) (i : List ℕ) where
 
   managing_status : (p : List ℕ) (stage : Stage) → Managing p i stage → Then (λ s. Managing p s.image s.stage) (plan c i stage GetStatus)
   managing_status p (InManifestSync taken) h =
-      either_way (Then (λ s. Managing p s.image s.stage)) (c.manifest == 0) _ _ (elim [ Works ↦ h | FailsOld ↦ tt | FailsNew ↦ tt ])
+      either_way (Then (λ s. Managing p s.image s.stage)) (c.manifest == 0) _ _ (elim [ Works ↦ h | FailsOld fault ↦ tt | FailsNew fault ↦ tt ])
       (λ luck. h)
   managing_status p (InManifest taken passed) h = λ luck. tt
   managing_status p InManifestSyncComplete h = λ luck. h
@@ -51,9 +51,9 @@ module _ (c : Profile) (i : List ℕ) where
       let F : Plan → Type 0 = Then (λ s. Managing p s.image s.stage) in
       either_way F (ms == 0) _ _ (λ luck. h)
       (either_way F (nat_le c.manifest (passed + ms)) _ _
-      (either_way (λ st. F (Commits taken Ack st Ack)) c.tolerant InManifestSyncComplete InManifestWaitReset
-      (elim [ Works ↦ h | FailsOld ↦ tt | FailsNew ↦ tt ])
-      (elim [ Works ↦ h | FailsOld ↦ tt | FailsNew ↦ tt ]))
+      (either_way (λ st. F (Commits taken Ack st (λ fault. Ack))) c.tolerant InManifestSyncComplete InManifestWaitReset
+      (elim [ Works ↦ h | FailsOld fault ↦ tt | FailsNew fault ↦ tt ])
+      (elim [ Works ↦ h | FailsOld fault ↦ tt | FailsNew fault ↦ tt ]))
       (λ luck. h))
   managing_time p ms (InManifestSync taken) h = λ luck. h
   managing_time p ms InManifestSyncComplete h = λ luck. h

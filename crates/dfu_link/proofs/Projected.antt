@@ -10,7 +10,7 @@ use Rattle.dfu_device.specs.Came.{time_came}
 use Rattle.dfu_host.specs.Table.{Deed, deed, Heard}
 use Rattle.dfu_link.specs.Happening.{Fate, Harm, Happening, Offers, Uploads, Aborts, Goes, Passes, Resets, Cuts}
 use Rattle.dfu_link.specs.declared.course.Harming.{Harming}
-use Rattle.dfu_link.specs.declared.course.Harming.TheVariants.{NoWrite, CutsPower, FailsWrite}
+use Rattle.dfu_link.specs.declared.course.Harming.TheVariants.{NoWrite, CutsPower, FailsWrite, LiesInWrite}
 use Rattle.dfu_link.specs.Course.{Course, course_of}
 use Rattle.dfu_link.specs.Play.{Answered, over, acted, took, told, played, gone, IsAllowed}
 use Rattle.dfu_link.specs.Bench.{Session, Bench}
@@ -37,16 +37,19 @@ after_situation : (harming : Harming) (w : Shown) → situation (left_by harming
 after_situation NoWrite w = armed_situation w Whole
 after_situation CutsPower w = powered_situation w
 after_situation FailsWrite w = armed_situation w Whole
+after_situation LiesInWrite w = armed_situation w Whole
 
 after_profile : (harming : Harming) (w : Shown) → profile (left_by harming w) ≡ profile w
 after_profile NoWrite w = armed_profile w Whole
 after_profile CutsPower w = powered_profile w
 after_profile FailsWrite w = armed_profile w Whole
+after_profile LiesInWrite w = armed_profile w Whole
 
 after_whole : (harming : Harming) (w : Shown) → (left_by harming w).slots.medium.fuse ≡ Whole
 after_whole NoWrite w = refl
 after_whole CutsPower w = refl
 after_whole FailsWrite w = refl
+after_whole LiesInWrite w = refl
 
 -- The fuse of the medium in an event: only an action can be harmed.
 abbrev pub fuse_in : Happening → Fuse

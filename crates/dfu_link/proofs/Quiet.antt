@@ -1,5 +1,6 @@
 -- What the device does when no block is sent to it.
 use Rattle.std.proofs.Common.{◌≡◌, ℕ, ◌+◌, ◌==◌, nat_le, max, List, ◌++◌, Option, Some, None, refl, sym, ◌∙◌, subst}
+use Rattle.dfu_slots.specs.declared.fault.WriteFault.{WriteFault}
 use Rattle.dfu_device.specs.Stage.{Request, Detach as AskDetach, Dnload, Upload, GetStatus, ClrStatus, GetState, Abort, OtherRequest, Reply, Ack, Profile, Stage, InAppIdle, InAppDetach, InDfuIdle, InDownloadSync, InDownloadSyncWritten, InDownloadBusy, InDownloadIdle, InManifestSync, InManifestSyncComplete, InManifest, InManifestWaitReset, InUploadIdle, InError}
 use Rattle.dfu_device.specs.Table.{Plan, Writes, Commits, plan, time_plan}
 use Rattle.dfu_device.specs.Outcome.{Situation, Luck, Works, FailsOld, FailsNew, outcome, was_reset}
@@ -43,23 +44,23 @@ module _ (c : Profile) (offers : List (List ℕ)) (i : List ℕ) where
   abbrev pub At : Stage → Situation
   At stage = record { image = i; stage = stage }
 
-  quiet_writing : (stage : Stage) (before block : List ℕ) (a b : Reply) (number : ℕ) (next : Stage)
+  quiet_writing : (stage : Stage) (before block : List ℕ) (a : Reply) (b : WriteFault → Reply) (number : ℕ) (next : Stage)
       → pending_of stage ≡ Some (before ++ block) → pending_of next ≡ Some (before ++ block) → IsSound offers next
       → After c offers (At stage) (Writes before block a next b)
   quiet_writing stage before block a b number next e f h Works =
       record { moves = subst (λ q. Quiet offers i (pending_of stage) i q) (e ∙ sym f) stays; sound = h }
-  quiet_writing stage before block a b number next e f h FailsOld = record { moves = forgets; sound = tt }
-  quiet_writing stage before block a b number next e f h FailsNew = record { moves = forgets; sound = tt }
+  quiet_writing stage before block a b number next e f h (FailsOld fault) = record { moves = forgets; sound = tt }
+  quiet_writing stage before block a b number next e f h (FailsNew fault) = record { moves = forgets; sound = tt }
 
-  quiet_commit : (stage : Stage) (taken : List ℕ) (a b : Reply) (next : Stage) → pending_of stage ≡ Some taken → IsOneOf taken offers
-      → pending_of next ≡ None → IsSound offers next → After c offers (At stage) (Commits taken a next b)
+  quiet_commit : (stage : Stage) (taken : List ℕ) (a : Reply) (b : WriteFault → Reply) (next : Stage) → pending_of stage ≡ Some taken
+      → IsOneOf taken offers → pending_of next ≡ None → IsSound offers next → After c offers (At stage) (Commits taken a next b)
   quiet_commit stage taken a b next e o n h Works = record {
     moves = subst (λ q. Quiet offers i q taken (pending_of next)) (sym e)
         (subst (λ q. Quiet offers i (Some taken) taken q) (sym n) (commits o));
     sound = h;
   }
-  quiet_commit stage taken a b next e o n h FailsOld = record { moves = forgets; sound = tt }
-  quiet_commit stage taken a b next e o n h FailsNew = record {
+  quiet_commit stage taken a b next e o n h (FailsOld fault) = record { moves = forgets; sound = tt }
+  quiet_commit stage taken a b next e o n h (FailsNew fault) = record {
     moves = subst (λ q. Quiet offers i q taken None) (sym e) (commits o);
     sound = tt;
   }
@@ -126,10 +127,10 @@ module _ (c : Profile) (offers : List (List ℕ)) (i : List ℕ) where
       let P : Plan → Type 0 = λ p. IsQuiet offers (At s) (outcome i p luck).after in
       either_way P (ms == 0) _ _ (record { moves = stays; sound = h })
       (either_way P (nat_le c.manifest (passed + ms)) _ _
-      (either_way (λ st. IsQuiet offers (At s) (outcome i (Commits taken Ack st Ack) luck).after) c.tolerant InManifestSyncComplete
+      (either_way (λ st. IsQuiet offers (At s) (outcome i (Commits taken Ack st (λ fault. Ack)) luck).after) c.tolerant InManifestSyncComplete
       InManifestWaitReset
-      (quiet_commit s taken Ack Ack InManifestSyncComplete refl h refl tt luck)
-      (quiet_commit s taken Ack Ack InManifestWaitReset refl h refl tt luck))
+      (quiet_commit s taken Ack (λ fault. Ack) InManifestSyncComplete refl h refl tt luck)
+      (quiet_commit s taken Ack (λ fault. Ack) InManifestWaitReset refl h refl tt luck))
       (record { moves = stays; sound = h }))
   quiet_time ms stage h luck = record { moves = stays; sound = h }
 

@@ -1,9 +1,10 @@
 -- What a device answers fits the request, and is heard as it was meant.
 use Rattle.std.proofs.Common.{◌≡◌, ℕ, ◌+◌, ◌==◌, nat_lt, nat_le, not, Bool, true, false, List, [], ◌∷◌, length, take, drop, refl, sym, ap, ◌∙◌, subst, arith, inl, inr}
 use Rattle.std.proofs.lemmas.Bool.Decides.{nat_tests}
+use Rattle.dfu_slots.specs.declared.fault.WriteFault.{WriteFault}
 use Rattle.dfu_device.specs.Stage.{Request, Dnload, Upload, GetStatus, ClrStatus, GetState, Reply, Ack, StatusOf, StateOf, Data, Stall, Profile, Stage, InAppIdle, InAppDetach, InDfuIdle, InDownloadSync, InDownloadSyncWritten, InDownloadBusy, InDownloadIdle, InManifestSync, InManifestSyncComplete, InManifest, InManifestWaitReset, InUploadIdle, InError, Detach as AskDetach}
 use Rattle.dfu_device.specs.Table.{Plan, Sure, Writes, Commits, plan, block_plan, upload_plan, is_empty, next_number}
-use Rattle.dfu_device.specs.Outcome.{Luck, Works, outcome}
+use Rattle.dfu_device.specs.Outcome.{Luck, Works, FailsOld, FailsNew, outcome}
 use Rattle.dfu_device.specs.Cases.{either_way}
 use Rattle.dfu_host.specs.Table.{Task, Phase, Find, FindAgain, Detach, Enter, Clear, Quit, Block, Ask, Poll, Close, AskLast, Manifest, Trouble, Fetch, GiveUp, Deed, Send, deed, Heard, Acked, Part, Stalled}
 use Rattle.dfu_link.specs.Play.{heard_as, remembered}
@@ -39,15 +40,17 @@ Fitting r reply = ⊥
 
 abbrev FitsPlan : Request → Plan → Type 0
 FitsPlan r (Sure reply stage) = Fitting r reply
-FitsPlan r (Writes before block reply stage bad) = Fitting r reply × Fitting r bad
-FitsPlan r (Commits taken reply stage bad) = Fitting r reply × Fitting r bad
+FitsPlan r (Writes before block reply stage bad) = Fitting r reply × ((fault : WriteFault) → Fitting r (bad fault))
+FitsPlan r (Commits taken reply stage bad) = Fitting r reply × ((fault : WriteFault) → Fitting r (bad fault))
 
 fits_outcome : (r : Request) (i : List ℕ) (p : Plan) (luck : Luck) → FitsPlan r p → Fitting r (outcome i p luck).reply
 fits_outcome r i (Sure reply stage) luck f = f
 fits_outcome r i (Writes before block reply stage bad) Works f = f.0
-fits_outcome r i (Writes before block reply stage bad) luck f = f.1
+fits_outcome r i (Writes before block reply stage bad) (FailsOld fault) f = f.1 fault
+fits_outcome r i (Writes before block reply stage bad) (FailsNew fault) f = f.1 fault
 fits_outcome r i (Commits taken reply stage bad) Works f = f.0
-fits_outcome r i (Commits taken reply stage bad) luck f = f.1
+fits_outcome r i (Commits taken reply stage bad) (FailsOld fault) f = f.1 fault
+fits_outcome r i (Commits taken reply stage bad) (FailsNew fault) f = f.1 fault
 
 block_fits : (c : Profile) (before : List ℕ) (expected number : ℕ) (body : List ℕ)
     → FitsPlan (Dnload number body) (block_plan c before expected number body)
@@ -79,7 +82,7 @@ fits_plan c i InDfuIdle (Dnload number body) =
 fits_plan c i InDfuIdle (Upload number size) = either_way (FitsPlan (Upload number size)) c.can_upload _ _
     (upload_fits c i 0 0 number size) tt
 fits_plan c i InDfuIdle r = tt
-fits_plan c i (InDownloadSync before block number) GetStatus = either_way (FitsPlan GetStatus) (c.busy == 0) _ _ (tt, tt) tt
+fits_plan c i (InDownloadSync before block number) GetStatus = either_way (FitsPlan GetStatus) (c.busy == 0) _ _ (tt, λ fault. tt) tt
 fits_plan c i (InDownloadSync before block number) r = tt
 fits_plan c i (InDownloadSyncWritten taken number) GetStatus = tt
 fits_plan c i (InDownloadSyncWritten taken number) r = tt
@@ -89,7 +92,7 @@ fits_plan c i (InDownloadIdle taken number) (Dnload k body) =
     let P : Plan → Type 0 = FitsPlan (Dnload k body) in
     either_way P (is_empty body) _ _ (either_way P (nat_le c.least (length taken)) _ _ tt tt) (block_fits c taken number k body)
 fits_plan c i (InDownloadIdle taken number) r = tt
-fits_plan c i (InManifestSync taken) GetStatus = either_way (FitsPlan GetStatus) (c.manifest == 0) _ _ (tt, tt) tt
+fits_plan c i (InManifestSync taken) GetStatus = either_way (FitsPlan GetStatus) (c.manifest == 0) _ _ (tt, λ fault. tt) tt
 fits_plan c i (InManifestSync taken) r = tt
 fits_plan c i InManifestSyncComplete GetStatus = tt
 fits_plan c i InManifestSyncComplete r = tt

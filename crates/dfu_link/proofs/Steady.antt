@@ -10,7 +10,7 @@ use Rattle.dfu_link.specs.declared.fault.LinkFault.{LinkFault}
 use Rattle.dfu_link.specs.Session.{Machine, Loading}
 use Rattle.dfu_link.specs.Play.{kind_of, Answered, given, IsAllowed}
 use Rattle.dfu_link.specs.declared.course.Harming.{Harming}
-use Rattle.dfu_link.specs.declared.course.Harming.TheVariants.{NoWrite, CutsPower, FailsWrite}
+use Rattle.dfu_link.specs.declared.course.Harming.TheVariants.{NoWrite, CutsPower, FailsWrite, LiesInWrite}
 use Rattle.dfu_link.specs.Course.{course_of}
 use Rattle.dfu_link.specs.Happening.{Harm, Happening, Offers, Uploads, Goes, Passes, Resets, Cuts}
 use Rattle.dfu_link.specs.Bench.{Session, Nobody, Hosted, Bench, ShowsActive, LinkState, linked}
@@ -203,6 +203,7 @@ unharmed_whole : (harming : Harming) (harm : Harm) → HarmsNothing harming → 
 unharmed_whole NoWrite harm h = refl
 unharmed_whole CutsPower harm h = elim h [ ]
 unharmed_whole FailsWrite harm h = elim h [ ]
+unharmed_whole LiesInWrite harm h = elim h [ ]
 
 harmless_whole : (event : Happening) → IsHarmless event → fuse_in event ≡ Whole
 harmless_whole (Goes fate harm) h = unharmed_whole (course_of fate).harming harm h

@@ -1,10 +1,9 @@
 -- What an answer tells of the device.
 use Rattle.std.proofs.Common.{ℕ, ◌==◌, List, ◌++◌}
-use Rattle.dfu_wire.specs.declared.codes.Code.TheVariants.{Write as ErrWrite, Prog as ErrProg}
 use Rattle.dfu_wire.specs.declared.states.State.{State}
 use Rattle.dfu_wire.specs.declared.states.State.TheVariants.{DfuIdle, DownloadSync, DownloadIdle, ManifestSync}
 use Rattle.dfu_device.specs.Stage.{GetStatus, GetState, Profile, Stage, InAppIdle, InDfuIdle, InDownloadSync, InDownloadSyncWritten, InDownloadIdle, InManifestSync, InManifestSyncComplete, InError, status_of}
-use Rattle.dfu_device.specs.Table.{Writes, Commits, plan, time_plan}
+use Rattle.dfu_device.specs.Table.{Writes, Commits, write_code, commit_code, plan, time_plan}
 use Rattle.dfu_device.specs.Outcome.{Luck, Works, FailsOld, FailsNew, outcome}
 use Rattle.dfu_device.specs.Cases.{either_way}
 use Rattle.dfu_host.specs.Table.{Heard, Status, StateIs}
@@ -59,13 +58,13 @@ module _ (c : Profile) (i : List ℕ) where
   status_told (InDownloadSync before block number) luck =
       either_way (λ p. ToldBy (heard_as (outcome i p luck).reply) (outcome i p luck).after.stage) (c.busy == 0) _ _
       (elim luck as (λ l. let o = outcome i (Writes before block (status_of c (InDownloadIdle (before ++ block) number))
-      (InDownloadIdle (before ++ block) number) (status_of c (InError ErrWrite))) l in
-      ToldBy (heard_as o.reply) o.after.stage) [ Works ↦ tt | FailsOld ↦ tt | FailsNew ↦ tt ])
+      (InDownloadIdle (before ++ block) number) (λ fault. status_of c (InError (write_code fault)))) l in
+      ToldBy (heard_as o.reply) o.after.stage) [ Works ↦ tt | FailsOld fault ↦ tt | FailsNew fault ↦ tt ])
       tt
   status_told (InManifestSync taken) luck =
       either_way (λ p. ToldBy (heard_as (outcome i p luck).reply) (outcome i p luck).after.stage) (c.manifest == 0) _ _
-      (elim luck as (λ l. let o = outcome i (Commits taken (status_of c InDfuIdle) InDfuIdle (status_of c (InError ErrProg))) l in
-      ToldBy (heard_as o.reply) o.after.stage) [ Works ↦ tt | FailsOld ↦ tt | FailsNew ↦ tt ])
+      (elim luck as (λ l. let o = outcome i (Commits taken (status_of c InDfuIdle) InDfuIdle (λ fault. status_of c (InError (commit_code fault)))) l in
+      ToldBy (heard_as o.reply) o.after.stage) [ Works ↦ tt | FailsOld fault ↦ tt | FailsNew fault ↦ tt ])
       tt
   status_told stage luck = tt
 

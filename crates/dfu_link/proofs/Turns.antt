@@ -52,7 +52,7 @@ module _ (c : Profile) (p : List ℕ) (again : ℕ) where
       (one_by c p again (Status NoFault 0 DownloadIdle) _ (λ k. refl) (λ l room. refl) e on))))
     where
       busy_plan : (c.busy == 0) ≡ false → time_plan c (InDownloadBusy before body number 0) c.busy
-          ≡ Writes before body Ack (InDownloadSyncWritten (before ++ body) number) Ack
+          ≡ Writes before body Ack (InDownloadSyncWritten (before ++ body) number) (λ fault. Ack)
       busy_plan f = let g : nat_le c.busy (0 + c.busy) ≡ true = grind (arith, nat_tests) in rw (f, g)
 
       busy_wait : (c.busy == 0) ≡ false
@@ -72,7 +72,8 @@ module _ (c : Profile) (p : List ℕ) (again : ℕ) where
       (one_by c p again Waited Manifest (λ k. manifest_wait f) (λ l room. refl) refl tt)
       (one_by c p again (Status NoFault 0 DfuIdle) _ (λ k. refl) (λ l room. refl) (rw tol) tt))))
     where
-      manifest_plan : (c.manifest == 0) ≡ false → time_plan c (InManifest taken 0) c.manifest ≡ Commits taken Ack InManifestSyncComplete Ack
+      manifest_plan : (c.manifest == 0) ≡ false
+          → time_plan c (InManifest taken 0) c.manifest ≡ Commits taken Ack InManifestSyncComplete (λ fault. Ack)
       manifest_plan f = let g : nat_le c.manifest (0 + c.manifest) ≡ true = grind (arith, nat_tests) in rw (f, g, tol)
 
       manifest_wait : (c.manifest == 0) ≡ false

@@ -15,7 +15,7 @@ use Rattle.dfu_host.specs.Table.{Phase, Over, OverUploaded, Deed, Send, deed, He
 use Rattle.dfu_link.specs.declared.back.Back.{Back}
 use Rattle.dfu_link.specs.declared.course.Course.{Course as GivenCourse}
 use Rattle.dfu_link.specs.declared.course.Harming.{Harming}
-use Rattle.dfu_link.specs.declared.course.Harming.TheVariants.{NoWrite, CutsPower, FailsWrite}
+use Rattle.dfu_link.specs.declared.course.Harming.TheVariants.{NoWrite, CutsPower, FailsWrite, LiesInWrite}
 use Rattle.dfu_link.specs.Course.{Course}
 use Rattle.dfu_link.specs.declared.fault.LinkFault.{LinkFault}
 use Rattle.dfu_link.specs.declared.fault.LinkFault.TheVariants.{NoHost}
@@ -38,6 +38,7 @@ abbrev pub seen_over : Harming → Seen → Seen
 seen_over NoWrite s = s
 seen_over CutsPower s = seen.Restarted
 seen_over FailsWrite s = s
+seen_over LiesInWrite s = s
 
 -- A request went by its course, and this comes back: whatever it asks for, and whatever is heard of that.
 pub record HasSent (setup body : List ℕ) (course : Course) (w : Shown) (b : Back) (out : List ℕ) (w' : Shown) : Type 0 where

@@ -2,7 +2,7 @@
 use Rattle.std.specs.Prelude.{◌≡◌, ℕ, Bool, true, false, List}
 use Rattle.dfu_wire.specs.declared.requests.Request.{Request as Asked}
 use Rattle.dfu_slots.specs.Medium.{Fuse}
-use Rattle.dfu_slots.specs.Medium.Fuse.{Whole, Armed}
+use Rattle.dfu_slots.specs.Medium.Fuse.{Whole, Armed, Lying}
 use Rattle.dfu_slots.specs.Seen.{fused, restarted}
 use Rattle.dfu_device.specs.declared.answer.Answer.{Answer}
 use Rattle.dfu_device.specs.declared.answer.Answer.TheVariants as answer
@@ -18,17 +18,18 @@ use Rattle.dfu_link.specs.declared.back.Back.TheVariants as back
 use Rattle.dfu_link.specs.declared.course.Handling.{Handling}
 use Rattle.dfu_link.specs.declared.course.Handling.TheVariants.{Unseen, Once, Again, Late}
 use Rattle.dfu_link.specs.declared.course.Harming.{Harming}
-use Rattle.dfu_link.specs.declared.course.Harming.TheVariants.{NoWrite, CutsPower, FailsWrite}
+use Rattle.dfu_link.specs.declared.course.Harming.TheVariants.{NoWrite, CutsPower, FailsWrite, LiesInWrite}
 use Rattle.dfu_link.specs.Course.{Course, course_of}
 use Rattle.dfu_link.specs.Happening.{Fate, Harm, Happening, Offers, Uploads, Aborts, Goes, Passes, Resets, Cuts}
 use Rattle.dfu_link.specs.Bench.{Bench, Session, Hosted}
 use Rattle.dfu_link.specs.Play.{heard_over, waits_for, Link, Answered, silent, opened, took, told, aborted, IsAllowed}
 
--- The fuse of the medium in an action: a cut stops all writes after the harmed one, a failure only that one.
+-- The fuse of the medium in an action: a cut stops all writes after the harmed one; a failure and a lie are of that one alone.
 abbrev pub fuse_of : Harming → Harm → Fuse
 fuse_of NoWrite harm = Whole
 fuse_of CutsPower harm = Armed harm.writes harm.tear true
 fuse_of FailsWrite harm = Armed harm.writes harm.tear false
+fuse_of LiesInWrite harm = Lying harm.writes harm.tear
 
 -- A device with this fuse in its medium.
 abbrev pub armed : Shown → Fuse → Shown
@@ -73,6 +74,7 @@ abbrev pub ended_back : Harming → Back → Back
 ended_back NoWrite b = b
 ended_back CutsPower b = back.Restarted
 ended_back FailsWrite b = b
+ended_back LiesInWrite b = b
 
 -- A request, by its course.
 pub record Sends (q : Asked) (setup body : List ℕ) (course : Course) (w w' : Shown) (heard : Heard) : Type 0 where
@@ -108,6 +110,7 @@ abbrev pub left_by : Harming → Shown → Shown
 left_by NoWrite w = armed w Whole
 left_by CutsPower w = powered_up w
 left_by FailsWrite w = armed w Whole
+left_by LiesInWrite w = armed w Whole
 
 -- The link that a bench shows: the image is read from the medium's bytes.
 abbrev pub link_of : Bench → Link

@@ -3,8 +3,8 @@ use Rattle.std.specs.Prelude.{Bool, true, false}
 use Rattle.dfu_link.specs.declared.course.Handling.{Handling}
 use Rattle.dfu_link.specs.declared.course.Handling.TheVariants.{Unseen, Once, Again, Late}
 use Rattle.dfu_link.specs.declared.course.Harming.{Harming}
-use Rattle.dfu_link.specs.declared.course.Harming.TheVariants.{NoWrite, CutsPower, FailsWrite}
-use Rattle.dfu_link.specs.Happening.{Fate, Pass, LostOut, LostBack, Twice, TwiceLostBack, Slip, CutIn, Fail}
+use Rattle.dfu_link.specs.declared.course.Harming.TheVariants.{NoWrite, CutsPower, FailsWrite, LiesInWrite}
+use Rattle.dfu_link.specs.Happening.{Fate, Pass, LostOut, LostBack, Twice, TwiceLostBack, Slip, CutIn, Fail, Lie}
 
 -- The course of an action: what the device makes of a request, whether its answer comes back, and which write is harmed.
 pub record Course : Type 0 where
@@ -22,3 +22,4 @@ course_of TwiceLostBack = record { handling = Again; back = false; harming = NoW
 course_of (Slip ms) = record { handling = Late ms; back = true; harming = NoWrite }
 course_of CutIn = record { handling = Once; back = false; harming = CutsPower }
 course_of Fail = record { handling = Once; back = true; harming = FailsWrite }
+course_of Lie = record { handling = Once; back = true; harming = LiesInWrite }

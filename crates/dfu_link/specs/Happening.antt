@@ -7,7 +7,7 @@ use Rattle.dfu_link.specs.declared.event.Event.{Event as GivenEvent}
 use Rattle.dfu_link.specs.declared.event.Event.TheVariants as event
 
 -- What becomes of one action of the host: it passes; its request or its answer is lost; it is handled twice, and then perhaps its answer is
--- lost; time passes after it; the power is cut in it, at any write of the medium; or a write of the medium fails in it.
+-- lost; time passes after it; the power is cut in it, at any write of the medium; or in it a write of the medium fails, or lies.
 pub data Fate : Type 0 where
   Pass : Fate
   LostOut : Fate
@@ -17,8 +17,9 @@ pub data Fate : Type 0 where
   Slip : (ms : ℕ) → Fate
   CutIn : Fate
   Fail : Fate
+  Lie : Fate
 
--- How a write is harmed by a cut or a failure: after so many writes that work one leaves the front of these bytes.
+-- How a write is harmed by a cut, a failure or a lie: after so many writes that work one leaves the front of these bytes.
 pub record Harm : Type 0 where
   pub writes : ℕ
   pub tear : List ℕ
@@ -51,6 +52,7 @@ fate_of fate.TwiceLostBack = TwiceLostBack
 fate_of (fate.Slip ms) = Slip ms
 fate_of (fate.Cut writes tear) = CutIn
 fate_of (fate.Fail writes tear) = Fail
+fate_of (fate.Lie writes tear) = Lie
 
 -- How the fate that a caller names harms a write.
 abbrev pub harm_in : GivenFate → Harm
@@ -62,6 +64,7 @@ harm_in fate.TwiceLostBack = unharmed
 harm_in (fate.Slip ms) = unharmed
 harm_in (fate.Cut writes tear) = harmed writes tear.now
 harm_in (fate.Fail writes tear) = harmed writes tear.now
+harm_in (fate.Lie writes tear) = harmed writes tear.now
 
 -- What happens, of the event that a caller names.
 abbrev pub happening : GivenEvent → Happening

@@ -36,4 +36,5 @@ fate_keyword_of w =
     else if bytes_eq w (codes "slip") then Some fate.Slip
     else if bytes_eq w (codes "cut") then Some fate.Cut
     else if bytes_eq w (codes "fail") then Some fate.Fail
+    else if bytes_eq w (codes "lie") then Some fate.Lie
     else None

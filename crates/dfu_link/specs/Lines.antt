@@ -5,7 +5,7 @@ use Rattle.dfu_slots.specs.declared.unit.Unit.{Unit as WriteUnit}
 use Rattle.dfu_slots.specs.declared.unit.Unit.TheVariants.{Byte, U16, U64, U256}
 use Rattle.dfu_wire.specs.Identifier.{identifier_in}
 use Rattle.dfu_link.specs.Words.{◌>>=◌, guard, bytes_of, number_of, pair_of, first, ends, words_of}
-use Rattle.dfu_link.specs.Happening.{Fate, Pass, LostOut, LostBack, Twice, TwiceLostBack, Slip, CutIn, Fail, unharmed, harmed}
+use Rattle.dfu_link.specs.Happening.{Fate, Pass, LostOut, LostBack, Twice, TwiceLostBack, Slip, CutIn, Fail, Lie, unharmed, harmed}
 use Rattle.dfu_link.specs.Said.{Said, Blank, Sets, LimitsTo, Does, Show, TheIds, TheDevice, TheUnit, TheCapacity, TheImage, Offer, Upload, Abort, Go, Time, Reset, Cut}
 use Rattle.dfu_link.specs.Keywords.{keyword_of, fate_keyword_of}
 use Rattle.dfu_link.specs.declared.scripting.keywords.Keyword.{Keyword}
@@ -119,7 +119,7 @@ slip_of words = do
   ms ← number_at words
   ends (Does (Go (Slip ms.0) unharmed 1)) ms.1
 
--- After `go cut` and `go fail`: how many writes work, and the tear.
+-- After `go cut`, `go fail` and `go lie`: how many writes work, and the tear.
 unfoldable pub harmed_of : Fate → List (List ℕ) → Option Said
 harmed_of f words = do
   writes ← number_at words
@@ -136,6 +136,7 @@ by_fate fate.TwiceLostBack words = ends (Does (Go TwiceLostBack unharmed 1)) wor
 by_fate fate.Slip words = slip_of words
 by_fate fate.Cut words = harmed_of CutIn words
 by_fate fate.Fail words = harmed_of Fail words
+by_fate fate.Lie words = harmed_of Lie words
 
 -- After `go`: a fate.
 unfoldable pub go_of : List (List ℕ) → Option Said

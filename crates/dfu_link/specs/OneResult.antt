@@ -3,7 +3,7 @@ use Rattle.std.specs.Prelude.{◌≡◌, Bool, Ok}
 use Rattle.dfu_slots.specs.Determined.{SameStore}
 use Rattle.dfu_device.specs.Shown.{Shown}
 use Rattle.dfu_link.specs.declared.course.Harming.{Harming}
-use Rattle.dfu_link.specs.declared.course.Harming.TheVariants.{NoWrite, CutsPower, FailsWrite}
+use Rattle.dfu_link.specs.declared.course.Harming.TheVariants.{NoWrite, CutsPower, FailsWrite, LiesInWrite}
 use Rattle.dfu_link.specs.Course.{course_of}
 use Rattle.dfu_link.specs.Happening.{Fate, Harm, Goes}
 use Rattle.dfu_link.specs.Play.{Answered, Took}
@@ -24,11 +24,12 @@ pub record AreOne (c d : Bench) (x y : Answered) : Type 0 where
   pub first : (room : Bool) × (rule room ≡ record { session = c.session; answer = x })
   pub second : (room : Bool) × (rule room ≡ record { session = d.session; answer = y })
 
--- A write is harmed: by a cut, or by a failure.
+-- A write is harmed: by a cut, by a failure, or by a lie.
 abbrev pub HarmsAWrite : Harming → Type 0
 HarmsAWrite NoWrite = ⊥
 HarmsAWrite CutsPower = Unit {0}
 HarmsAWrite FailsWrite = Unit {0}
+HarmsAWrite LiesInWrite = Unit {0}
 
 -- An action in which a write is harmed has one result.
 abbrev pub OneResult : Type 0

@@ -14,7 +14,7 @@ use Rattle.dfu_link.specs.Happening.{Fate, Happening, Offers, Uploads, Aborts, G
 use Rattle.dfu_link.specs.declared.course.Handling.{Handling}
 use Rattle.dfu_link.specs.declared.course.Handling.TheVariants.{Unseen, Once, Again, Late}
 use Rattle.dfu_link.specs.declared.course.Harming.{Harming}
-use Rattle.dfu_link.specs.declared.course.Harming.TheVariants.{NoWrite, CutsPower, FailsWrite}
+use Rattle.dfu_link.specs.declared.course.Harming.TheVariants.{NoWrite, CutsPower, FailsWrite, LiesInWrite}
 use Rattle.dfu_link.specs.Course.{Course, course_of}
 use Rattle.dfu_link.specs.Bench.{Session, Nobody, Hosted}
 
@@ -141,12 +141,14 @@ abbrev pub heard_over : Harming → Heard → Heard
 heard_over NoWrite heard = heard
 heard_over CutsPower heard = Restarted
 heard_over FailsWrite heard = heard
+heard_over LiesInWrite heard = heard
 
 -- The device once an action is over: where the power was cut, it starts again.
 abbrev pub over : Harming → Situation → Situation
 over NoWrite s = s
 over CutsPower s = powered s
 over FailsWrite s = s
+over LiesInWrite s = s
 
 -- The end of an action.
 abbrev pub ends_by : Harming → Passed → Passed

@@ -4,7 +4,7 @@ use Rattle.dfu_wire.specs.declared.ids.Ids.{Ids}
 use Rattle.dfu_wire.specs.declared.functionals.Functional.{Functional}
 use Rattle.dfu_slots.specs.declared.unit.Unit.{Unit as WriteUnit}
 use Rattle.dfu_link.specs.Words.{bytes_of}
-use Rattle.dfu_link.specs.Happening.{Fate, CutIn, Fail, Harm, harmed, fate_of, harm_in}
+use Rattle.dfu_link.specs.Happening.{Fate, CutIn, Fail, Lie, Harm, harmed, fate_of, harm_in}
 use Rattle.dfu_link.specs.declared.scripting.hex_text.HexText.{HexText}
 use Rattle.dfu_link.specs.declared.scripting.line.HarmKind as kinds
 use Rattle.dfu_link.specs.declared.scripting.line.HarmKind.TheVariants as kind
@@ -42,6 +42,7 @@ pub data EventLine : Type 0 where
 abbrev pub HasTear : EventLine → Type 0
 HasTear (Go CutIn h times) = Unit {0}
 HasTear (Go Fail h times) = Unit {0}
+HasTear (Go Lie h times) = Unit {0}
 HasTear d = ⊥
 
 -- What a line says: nothing, a setting, the limits of later sessions, events, or that the device is to be shown.
@@ -64,6 +65,7 @@ config_line_of (config.Image text) = TheImage (hex_bytes text)
 abbrev pub harm_fate : kinds.HarmKind → Fate
 harm_fate kind.Cut = CutIn
 harm_fate kind.Fail = Fail
+harm_fate kind.Lie = Lie
 
 -- The events of a line as the code has it.
 abbrev pub event_line_of : event_lines.EventLine → EventLine

@@ -1,4 +1,4 @@
--- What happens where nothing is cut and nothing fails.
+-- What happens where nothing is cut, nothing fails and nothing lies.
 use Rattle.std.specs.Prelude.{◌≡◌, Bool, Option, Result, Ok, Err}
 use Rattle.dfu_slots.specs.Seen.{room_of}
 use Rattle.dfu_device.specs.Outcome.{Works}
@@ -6,7 +6,7 @@ use Rattle.dfu_device.specs.Shown.{Shown, profile}
 use Rattle.dfu_host.specs.declared.report.Report.{Report}
 use Rattle.dfu_link.specs.declared.fault.LinkFault.{LinkFault}
 use Rattle.dfu_link.specs.declared.course.Harming.{Harming}
-use Rattle.dfu_link.specs.declared.course.Harming.TheVariants.{NoWrite, CutsPower, FailsWrite}
+use Rattle.dfu_link.specs.declared.course.Harming.TheVariants.{NoWrite, CutsPower, FailsWrite, LiesInWrite}
 use Rattle.dfu_link.specs.Course.{course_of}
 use Rattle.dfu_link.specs.Happening.{Happening, Offers, Uploads, Aborts, Goes, Passes, Resets, Cuts}
 use Rattle.dfu_link.specs.Play.{Answered, played}
@@ -19,11 +19,12 @@ pub record IsSame (w w' : Shown) : Type 0 where
   pub config : w'.config ≡ w.config
   pub room : room_of w'.slots ≡ room_of w.slots
 
--- No write is harmed: the power is not cut, and no write fails.
+-- No write is harmed: the power is not cut, and no write fails or lies.
 abbrev pub HarmsNothing : Harming → Type 0
 HarmsNothing NoWrite = Unit {0}
 HarmsNothing CutsPower = ⊥
 HarmsNothing FailsWrite = ⊥
+HarmsNothing LiesInWrite = ⊥
 
 -- The event is no action of the host in which a write is harmed.
 abbrev pub IsHarmless : Happening → Type 0

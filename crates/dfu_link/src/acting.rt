@@ -45,8 +45,8 @@ fn come_back(course: Course<'_>, back: Back) -> Back
 {
     match (course.harming, course.back) {
         (Harming::CutsPower, _) => Back::Restarted,
-        (Harming::NoWrite | Harming::FailsWrite, true) => back,
-        (Harming::NoWrite | Harming::FailsWrite, false) => Back::Lost,
+        (Harming::NoWrite | Harming::FailsWrite | Harming::LiesInWrite, true) => back,
+        (Harming::NoWrite | Harming::FailsWrite | Harming::LiesInWrite, false) => Back::Lost,
     }
 }
 
@@ -80,7 +80,7 @@ fn seen_after(harming: Harming, seen: Seen<'static>) -> Seen<'static>
 {
     match harming {
         Harming::CutsPower => Seen::Restarted,
-        Harming::NoWrite | Harming::FailsWrite => seen,
+        Harming::NoWrite | Harming::FailsWrite | Harming::LiesInWrite => seen,
     }
 }
 
@@ -124,7 +124,7 @@ fn tell(host: &mut Host<'_>, back: Back, out: &[u8])
     }
 }
 
-/// The next action of a host that is not done, by its course. Who cuts or fails a write has armed the
+/// The next action of a host that is not done, by its course. Who harms a write has armed the
 /// medium for it.
 pub(crate) fn act<M: Faulty>(device: &mut Device<M>, host: &mut Host<'_>, course: Course<'_>)
     requires { IsOn host.old.phase }

@@ -29,6 +29,8 @@ pub(crate) enum Harming {
     CutsPower,
     /// One alone, which fails.
     FailsWrite,
+    /// One alone, which lies: it answers that it worked.
+    LiesInWrite,
 }
 
 /// The course of an action: what the device makes of a request, whether its answer comes back, and
@@ -56,6 +58,7 @@ pub(crate) fn course_by(fate: Fate<'_>) -> Course<'_>
         Fate::Slip(ms) => (Handling::Late(ms), true, Harming::NoWrite, 0, &[]),
         Fate::Cut { writes, tear } => (Handling::Once, false, Harming::CutsPower, writes, tear),
         Fate::Fail { writes, tear } => (Handling::Once, true, Harming::FailsWrite, writes, tear),
+        Fate::Lie { writes, tear } => (Handling::Once, true, Harming::LiesInWrite, writes, tear),
     };
     Course {
         handling,

@@ -3,9 +3,9 @@
 /// What becomes of one action of the host: a request, a wait or a reset of the bus. Losses and
 /// doublings are of requests alone: a wait and a reset pass with them.
 ///
-/// `Cut` and `Fail` harm a write of the medium. After `writes` writes that work comes the one that
-/// is harmed: it fails, and leaves the first bytes of `tear` at the front of its range and the old
-/// bytes in the rest of it. Of `tear` at most 4,096 bytes count. Where the action makes no such
+/// `Cut`, `Fail` and `Lie` harm a write of the medium. After `writes` writes that work comes the one that
+/// is harmed: it leaves the first bytes of `tear` at the front of its range and the old bytes in the
+/// rest of it, and fails, or with `Lie` answers that it worked. Of `tear` at most 4,096 bytes count. Where the action makes no such
 /// write, none is harmed.
 #[derive(Clone, Copy, Debug, PartialEq, Eq)]
 pub enum Fate<'t> {
@@ -26,4 +26,6 @@ pub enum Fate<'t> {
     Cut { writes: u32, tear: &'t [u8] },
     /// It goes as it should, but for the harmed write.
     Fail { writes: u32, tear: &'t [u8] },
+    /// It goes as it should, but for the harmed write, which lies.
+    Lie { writes: u32, tear: &'t [u8] },
 }

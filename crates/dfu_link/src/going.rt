@@ -16,8 +16,8 @@ use dfu_device::Device;
 use dfu_host::Host;
 use dfu_slots::Faulty;
 
-/// Arms the medium for an action of this course: with a cut no later write works, with a failure all
-/// later ones do.
+/// Arms the medium for an action of this course: with a cut no later write works, with a failure and a
+/// lie all later ones do.
 fn arm<M: Faulty>(device: &mut Device<M>, course: Course<'_>)
     requires { device.old.slots.medium.fuse ≡ Whole }
     ensures { device.new ≡ armed device.old (fuse_of course.entry.harming (harm_at course.entry)) }
@@ -26,6 +26,7 @@ fn arm<M: Faulty>(device: &mut Device<M>, course: Course<'_>)
         Harming::NoWrite => {}
         Harming::CutsPower => device.arm(course.writes, course.tear, true),
         Harming::FailsWrite => device.arm(course.writes, course.tear, false),
+        Harming::LiesInWrite => device.arm_lie(course.writes, course.tear),
     }
 }
 
@@ -35,7 +36,7 @@ fn settle<M: Faulty>(device: &mut Device<M>, harming: Harming)
 {
     match harming {
         Harming::CutsPower => power_cycle(device),
-        Harming::NoWrite | Harming::FailsWrite => device.disarm(),
+        Harming::NoWrite | Harming::FailsWrite | Harming::LiesInWrite => device.disarm(),
     }
 }
 

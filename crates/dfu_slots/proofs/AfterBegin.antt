@@ -1,13 +1,12 @@
 -- What a store is after `begin`.
-use Rattle.std.proofs.Common.{◌≡◌, inl, ⊎_elim, true, Result, Ok, Err, OnOk, OnErr, IsErrOf, is_ok, sym, ◌∙◌, ap, subst}
+use Rattle.std.proofs.Common.{◌≡◌, inl, ⊎_elim, true, Result, Ok, Err, OnOk, OnErr, sym, ◌∙◌, ap, subst}
 use Rattle.dfu_slots.specs.Medium.{Rose}
 use Rattle.dfu_slots.specs.Layout.{Slot, IsOpen}
 use Rattle.dfu_slots.specs.Image.{gate_of, Active, HasImage}
 use Rattle.dfu_slots.specs.Seen.{SlotsState, store_on, spare_slot, image_of, spare_of, is_begun, room_of, is_shaped, Begin, writes_of, DidCall}
 use Rattle.dfu_slots.specs.inside.Store.{IsStore}
-use Rattle.dfu_slots.specs.Changes.{Changes}
+use Rattle.dfu_slots.specs.Changes.{IsBroken, ending_of, Changes}
 use Rattle.dfu_slots.specs.declared.fault.PutFault.{PutFault}
-use Rattle.dfu_slots.specs.declared.fault.PutFault.TheVariants.{Failed}
 use Rattle.dfu_slots.proofs.Stands.{standing}
 use Rattle.dfu_slots.proofs.Multiples.{gate_wide}
 use Rattle.dfu_slots.proofs.Series.{Ends, ends_unit, changes_ends, changes_rose}
@@ -39,7 +38,7 @@ pub begin_places : {T : Type 0} (s now : SlotsState) (has : HasImage s.medium) (
 begin_places s now has result changes = stays_places s now has (begin_stays s now has result changes)
 
 begin_store : {T : Type 0} (s now : SlotsState) (has : HasImage s.medium) (result : Result T PutFault)
-    → OnErr result (IsErrOf result Failed) → Changes s Begin result now → IsStore now
+    → OnErr result (IsBroken result) → Changes s Begin result now → IsStore now
 begin_store s now has result fault changes =
     subst IsStore (sym (begin_fresh s now result fault changes))
     (fresh_store now.medium (stays_has s now has (begin_stays s now has result changes)))
@@ -54,7 +53,7 @@ begin_shut s now has (Ok x) worked =
     closed_begun now (subst (λ (p : Slot). ¬ IsOpen p)
     (sym (spare_there s.medium now.medium (stays_after s now has (inl worked.writes)).unit)) shut)
 
-begin_spare : {T : Type 0} (s now : SlotsState) → HasImage s.medium → (result : Result T PutFault) → OnErr result (IsErrOf result Failed)
+begin_spare : {T : Type 0} (s now : SlotsState) → HasImage s.medium → (result : Result T PutFault) → OnErr result (IsBroken result)
     → Changes s Begin result now → OnOk result (spare_of now ≡ (spare_slot s).data_bytes)
 begin_spare s now has (Err e) fault changes = tt
 begin_spare {T} s now has (Ok x) fault worked =
@@ -67,9 +66,9 @@ begin_spare {T} s now has (Ok x) fault worked =
 
 -- What a store that was seen as `v` is after `begin`, whatever it answered.
 pub record BeginLeaves {T : Type 0} (v now : SlotsState) (result : Result T PutFault) : Type 0 where
-  pub call : DidCall v Begin (is_ok result) now
+  pub call : DidCall v Begin (ending_of result) now
   pub writes : Changes v Begin result now
-  pub rose : IsErrOf result Failed → Rose v.medium.failures now.medium.failures
+  pub rose : IsBroken result → Rose v.medium.failures now.medium.failures
   pub image : image_of now ≡ image_of v
   pub active : Active now.medium (image_of now)
   pub has_image : HasImage now.medium
@@ -82,7 +81,7 @@ pub record BeginLeaves {T : Type 0} (v now : SlotsState) (result : Result T PutF
 
 -- What the private `begin` did to the inside of a store is what `begin` does to the store.
 pub begin_leaves : {T : Type 0} {s v : SlotsState} → s ≡ v → IsStore s → (now : SlotsState) (result : Result T PutFault)
-    → OnErr result (IsErrOf result Failed) → Changes s Begin result now → BeginLeaves v now result
+    → OnErr result (IsBroken result) → Changes s Begin result now → BeginLeaves v now result
 begin_leaves {T} {s} {v} view store now result fault changes =
     let has = store.has_image in
     let stays : Stays s now has = begin_stays s now has result changes in

@@ -1,5 +1,5 @@
 -- What a store is after `commit`.
-use Rattle.std.proofs.Common.{◌≡◌, ◌⊎◌, inl, inr, ⊎_elim, true, false, is_ok, ℕ, ◌+◌, ◌≤◌, ◌<◌, List, length, take, Result, Ok, Err, OnOk, OnErr, IsErrOf, ◌↔◌, refl, sym, ◌∙◌, ap, subst, arith}
+use Rattle.std.proofs.Common.{◌≡◌, ◌≢◌, ◌⊎◌, inl, inr, ⊎_elim, true, false, ℕ, ◌+◌, ◌≤◌, ◌<◌, List, length, take, Result, Ok, Err, OnOk, OnErr, IsErrOf, ◌↔◌, refl, sym, ◌∙◌, ap, subst, arith}
 use Rattle.dfu_suffix.specs.Register.{register}
 use Rattle.dfu_slots.specs.Units.{filled}
 use Rattle.dfu_slots.specs.Medium.{Rose, written}
@@ -7,9 +7,11 @@ use Rattle.dfu_slots.specs.Layout.{slot_size, slot, IsOpen}
 use Rattle.dfu_slots.specs.Image.{gate_of, capacity_of, Active, HasImage, spare_at}
 use Rattle.dfu_slots.specs.Seen.{SlotsState, store_on, spare_slot, held_at, image_of, spare_of, is_begun, room_of, is_shaped, Commit, writes_of, CallWorked, CallFailed, DidCall}
 use Rattle.dfu_slots.specs.inside.Store.{IsStore}
-use Rattle.dfu_slots.specs.Changes.{Changes}
+use Rattle.dfu_slots.specs.Changes.{IsBroken, ending_of, Changes}
 use Rattle.dfu_slots.specs.declared.fault.PutFault.{PutFault}
-use Rattle.dfu_slots.specs.declared.fault.PutFault.TheVariants.{TooLarge, Failed, NotBegun}
+use Rattle.dfu_slots.specs.declared.fault.PutFault.TheVariants.{TooLarge, Failed, NotVerified, NotBegun}
+use Rattle.dfu_slots.specs.declared.fault.WriteFault.{WriteFault}
+use Rattle.dfu_slots.specs.declared.fault.WriteFault.TheVariants.{Failed as WriteFailed, NotVerified as WriteNotVerified}
 use Rattle.dfu_slots.proofs.Stands.{ActiveAt, standing}
 use Rattle.dfu_slots.proofs.Newest.{places_are, place_end}
 use Rattle.dfu_slots.proofs.Multiples.{gate_wide, held_end, held_fits}
@@ -62,15 +64,15 @@ module _ (s now : SlotsState) (store : IsStore s) (len : ℕ) (le : len ≤ s.pu
       (committed g (gate_wide s.medium.unit) s.medium a.at a.spare has.image (standing a) off s.medium.unit
       (held_at s) s.held room len within (register (take len (spare_of s))) crc_is now.medium worked.writes))
 
-  commit_either : CallFailed s (Commit len) now → Active now.medium has.image ⊎ Active now.medium (take len (spare_of s))
-  commit_either failed =
+  commit_either : (fault : WriteFault) → CallFailed fault s (Commit len) now → Active now.medium has.image ⊎ Active now.medium (take len (spare_of s))
+  commit_either fault failed =
       let a = has.active in
       subst (λ (l : List ℕ). Active now.medium has.image ⊎ Active now.medium (take len l)) (sym (spare_is s))
       (⊎_elim
-      (λ old. inl (active_now (inr failed.writes) a.at a.spare has.image old))
-      (λ new. inr (active_now (inr failed.writes) a.spare a.at _ new))
+      (λ old. inl (active_now (inr (fault, failed.writes)) a.at a.spare has.image old))
+      (λ new. inr (active_now (inr (fault, failed.writes)) a.spare a.at _ new))
       (committed_either g (gate_wide s.medium.unit) s.medium a.at a.spare has.image (standing a) off s.medium.unit
-      (held_at s) s.held room len within (register (take len (spare_of s))) crc_is now.medium failed.writes))
+      (held_at s) s.held room len within (register (take len (spare_of s))) crc_is fault now.medium failed.writes))
 
   room_after : Ends s.medium (writes_of s (Commit len)) now.medium → room_of now ≡ room_of s
   room_after ends = room_from s now (ends_unit (writes_of s (Commit len)) s.medium now.medium ends) (size_after ends)
@@ -93,11 +95,25 @@ ok_shut {T} s x n is_open = ok_begun (n.1 is_open)
     ok_begun : ◌≡◌ {A = Result T PutFault} (Ok x) (Err NotBegun) → ⊥
     ok_begun q = cc
 
-failed_shut : {T : Type 0} (s : SlotsState) → (IsErrOf {T = T} (Err Failed) NotBegun ↔ IsOpen (spare_slot s)) → ¬ IsOpen (spare_slot s)
-failed_shut {T} s n is_open = failed_begun (n.1 is_open)
+failed_shut : {T : Type 0} (s : SlotsState) (fault : PutFault) → fault ≢ NotBegun → (IsErrOf {T = T} (Err fault) NotBegun ↔ IsOpen (spare_slot s))
+    → ¬ IsOpen (spare_slot s)
+failed_shut {T} s fault other n is_open = other (one (n.1 is_open))
   where
-    failed_begun : ◌≡◌ {A = Result T PutFault} (Err Failed) (Err NotBegun) → ⊥
-    failed_begun q = cc
+    one : ◌≡◌ {A = Result T PutFault} (Err fault) (Err NotBegun) → fault ≡ NotBegun
+    one q = cc
+
+-- A commit that a write broke off leaves the old image or the new one.
+broken_stands : {T : Type 0} (s now : SlotsState) (store : IsStore s) (len : ℕ) → len ≤ s.put_end → ¬ IsOpen (spare_slot s)
+    → (write : WriteFault) (fault : PutFault) → CallFailed write s (Commit len) now
+    → CommitStands {T = T} s now store.has_image len (Err fault)
+broken_stands s now store len le shut write fault failed =
+    let either = commit_either s now store len le shut write failed in
+    record {
+      image = ⊎_elim (λ old. inl (old, tt)) (λ new. inr new) either;
+      room = room_after s now store len le shut (inr (write, failed.writes));
+      store = subst IsStore (sym (fresh_is now.medium now.held now.put_end failed.held_is failed.end_is))
+          (fresh_store now.medium (either_has s now store.has_image (take len (spare_of s)) either));
+    }
 
 commit_stands : {T : Type 0} (s now : SlotsState) (store : IsStore s) (len : ℕ) → len ≤ s.put_end → (result : Result T PutFault)
     → (IsErrOf result NotBegun ↔ IsOpen (spare_slot s)) → ¬ IsErrOf result TooLarge → Changes s (Commit len) result now
@@ -112,14 +128,9 @@ commit_stands {T} s now store len le (Ok x) n never worked =
           (fresh_store now.medium (record { image = take len (spare_of s); active = new }));
     }
 commit_stands {T} s now store len le (Err Failed) n never failed =
-    let shut : ¬ IsOpen (spare_slot s) = failed_shut {T = T} s n in
-    let either = commit_either s now store len le shut failed in
-    record {
-      image = ⊎_elim (λ old. inl (old, tt)) (λ new. inr new) either;
-      room = room_after s now store len le shut (inr failed.writes);
-      store = subst IsStore (sym (failed_fresh {T = T} s now (Commit len) (Err Failed) failed refl))
-          (fresh_store now.medium (either_has s now store.has_image (take len (spare_of s)) either));
-    }
+    broken_stands s now store len le (failed_shut {T = T} s Failed (λ e. cc) n) WriteFailed Failed failed
+commit_stands {T} s now store len le (Err NotVerified) n never failed =
+    broken_stands s now store len le (failed_shut {T = T} s NotVerified (λ e. cc) n) WriteNotVerified NotVerified failed
 commit_stands s now store len le (Err TooLarge) n never same = absurd (never refl)
 commit_stands s now store len le (Err NotBegun) n never same = record {
   image = inl (subst (λ (x : SlotsState). Active x.medium store.has_image.image) (sym same) store.has_image.active, tt);
@@ -148,11 +159,11 @@ commit_done s now len (Ok x) worked = fresh_is now.medium now.held now.put_end w
 
 -- What a store that was seen as `v` is after `commit`, whatever it answered.
 pub record CommitLeaves {T : Type 0} (v now : SlotsState) (len : ℕ) (result : Result T PutFault) : Type 0 where
-  pub call : is_begun v ≡ true → len ≤ room_of v → DidCall v (Commit len) (is_ok result) now
+  pub call : is_begun v ≡ true → len ≤ room_of v → DidCall v (Commit len) (ending_of result) now
   pub writes : Changes v (Commit len) result now
   pub not_begun : IsErrOf result NotBegun ↔ (is_begun v ≡ false)
   pub too_large : IsErrOf result TooLarge ↔ ((is_begun v ≡ true) × (room_of v < len))
-  pub rose : IsErrOf result Failed → Rose v.medium.failures now.medium.failures
+  pub rose : IsBroken result → Rose v.medium.failures now.medium.failures
   pub image : OnOk result (image_of now ≡ take len (spare_of v))
   pub kept : OnErr result ((image_of now ≡ image_of v) ⊎ (image_of now ≡ take len (spare_of v)))
   pub active : Active now.medium (image_of now)
@@ -160,7 +171,7 @@ pub record CommitLeaves {T : Type 0} (v now : SlotsState) (len : ℕ) (result : 
   pub shape : is_shaped now ≡ true
   pub room : room_of now ≡ room_of v
   pub done : OnOk result (now ≡ store_on now.medium)
-  pub failed : IsErrOf result Failed → now ≡ store_on now.medium
+  pub failed : IsBroken result → now ≡ store_on now.medium
   pub store : IsStore now
 
 -- What the private `commit` did to the inside of a store is what `commit` does to the store.

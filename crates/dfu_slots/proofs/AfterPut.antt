@@ -1,5 +1,5 @@
 -- What a store is after `put`.
-use Rattle.std.proofs.Common.{◌≡◌, inl, ⊎_elim, true, false, is_ok, ℕ, ◌+◌, ◌-◌, ◌*◌, ◌%◌, ◌≤◌, ◌<◌, List, ◌++◌, length, take, Result, Ok, Err, OnOk, IsErrOf, ◌↔◌, refl, sym, ◌∙◌, ap, subst, arith, length-append}
+use Rattle.std.proofs.Common.{◌≡◌, inl, ⊎_elim, true, false, ℕ, ◌+◌, ◌-◌, ◌*◌, ◌%◌, ◌≤◌, ◌<◌, List, ◌++◌, length, take, Result, Ok, Err, OnOk, IsErrOf, ◌↔◌, sym, ◌∙◌, ap, subst, arith, length-append}
 use Rattle.std.proofs.lemmas.List.{length-take-le}
 use Rattle.dfu_slots.specs.declared.unit.Unit.{Unit as WriteUnit}
 use Rattle.dfu_slots.specs.Units.{unit_size, gate_size, whole_part}
@@ -8,9 +8,9 @@ use Rattle.dfu_slots.specs.Layout.{slot_size, Slot, slot, IsOpen}
 use Rattle.dfu_slots.specs.Image.{gate_of, capacity_of, Active, HasImage, spare_at}
 use Rattle.dfu_slots.specs.Seen.{SlotsState, store_on, spare_slot, held_at, data_place, image_of, spare_of, is_begun, room_of, is_shaped, Put, writes_of, CallWorked, DidCall}
 use Rattle.dfu_slots.specs.inside.Store.{HasPuts, IsStore}
-use Rattle.dfu_slots.specs.Changes.{Changes}
+use Rattle.dfu_slots.specs.Changes.{IsBroken, ending_of, Changes}
 use Rattle.dfu_slots.specs.declared.fault.PutFault.{PutFault}
-use Rattle.dfu_slots.specs.declared.fault.PutFault.TheVariants.{TooLarge, Failed, NotBegun}
+use Rattle.dfu_slots.specs.declared.fault.PutFault.TheVariants.{TooLarge, Failed, NotVerified, NotBegun}
 use Rattle.dfu_slots.proofs.Stands.{standing}
 use Rattle.dfu_slots.proofs.Parts.{data_length}
 use Rattle.dfu_slots.proofs.Newest.{places_are, place_end, spare_end}
@@ -166,8 +166,11 @@ put_store {T} s now store at new here (Ok x) a b worked = record {
       (was_shut {T = T} s (at + length new) (Ok x) a b (λ e. cc)) worked;
 }
 put_store {T} s now store at new here (Err Failed) a b failed =
-    subst IsStore (sym (failed_fresh {T = T} s now (Put at new) (Err Failed) failed refl))
+    subst IsStore (sym (failed_fresh {T = T} s now (Put at new) (Err Failed) failed tt))
     (fresh_store now.medium (stays_has s now store.has_image (put_stays {T = T} s now store at new here (Err Failed) a b failed)))
+put_store {T} s now store at new here (Err NotVerified) a b failed =
+    subst IsStore (sym (failed_fresh {T = T} s now (Put at new) (Err NotVerified) failed tt))
+    (fresh_store now.medium (stays_has s now store.has_image (put_stays {T = T} s now store at new here (Err NotVerified) a b failed)))
 put_store s now store at new here (Err TooLarge) a b same = subst IsStore (sym same) store
 put_store s now store at new here (Err NotBegun) a b same = subst IsStore (sym same) store
 
@@ -196,18 +199,18 @@ put_places {T} s now store at new here result a b changes =
 
 -- What a store that was seen as `v` is after `put`, whatever it answered.
 pub record PutLeaves {T : Type 0} (v now : SlotsState) (at : ℕ) (new : List ℕ) (result : Result T PutFault) : Type 0 where
-  pub call : is_begun v ≡ true → at + length new ≤ room_of v → DidCall v (Put at new) (is_ok result) now
+  pub call : is_begun v ≡ true → at + length new ≤ room_of v → DidCall v (Put at new) (ending_of result) now
   pub writes : Changes v (Put at new) result now
   pub not_begun : IsErrOf result NotBegun ↔ (is_begun v ≡ false)
   pub too_large : IsErrOf result TooLarge ↔ ((is_begun v ≡ true) × (room_of v < at + length new))
-  pub rose : IsErrOf result Failed → Rose v.medium.failures now.medium.failures
+  pub rose : IsBroken result → Rose v.medium.failures now.medium.failures
   pub image : image_of now ≡ image_of v
   pub active : Active now.medium (image_of now)
   pub has_image : HasImage now.medium
   pub shape : is_shaped now ≡ true
   pub room : room_of now ≡ room_of v
   pub end : OnOk result (now.put_end ≡ at + length new)
-  pub failed : IsErrOf result Failed → now ≡ store_on now.medium
+  pub failed : IsBroken result → now ≡ store_on now.medium
   pub shut : OnOk result (is_begun now ≡ is_begun v)
   pub gate : OnOk result ((spare_slot now).gate ≡ (spare_slot v).gate)
   pub spare : OnOk result (spare_of now ≡ written (spare_of v) at new)

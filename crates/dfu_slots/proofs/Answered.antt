@@ -1,13 +1,15 @@
 -- What the answer of a change says.
-use Rattle.std.proofs.Common.{◌≡◌, ◌⊎◌, inl, inr, ⊎_elim, true, false, ℕ, ◌≤◌, ◌<◌, Result, Ok, Err, OnErr, IsErrOf, ◌↔◌, refl, arith, is_ok}
+use Rattle.std.proofs.Common.{◌≡◌, ◌⊎◌, inl, inr, ⊎_elim, true, false, ℕ, ◌≤◌, ◌<◌, Result, Ok, Err, OnErr, IsErrOf, ◌↔◌, refl, arith}
 use Rattle.std.proofs.lemmas.Bool.{cases_lt}
 use Rattle.dfu_slots.specs.Layout.{IsOpen}
 use Rattle.dfu_slots.specs.Image.{capacity_of}
-use Rattle.dfu_slots.specs.Seen.{SlotsState, store_on, spare_slot, is_begun, room_of, Call, Begin, writes_of, CallWorked, CallFailed, DidCall}
+use Rattle.dfu_slots.specs.Seen.{SlotsState, store_on, spare_slot, is_begun, room_of, Call, Begin, writes_of, CallWorked, CallFailed, AllWorked, BrokenBy, DidCall}
 use Rattle.dfu_slots.specs.inside.Store.{IsStore}
-use Rattle.dfu_slots.specs.Changes.{Changes}
+use Rattle.dfu_slots.specs.Changes.{IsBroken, ending_of, Changes}
 use Rattle.dfu_slots.specs.declared.fault.PutFault.{PutFault}
-use Rattle.dfu_slots.specs.declared.fault.PutFault.TheVariants.{TooLarge, Failed, NotBegun}
+use Rattle.dfu_slots.specs.declared.fault.PutFault.TheVariants.{TooLarge, Failed, NotVerified, NotBegun}
+use Rattle.dfu_slots.specs.declared.fault.WriteFault.{WriteFault}
+use Rattle.dfu_slots.specs.declared.fault.WriteFault.TheVariants.{Failed as WriteFailed, NotVerified as WriteNotVerified}
 use Rattle.dfu_slots.proofs.Series.{Ends, all_count, broken_count, broken_rose}
 use Rattle.dfu_slots.proofs.Seeing.{room_capacity, begun_closed, closed_begun, open_not_begun, not_begun_open, fresh_is}
 
@@ -58,7 +60,13 @@ came_or_not {T} s now n call (Err Failed) a b failed =
     inl (record {
       shut = was_shut {T = T} s n (Err Failed) a b (λ e. cc);
       fits = was_small {T = T} s n (Err Failed) a b (λ e. cc) (λ e. cc);
-      ends = inr failed.writes;
+      ends = inr (WriteFailed, failed.writes);
+    })
+came_or_not {T} s now n call (Err NotVerified) a b failed =
+    inl (record {
+      shut = was_shut {T = T} s n (Err NotVerified) a b (λ e. cc);
+      fits = was_small {T = T} s n (Err NotVerified) a b (λ e. cc) (λ e. cc);
+      ends = inr (WriteNotVerified, failed.writes);
     })
 came_or_not s now n call (Err TooLarge) a b same = inr same
 came_or_not s now n call (Err NotBegun) a b same = inr same
@@ -71,62 +79,58 @@ commit_too_large s store len le result never = (λ e. absurd (never e), λ large
 
 -- A call that was Ok or failed.
 
-did_all : (s now : SlotsState) (call : Call) → CallWorked s call now → DidCall s call true now
+did_all : (s now : SlotsState) (call : Call) → CallWorked s call now → DidCall s call AllWorked now
 did_all s now call worked = record {
   calls = worked;
   count = all_count (writes_of s call) s.medium now.medium worked.writes;
-  rose = λ e. cc;
+  rose = λ fault e. cc;
 }
 
-did_broken : (s now : SlotsState) (call : Call) → CallFailed s call now → DidCall s call false now
-did_broken s now call failed = record {
+did_broken : (fault : WriteFault) (s now : SlotsState) (call : Call) → CallFailed fault s call now → DidCall s call (BrokenBy fault) now
+did_broken fault s now call failed = record {
   calls = failed;
-  count = broken_count (writes_of s call) s.medium now.medium failed.writes;
-  rose = λ e. broken_rose (writes_of s call) s.medium now.medium failed.writes;
+  count = broken_count fault (writes_of s call) s.medium now.medium failed.writes;
+  rose = λ f e. broken_rose fault (writes_of s call) s.medium now.medium failed.writes;
 }
 
 did : {T : Type 0} (s now : SlotsState) (call : Call) (result : Result T PutFault) → ¬ IsErrOf result NotBegun → ¬ IsErrOf result TooLarge
-    → Changes s call result now → DidCall s call (is_ok result) now
+    → Changes s call result now → DidCall s call (ending_of result) now
 did s now call (Ok x) a b worked = did_all s now call worked
-did s now call (Err Failed) a b failed = did_broken s now call failed
+did s now call (Err Failed) a b failed = did_broken WriteFailed s now call failed
+did s now call (Err NotVerified) a b failed = did_broken WriteNotVerified s now call failed
 did s now call (Err TooLarge) a b same = absurd (b refl)
 did s now call (Err NotBegun) a b same = absurd (a refl)
 
--- A fault that is Failed is no other one.
-no_large : {T : Type 0} → ◌≡◌ {A = Result T PutFault} (Err TooLarge) (Err Failed) → ⊥
-no_large q = cc
-
-no_begun : {T : Type 0} → ◌≡◌ {A = Result T PutFault} (Err NotBegun) (Err Failed) → ⊥
-no_begun q = cc
-
--- A `begin` was Ok or failed.
-pub did_begin : {T : Type 0} (s now : SlotsState) (result : Result T PutFault) → OnErr result (IsErrOf result Failed)
-    → Changes s Begin result now → DidCall s Begin (is_ok result) now
+-- A `begin` worked or was broken off.
+pub did_begin : {T : Type 0} (s now : SlotsState) (result : Result T PutFault) → OnErr result (IsBroken result)
+    → Changes s Begin result now → DidCall s Begin (ending_of result) now
 did_begin s now (Ok x) e worked = did_all s now Begin worked
-did_begin s now (Err Failed) e failed = did_broken s now Begin failed
-did_begin {T} s now (Err TooLarge) e same = absurd (no_large {T = T} e)
-did_begin {T} s now (Err NotBegun) e same = absurd (no_begun {T = T} e)
+did_begin s now (Err Failed) e failed = did_broken WriteFailed s now Begin failed
+did_begin s now (Err NotVerified) e failed = did_broken WriteNotVerified s now Begin failed
+did_begin s now (Err TooLarge) e same = absurd e
+did_begin s now (Err NotBegun) e same = absurd e
 
 -- A call on a store that was begun and has the room was Ok or failed.
 pub did_change : {T : Type 0} (s now : SlotsState) (call : Call) (n : ℕ) (result : Result T PutFault)
     → (IsErrOf result NotBegun ↔ IsOpen (spare_slot s))
     → (IsErrOf result TooLarge ↔ ((¬ IsOpen (spare_slot s)) × (capacity_of s.medium < n)))
-    → Changes s call result now → is_begun s ≡ true → n ≤ room_of s → DidCall s call (is_ok result) now
+    → Changes s call result now → is_begun s ≡ true → n ≤ room_of s → DidCall s call (ending_of result) now
 did_change s now call n result not_begun too_large changes begun fits =
     did s now call result (λ e. begun_closed s begun (not_begun.0 e)) (λ e. omega (arith, fits, (too_large.0 e).1, room_capacity s)) changes
 
 -- What is forgotten.
 
--- After a failure nothing is held, and the puts end at 0.
+-- After a fault of a write nothing is held, and the puts end at 0.
 pub failed_fresh : {T : Type 0} (s now : SlotsState) (call : Call) (result : Result T PutFault) → Changes s call result now
-    → IsErrOf result Failed → now ≡ store_on now.medium
-failed_fresh s now call (Ok x) changes is = absurd (cc)
+    → IsBroken result → now ≡ store_on now.medium
+failed_fresh s now call (Ok x) changes is = absurd is
 failed_fresh s now call (Err Failed) failed is = fresh_is now.medium now.held now.put_end failed.held_is failed.end_is
-failed_fresh s now call (Err TooLarge) changes is = absurd (cc)
-failed_fresh s now call (Err NotBegun) changes is = absurd (cc)
+failed_fresh s now call (Err NotVerified) failed is = fresh_is now.medium now.held now.put_end failed.held_is failed.end_is
+failed_fresh s now call (Err TooLarge) changes is = absurd is
+failed_fresh s now call (Err NotBegun) changes is = absurd is
 
 -- After a `begin` too, whatever it answered.
-pub begin_fresh : {T : Type 0} (s now : SlotsState) (result : Result T PutFault) → OnErr result (IsErrOf result Failed)
+pub begin_fresh : {T : Type 0} (s now : SlotsState) (result : Result T PutFault) → OnErr result (IsBroken result)
     → Changes s Begin result now → now ≡ store_on now.medium
 begin_fresh s now (Ok x) e worked = fresh_is now.medium now.held now.put_end worked.held_is worked.end_is
 begin_fresh {T} s now (Err fault) e changes = failed_fresh {T = T} s now Begin (Err fault) changes e

@@ -5,6 +5,7 @@ use Rattle.std.proofs.lemmas.Bool.{cases_eq}
 use Rattle.std.specs.Int.{w32, from_le_bytes}
 use Rattle.std.proofs.lemmas.Nat.{from_le_bytes-to_le_bytes_4}
 use Rattle.dfu_suffix.specs.Register.{register}
+use Rattle.dfu_slots.specs.declared.fault.WriteFault.{WriteFault}
 use Rattle.dfu_slots.specs.Medium.{MediumState, Write, KeepsOutside, AllWrites, BrokenWrites, written}
 use Rattle.dfu_slots.specs.Layout.{slot_size, capacity, Slot, slot, OPEN, IsOpen, generation, next_generation, header_length, header, HasHeader, gate_unit, header_unit}
 use Rattle.dfu_slots.specs.Image.{active_at, spare_at, spare}
@@ -198,17 +199,17 @@ module _ (g : ℕ) (wide : 16 ≤ g) (s : MediumState) (mine other : ℕ) (image
       (mid_keeps mid first) torn (mid_head mid first) (mid_data mid first) is_open)
 
   -- Those up to one that failed.
-  pub commit_broken : (now : MediumState) → BrokenWrites s (commit_writes g was len crc) now → ActiveAt g now.bytes mine other image
+  pub commit_broken : (fault : WriteFault) (now : MediumState) → BrokenWrites fault s (commit_writes g was len crc) now → ActiveAt g now.bytes mine other image
       ⊎ ActiveAt g now.bytes other mine new_image
-  commit_broken now broken = elim (broken_parts before_gate gate_write s now broken) [
+  commit_broken fault now broken = elim (broken_parts fault before_gate gate_write s now broken) [
     | inl early ↦
         inl (closed_change g wide was now.bytes mine other image (other + g) (other + slot_size was) a
-        (broken_keep (other + g) (other + slot_size was) before_gate s now end inside early) shut (omega arith) (omega arith))
+        (broken_keep (other + g) (other + slot_size was) fault before_gate s now end inside early) shut (omega arith) (omega arith))
     | inr late ↦
         let mid = late.0 in
         let first = late.1.first in
         let size = (mid_keeps mid first).size in
-        let torn = broken_keep other (other + g) gate_write mid now (omega (arith, size, end, a.sized.room)) gate_inside late.1.second in
+        let torn = broken_keep other (other + g) fault gate_write mid now (omega (arith, size, end, a.sized.room)) gate_inside late.1.second in
         subst (λ (q : ℕ). ActiveAt g now.bytes mine other image
         ⊎ ActiveAt g now.bytes other mine (take len (slot g was q).data_bytes)) places_of.1
         (either_way g wide was mid.bytes now.bytes mine other image a len (slot g was other).data_bytes (omega (arith, whole_length)) bound

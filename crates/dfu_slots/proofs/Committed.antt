@@ -3,6 +3,7 @@ use Rattle.std.proofs.Common.{◌≡◌, ◌⊎◌, inl, inr, ⊎_elim, ℕ, ◌
 use Rattle.dfu_slots.specs.declared.unit.Unit.{Unit as WriteUnit}
 use Rattle.dfu_suffix.specs.Register.{register}
 use Rattle.dfu_slots.specs.Units.{fill_size, filled}
+use Rattle.dfu_slots.specs.declared.fault.WriteFault.{WriteFault}
 use Rattle.dfu_slots.specs.Medium.{MediumState, Write, AllWrites, BrokenWrites, written}
 use Rattle.dfu_slots.specs.Layout.{slot_size, capacity, Slot, slot, IsOpen, generation, next_generation}
 use Rattle.dfu_slots.specs.Image.{active_at, spare_at, spare}
@@ -112,14 +113,14 @@ module _ (g : ℕ) (wide : 16 ≤ g) (s : MediumState) (mine other : ℕ) (image
       (commit_done g wide mid mine other image (keeps mid first) (still_shut mid first) len (fits mid first) now second)
 
   -- They came up to one that failed.
-  pub committed_either : (now : MediumState) → BrokenWrites s (part ++ commit_writes g s.bytes len crc) now
+  pub committed_either : (fault : WriteFault) (now : MediumState) → BrokenWrites fault s (part ++ commit_writes g s.bytes len crc) now
       → ActiveAt g now.bytes mine other image ⊎ ActiveAt g now.bytes other mine new_image
-  committed_either now broken = elim (broken_parts part (commit_writes g s.bytes len crc) s now broken) [
-    | inl early ↦ inl (data_keeps g wide s now mine other image a shut part inside (inr early))
+  committed_either fault now broken = elim (broken_parts fault part (commit_writes g s.bytes len crc) s now broken) [
+    | inl early ↦ inl (data_keeps g wide s now mine other image a shut part inside (inr (fault, early)))
     | inr late ↦
         let mid = late.0 in
         let first = late.1.first in
-        let second = subst (λ (ws : List Write). BrokenWrites mid ws now) (same_writes mid first) late.1.second in
+        let second = subst (λ (ws : List Write). BrokenWrites fault mid ws now) (same_writes mid first) late.1.second in
         subst (λ (l : List ℕ). ActiveAt g now.bytes mine other image ⊎ ActiveAt g now.bytes other mine l) (image_is mid first)
-        (commit_broken g wide mid mine other image (keeps mid first) (still_shut mid first) len (fits mid first) now second)
+        (commit_broken g wide mid mine other image (keeps mid first) (still_shut mid first) len (fits mid first) fault now second)
   ]

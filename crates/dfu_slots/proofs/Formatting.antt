@@ -4,6 +4,7 @@ use Rattle.dfu_slots.specs.declared.unit.Unit.{Unit as WriteUnit}
 use Rattle.std.proofs.lemmas.List.{take_at, append_assoc}
 use Rattle.dfu_suffix.specs.Register.{register}
 use Rattle.dfu_slots.specs.Units.{gate_size, fill_size, filled}
+use Rattle.dfu_slots.specs.declared.fault.WriteFault.{WriteFault}
 use Rattle.dfu_slots.specs.Medium.{MediumState, Write, AllWrites, BrokenWrites, written}
 use Rattle.dfu_slots.specs.inside.Series.{Series}
 use Rattle.dfu_slots.specs.Layout.{slot_size, slot, OPEN}
@@ -115,13 +116,13 @@ module _ (s mid : MediumState) (image : List ℕ) (can : CanFormat s image) (at 
   are = pieces_are s mid image at at_is unit
 
   -- A piece fails.
-  pub pieces_broken : (now : MediumState) → ((n : ℕ) → length units ≤ n → BrokenWrites mid (piece_writes n at units) now)
-      → BrokenWrites s (format_series s image) now
-  pieces_broken now broken =
-      broken_first (close_writes (gate_of s) s.bytes ++ image_writes s.unit (gate_of s) image)
+  pub pieces_broken : (fault : WriteFault) (now : MediumState) → ((n : ℕ) → length units ≤ n → BrokenWrites fault mid (piece_writes n at units) now)
+      → BrokenWrites fault s (format_series s image) now
+  pieces_broken fault now broken =
+      broken_first fault (close_writes (gate_of s) s.bytes ++ image_writes s.unit (gate_of s) image)
       (open_writes (gate_of s) 0 0 (length image) (register image)) s now
-      (broken_later (close_writes (gate_of s) s.bytes) (image_writes s.unit (gate_of s) image) s mid now closed
-      (subst (λ (ws : List Write). BrokenWrites mid ws now) are (broken (length units) (omega arith))))
+      (broken_later fault (close_writes (gate_of s) s.bytes) (image_writes s.unit (gate_of s) image) s mid now closed
+      (subst (λ (ws : List Write). BrokenWrites fault mid ws now) are (broken (length units) (omega arith))))
 
   -- All pieces are written.
   module _ (filling : MediumState) (all : (n : ℕ) → length units ≤ n → AllWrites mid (piece_writes n at units) filling) where
@@ -171,7 +172,7 @@ module _ (s mid : MediumState) (image : List ℕ) (can : CanFormat s image) (at 
         ∙ front_of (slot g mid.bytes 0).data_bytes image (replicate (fill_size mid.unit (length image)) 0)
 
     -- And the writes that open the first slot are the last ones of the `format`.
-    pub pieces_opened : {T E : Type 0} (now : MediumState) (r : Result T E)
+    pub pieces_opened : {T : Type 0} (now : MediumState) (r : Result T WriteFault)
         → Series filling
         (open_writes (gate_of filling) 0 0 (length image) (register (take (length image) (slot_of filling 0).data_bytes))) r now
         → Series s (format_series s image) r now

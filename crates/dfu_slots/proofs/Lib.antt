@@ -31,3 +31,5 @@ mod Torn
 mod Unique
 mod Multiples
 mod Within
+mod ReadBack
+mod Written

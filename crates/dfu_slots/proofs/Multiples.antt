@@ -32,6 +32,13 @@ multiple_piece U16 = omega arith
 multiple_piece U64 = omega arith
 multiple_piece U256 = omega arith
 
+-- So is the largest unit.
+pub multiple_unit : (u : WriteUnit) → IsMultiple u 256
+multiple_unit Byte = omega arith
+multiple_unit U16 = omega arith
+multiple_unit U64 = omega arith
+multiple_unit U256 = omega arith
+
 -- The sum of two multiples is one.
 pub multiple_add : (u : WriteUnit) (a b : ℕ) → IsMultiple u a → IsMultiple u b → IsMultiple u (a + b)
 multiple_add Byte a b x y = omega (arith, x, y)

@@ -4,6 +4,7 @@ use Rattle.std.proofs.lemmas.List.{length-take, take_min, take_all, drop_all, ta
 use Rattle.std.proofs.lemmas.Bool.{cases_lt, true≢false, cond-false, ne_eqb}
 use Rattle.dfu_slots.specs.declared.unit.Unit.{Unit as WriteUnit}
 use Rattle.dfu_slots.specs.Units.{IsMultiple, fill_size, filled}
+use Rattle.dfu_slots.specs.declared.fault.WriteFault.{WriteFault}
 use Rattle.dfu_slots.specs.Medium.{MediumState, Write, Wrote, FailedWrite, AllWrites, BrokenWrites}
 use Rattle.dfu_slots.specs.inside.Series.{Series}
 use Rattle.dfu_slots.specs.Writes.{write_some, piece_writes}
@@ -39,11 +40,11 @@ pieces_step (suc m) at (b ∷ bs) size is some le =
     tail (inr long) = let e : 4096 ≡ size = omega arith in ap (λ (k : ℕ). piece_writes m (at + k) (drop k (b ∷ bs))) e
 
 -- The first piece, where its write fails.
-pieces_first : (s now : MediumState) (n at size : ℕ) (bytes : List ℕ) → size ≡ min 4096 (length bytes) → 0 < length bytes → length bytes ≤ n
-    → FailedWrite s at (take size bytes) now → BrokenWrites s (piece_writes n at bytes) now
-pieces_first s now n at size bytes is some le failed =
+pieces_first : (fault : WriteFault) (s now : MediumState) (n at size : ℕ) (bytes : List ℕ) → size ≡ min 4096 (length bytes) → 0 < length bytes → length bytes ≤ n
+    → FailedWrite fault s at (take size bytes) now → BrokenWrites fault s (piece_writes n at bytes) now
+pieces_first fault s now n at size bytes is some le failed =
     let step = pieces_step n at bytes size is some le in
-    subst (λ (ws : List Write). BrokenWrites s ws now) (sym step.2) (inl failed)
+    subst (λ (ws : List Write). BrokenWrites fault s ws now) (sym step.2) (inl failed)
 
 -- The pieces up to a place are written, and the rest of the bytes is not.
 pub record WrittenTo (old mid : MediumState) (n at : ℕ) (bytes : List ℕ) (place : ℕ) (rest : List ℕ) : Type 0 where
@@ -79,11 +80,11 @@ module _ (old mid now : MediumState) (n at : ℕ) (bytes : List ℕ) (place : �
       }
 
   -- The next piece fails.
-  written_stopped : FailedWrite mid place (take size rest) now → BrokenWrites old (piece_writes n at bytes) now
-  written_stopped failed =
-      subst (λ (ws : List Write). BrokenWrites old ws now) (sym w.pieces)
-      (broken_later w.front (piece_writes w.left place rest) old mid now w.all
-      (pieces_first mid now w.left place size rest is some w.enough failed))
+  written_stopped : (fault : WriteFault) → FailedWrite fault mid place (take size rest) now → BrokenWrites fault old (piece_writes n at bytes) now
+  written_stopped fault failed =
+      subst (λ (ws : List Write). BrokenWrites fault old ws now) (sym w.pieces)
+      (broken_later fault w.front (piece_writes w.left place rest) old mid now w.all
+      (pieces_first fault mid now w.left place size rest is some w.enough failed))
 
 -- What is left is no more than one piece.
 pieces_one : (n at : ℕ) (bytes : List ℕ) → length bytes ≤ 4096 → length bytes ≤ n → piece_writes n at bytes ≡ write_some at bytes
@@ -96,7 +97,7 @@ pieces_one (suc n) at (b ∷ bs) short le =
     ∙ sym (cond-false (length (b ∷ bs) == 0) [] (record { at = at; bytes = b ∷ bs } ∷ [])
     (ne_eqb (length (b ∷ bs)) 0 (λ e. omega (arith, e))))
 
-written_last : {T E : Type 0} (old mid now : MediumState) (n at : ℕ) (bytes : List ℕ) (place : ℕ) (rest : List ℕ) (r : Result T E)
+written_last : {T : Type 0} (old mid now : MediumState) (n at : ℕ) (bytes : List ℕ) (place : ℕ) (rest : List ℕ) (r : Result T WriteFault)
     → length rest ≤ 4096 → WrittenTo old mid n at bytes place rest
     → Series mid (write_some place rest) r now → Series old (piece_writes n at bytes) r now
 written_last old mid now n at bytes place rest r short w last =
@@ -186,16 +187,16 @@ module _ (old mid now : MediumState) (at : ℕ) (bytes : List ℕ) (place : ℕ)
       }
 
   -- The next piece fails.
-  pub way_broken : (n : ℕ) → length (filled old.unit bytes) ≤ n → FailedWrite mid place (take 4096 rest) now
-      → BrokenWrites old (piece_writes n at (filled old.unit bytes)) now
-  way_broken n le failed =
+  pub way_broken : (fault : WriteFault) (n : ℕ) → length (filled old.unit bytes) ≤ n → FailedWrite fault mid place (take 4096 rest) now
+      → BrokenWrites fault old (piece_writes n at (filled old.unit bytes)) now
+  way_broken fault n le failed =
       written_stopped old mid now n at (filled old.unit bytes) place units 4096 piece_is (omega (arith, long_units)) (way.told n le)
-      (subst (λ (l : List ℕ). FailedWrite mid place l now) front failed)
+      fault (subst (λ (l : List ℕ). FailedWrite fault mid place l now) front failed)
 
 -- The last piece.
-pub way_ends : {T E : Type 0} (old mid now : MediumState) (at : ℕ) (bytes : List ℕ) (place : ℕ) (rest : List ℕ)
+pub way_ends : {T : Type 0} (old mid now : MediumState) (at : ℕ) (bytes : List ℕ) (place : ℕ) (rest : List ℕ)
     → OnTheWay old mid at bytes place rest → length rest ≤ 4096
-    → (r : Result T E) → Series mid (write_some place (filled mid.unit rest)) r now → (n : ℕ) → length (filled old.unit bytes) ≤ n
+    → (r : Result T WriteFault) → Series mid (write_some place (filled mid.unit rest)) r now → (n : ℕ) → length (filled old.unit bytes) ≤ n
     → Series old (piece_writes n at (filled old.unit bytes)) r now
 way_ends old mid now at bytes place rest way short r last n le =
     written_last old mid now n at (filled old.unit bytes) place (filled old.unit rest) r (filled_short old.unit rest short) (way.told n le)

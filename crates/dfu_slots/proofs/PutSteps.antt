@@ -6,6 +6,7 @@ use Rattle.std.proofs.lemmas.Result.{on_ok_weaker}
 use Rattle.dfu_slots.specs.declared.unit.Unit.{Unit as WriteUnit}
 use Rattle.dfu_slots.specs.Units.{unit_size, IsMultiple, whole_part}
 use Rattle.dfu_slots.specs.Writes.{write_some, head_size, put_writes, put_rest}
+use Rattle.dfu_slots.specs.declared.fault.WriteFault.{WriteFault}
 use Rattle.dfu_slots.specs.Medium.{MediumState, Write, AllWrites, BrokenWrites}
 use Rattle.dfu_slots.specs.inside.Series.{Series}
 use Rattle.dfu_slots.proofs.Torn.{drop_past}
@@ -112,15 +113,15 @@ module _ (m : MediumState) (v : WriteUnit) (unit : v ≡ m.unit) (at : ℕ) (hel
   first_is x y h one two three = one ∙ two ∙ ap (λ (l : List ℕ). held ++ l) (three ∙ ap (λ (j : ℕ). take (size - j) bytes) k_is)
 
   -- The write of the unit that was begun fails.
-  pub full_broken : (now : MediumState) (x y h : List ℕ) → x ≡ y → y ≡ held ++ h → h ≡ take (size - k) bytes
-      → BrokenWrites m (write_some at x) now → BrokenWrites m (put_writes m.unit at held bytes) now
-  full_broken now x y h one two three broken =
-      subst (λ (ws : List Write). BrokenWrites m ws now) (writes_of_full m.unit at held bytes count count_of size of_unit some short full)
-      (broken_first (write_some at (held ++ take (size - length held) bytes)) _ m now
-      (subst (λ (l : List ℕ). BrokenWrites m (write_some at l) now) (first_is x y h one two three) broken))
+  pub full_broken : (fault : WriteFault) (now : MediumState) (x y h : List ℕ) → x ≡ y → y ≡ held ++ h → h ≡ take (size - k) bytes
+      → BrokenWrites fault m (write_some at x) now → BrokenWrites fault m (put_writes m.unit at held bytes) now
+  full_broken fault now x y h one two three broken =
+      subst (λ (ws : List Write). BrokenWrites fault m ws now) (writes_of_full m.unit at held bytes count count_of size of_unit some short full)
+      (broken_first fault (write_some at (held ++ take (size - length held) bytes)) _ m now
+      (subst (λ (l : List ℕ). BrokenWrites fault m (write_some at l) now) (first_is x y h one two three) broken))
 
   -- It works, and the further whole units follow it.
-  pub full_series : {T E : Type 0} (mid now : MediumState) (r : Result T E) (x y h rest : List ℕ) → x ≡ y → y ≡ held ++ h
+  pub full_series : {T : Type 0} (mid now : MediumState) (r : Result T WriteFault) (x y h rest : List ℕ) → x ≡ y → y ≡ held ++ h
       → h ≡ take (size - k) bytes → rest ≡ drop (size - k) bytes
       → AllWrites m (write_some at x) mid → Series mid (write_some (at + size) (take (count - size) rest)) r now
       → Series m (put_writes m.unit at held bytes) r now
@@ -132,7 +133,7 @@ module _ (m : MediumState) (v : WriteUnit) (unit : v ≡ m.unit) (at : ℕ) (hel
       (back ∙ ap (λ (j : ℕ). drop (size - j) bytes) k_is) series))
 
   -- The rest of the bytes is held then.
-  pub full_held : {T E : Type 0} (r : Result T E) (before now rest : List ℕ) → before ≡ [] → rest ≡ drop (size - k) bytes
+  pub full_held : {T : Type 0} (r : Result T WriteFault) (before now rest : List ℕ) → before ≡ [] → rest ≡ drop (size - k) bytes
       → OnOk r (now ≡ before ++ drop (count - size) rest) → OnOk r (now ≡ put_rest m.unit held bytes)
   full_held r before now rest none back is =
       let later = back ∙ ap (λ (j : ℕ). drop (size - j) bytes) k_is in

@@ -1,14 +1,16 @@
 -- Lists of writes: what they leave outside a range, the count of failures, and their parts.
-use Rattle.std.proofs.Common.{◌≡◌, ◌⊎◌, inl, inr, ⊎_elim, ◌==◌, Bool, true, false, if◌then◌else◌, ℕ, ◌+◌, ◌≤◌, List, [], ◌∷◌, ◌++◌, length, Result, Ok, Err, OnOk, OnErr, IsErr, IsErrOf, refl, sym, ◌∙◌, ap, subst, arith}
+use Rattle.std.proofs.Common.{◌≡◌, ◌⊎◌, inl, inr, ⊎_elim, ◌==◌, Bool, true, false, if◌then◌else◌, ℕ, ◌+◌, ◌≤◌, List, [], ◌∷◌, ◌++◌, length, Result, Ok, Err, OnOk, IfErr, refl, sym, ◌∙◌, ap, subst, arith}
 use Rattle.std.proofs.lemmas.List.{nil_from_length}
 use Rattle.std.proofs.lemmas.Bool.{eqb-true}
+use Rattle.dfu_slots.specs.declared.fault.WriteFault.{WriteFault}
 use Rattle.dfu_slots.specs.Medium.{MediumState, Write, KeepsOutside, Torn, Rose, Wrote, FailedWrite, AllWrites, BrokenWrites, written}
 use Rattle.dfu_slots.specs.inside.Series.{Series}
 use Rattle.dfu_slots.specs.Writes.{write_some}
 use Rattle.dfu_slots.specs.Seen.{SlotsState, Call, writes_of}
-use Rattle.dfu_slots.specs.Changes.{Changes}
+use Rattle.dfu_slots.specs.Changes.{IsBroken, Changes}
 use Rattle.dfu_slots.specs.declared.fault.PutFault.{PutFault}
-use Rattle.dfu_slots.specs.declared.fault.PutFault.TheVariants.{TooLarge, Failed, NotBegun}
+use Rattle.dfu_slots.specs.declared.fault.PutFault.TheVariants.{TooLarge, Failed, NotVerified, NotBegun}
+use Rattle.dfu_slots.specs.declared.fault.WriteFault.TheVariants.{Failed as WriteFailed, NotVerified as WriteNotVerified}
 use Rattle.dfu_slots.proofs.Torn.{written_torn, keeps_wider, keeps_same, keeps_both}
 use Rattle.dfu_slots.proofs.Within.{written_nil}
 
@@ -17,9 +19,9 @@ abbrev pub AllInside : ℕ → ℕ → List Write → Type 0
 AllInside from to [] = Unit {0}
 AllInside from to (w ∷ ws) = (from ≤ w.at) × (w.at + length w.bytes ≤ to) × AllInside from to ws
 
--- All these writes came, or those up to one that failed.
+-- All these writes came, or those up to one that had a fault.
 abbrev pub Ends : MediumState → List Write → MediumState → Type 0
-Ends s ws now = AllWrites s ws now ⊎ BrokenWrites s ws now
+Ends s ws now = AllWrites s ws now ⊎ ((fault : WriteFault) × BrokenWrites fault s ws now)
 
 module _ (from to : ℕ) where
   wrote_keeps : (s now : MediumState) (w : Write) → to ≤ length s.bytes → from ≤ w.at → w.at + length w.bytes ≤ to
@@ -38,20 +40,20 @@ module _ (from to : ℕ) where
       keeps_both from to s.bytes next.bytes now.bytes first (all_keep ws next now (omega (arith, first.size)) inside more)
 
   -- So do those up to one that failed, and that one.
-  pub broken_keep : (ws : List Write) (s now : MediumState) → to ≤ length s.bytes → AllInside from to ws → BrokenWrites s ws now
+  pub broken_keep : (fault : WriteFault) (ws : List Write) (s now : MediumState) → to ≤ length s.bytes → AllInside from to ws → BrokenWrites fault s ws now
       → KeepsOutside from to s.bytes now.bytes
-  broken_keep [] s now room inside none = absurd none
-  broken_keep (w ∷ ws) s now room (low, high, inside) (inl failed) =
+  broken_keep fault [] s now room inside none = absurd none
+  broken_keep fault (w ∷ ws) s now room (low, high, inside) (inl failed) =
       keeps_wider w.at (w.at + length w.bytes) from to s.bytes now.bytes failed.bytes low high
-  broken_keep (w ∷ ws) s now room (low, high, inside) (inr (next, wrote, more)) =
+  broken_keep fault (w ∷ ws) s now room (low, high, inside) (inr (next, wrote, more)) =
       let first = wrote_keeps s next w room low high wrote in
-      keeps_both from to s.bytes next.bytes now.bytes first (broken_keep ws next now (omega (arith, first.size)) inside more)
+      keeps_both from to s.bytes next.bytes now.bytes first (broken_keep fault ws next now (omega (arith, first.size)) inside more)
 
   -- So do writes that came to their end, or to one that failed.
   pub ends_keep : (ws : List Write) (s now : MediumState) → to ≤ length s.bytes → AllInside from to ws → Ends s ws now
       → KeepsOutside from to s.bytes now.bytes
   ends_keep ws s now room inside (inl all) = all_keep ws s now room inside all
-  ends_keep ws s now room inside (inr broken) = broken_keep ws s now room inside broken
+  ends_keep ws s now room inside (inr (fault, broken)) = broken_keep fault ws s now room inside broken
 
 -- The unit.
 
@@ -60,15 +62,15 @@ pub all_unit : (ws : List Write) (s now : MediumState) → AllWrites s ws now �
 all_unit [] s now same = ap (λ (m : MediumState). m.unit) same
 all_unit (w ∷ ws) s now (next, wrote, more) = all_unit ws next now more ∙ wrote.unit
 
-broken_unit : (ws : List Write) (s now : MediumState) → BrokenWrites s ws now → now.unit ≡ s.unit
-broken_unit [] s now none = absurd none
-broken_unit (w ∷ ws) s now (inl failed) = failed.unit
-broken_unit (w ∷ ws) s now (inr (next, wrote, more)) = broken_unit ws next now more ∙ wrote.unit
+broken_unit : (fault : WriteFault) (ws : List Write) (s now : MediumState) → BrokenWrites fault s ws now → now.unit ≡ s.unit
+broken_unit fault [] s now none = absurd none
+broken_unit fault (w ∷ ws) s now (inl failed) = failed.unit
+broken_unit fault (w ∷ ws) s now (inr (next, wrote, more)) = broken_unit fault ws next now more ∙ wrote.unit
 
 -- So do writes that came to their end, or to one that failed.
 pub ends_unit : (ws : List Write) (s now : MediumState) → Ends s ws now → now.unit ≡ s.unit
 ends_unit ws s now (inl all) = all_unit ws s now all
-ends_unit ws s now (inr broken) = broken_unit ws s now broken
+ends_unit ws s now (inr (fault, broken)) = broken_unit fault ws s now broken
 
 -- The count of failures.
 
@@ -78,14 +80,14 @@ all_count [] s now same = omega (arith, ap (λ (m : MediumState). m.failures) sa
 all_count (w ∷ ws) s now (next, wrote, more) = omega (arith, wrote.failures, all_count ws next now more)
 
 -- Writes up to one that failed raise the count.
-pub broken_rose : (ws : List Write) (s now : MediumState) → BrokenWrites s ws now → Rose s.failures now.failures
-broken_rose [] s now none = absurd none
-broken_rose (w ∷ ws) s now (inl failed) = failed.failures
-broken_rose (w ∷ ws) s now (inr (next, wrote, more)) = omega (arith, wrote.failures, broken_rose ws next now more)
+pub broken_rose : (fault : WriteFault) (ws : List Write) (s now : MediumState) → BrokenWrites fault s ws now → Rose s.failures now.failures
+broken_rose fault [] s now none = absurd none
+broken_rose fault (w ∷ ws) s now (inl failed) = failed.failures
+broken_rose fault (w ∷ ws) s now (inr (next, wrote, more)) = omega (arith, wrote.failures, broken_rose fault ws next now more)
 
 -- So they do not lower it.
-pub broken_count : (ws : List Write) (s now : MediumState) → BrokenWrites s ws now → s.failures ≤ now.failures
-broken_count ws s now broken = omega (arith, broken_rose ws s now broken)
+pub broken_count : (fault : WriteFault) (ws : List Write) (s now : MediumState) → BrokenWrites fault s ws now → s.failures ≤ now.failures
+broken_count fault ws s now broken = omega (arith, broken_rose fault ws s now broken)
 
 -- A change of the store.
 
@@ -93,17 +95,19 @@ broken_count ws s now broken = omega (arith, broken_rose ws s now broken)
 pub changes_ends : {T : Type 0} (s now : SlotsState) (call : Call) (result : Result T PutFault) → Changes s call result now
     → Ends s.medium (writes_of s call) now.medium ⊎ (now ≡ s)
 changes_ends s now call (Ok x) worked = inl (inl worked.writes)
-changes_ends s now call (Err Failed) failed = inl (inr failed.writes)
+changes_ends s now call (Err Failed) failed = inl (inr (WriteFailed, failed.writes))
+changes_ends s now call (Err NotVerified) failed = inl (inr (WriteNotVerified, failed.writes))
 changes_ends s now call (Err TooLarge) same = inr same
 changes_ends s now call (Err NotBegun) same = inr same
 
 -- It fails only where the medium did.
 pub changes_rose : {T : Type 0} (s now : SlotsState) (call : Call) (result : Result T PutFault) → Changes s call result now
-    → IsErrOf result Failed → Rose s.medium.failures now.medium.failures
-changes_rose s now call (Ok x) changes is = absurd (cc)
-changes_rose s now call (Err Failed) failed is = broken_rose (writes_of s call) s.medium now.medium failed.writes
-changes_rose s now call (Err TooLarge) changes is = absurd (cc)
-changes_rose s now call (Err NotBegun) changes is = absurd (cc)
+    → IsBroken result → Rose s.medium.failures now.medium.failures
+changes_rose s now call (Ok x) changes is = absurd is
+changes_rose s now call (Err Failed) failed is = broken_rose WriteFailed (writes_of s call) s.medium now.medium failed.writes
+changes_rose s now call (Err NotVerified) failed is = broken_rose WriteNotVerified (writes_of s call) s.medium now.medium failed.writes
+changes_rose s now call (Err TooLarge) changes is = absurd is
+changes_rose s now call (Err NotBegun) changes is = absurd is
 
 -- A fact that holds whatever was answered holds at Ok.
 pub on_ok_of : {T E P : Type 0} (result : Result T E) → P → OnOk result P
@@ -115,9 +119,10 @@ pub wrote_there : (s now : MediumState) (p q : ℕ) (x y : List ℕ) → p ≡ q
 wrote_there s now p q x y place bytes wrote = subst (λ (l : List ℕ). Wrote s q l now) bytes (subst (λ (n : ℕ). Wrote s n x now) place wrote)
 
 -- The same of a write that failed.
-pub failed_there : (s now : MediumState) (p q : ℕ) (x y : List ℕ) → p ≡ q → x ≡ y → FailedWrite s p x now → FailedWrite s q y now
-failed_there s now p q x y place bytes failed = subst (λ (l : List ℕ). FailedWrite s q l now) bytes
-    (subst (λ (n : ℕ). FailedWrite s n x now) place failed)
+pub failed_there : (fault : WriteFault) (s now : MediumState) (p q : ℕ) (x y : List ℕ) → p ≡ q → x ≡ y → FailedWrite fault s p x now
+    → FailedWrite fault s q y now
+failed_there fault s now p q x y place bytes failed = subst (λ (l : List ℕ). FailedWrite fault s q l now) bytes
+    (subst (λ (n : ℕ). FailedWrite fault s n x now) place failed)
 
 -- Parts of a list.
 
@@ -127,40 +132,34 @@ all_append [] vs s mid now same all = subst (λ (m : MediumState). AllWrites m v
 all_append (w ∷ ws) vs s mid now (next, wrote, rest) all = (next, wrote, all_append ws vs next mid now rest all)
 
 -- A list that was broken off in its first part is broken off.
-pub broken_first : (ws vs : List Write) (s now : MediumState) → BrokenWrites s ws now → BrokenWrites s (ws ++ vs) now
-broken_first [] vs s now broken = absurd broken
-broken_first (w ∷ ws) vs s now (inl failed) = inl failed
-broken_first (w ∷ ws) vs s now (inr (next, wrote, broken)) = inr (next, wrote, broken_first ws vs next now broken)
+pub broken_first : (fault : WriteFault) (ws vs : List Write) (s now : MediumState) → BrokenWrites fault s ws now → BrokenWrites fault s (ws ++ vs) now
+broken_first fault [] vs s now broken = absurd broken
+broken_first fault (w ∷ ws) vs s now (inl failed) = inl failed
+broken_first fault (w ∷ ws) vs s now (inr (next, wrote, broken)) = inr (next, wrote, broken_first fault ws vs next now broken)
 
 -- So is one that was broken off in its second part.
-pub broken_later : (ws vs : List Write) (s mid now : MediumState) → AllWrites s ws mid → BrokenWrites mid vs now
-    → BrokenWrites s (ws ++ vs) now
-broken_later [] vs s mid now same broken = subst (λ (m : MediumState). BrokenWrites m vs now) same broken
-broken_later (w ∷ ws) vs s mid now (next, wrote, rest) broken = inr (next, wrote, broken_later ws vs next mid now rest broken)
+pub broken_later : (fault : WriteFault) (ws vs : List Write) (s mid now : MediumState) → AllWrites s ws mid → BrokenWrites fault mid vs now
+    → BrokenWrites fault s (ws ++ vs) now
+broken_later fault [] vs s mid now same broken = subst (λ (m : MediumState). BrokenWrites fault m vs now) same broken
+broken_later fault (w ∷ ws) vs s mid now (next, wrote, rest) broken = inr (next, wrote, broken_later fault ws vs next mid now rest broken)
 
 -- A list of writes that came, and a series after it.
-pub series_after : {T E : Type 0} (ws vs : List Write) (s mid now : MediumState) (r : Result T E) → AllWrites s ws mid → Series mid vs r now
+pub series_after : {T : Type 0} (ws vs : List Write) (s mid now : MediumState) (r : Result T WriteFault) → AllWrites s ws mid → Series mid vs r now
     → Series s (ws ++ vs) r now
 series_after ws vs s mid now (Ok x) first second = all_append ws vs s mid now first second
-series_after ws vs s mid now (Err e) first second = broken_later ws vs s mid now first second
+series_after ws vs s mid now (Err fault) first second = broken_later fault ws vs s mid now first second
 
 -- A series of one write, by what it answered.
-pub series_one : {T E : Type 0} (s now : MediumState) (at : ℕ) (bytes : List ℕ) (r : Result T E) → OnOk r (Wrote s at bytes now)
-    → OnErr r (FailedWrite s at bytes now) → Series s (record { at = at; bytes = bytes } ∷ []) r now
+pub series_one : {T : Type 0} (s now : MediumState) (at : ℕ) (bytes : List ℕ) (r : Result T WriteFault) → OnOk r (Wrote s at bytes now)
+    → IfErr r (λ fault. FailedWrite fault s at bytes now) → Series s (record { at = at; bytes = bytes } ∷ []) r now
 series_one s now at bytes (Ok x) wrote failed = (now, wrote, refl)
-series_one s now at bytes (Err e) wrote failed = inl failed
+series_one s now at bytes (Err fault) wrote failed = inl failed
 
 -- A write that came, and a series after it.
-pub series_next : {T E : Type 0} (s mid now : MediumState) (at : ℕ) (bytes : List ℕ) (ws : List Write) (r : Result T E)
+pub series_next : {T : Type 0} (s mid now : MediumState) (at : ℕ) (bytes : List ℕ) (ws : List Write) (r : Result T WriteFault)
     → Wrote s at bytes mid → Series mid ws r now → Series s (record { at = at; bytes = bytes } ∷ ws) r now
 series_next s mid now at bytes ws r wrote rest = series_after (record { at = at; bytes = bytes } ∷ []) ws s mid now r
     (mid, wrote, refl) rest
-
--- A series that an error broke off.
-pub series_broken : {T E : Type 0} (ws : List Write) (s now : MediumState) (r : Result T E) → IsErr r → BrokenWrites s ws now
-    → Series s ws r now
-series_broken ws s now (Ok x) is broken = absurd (cc)
-series_broken ws s now (Err e) is broken = broken
 
 -- The medium after the first part of a list, all of which came.
 pub record Halfway (ws vs : List Write) (s : MediumState) (mid : MediumState) (rest : Type 0) : Type 0 where
@@ -176,11 +175,11 @@ all_parts (w ∷ ws) vs s now (next, wrote, rest) =
     (parts.0, record { first = (next, wrote, parts.1.first); second = parts.1.second })
 
 -- A list that was broken off was so in its first part or in its second.
-pub broken_parts : (ws vs : List Write) (s now : MediumState) → BrokenWrites s (ws ++ vs) now → BrokenWrites s ws now
-    ⊎ ((mid : MediumState) × Halfway ws vs s mid (BrokenWrites mid vs now))
-broken_parts [] vs s now broken = inr (s, record { first = refl; second = broken })
-broken_parts (w ∷ ws) vs s now (inl failed) = inl (inl failed)
-broken_parts (w ∷ ws) vs s now (inr (next, wrote, rest)) = elim (broken_parts ws vs next now rest) [
+pub broken_parts : (fault : WriteFault) (ws vs : List Write) (s now : MediumState) → BrokenWrites fault s (ws ++ vs) now → BrokenWrites fault s ws now
+    ⊎ ((mid : MediumState) × Halfway ws vs s mid (BrokenWrites fault mid vs now))
+broken_parts fault [] vs s now broken = inr (s, record { first = refl; second = broken })
+broken_parts fault (w ∷ ws) vs s now (inl failed) = inl (inl failed)
+broken_parts fault (w ∷ ws) vs s now (inr (next, wrote, rest)) = elim (broken_parts fault ws vs next now rest) [
   | inl early ↦ inl (inr (next, wrote, early))
   | inr late ↦ inr (late.0, record { first = (next, wrote, late.1.first); second = late.1.second })
 ]
@@ -190,7 +189,7 @@ pub ends_if : (s now : MediumState) (b : Bool) (ws : List Write) → Ends s (if 
     ⊎ ((b ≡ false) × (now ≡ s))
 ends_if s now true ws ends = inl (refl, ends)
 ends_if s now false ws (inl same) = inr (refl, same)
-ends_if s now false ws (inr none) = absurd none
+ends_if s now false ws (inr (fault, none)) = absurd none
 
 -- Writes that a test asks for came, or none did.
 pub all_if : (s now : MediumState) (b : Bool) (ws : List Write) → AllWrites s (if b then ws else []) now → ((b ≡ true) × AllWrites s ws now)

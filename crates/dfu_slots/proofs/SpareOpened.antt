@@ -1,6 +1,7 @@
 -- Opening the spare: what is held is written, then the header, then the gate.
 use Rattle.std.proofs.Common.{◌≡◌, ℕ, ◌+◌, ◌-◌, ◌*◌, ◌≤◌, List, length, take, replicate, Result, sym, ◌∙◌, ap, subst, arith}
 use Rattle.dfu_suffix.specs.Register.{register}
+use Rattle.dfu_slots.specs.declared.fault.WriteFault.{WriteFault}
 use Rattle.dfu_slots.specs.Units.{gate_size, fill_size, filled}
 use Rattle.dfu_slots.specs.Medium.{MediumState, Write, AllWrites, written}
 use Rattle.dfu_slots.specs.Layout.{slot_size, slot, generation, next_generation}
@@ -80,7 +81,7 @@ module _ (m : MediumState) (held : List ℕ) (end : ℕ) (sized : IsSized m) (pu
         ∙ ap (λ (l : List ℕ). take len l) (sym (spare_is_written s))
 
     -- And the writes that open the slot are the last ones of a `commit`.
-    pub spare_opened : {T E : Type 0} (now : MediumState) (r : Result T E) (first gen len : ℕ) → first ≡ active_at (gate_of m) m.bytes
+    pub spare_opened : {T : Type 0} (now : MediumState) (r : Result T WriteFault) (first gen len : ℕ) → first ≡ active_at (gate_of m) m.bytes
         → gen ≡ generation (slot_of m first)
         → len ≤ end
         → Series mid (open_writes (gate_of mid) place (next_generation gen) len (register (take len (slot_of mid place).data_bytes))) r now

@@ -1,20 +1,41 @@
 -- What the calls answer and leave.
-use Rattle.std.specs.Prelude.{◌≡◌, ◌≤◌, ◌<◌, ℕ, true, false, List, length, Result, Ok, Err}
+use Rattle.std.specs.Prelude.{◌≡◌, ◌≤◌, ◌<◌, ℕ, List, length, Result, Ok, Err}
 use Rattle.dfu_slots.specs.Medium.{MediumState}
 use Rattle.dfu_slots.specs.Layout.{slot_size, ArePlaces, HasHeader}
 use Rattle.dfu_slots.specs.Image.{slot_of, capacity_of, IsSized, Counts, IsNewest}
-use Rattle.dfu_slots.specs.Seen.{SlotsState, Call, Calls}
+use Rattle.dfu_slots.specs.Seen.{SlotsState, Call, Ending, AllWorked, BrokenBy, Calls}
 use Rattle.dfu_slots.specs.declared.fault.FormatFault.{FormatFault}
 use Rattle.dfu_slots.specs.declared.fault.FormatFault.TheVariants.{WrongSize as NotSized, TooLarge as ImageTooLarge, Failed as FormatFailed}
 use Rattle.dfu_slots.specs.declared.fault.OpenFault.{OpenFault}
 use Rattle.dfu_slots.specs.declared.fault.OpenFault.TheVariants.{WrongSize, NoImage, TwoImages, BadHeader}
 use Rattle.dfu_slots.specs.declared.fault.PutFault.{PutFault}
-use Rattle.dfu_slots.specs.declared.fault.PutFault.TheVariants.{TooLarge, Failed, NotBegun}
+use Rattle.dfu_slots.specs.declared.fault.PutFault.TheVariants.{TooLarge, Failed, NotVerified, NotBegun}
+use Rattle.dfu_slots.specs.declared.fault.WriteFault.{WriteFault}
+use Rattle.dfu_slots.specs.declared.fault.WriteFault.TheVariants.{Failed as WriteFailed, NotVerified as WriteNotVerified}
 
--- Ok: the call made all its writes. Failed: those up to one that failed. Another fault: the store is as it was.
+-- A call was broken off by a write that failed, or that was not there when it was read back.
+abbrev pub IsBroken : {T : Type 0} → Result T PutFault → Type 0
+IsBroken (Ok _) = ⊥
+IsBroken (Err Failed) = Unit {0}
+IsBroken (Err NotVerified) = Unit {0}
+IsBroken (Err TooLarge) = ⊥
+IsBroken (Err NotBegun) = ⊥
+
+-- The fault of the write that broke a call off.
+abbrev pub fault_of : PutFault → WriteFault
+fault_of NotVerified = WriteNotVerified
+fault_of fault = WriteFailed
+
+-- How the writes of a call ended that was not refused.
+abbrev pub ending_of : {T : Type 0} → Result T PutFault → Ending
+ending_of (Ok _) = AllWorked
+ending_of (Err fault) = BrokenBy (fault_of fault)
+
+-- Ok: the call made all its writes. Failed and NotVerified: those up to one that had this fault. Another fault: the store is as it was.
 abbrev pub Changes : {T : Type 0} → SlotsState → Call → Result T PutFault → SlotsState → Type 0
-Changes old call (Ok _) now = Calls old call true now
-Changes old call (Err Failed) now = Calls old call false now
+Changes old call (Ok _) now = Calls old call AllWorked now
+Changes old call (Err Failed) now = Calls old call (BrokenBy WriteFailed) now
+Changes old call (Err NotVerified) now = Calls old call (BrokenBy WriteNotVerified) now
 Changes old call (Err TooLarge) now = now ≡ old
 Changes old call (Err NotBegun) now = now ≡ old
 

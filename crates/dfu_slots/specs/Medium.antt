@@ -1,6 +1,8 @@
 -- What a medium is seen as, and what a write may do to it.
-use Rattle.std.specs.Prelude.{◌≡◌, ◌⊎◌, ℕ, ◌+◌, ◌-◌, ◌^◌, ◌≤◌, min, max, Bool, true, false, List, [], ◌∷◌, ◌++◌, length, take, drop}
+use Rattle.std.specs.Prelude.{◌≡◌, ◌≢◌, ◌⊎◌, ℕ, ◌+◌, ◌-◌, ◌^◌, ◌≤◌, min, max, Bool, true, false, List, [], ◌∷◌, ◌++◌, length, take, drop}
 use Rattle.dfu_slots.specs.declared.unit.Unit.{Unit as WriteUnit}
+use Rattle.dfu_slots.specs.declared.fault.WriteFault.{WriteFault}
+use Rattle.dfu_slots.specs.declared.fault.WriteFault.TheVariants.{Failed, NotVerified}
 
 -- What the next writes of a medium will do.
 pub data Fuse : Type 0 where
@@ -11,6 +13,8 @@ pub data Fuse : Type 0 where
   -- So many writes work, and then one fails and leaves the front of this tear;
   -- with `stop` every later one fails too, else none.
   Armed : (writes : ℕ) (tear : List ℕ) (stop : Bool) → Fuse
+  -- So many writes work, and then one lies: it answers Ok and leaves the front of this tear. The later ones work.
+  Lying : (writes : ℕ) (tear : List ℕ) → Fuse
   -- Every write fails and leaves nothing.
   Stopped : Fuse
 
@@ -39,51 +43,62 @@ Torn old at new left = KeepsOutside at (at + length new) old left
 abbrev pub Rose : ℕ → ℕ → Type 0
 Rose before now = max before (min (before + 1) (2 ^ 64 - 1)) ≤ now
 
--- A write may work with this fuse, and leaves that one.
-abbrev pub MayWork : Fuse → Fuse → Type 0
-MayWork Unknown next = next ≡ Unknown
-MayWork Whole next = next ≡ Whole
-MayWork (Armed writes tear stop) next = (more : ℕ) × (writes ≡ more + 1) × (next ≡ Armed more tear stop)
-MayWork Stopped next = ⊥
-
 -- The front of a tear stands at the front of the write's range.
 abbrev pub torn_by : List ℕ → ℕ → List ℕ → List ℕ → List ℕ
 torn_by old at new tear = written old at (take (length new) tear)
 
--- A write may fail with this fuse, leaving these bytes and that fuse.
-abbrev pub MayFail : Fuse → List ℕ → ℕ → List ℕ → List ℕ → Fuse → Type 0
-MayFail Unknown old at new left next = next ≡ Unknown
-MayFail Whole old at new left next = ⊥
-MayFail (Armed writes tear true) old at new left next = (writes ≡ 0) × (left ≡ torn_by old at new tear) × (next ≡ Stopped)
-MayFail (Armed writes tear false) old at new left next = (writes ≡ 0) × (left ≡ torn_by old at new tear) × (next ≡ Whole)
-MayFail Stopped old at new left next = (left ≡ old) × (next ≡ Stopped)
+-- A write of these bytes there may work with this fuse, and leaves that one; a lie whose tear happens to be what was written works too.
+abbrev pub MayWork : Fuse → List ℕ → ℕ → List ℕ → Fuse → Type 0
+MayWork Unknown old at new next = next ≡ Unknown
+MayWork Whole old at new next = next ≡ Whole
+MayWork (Armed writes tear stop) old at new next = (more : ℕ) × (writes ≡ more + 1) × (next ≡ Armed more tear stop)
+MayWork (Lying writes tear) old at new next = ((more : ℕ) × (writes ≡ more + 1) × (next ≡ Lying more tear))
+    ⊎ ((writes ≡ 0) × (torn_by old at new tear ≡ written old at new) × (next ≡ Whole))
+MayWork Stopped old at new next = ⊥
 
--- A write answered Ok: exactly its bytes stand there.
+-- A write may fail with this fuse, or answer Ok and leave other bytes than its own; it leaves these bytes and that fuse.
+abbrev pub MayFail : Fuse → WriteFault → List ℕ → ℕ → List ℕ → List ℕ → Fuse → Type 0
+MayFail Unknown fault old at new left next = next ≡ Unknown
+MayFail Whole fault old at new left next = ⊥
+MayFail (Armed writes tear true) Failed old at new left next = (writes ≡ 0) × (left ≡ torn_by old at new tear) × (next ≡ Stopped)
+MayFail (Armed writes tear false) Failed old at new left next = (writes ≡ 0) × (left ≡ torn_by old at new tear) × (next ≡ Whole)
+MayFail (Armed writes tear stop) NotVerified old at new left next = ⊥
+MayFail (Lying writes tear) Failed old at new left next = ⊥
+MayFail (Lying writes tear) NotVerified old at new left next =
+    (writes ≡ 0) × (left ≡ torn_by old at new tear) × (left ≢ written old at new) × (next ≡ Whole)
+MayFail Stopped Failed old at new left next = (left ≡ old) × (next ≡ Stopped)
+MayFail Stopped NotVerified old at new left next = ⊥
+
+-- A write worked: it answered Ok, and exactly its bytes stand there.
 pub record Wrote (old : MediumState) (at : ℕ) (new : List ℕ) (now : MediumState) : Type 0 where
   pub bytes : now.bytes ≡ written old.bytes at new
   pub failures : old.failures ≤ now.failures
-  pub fuse : MayWork old.fuse now.fuse
+  pub fuse : MayWork old.fuse old.bytes at new now.fuse
   pub unit : now.unit ≡ old.unit
 
--- A write answered Failed: it was torn, and the count rose.
-pub record FailedWrite (old : MediumState) (at : ℕ) (new : List ℕ) (now : MediumState) : Type 0 where
+-- A write answered Failed, or it lied: it was torn, and the count rose.
+pub record FailedWrite (fault : WriteFault) (old : MediumState) (at : ℕ) (new : List ℕ) (now : MediumState) : Type 0 where
   pub bytes : Torn old.bytes at new now.bytes
   pub failures : Rose old.failures now.failures
-  pub fuse : MayFail old.fuse old.bytes at new now.bytes now.fuse
+  pub fuse : MayFail old.fuse fault old.bytes at new now.bytes now.fuse
   pub unit : now.unit ≡ old.unit
+
+-- A write that answered Ok worked, or it lied.
+abbrev pub WroteOrLied : MediumState → ℕ → List ℕ → MediumState → Type 0
+WroteOrLied old at new now = Wrote old at new now ⊎ FailedWrite NotVerified old at new now
 
 -- A write: its place and its bytes.
 pub record Write : Type 0 where
   pub at : ℕ
   pub bytes : List ℕ
 
--- All these writes answered Ok, one after the other.
+-- All these writes worked, one after the other.
 abbrev pub AllWrites : MediumState → List Write → MediumState → Type 0
 AllWrites old [] now = now ≡ old
 AllWrites old (w ∷ ws) now = (next : MediumState) × Wrote old w.at w.bytes next × AllWrites next ws now
 
--- These writes answered Ok up to one that answered Failed, and none came after it.
-abbrev pub BrokenWrites : MediumState → List Write → MediumState → Type 0
-BrokenWrites old [] now = ⊥
-BrokenWrites old (w ∷ ws) now = FailedWrite old w.at w.bytes now
-    ⊎ ((next : MediumState) × Wrote old w.at w.bytes next × BrokenWrites next ws now)
+-- These writes worked up to one that failed in this way, and none came after it.
+abbrev pub BrokenWrites : WriteFault → MediumState → List Write → MediumState → Type 0
+BrokenWrites fault old [] now = ⊥
+BrokenWrites fault old (w ∷ ws) now = FailedWrite fault old w.at w.bytes now
+    ⊎ ((next : MediumState) × Wrote old w.at w.bytes next × BrokenWrites fault next ws now)

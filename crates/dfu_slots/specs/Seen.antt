@@ -1,6 +1,7 @@
 -- What the layers above see of a slot store.
-use Rattle.std.specs.Prelude.{refl, ◌≡◌, ◌⊎◌, ℕ, ◌+◌, ◌-◌, ◌*◌, ◌^◌, ◌≤◌, Bool, true, false, not, ◌==◌, ◌&&◌, nat_le, List, [], ◌∷◌, ◌++◌, length, take}
+use Rattle.std.specs.Prelude.{refl, ◌≡◌, ◌⊎◌, ℕ, ◌+◌, ◌-◌, ◌*◌, ◌^◌, ◌≤◌, Bool, not, ◌==◌, ◌&&◌, nat_le, List, [], ◌∷◌, ◌++◌, length, take}
 use Rattle.dfu_suffix.specs.Register.{register}
+use Rattle.dfu_slots.specs.declared.fault.WriteFault.{WriteFault}
 use Rattle.dfu_slots.specs.Medium.{MediumState, Fuse, Write, Rose, AllWrites, BrokenWrites, written}
 use Rattle.dfu_slots.specs.Layout.{Slot, slot, OPEN, capacity, header_length}
 use Rattle.dfu_slots.specs.Image.{gate_of, active_at, spare_at, spare}
@@ -93,35 +94,41 @@ next_end (Commit len) = 0
 abbrev pub format_series : MediumState → List ℕ → List Write
 format_series m image = format_writes m.unit (gate_of m) m.bytes image
 
--- A call that is Ok made all its writes, and holds back what is left of the puts.
+-- A call whose writes all worked holds back what is left of the puts.
 pub record CallWorked (old : SlotsState) (call : Call) (now : SlotsState) : Type 0 where
   pub writes : AllWrites old.medium (writes_of old call) now.medium
   pub held_is : now.held ≡ next_held old call
   pub end_is : now.put_end ≡ next_end call
 
--- A call that failed made its writes up to one that failed, and holds nothing back.
-pub record CallFailed (old : SlotsState) (call : Call) (now : SlotsState) : Type 0 where
-  pub writes : BrokenWrites old.medium (writes_of old call) now.medium
+-- A call that was broken off made its writes up to one that had this fault, and holds nothing back.
+pub record CallFailed (fault : WriteFault) (old : SlotsState) (call : Call) (now : SlotsState) : Type 0 where
+  pub writes : BrokenWrites fault old.medium (writes_of old call) now.medium
   pub held_is : now.held ≡ []
   pub end_is : now.put_end ≡ 0
 
--- A call was Ok or failed.
-abbrev pub Calls : SlotsState → Call → Bool → SlotsState → Type 0
-Calls old call true now = CallWorked old call now
-Calls old call false now = CallFailed old call now
+-- How a call ended: all its writes worked, or one had this fault and none came after it.
+pub data Ending : Type 0 where
+  AllWorked : Ending
+  BrokenBy : WriteFault → Ending
 
--- A call answered Ok or Failed, and the count of failures rose where it failed.
-pub record DidCall (s : SlotsState) (call : Call) (ok : Bool) (now : SlotsState) : Type 0 where
-  pub calls : Calls s call ok now
+-- A call ended like this.
+abbrev pub Calls : SlotsState → Call → Ending → SlotsState → Type 0
+Calls old call AllWorked now = CallWorked old call now
+Calls old call (BrokenBy fault) now = CallFailed fault old call now
+
+-- A call ended like this, and the count of failures rose where it was broken off.
+pub record DidCall (s : SlotsState) (call : Call) (ending : Ending) (now : SlotsState) : Type 0 where
+  pub calls : Calls s call ending now
   pub count : s.medium.failures ≤ now.medium.failures
-  pub rose : ok ≡ false → Rose s.medium.failures now.medium.failures
+  pub rose : (fault : WriteFault) → ending ≡ BrokenBy fault → Rose s.medium.failures now.medium.failures
 
--- These calls came one after the other: all of them Ok, or those up to one that failed.
-abbrev pub Called : SlotsState → List Call → Bool → SlotsState → Type 0
-Called old [] true now = now ≡ old
-Called old [] false now = ⊥
-Called old (call ∷ calls) true now = (mid : SlotsState) × Calls old call true mid × Called mid calls true now
-Called old (call ∷ calls) false now = Calls old call false now ⊎ ((mid : SlotsState) × Calls old call true mid × Called mid calls false now)
+-- These calls came one after the other: all of them, or those up to one that was broken off.
+abbrev pub Called : SlotsState → List Call → Ending → SlotsState → Type 0
+Called old [] AllWorked now = now ≡ old
+Called old [] (BrokenBy fault) now = ⊥
+Called old (call ∷ calls) AllWorked now = (mid : SlotsState) × Calls old call AllWorked mid × Called mid calls AllWorked now
+Called old (call ∷ calls) (BrokenBy fault) now = Calls old call (BrokenBy fault) now
+    ⊎ ((mid : SlotsState) × Calls old call AllWorked mid × Called mid calls (BrokenBy fault) now)
 
 -- The image does not change with the fuse.
 pub image_fused : (s : SlotsState) (fuse : Fuse) → image_of (fused s fuse) ≡ image_of s

@@ -1,9 +1,9 @@
 //! The calls that change a medium: `begin`, `put` and `commit`.
-ghost use Rattle.std.specs.Prelude.{◌≡◌, ◌+◌, ◌≤◌, ◌<◌, ◌⊎◌, ◌↔◌, length, take, OnOk, OnErr, IsErrOf, false, true, is_ok};
+ghost use Rattle.std.specs.Prelude.{◌≡◌, ◌+◌, ◌≤◌, ◌<◌, ◌⊎◌, ◌↔◌, length, take, OnOk, OnErr, IsErrOf, false, true};
 ghost use Rattle.dfu_slots.specs.Medium.{Rose, written};
 ghost use Rattle.dfu_slots.specs.Image.{Active, HasImage};
 ghost use Rattle.dfu_slots.specs.Seen.{store_on, spare_slot, image_of, spare_of, is_begun, room_of, is_shaped, Begin, Put, Commit, DidCall};
-ghost use Rattle.dfu_slots.specs.Changes.{Changes};
+ghost use Rattle.dfu_slots.specs.Changes.{IsBroken, ending_of, Changes};
 
 use crate::places::look;
 use crate::{Medium, PutFault, Slots, steps};
@@ -16,12 +16,12 @@ impl<M: Medium> Slots<M> {
     ///
     /// # Errors
     ///
-    /// `Failed` where the write failed.
+    /// `Failed` where the write failed; `NotVerified` where it answered Ok and other bytes were read back.
     pub fn begin(&mut self) -> Result<(), PutFault>
-        ensures call { DidCall self.old (Begin) (is_ok result) self.new }
+        ensures call { DidCall self.old (Begin) (ending_of result) self.new }
         ensures writes { Changes self.old (Begin) result self.new }
-        ensures fault { OnErr result (IsErrOf result PutFault.Failed) }
-        ensures rose { IsErrOf result PutFault.Failed → Rose self.old.medium.failures self.new.medium.failures }
+        ensures fault { OnErr result (IsBroken result) }
+        ensures rose { IsBroken result → Rose self.old.medium.failures self.new.medium.failures }
 
         ensures image { image_of self.new ≡ image_of self.old }
         ensures active { Active self.new.medium (image_of self.new) }
@@ -49,18 +49,18 @@ impl<M: Medium> Slots<M> {
     /// # Errors
     ///
     /// `NotBegun` where the spare's gate reads open; `TooLarge` where the bytes end past the capacity;
-    /// `Failed` where a write failed. They are looked for in this order. The first two change nothing;
-    /// after the last one what was put is forgotten, and `put_end` is 0.
+    /// `Failed` where a write failed, and `NotVerified` where one answered Ok and other bytes were read back. They are
+    /// looked for in this order. The first two change nothing; after the others what was put is forgotten, and `put_end` is 0.
     pub fn put(&mut self, at: u32, bytes: &[u8]) -> Result<(), PutFault>
         requires place { at ≡ self.old.put_end }
         requires short { length bytes.now ≤ 4096 }
         ensures call { is_begun self.old ≡ true → at + length bytes.now ≤ room_of self.old →
-            DidCall self.old (Put at bytes.now) (is_ok result) self.new }
+            DidCall self.old (Put at bytes.now) (ending_of result) self.new }
         ensures writes { Changes self.old (Put at bytes.now) result self.new }
         ensures not_begun { IsErrOf result PutFault.NotBegun ↔ (is_begun self.old ≡ false) }
         ensures too_large { IsErrOf result PutFault.TooLarge ↔
             ((is_begun self.old ≡ true) × (room_of self.old < at + length bytes.now)) }
-        ensures rose { IsErrOf result PutFault.Failed → Rose self.old.medium.failures self.new.medium.failures }
+        ensures rose { IsBroken result → Rose self.old.medium.failures self.new.medium.failures }
 
         ensures image { image_of self.new ≡ image_of self.old }
         ensures active { Active self.new.medium (image_of self.new) }
@@ -69,7 +69,7 @@ impl<M: Medium> Slots<M> {
         ensures room { room_of self.new ≡ room_of self.old }
 
         ensures end { OnOk result (self.new.put_end ≡ at + length bytes.now) }
-        ensures failed { IsErrOf result PutFault.Failed → self.new ≡ store_on self.new.medium }
+        ensures failed { IsBroken result → self.new ≡ store_on self.new.medium }
         ensures shut { OnOk result (is_begun self.new ≡ is_begun self.old) }
         ensures gate { OnOk result ((spare_slot self.new).gate ≡ (spare_slot self.old).gate) }
         ensures spare { OnOk result (spare_of self.new ≡ written (spare_of self.old) at bytes.now) }
@@ -80,22 +80,23 @@ impl<M: Medium> Slots<M> {
     /// Makes the first `len` bytes of what was put the active image; `len` is at most `put_end`. The slot that
     /// was active becomes the spare. Bytes held back are written first, with zeros up to the end of their unit.
     ///
-    /// After `Failed` the active image is the old one or the whole new one; `active_len` and `read_active` tell which.
+    /// After `Failed` and `NotVerified` the active image is the old one or the whole new one; `active_len` and
+    /// `read_active` tell which.
     ///
     /// # Errors
     ///
-    /// `NotBegun` where the spare's gate reads open, with nothing changed; `Failed` where a write failed.
-    /// `TooLarge` does not come: what was put lies within the capacity. But for `NotBegun`, what was put is
-    /// forgotten, and `put_end` is 0.
+    /// `NotBegun` where the spare's gate reads open, with nothing changed; `Failed` where a write failed, and `NotVerified`
+    /// where one answered Ok and other bytes were read back. `TooLarge` does not come: what was put lies within the
+    /// capacity. But for `NotBegun`, what was put is forgotten, and `put_end` is 0.
     pub fn commit(&mut self, len: u32) -> Result<(), PutFault>
         requires { len ≤ self.old.put_end }
         ensures call { is_begun self.old ≡ true → len ≤ room_of self.old →
-            DidCall self.old (Commit len) (is_ok result) self.new }
+            DidCall self.old (Commit len) (ending_of result) self.new }
         ensures writes { Changes self.old (Commit len) result self.new }
         ensures not_begun { IsErrOf result PutFault.NotBegun ↔ (is_begun self.old ≡ false) }
         ensures too_large { IsErrOf result PutFault.TooLarge ↔
             ((is_begun self.old ≡ true) × (room_of self.old < len)) }
-        ensures rose { IsErrOf result PutFault.Failed → Rose self.old.medium.failures self.new.medium.failures }
+        ensures rose { IsBroken result → Rose self.old.medium.failures self.new.medium.failures }
 
         ensures image { OnOk result (image_of self.new ≡ take len (spare_of self.old)) }
         ensures kept { OnErr result (
@@ -106,7 +107,7 @@ impl<M: Medium> Slots<M> {
         ensures room { room_of self.new ≡ room_of self.old }
 
         ensures done { OnOk result (self.new ≡ store_on self.new.medium) }
-        ensures failed { IsErrOf result PutFault.Failed → self.new ≡ store_on self.new.medium }
+        ensures failed { IsBroken result → self.new ≡ store_on self.new.medium }
     {
         let done = steps::commit(&mut self.medium, &mut self.puts, self.places, len);
         self.places = look(&self.medium);

@@ -11,7 +11,7 @@ pub enum FormatFault {
     /// The image has more bytes than the data of a slot. Nothing was written.
     #[error("the image is longer than a slot's data")]
     TooLarge,
-    /// A write to the medium failed. The medium may have an active image or none.
+    /// A write to the medium failed, or other bytes were read back. The medium may have an active image or none.
     #[error("a write to the medium failed")]
     Failed,
 }
@@ -38,6 +38,15 @@ pub enum OpenFault {
     BadHeader,
 }
 
+/// How a write of the store went wrong.
+#[derive(Clone, Copy, Debug, PartialEq, Eq, Drop)]
+pub enum WriteFault {
+    /// The medium answered that it failed.
+    Failed,
+    /// The medium answered that it worked, and other bytes stand there.
+    NotVerified,
+}
+
 /// Why `begin`, `put` or `commit` did not do what was asked.
 #[derive(Clone, Copy, Debug, PartialEq, Eq, Drop, Error)]
 pub enum PutFault {
@@ -49,6 +58,10 @@ pub enum PutFault {
     /// it is that one or the whole new one. What was put is forgotten, and `put_end` is 0.
     #[error("a write to the medium failed")]
     Failed,
+    /// A write to the medium answered that it worked, and other bytes were read back. The medium's count of failures rose.
+    /// All else is as after `Failed`.
+    #[error("a write to the medium is not there")]
+    NotVerified,
     /// The spare's gate reads open, so it may hold the image before this one: `begin` comes first.
     /// Nothing was written. It is looked for before `TooLarge`, and `begin` never answers it.
     #[error("the spare slot was not begun")]

@@ -10,13 +10,13 @@ ghost use Rattle.dfu_slots.specs.Changes.{CanFormat};
 use crate::layout::CLOSED_GATE;
 use crate::read::data_at;
 use crate::writes::{open_slot, write, write_filled, write_gate};
-use crate::{Failed, Medium};
+use crate::{Medium, WriteFault};
 
 // How many bytes of the image are written at a time: whole units, whatever the unit is.
 const PIECE: usize = 4096;
 
 // Writes the bytes from there on, in pieces.
-fn write_pieces<M: Medium>(medium: &mut M, at: u32, bytes: &[u8]) -> Result<(), Failed>
+fn write_pieces<M: Medium>(medium: &mut M, at: u32, bytes: &[u8]) -> Result<(), WriteFault>
     requires within { at + length (filled (M.state medium.old).unit bytes.now) ≤ length (M.state medium.old).bytes }
     requires room { at + length bytes.now < 2 ^ 32 }
     requires place { IsMultiple (M.state medium.old).unit at }
@@ -27,36 +27,40 @@ fn write_pieces<M: Medium>(medium: &mut M, at: u32, bytes: &[u8]) -> Result<(), 
     let mut rest = bytes;
     while rest.len() > PIECE {
         let (piece, left) = rest.split_at(PIECE);
-        write(medium, place, piece)?;
-        place += PIECE as u32;
-        rest = left;
+        match write(medium, place, piece) {
+            Err(fault) => return Err(fault),
+            Ok(()) => {
+                place += PIECE as u32;
+                rest = left;
+            }
+        }
     }
     write_filled(medium, place, rest)
 }
 
 // Closes both gates, the second slot's first.
-fn close_gates<M: Medium>(medium: &mut M) -> Result<(), Failed>
+fn close_gates<M: Medium>(medium: &mut M) -> Result<(), WriteFault>
     requires { IsSized (M.state medium.old) }
     ensures { let was = M.state medium.old in
         Series was (close_writes (gate_of was) was.bytes) result (M.state medium.new) }
 {
     let second = medium.len() / 2;
     match write_gate(medium, second, CLOSED_GATE) {
-        Err(failed) => Err(failed),
+        Err(fault) => Err(fault),
         Ok(()) => write_gate(medium, 0, CLOSED_GATE),
     }
 }
 
 /// Makes this the active image of the medium.
-pub fn write_image<M: Medium>(medium: &mut M, image: &[u8]) -> Result<(), Failed>
+pub fn write_image<M: Medium>(medium: &mut M, image: &[u8]) -> Result<(), WriteFault>
     requires { CanFormat (M.state medium.old) image.now }
     ensures { Series (M.state medium.old) (format_series (M.state medium.old) image.now) result (M.state medium.new) }
 {
     let data = data_at(medium, 0);
     match close_gates(medium) {
-        Err(failed) => Err(failed),
+        Err(fault) => Err(fault),
         Ok(()) => match write_pieces(medium, data, image) {
-            Err(failed) => Err(failed),
+            Err(fault) => Err(fault),
             Ok(()) => open_slot(medium, 0, 0, image.len() as u32),
         },
     }

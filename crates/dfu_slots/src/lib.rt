@@ -19,7 +19,7 @@ mod steps;
 mod unit;
 mod writes;
 
-pub use fault::{FormatFault, OpenFault, PutFault};
+pub use fault::{FormatFault, OpenFault, PutFault, WriteFault};
 pub use medium::{Failed, Faulty, Medium};
 pub use sim::{NoMemory, SimMedium};
 pub use slots::Slots;

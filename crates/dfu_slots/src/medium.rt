@@ -1,10 +1,11 @@
 //! A medium of bytes whose writes may fail.
 ghost use Rattle.std.specs.Prelude.{◌≡◌, ◌+◌, ◌≤◌, length, take, slice_range, OnOk, OnErr};
 ghost use Rattle.dfu_slots.specs.Units.{IsMultiple};
-ghost use Rattle.dfu_slots.specs.Medium.{MediumState, Fuse, Wrote, FailedWrite};
-ghost use Rattle.dfu_slots.specs.Medium.Fuse.{Armed, Whole};
+ghost use Rattle.dfu_slots.specs.Medium.{MediumState, Fuse, FailedWrite, WroteOrLied};
+ghost use Rattle.dfu_slots.specs.Medium.Fuse.{Armed, Lying, Whole};
 
 use crate::Unit;
+use crate::fault::WriteFault;
 use thiserror::Error;
 
 /// A write failed: its range may hold any bytes now, and all other bytes are as they were.
@@ -37,28 +38,35 @@ pub trait Medium: Drop {
     /// Writes over the bytes from `at` on, whatever stood there. The range must lie within the length, and `at`
     /// and the number of bytes must be multiples of the unit's size.
     ///
-    /// After Ok exactly `bytes` stand there. After `Failed` any bytes may stand there, and the count
-    /// of failures rose (at its last value, 2^64 - 1, it stays; a medium may say that it stands there always).
-    /// All other bytes are as they were, also when the power goes within the write.
+    /// After Ok exactly `bytes` stand there; or the part lied: any bytes may stand there, and the count of failures rose.
+    /// After `Failed` any bytes may stand there, and the count rose (at its last value, 2^64 - 1, it stays; a medium
+    /// may say that it stands there always). All other bytes are as they were, also when the power goes within the write.
     fn write(&mut self, at: u32, bytes: &[u8]) -> Result<(), Failed>
         requires within { at + length bytes.now ≤ length (state self.old).bytes }
         requires place { IsMultiple (state self.old).unit at }
         requires whole { IsMultiple (state self.old).unit (length bytes.now) }
-        ensures ok { OnOk result (Wrote (state self.old) at bytes.now (state self.new)) }
-        ensures failed { OnErr result (FailedWrite (state self.old) at bytes.now (state self.new)) };
+        ensures ok { OnOk result (WroteOrLied (state self.old) at bytes.now (state self.new)) }
+        ensures failed { OnErr result (FailedWrite WriteFault.Failed (state self.old) at bytes.now (state self.new)) };
 }
 
-/// A medium that can be told which write is to fail, and what that write leaves.
+/// A medium that can be told which write is to fail or to lie, and what that write leaves.
 pub trait Faulty: Medium {
     /// The next `writes` writes work; the one after them fails and leaves the first bytes of `tear`
     /// at the front of its range, and the old bytes in the rest of it. Of `tear` at most 4,096 bytes are kept.
     ///
     /// With `stop` all later writes fail too and leave nothing, until `disarm`; without it they work.
-    /// It replaces an earlier `arm`, and changes no byte.
+    /// It replaces an earlier `arm` or `arm_lie`, and changes no byte.
     fn arm(&mut self, writes: u32, tear: &[u8], stop: bool)
         ensures { Self.state self.new ≡ record (Self.state self.old) { fuse = Armed writes (take 4096 tear.now) stop } };
 
-    /// From now on no write fails. It changes no byte.
+    /// The next `writes` writes work; the one after them lies: it answers Ok, and leaves the first bytes of `tear` at the
+    /// front of its range, and the old bytes in the rest of it. Of `tear` at most 4,096 bytes are kept. Later writes work.
+    ///
+    /// It replaces an earlier `arm` or `arm_lie`, and changes no byte.
+    fn arm_lie(&mut self, writes: u32, tear: &[u8])
+        ensures { Self.state self.new ≡ record (Self.state self.old) { fuse = Lying writes (take 4096 tear.now) } };
+
+    /// From now on no write fails or lies. It changes no byte.
     fn disarm(&mut self)
         ensures { Self.state self.new ≡ record (Self.state self.old) { fuse = Whole } };
 }

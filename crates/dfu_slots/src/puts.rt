@@ -5,7 +5,7 @@ ghost use Rattle.dfu_slots.specs.inside.Series.{Series};
 ghost use Rattle.dfu_slots.specs.Writes.{write_some, put_writes, put_rest};
 
 use crate::writes::write_some;
-use crate::{Failed, Medium};
+use crate::{Medium, WriteFault};
 use arrayvec::ArrayVec;
 
 /// The puts since `begin`, of which the whole units are written and the rest is held back.
@@ -54,7 +54,7 @@ fn put_front<M: Medium>(
     at: u32,
     bytes: &[u8],
     count: usize,
-) -> Result<(), Failed>
+) -> Result<(), WriteFault>
     requires front { count ≤ length bytes.now }
     requires back { length held.old.items + (length bytes.now - count) ≤ 256 }
     requires within { at + count ≤ length (M.state medium.old).bytes }
@@ -65,7 +65,7 @@ fn put_front<M: Medium>(
 {
     let (front, back) = bytes.split_at(count);
     match write_some(medium, at, front) {
-        Err(failed) => Err(failed),
+        Err(fault) => Err(fault),
         Ok(()) => {
             hold(held, back);
             Ok(())
@@ -80,7 +80,7 @@ pub(crate) fn put_units<M: Medium>(
     held: &mut ArrayVec<u8, 256>,
     at: u32,
     bytes: &[u8],
-) -> Result<(), Failed>
+) -> Result<(), WriteFault>
     requires part { length held.old.items < unit_size (M.state medium.old).unit }
     requires short { length bytes.now ≤ 4096 }
     requires within { at + (length held.old.items + length bytes.now) ≤ length (M.state medium.old).bytes }
@@ -103,7 +103,7 @@ pub(crate) fn put_units<M: Medium>(
     let (head, rest) = bytes.split_at(size - held.len());
     hold(held, head);
     match write_some(medium, at, held.as_slice()) {
-        Err(failed) => Err(failed),
+        Err(fault) => Err(fault),
         Ok(()) => {
             held.clear();
             put_front(medium, held, at + size as u32, rest, count - size)

@@ -1,5 +1,5 @@
 //! What is read of the slots of a medium.
-ghost use Rattle.std.specs.Prelude.{◌≡◌, ℕ, ◌+◌, ◌*◌, ◌≤◌, ◌<◌, length, take, drop, slice_index, slice_range, ◌==◌, IfSome, IfNone};
+ghost use Rattle.std.specs.Prelude.{◌≡◌, ℕ, ◌+◌, ◌*◌, ◌≤◌, ◌<◌, length, take, drop, slice_index, slice_range, ◌==◌, ◌↔◌, IfSome, IfNone, IsTrue};
 ghost use Rattle.std.specs.Int.{w32, from_le_bytes};
 ghost use Rattle.dfu_slots.specs.Layout.{OPEN, slot_size, generation, version, HasHeader};
 ghost use Rattle.dfu_slots.specs.Image.{
@@ -16,6 +16,9 @@ use crate::Medium;
 use crate::layout::{OLD_VERSION, OPEN_GATE, VERSION, gate_size, make_header};
 use crate::register::register_of;
 
+// How many bytes are read back at a time.
+const PIECE: usize = 256;
+
 fn byte_at<M: Medium>(medium: &M, at: u32) -> u8
     requires { at < length (M.state medium.now).bytes }
     ensures { result ≡ slice_index (M.state medium.now).bytes at }
@@ -23,6 +26,28 @@ fn byte_at<M: Medium>(medium: &M, at: u32) -> u8
     let mut byte = [0];
     medium.read(at, &mut byte);
     byte[0]
+}
+
+/// Whether exactly these bytes stand there. It reads them in pieces.
+pub(crate) fn stands_at<M: Medium>(medium: &M, at: u32, bytes: &[u8]) -> bool
+    requires within { at + length bytes.now ≤ length (M.state medium.now).bytes }
+    ensures { IsTrue result ↔ (slice_range (M.state medium.now).bytes at (at + length bytes.now) ≡ bytes.now) }
+{
+    let mut buffer = [0; PIECE];
+    let mut ahead = medium.len() - at;
+    let mut rest = bytes;
+    while !rest.is_empty() {
+        let size = PIECE.min(rest.len());
+        let read = &mut buffer[..size];
+        medium.read(medium.len() - ahead, read);
+        let (piece, next) = rest.split_at(size);
+        if &*read != piece {
+            return false;
+        }
+        ahead -= size as u32;
+        rest = next;
+    }
+    true
 }
 
 /// How many bytes the gate unit of a slot has, and as many its header unit, from 16 to 256.

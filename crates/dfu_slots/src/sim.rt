@@ -1,5 +1,5 @@
 //! A medium in memory.
-ghost use Rattle.std.specs.Prelude.{◌≡◌, ◌+◌, ◌≤◌, length, take, replicate, IfOk};
+ghost use Rattle.std.specs.Prelude.{◌≡◌, ◌+◌, ◌≤◌, length, take, replicate, if◌then◌else◌, IfOk};
 ghost use Rattle.dfu_slots.specs.Units.{IsMultiple};
 ghost use Rattle.dfu_slots.specs.Medium.{written};
 ghost use Rattle.dfu_slots.specs.Medium.Fuse.{Whole};
@@ -28,11 +28,13 @@ pub enum Mode {
     Whole,
     /// So many work as `writes` says, and then one fails.
     Armed,
+    /// So many work as `writes` says, and then one lies.
+    Lying,
     /// They all fail.
     Stopped,
 }
 
-/// A medium in memory that can be told to fail.
+/// A medium in memory that can be told to fail or to lie.
 #[derive(Drop)]
 pub struct SimMedium {
     bytes: Vec<u8>,
@@ -98,13 +100,27 @@ impl SimMedium {
     }
 }
 
+// Writes these bytes there.
+fn write_over(bytes: &mut Vec<u8>, at: usize, new: &[u8])
+    requires { at + length new.now ≤ length bytes.old.items }
+    ensures { bytes.new.items ≡ written bytes.old.items at new.now }
+{
+    bytes[at..at + new.len()].copy_from_slice(new);
+}
+
 // Writes as much of `tear` as a write of `len` bytes at `at` has room for.
 fn tear_front(bytes: &mut Vec<u8>, at: usize, tear: &[u8], len: usize)
     requires { at + len ≤ length bytes.old.items }
     ensures { bytes.new.items ≡ written bytes.old.items at (take len tear.now) }
 {
-    let kept = len.min(tear.len());
-    bytes[at..at + kept].copy_from_slice(&tear[..kept]);
+    write_over(bytes, at, &tear[..len.min(tear.len())]);
+}
+
+// What the writes after a failed one do.
+fn after_tear(stop: bool) -> Mode
+    ensures { result ≡ (if stop then Mode.Stopped else Mode.Whole) }
+{
+    if stop { Mode::Stopped } else { Mode::Whole }
 }
 
 // The front of a tear that is kept.
@@ -136,25 +152,37 @@ impl Medium for SimMedium {
     fn write(&mut self, at: u32, bytes: &[u8]) -> Result<(), Failed> {
         let from = at as usize;
         match self.mode {
-            Mode::Whole => {}
-            Mode::Armed if self.writes > 0 => self.writes -= 1,
+            Mode::Whole => {
+                write_over(&mut self.bytes, from, bytes);
+                Ok(())
+            }
+            Mode::Armed if self.writes > 0 => {
+                self.writes -= 1;
+                write_over(&mut self.bytes, from, bytes);
+                Ok(())
+            }
             Mode::Armed => {
                 tear_front(&mut self.bytes, from, self.tear.as_slice(), bytes.len());
                 self.failures = self.failures.saturating_add(1);
-                self.mode = if self.stop {
-                    Mode::Stopped
-                } else {
-                    Mode::Whole
-                };
-                return Err(Failed);
+                self.mode = after_tear(self.stop);
+                Err(Failed)
+            }
+            Mode::Lying if self.writes > 0 => {
+                self.writes -= 1;
+                write_over(&mut self.bytes, from, bytes);
+                Ok(())
+            }
+            Mode::Lying => {
+                tear_front(&mut self.bytes, from, self.tear.as_slice(), bytes.len());
+                self.failures = self.failures.saturating_add(1);
+                self.mode = Mode::Whole;
+                Ok(())
             }
             Mode::Stopped => {
                 self.failures = self.failures.saturating_add(1);
-                return Err(Failed);
+                Err(Failed)
             }
         }
-        self.bytes[from..from + bytes.len()].copy_from_slice(bytes);
-        Ok(())
     }
 }
 
@@ -164,6 +192,12 @@ impl Faulty for SimMedium {
         self.mode = Mode::Armed;
         self.writes = writes;
         self.stop = stop;
+    }
+
+    fn arm_lie(&mut self, writes: u32, tear: &[u8]) {
+        self.tear = keep_tear(tear);
+        self.mode = Mode::Lying;
+        self.writes = writes;
     }
 
     fn disarm(&mut self) {

@@ -1,7 +1,7 @@
 //! The slot store.
 ghost use Rattle.std.specs.Prelude.{◌≡◌, ◌≢◌, [], ◌+◌, ◌≤◌, ◌↔◌, length, take, slice_range, OnOk, OnErr, IfErr, IfOk, IsOk, true};
 ghost use Rattle.dfu_slots.specs.Medium.{Rose, AllWrites, BrokenWrites};
-ghost use Rattle.dfu_slots.specs.Medium.Fuse.{Whole, Armed};
+ghost use Rattle.dfu_slots.specs.Medium.Fuse.{Whole, Armed, Lying};
 ghost use Rattle.dfu_slots.specs.Image.{capacity_of, Active, HasImage};
 ghost use Rattle.dfu_slots.specs.Seen.{store_on, fused, image_of, spare_of, is_begun, room_of, is_shaped, format_series};
 ghost use Rattle.dfu_slots.specs.Changes.{CanFormat, IsFormatFault, IsOpenFault};
@@ -9,7 +9,7 @@ ghost use Rattle.dfu_slots.specs.Changes.{CanFormat, IsFormatFault, IsOpenFault}
 use crate::places::{Places, look};
 use crate::puts::Puts;
 use crate::read::{capacity_of, header_len, read_data};
-use crate::{Faulty, FormatFault, Medium, OpenFault, format, open};
+use crate::{Faulty, FormatFault, Medium, OpenFault, WriteFault, format, open};
 use std::marker::Model;
 
 /// Two image slots on a medium. One of them is active and holds the image; the other one is the
@@ -43,7 +43,8 @@ impl<M: Medium> Slots<M> {
     ///
     /// `WrongSize` where the medium's length is not 2 * (2 * G + C) with C from 1 to 16,777,216 and whole in
     /// the unit, G being 16 or the unit's size where that is more; `TooLarge` where the image has more than C bytes;
-    /// `Failed` where a write failed. They are looked for in this order. The first two hand the medium back unchanged.
+    /// `Failed` where a write failed, or other bytes were read back. They are looked for in this order. The first two hand
+    /// the medium back unchanged.
     pub fn format(medium: M, image: &[u8]) -> Result<Slots<M>, (FormatFault, M)>
         ensures writes { IfOk result (λ slots.
             AllWrites (M.state medium) (format_series (M.state medium) image.now) slots.medium) }
@@ -56,8 +57,8 @@ impl<M: Medium> Slots<M> {
 
         ensures fault { IfErr result (λ e. IsFormatFault e.0 (M.state medium) image.now) }
         ensures unchanged { IfErr result (λ e. e.0 ≢ FormatFault.Failed → e.1 ≡ medium) }
-        ensures failed { IfErr result (λ e. e.0 ≡ FormatFault.Failed →
-            BrokenWrites (M.state medium) (format_series (M.state medium) image.now) (M.state e.1)) }
+        ensures failed { IfErr result (λ e. e.0 ≡ FormatFault.Failed → (fault : WriteFault) ×
+            BrokenWrites fault (M.state medium) (format_series (M.state medium) image.now) (M.state e.1)) }
         ensures rose { IfErr result (λ e. e.0 ≡ FormatFault.Failed →
             Rose (M.state medium).failures (M.state e.1).failures) }
     {
@@ -196,6 +197,18 @@ impl<M: Faulty> Slots<M> {
         ensures shape { is_shaped self.new ≡ true }
     {
         self.medium.arm(writes, tear, stop);
+    }
+
+    /// As the medium's `arm_lie`. It changes no byte.
+    pub fn arm_lie(&mut self, writes: u32, tear: &[u8])
+        ensures medium { self.new ≡ fused self.old (Lying writes (take 4096 tear.now)) }
+        ensures image { image_of self.new ≡ image_of self.old }
+        ensures spare { spare_of self.new ≡ spare_of self.old }
+        ensures begun { is_begun self.new ≡ is_begun self.old }
+        ensures room { room_of self.new ≡ room_of self.old }
+        ensures shape { is_shaped self.new ≡ true }
+    {
+        self.medium.arm_lie(writes, tear);
     }
 
     /// As the medium's `disarm`. It changes no byte.

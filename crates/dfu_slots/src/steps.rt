@@ -6,17 +6,17 @@ ghost use Rattle.dfu_slots.specs.Image.{gate_of, IsSized, capacity_of, active_at
 ghost use Rattle.dfu_slots.specs.Writes.{begin_writes};
 ghost use Rattle.dfu_slots.specs.Seen.{store_on, store_of, spare_slot, writes_of, Begin, Put, Commit};
 ghost use Rattle.dfu_slots.specs.inside.Store.{HasPuts};
-ghost use Rattle.dfu_slots.specs.Changes.{Changes};
+ghost use Rattle.dfu_slots.specs.Changes.{IsBroken, Changes};
 
 use crate::layout::CLOSED_GATE;
 use crate::places::Places;
 use crate::puts::{Puts, put_units};
 use crate::read::{capacity_of, data_at, generation, is_open};
-use crate::writes::{open_slot, write_filled, write_gate};
-use crate::{Failed, Medium, PutFault};
+use crate::writes::{open_slot, write_gate, write_part};
+use crate::{Medium, PutFault, WriteFault};
 
 // Closes the spare's gate, where it reads open.
-fn close_spare<M: Medium>(medium: &mut M, places: Places) -> Result<(), Failed>
+fn close_spare<M: Medium>(medium: &mut M, places: Places) -> Result<(), WriteFault>
     requires sized { IsSized (M.state medium.old) }
     requires spare { places.spare ≡ spare_at (gate_of (M.state medium.old)) (M.state medium.old).bytes }
     ensures { let was = M.state medium.old in
@@ -38,12 +38,13 @@ pub(crate) fn begin<M: Medium>(
     requires spare { places.spare ≡ spare_at (gate_of (M.state medium.old)) (M.state medium.old).bytes }
     ensures changes { Changes (store_of (M.state medium.old) puts.old.held.items puts.old.end) (Begin) result
         (store_of (M.state medium.new) puts.new.held.items puts.new.end) }
-    ensures fault { OnErr result (IsErrOf result PutFault.Failed) }
+    ensures fault { OnErr result (IsBroken result) }
 {
     puts.clear();
     match close_spare(medium, places) {
         Ok(()) => Ok(()),
-        Err(_) => Err(PutFault::Failed),
+        Err(WriteFault::Failed) => Err(PutFault::Failed),
+        Err(WriteFault::NotVerified) => Err(PutFault::NotVerified),
     }
 }
 
@@ -79,9 +80,13 @@ pub(crate) fn put<M: Medium>(
             puts.end += bytes.len() as u32;
             Ok(())
         }
-        Err(_) => {
+        Err(WriteFault::Failed) => {
             puts.clear();
             Err(PutFault::Failed)
+        }
+        Err(WriteFault::NotVerified) => {
+            puts.clear();
+            Err(PutFault::NotVerified)
         }
     }
 }
@@ -92,7 +97,7 @@ fn open_spare<M: Medium>(
     places: Places,
     puts: &Puts,
     len: u32,
-) -> Result<(), Failed>
+) -> Result<(), WriteFault>
     requires sized { IsSized (M.state medium.old) }
     requires puts { HasPuts (store_of (M.state medium.old) puts.now.held.items puts.now.end) }
     requires active { places.active ≡ active_at (gate_of (M.state medium.old)) (M.state medium.old).bytes }
@@ -103,8 +108,8 @@ fn open_spare<M: Medium>(
 {
     let next = generation(medium, places.active).wrapping_add(1);
     let from = data_at(medium, places.spare) + (puts.end - puts.held.len() as u32);
-    match write_filled(medium, from, puts.held.as_slice()) {
-        Err(failed) => Err(failed),
+    match write_part(medium, from, puts.held.as_slice()) {
+        Err(fault) => Err(fault),
         Ok(()) => open_slot(medium, places.spare, next, len),
     }
 }
@@ -133,6 +138,7 @@ pub(crate) fn commit<M: Medium>(
     puts.clear();
     match installed {
         Ok(()) => Ok(()),
-        Err(_) => Err(PutFault::Failed),
+        Err(WriteFault::Failed) => Err(PutFault::Failed),
+        Err(WriteFault::NotVerified) => Err(PutFault::NotVerified),
     }
 }

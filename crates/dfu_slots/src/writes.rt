@@ -1,5 +1,5 @@
 //! The one function through which the store writes, and the writes that are made of it.
-ghost use Rattle.std.specs.Prelude.{◌≡◌, ℕ, ◌+◌, ◌-◌, ◌*◌, ◌≤◌, ◌++◌, length, take, replicate, OnOk, OnErr};
+ghost use Rattle.std.specs.Prelude.{◌≡◌, ℕ, ◌+◌, ◌-◌, ◌*◌, ◌≤◌, ◌++◌, length, take, replicate, slice_range, OnOk, IfErr, IsTrue, ◌↔◌};
 ghost use Rattle.dfu_slots.specs.Units.{IsMultiple, filled};
 ghost use Rattle.dfu_slots.specs.Medium.{Wrote, FailedWrite};
 ghost use Rattle.dfu_slots.specs.inside.Series.{Series};
@@ -9,23 +9,31 @@ ghost use Rattle.dfu_slots.specs.Image.{gate_of, capacity_of, slot_of, IsSized};
 ghost use Rattle.dfu_slots.specs.Writes.{write_some, open_writes};
 
 use crate::layout::{OPEN_GATE, VERSION, fill_size, fill_up, make_header};
-use crate::read::gate_of;
+use crate::read::{gate_of, stands_at};
 use crate::register::register_of;
-use crate::{Failed, Medium};
+use crate::{Medium, WriteFault};
 
-/// Writes these bytes there. All writes of the store go through it.
-pub(crate) fn write<M: Medium>(medium: &mut M, at: u32, bytes: &[u8]) -> Result<(), Failed>
+/// Writes these bytes there, and reads them back. All writes of the store go through it.
+pub(crate) fn write<M: Medium>(medium: &mut M, at: u32, bytes: &[u8]) -> Result<(), WriteFault>
     requires within { at + length bytes.now ≤ length (M.state medium.old).bytes }
     requires place { IsMultiple (M.state medium.old).unit at }
     requires whole { IsMultiple (M.state medium.old).unit (length bytes.now) }
     ensures ok { OnOk result (Wrote (M.state medium.old) at bytes.now (M.state medium.new)) }
-    ensures failed { OnErr result (FailedWrite (M.state medium.old) at bytes.now (M.state medium.new)) }
+    ensures failed { IfErr result (λ fault. FailedWrite fault (M.state medium.old) at bytes.now (M.state medium.new)) }
 {
-    medium.write(at, bytes)
+    match medium.write(at, bytes) {
+        Err(_) => Err(WriteFault::Failed),
+        Ok(()) => {
+            if stands_at(medium, at, bytes) {
+                return Ok(());
+            }
+            Err(WriteFault::NotVerified)
+        }
+    }
 }
 
 /// Writes these bytes there, and writes nothing for no bytes.
-pub(crate) fn write_some<M: Medium>(medium: &mut M, at: u32, bytes: &[u8]) -> Result<(), Failed>
+pub(crate) fn write_some<M: Medium>(medium: &mut M, at: u32, bytes: &[u8]) -> Result<(), WriteFault>
     requires within { at + length bytes.now ≤ length (M.state medium.old).bytes }
     requires place { IsMultiple (M.state medium.old).unit at }
     requires whole { IsMultiple (M.state medium.old).unit (length bytes.now) }
@@ -38,7 +46,11 @@ pub(crate) fn write_some<M: Medium>(medium: &mut M, at: u32, bytes: &[u8]) -> Re
 }
 
 /// Writes these bytes there, at most 4,096, with zeros up to the end of a unit, and writes nothing for no bytes.
-pub(crate) fn write_filled<M: Medium>(medium: &mut M, at: u32, bytes: &[u8]) -> Result<(), Failed>
+pub(crate) fn write_filled<M: Medium>(
+    medium: &mut M,
+    at: u32,
+    bytes: &[u8],
+) -> Result<(), WriteFault>
     requires short { length bytes.now ≤ 4096 }
     requires within { at + length (filled (M.state medium.old).unit bytes.now) ≤ length (M.state medium.old).bytes }
     requires place { IsMultiple (M.state medium.old).unit at }
@@ -51,13 +63,27 @@ pub(crate) fn write_filled<M: Medium>(medium: &mut M, at: u32, bytes: &[u8]) -> 
     write_some(medium, at, &units[..size])
 }
 
+/// Writes these bytes there, at most 256, with zeros up to the end of a unit, and writes nothing for no bytes. It
+/// does what `write_filled` does, with less of the stack: a device calls it.
+pub(crate) fn write_part<M: Medium>(medium: &mut M, at: u32, bytes: &[u8]) -> Result<(), WriteFault>
+    requires short { length bytes.now ≤ 256 }
+    requires within { at + length (filled (M.state medium.old).unit bytes.now) ≤ length (M.state medium.old).bytes }
+    requires place { IsMultiple (M.state medium.old).unit at }
+    ensures { let unit = (M.state medium.old).unit in
+        Series (M.state medium.old) (write_some at (filled unit bytes.now)) result (M.state medium.new) }
+{
+    let size = bytes.len() + fill_size(medium.unit(), bytes.len());
+    let unit = fill_up(bytes);
+    write_some(medium, at, &unit[..size])
+}
+
 /// Writes these bytes there, and zeros behind them up to `size` bytes, at most 256.
 pub(crate) fn write_unit<M: Medium>(
     medium: &mut M,
     at: u32,
     bytes: &[u8],
     size: u32,
-) -> Result<(), Failed>
+) -> Result<(), WriteFault>
     requires least { length bytes.now ≤ size }
     requires most { size ≤ 256 }
     requires within { at + size ≤ length (M.state medium.old).bytes }
@@ -65,21 +91,21 @@ pub(crate) fn write_unit<M: Medium>(
     requires whole { IsMultiple (M.state medium.old).unit size }
     ensures ok { OnOk result (
         Wrote (M.state medium.old) at (bytes.now ++ replicate (size - length bytes.now) 0) (M.state medium.new)) }
-    ensures failed { OnErr result (
-        FailedWrite (M.state medium.old) at (bytes.now ++ replicate (size - length bytes.now) 0) (M.state medium.new)) }
+    ensures failed { IfErr result (λ fault.
+        FailedWrite fault (M.state medium.old) at (bytes.now ++ replicate (size - length bytes.now) 0) (M.state medium.new)) }
 {
     let unit = fill_up(bytes);
     write(medium, at, &unit[..size as usize])
 }
 
 /// Writes the gate unit of the slot that begins there.
-pub(crate) fn write_gate<M: Medium>(medium: &mut M, at: u32, gate: u8) -> Result<(), Failed>
+pub(crate) fn write_gate<M: Medium>(medium: &mut M, at: u32, gate: u8) -> Result<(), WriteFault>
     requires within { at + gate_of (M.state medium.old) ≤ length (M.state medium.old).bytes }
     requires place { IsMultiple (M.state medium.old).unit at }
     ensures ok { let was = M.state medium.old in
         OnOk result (Wrote was at (gate_unit (gate_of was) gate) (M.state medium.new)) }
     ensures failed { let was = M.state medium.old in
-        OnErr result (FailedWrite was at (gate_unit (gate_of was) gate) (M.state medium.new)) }
+        IfErr result (λ fault. FailedWrite fault was at (gate_unit (gate_of was) gate) (M.state medium.new)) }
 {
     let size = gate_of(medium);
     write_unit(medium, at, &[gate], size)
@@ -92,7 +118,7 @@ pub(crate) fn open_slot<M: Medium>(
     at: u32,
     generation: u8,
     len: u32,
-) -> Result<(), Failed>
+) -> Result<(), WriteFault>
     requires sized { IsSized (M.state medium.old) }
     requires slot { at + slot_size (M.state medium.old).bytes ≤ length (M.state medium.old).bytes }
     requires place { IsMultiple (M.state medium.old).unit at }
@@ -104,7 +130,7 @@ pub(crate) fn open_slot<M: Medium>(
     let size = gate_of(medium);
     let header = make_header(VERSION, generation, len, register_of(medium, at, len));
     match write_unit(medium, at + size, &header, size) {
-        Err(failed) => Err(failed),
+        Err(fault) => Err(fault),
         Ok(()) => write_gate(medium, at, OPEN_GATE),
     }
 }

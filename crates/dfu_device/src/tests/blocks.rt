@@ -12,14 +12,14 @@ use dfu_wire::{Code, State};
 use std::test::Fail;
 
 /// A block of wTransferSize bytes with number 0 is taken, and written.
-const WHOLE: Row = (
+pub(crate) const WHOLE: Row = (
     Ask([0x21, 1, 0, 0, 0, 0, 8, 0], &[7; 8]),
     Answer::Ack,
     &[],
     State::DownloadSync,
 );
 
-const WRITTEN: Row = (
+pub(crate) const WRITTEN: Row = (
     Ask(GET_STATUS, &[]),
     Answer::Bytes,
     &[0, 0, 0, 0, 5, 0],
@@ -41,7 +41,7 @@ const ADDRESS: Row = (
     State::Error,
 );
 
-const CLEARED: Row = (Ask(CLR_STATUS, &[]), Answer::Ack, &[], State::DfuIdle);
+pub(crate) const CLEARED: Row = (Ask(CLR_STATUS, &[]), Answer::Ack, &[], State::DfuIdle);
 
 /// Blocks to a device with room for 10 bytes.
 #[rattlefmt::skip]

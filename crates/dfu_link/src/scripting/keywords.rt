@@ -33,6 +33,7 @@ pub(crate) enum FateKeyword {
     Slip,
     Cut,
     Fail,
+    Lie,
 }
 
 #[tactic(auto, unfolding(crate::specs::Keywords::keyword_of))]
@@ -92,6 +93,8 @@ pub(crate) fn read_fate(word: &[u8]) -> Option<FateKeyword>
         Some(FateKeyword::Cut)
     } else if word == b"fail".as_slice() {
         Some(FateKeyword::Fail)
+    } else if word == b"lie".as_slice() {
+        Some(FateKeyword::Lie)
     } else {
         None
     }

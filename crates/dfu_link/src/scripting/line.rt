@@ -35,11 +35,12 @@ pub(crate) enum ConfigLine<'l> {
     Image(HexText<'l>),
 }
 
-/// What harms a write in an action of the host: the power is cut in it, or the write fails.
+/// What harms a write in an action of the host: the power is cut in it, or the write fails or lies.
 #[derive(Clone, Copy)]
 pub(crate) enum HarmKind {
     Cut,
     Fail,
+    Lie,
 }
 
 /// The events of a line.

@@ -180,6 +180,7 @@ fn by_fate(keyword: FateKeyword, rest: &[u8]) -> Option<Line<'_>>
         FateKeyword::Slip => slip(rest),
         FateKeyword::Cut => harmed(HarmKind::Cut, rest),
         FateKeyword::Fail => harmed(HarmKind::Fail, rest),
+        FateKeyword::Lie => harmed(HarmKind::Lie, rest),
     }
 }
 

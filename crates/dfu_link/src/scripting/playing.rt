@@ -71,6 +71,7 @@ fn harmed(harm: HarmKind, writes: u32, tear: &[u8]) -> Fate<'_>
     match harm {
         HarmKind::Cut => Fate::Cut { writes, tear },
         HarmKind::Fail => Fate::Fail { writes, tear },
+        HarmKind::Lie => Fate::Lie { writes, tear },
     }
 }
 

@@ -94,13 +94,16 @@ fn cuts_after(rt: &impl Abort, alloc: Global, late: bool, before: usize) -> Resu
     Ok(())
 }
 
-/// The same with a failed write, which is reported later.
+/// The same with a write that fails or lies, which is reported later.
 fn fails_after(rt: &impl Abort, alloc: Global, before: usize) -> Result<(), Fail> {
-    for number in 0..20u32 {
+    for number in 0..40u32 {
         let mut world = world(alloc, USUAL)?;
-        let fate = Fate::Fail {
-            writes: number / 5,
-            tear: tear(number % 5),
+        let writes = number / 5 % 4;
+        let tear = tear(number % 5);
+        let fate = if number < 20 {
+            Fate::Fail { writes, tear }
+        } else {
+            Fate::Lie { writes, tear }
         };
         comes_to(rt, &mut world, false, before, fate, None);
         is_old_or_new(rt, &world);
@@ -125,7 +128,7 @@ fn cuts_at_each_action_of_a_late_download(rt: HostRuntime) -> Result<(), Fail> {
 }
 
 #[test]
-fn failures_at_each_action_of_a_download(rt: HostRuntime) -> Result<(), Fail> {
+fn failures_and_lies_at_each_action_of_a_download(rt: HostRuntime) -> Result<(), Fail> {
     for before in 0..12 {
         fails_after(&rt, rt.alloc(), before)?;
     }
@@ -182,16 +185,20 @@ fn a_cut_between_actions_is_told_to_the_host(rt: HostRuntime) -> Result<(), Fail
 
 /// The medium works again after the action, whether or not a write was harmed in it.
 #[test]
-fn a_failure_is_over_with_its_action(rt: HostRuntime) -> Result<(), Fail> {
+fn a_failure_and_a_lie_are_over_with_their_action(rt: HostRuntime) -> Result<(), Fail> {
     let mut world = world(rt.alloc(), USUAL)?;
-    let first = Fate::Fail {
+    let fails = Fate::Fail {
         writes: 0,
         tear: &[],
+    };
+    let lies = Fate::Lie {
+        writes: 0,
+        tear: &[0x5a],
     };
     play(
         &rt,
         &mut world,
-        &[offer(&W), pass(5), go(first), pass(7)],
+        &[offer(&W), pass(4), go(lies), go(fails), pass(7)],
         Some(Report::Installed),
     );
     stands(&rt, &world, State::AppIdle, Code::Ok, &[0xff; 4]);

@@ -72,7 +72,7 @@ fn tear(number: u32) -> &'static [u8] {
 fn fate(dice: &mut Dice) -> Fate<'static> {
     let writes = dice.roll(5);
     let torn = tear(dice.roll(4));
-    match dice.roll(12) {
+    match dice.roll(13) {
         0 => Fate::LostOut,
         1 => Fate::LostBack,
         2 => Fate::Twice,
@@ -80,6 +80,7 @@ fn fate(dice: &mut Dice) -> Fate<'static> {
         4 => Fate::Slip(dice.roll(40)),
         5 => Fate::Cut { writes, tear: torn },
         6 => Fate::Fail { writes, tear: torn },
+        7 => Fate::Lie { writes, tear: torn },
         _ => Fate::Pass,
     }
 }

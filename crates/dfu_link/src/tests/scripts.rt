@@ -128,6 +128,32 @@ fn scripts_go_on_after_failed_writes(rt: HostRuntime) -> Result<(), Fail> {
     Ok(())
 }
 
+/// Writes that lie: what they left is found when it is read back.
+#[rattlefmt::skip]
+#[test]
+fn scripts_find_writes_that_lie(rt: HostRuntime) -> Result<(), Fail> {
+    let old = "report refused errVERIFY\nimage 00\n";
+    let new = "report refused errVERIFY\nimage ffffffff\n";
+    let rows = [
+        ("offer W / go pass 6 / go lie 0 aa / go pass 1", old),
+        ("offer W / go pass 6 / go lie 0 ff / go pass 6", INSTALLED),
+        ("offer W / go pass 10 / go lie 0 - / go pass 1", old),
+        ("offer W / go pass 10 / go lie 1 5a / go pass 1", old),
+        ("offer W / go pass 10 / go lie 1 a501 / go pass 1", new),
+        ("offer W / go pass 10 / go lie 1 a5 / go pass 2", INSTALLED),
+        ("offer W / go pass 10 / go lie 2 5a / go pass 2", INSTALLED),
+        ("unit 16 / offer W / go pass 10 / go lie 2 a501 / go pass 1", new),
+        ("unit 16 / offer W / go pass 10 / go lie 0 aa / go pass 1", old),
+        ("offer W / go pass 6 / go lie 0 aa / go pass 1 / offer W / go pass 12", "report refused errVERIFY\nreport installed\nimage ffffffff\n"),
+        ("offer W / go pass 10 / go lie 1 a501 / show / go pass 1",
+         "state dfuERROR status errVERIFY image ffffffff\nreport refused errVERIFY\nimage ffffffff\n"),
+    ];
+    for (row, out) in rows {
+        ends(&rt, rt.alloc(), row, Ok(()), out)?;
+    }
+    Ok(())
+}
+
 /// Uploads, and sessions that are given up.
 #[rattlefmt::skip]
 #[test]

@@ -1,8 +1,9 @@
 -- What the functions that write answer and leave.
 use Rattle.std.specs.Prelude.{List, Result, Ok, Err}
+use Rattle.dfu_slots.specs.declared.fault.WriteFault.{WriteFault}
 use Rattle.dfu_slots.specs.Medium.{MediumState, Write, AllWrites, BrokenWrites}
 
--- A series of writes: at Ok all of them, at an error those up to one that failed.
-abbrev pub Series : {T E : Type 0} → MediumState → List Write → Result T E → MediumState → Type 0
+-- A series of writes: at Ok all of them, at a fault those up to the one that had it.
+abbrev pub Series : {T : Type 0} → MediumState → List Write → Result T WriteFault → MediumState → Type 0
 Series old writes (Ok _) now = AllWrites old writes now
-Series old writes (Err _) now = BrokenWrites old writes now
+Series old writes (Err fault) now = BrokenWrites fault old writes now

@@ -1,12 +1,13 @@
 -- What the medium in memory stands for.
 use Rattle.std.specs.Prelude.{ℕ, Bool, List}
 use Rattle.dfu_slots.specs.Medium.{Fuse}
-use Rattle.dfu_slots.specs.Medium.Fuse.{Whole as WholeFuse, Armed as ArmedFuse, Stopped as StoppedFuse}
+use Rattle.dfu_slots.specs.Medium.Fuse.{Whole as WholeFuse, Armed as ArmedFuse, Lying as LyingFuse, Stopped as StoppedFuse}
 use Rattle.dfu_slots.specs.declared.sim.Mode.{Mode}
-use Rattle.dfu_slots.specs.declared.sim.Mode.TheVariants.{Whole, Armed, Stopped}
+use Rattle.dfu_slots.specs.declared.sim.Mode.TheVariants.{Whole, Armed, Lying, Stopped}
 
 -- The fuse that these fields of the medium in memory stand for.
 abbrev pub fuse_of : Mode → ℕ → List ℕ → Bool → Fuse
 fuse_of Whole writes tear stop = WholeFuse
 fuse_of Armed writes tear stop = ArmedFuse writes tear stop
+fuse_of Lying writes tear stop = LyingFuse writes tear
 fuse_of Stopped writes tear stop = StoppedFuse

@@ -1,22 +1,23 @@
 //! Calls row by row: what each answers, where the puts end then, and how long the active image is.
 use super::{assert_image, formatted, formatted_in_units};
-use crate::tests::rows::Step::{Arm, Begin, Commit, Disarm, Put};
+use crate::tests::rows::Step::{Arm, Begin, Commit, Disarm, Lie, Put};
 use crate::{Faulty, PutFault, SimMedium, Slots};
 use std::process::Abort;
 use std::test::Fail;
 
 // What is done to a store; a put goes where the puts end.
 #[derive(Clone, Copy)]
-enum Step {
+pub(super) enum Step {
     Begin,
     Put(&'static [u8]),
     Commit(u32),
     Arm(u32, &'static [u8], bool),
+    Lie(u32, &'static [u8]),
     Disarm,
 }
 
 // A step, what it answers (Ok where it answers nothing), where the puts end then, and the length of the active image.
-type Row = (Step, Result<(), PutFault>, u32, u32);
+pub(super) type Row = (Step, Result<(), PutFault>, u32, u32);
 
 #[rattlefmt::skip]
 static PAST_THE_CAPACITY: [Row; 4] = [
@@ -111,6 +112,10 @@ fn carry_out(rt: &impl Abort, slots: &mut Slots<SimMedium>, step: Step) -> Resul
             slots.arm(writes, tear, stop);
             Ok(())
         }
+        Lie(writes, tear) => {
+            slots.arm_lie(writes, tear);
+            Ok(())
+        }
         Disarm => {
             slots.disarm();
             Ok(())
@@ -120,7 +125,7 @@ fn carry_out(rt: &impl Abort, slots: &mut Slots<SimMedium>, step: Step) -> Resul
 
 // Does one step after the other.
 #[rattlefmt::skip]
-fn play(rt: &impl Abort, slots: &mut Slots<SimMedium>, rows: &[Row]) {
+pub(super) fn play(rt: &impl Abort, slots: &mut Slots<SimMedium>, rows: &[Row]) {
     for (number, row) in rows.iter().enumerate() {
         let (step, wanted, end, len) = *row;
         let found = carry_out(rt, slots, step);

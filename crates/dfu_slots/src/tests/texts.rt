@@ -22,9 +22,10 @@ static OPEN_FAULTS: [(OpenFault, &'static str); 4] = [
     (OpenFault::BadHeader, "the header of the active slot is not well formed"),
 ];
 
-static PUT_FAULTS: [(PutFault, &'static str); 3] = [
+static PUT_FAULTS: [(PutFault, &'static str); 4] = [
     (PutFault::TooLarge, "the image is longer than a slot's data"),
     (PutFault::Failed, "a write to the medium failed"),
+    (PutFault::NotVerified, "a write to the medium is not there"),
     (PutFault::NotBegun, "the spare slot was not begun"),
 ];
 

@@ -23,7 +23,7 @@ pub returns-in-Err-write_pieces : goal.returns-in-Err-write_pieces
 returns-in-Err-write_pieces g c =
     pieces_broken (g.M.Medium.state c.args.medium.now)
     (g.M.Medium.state c.close_gates.new.medium) c.args.image.now c.requires c.data_at-data.result c.data_at-data.ensures c.in-Ok.ensures
-    (g.M.Medium.state c.write_pieces.new.medium) c.in-Err-write_pieces.ensures
+    c.in-Err-write_pieces.fault (g.M.Medium.state c.write_pieces.new.medium) c.in-Err-write_pieces.ensures
 
 pub returns-in-Ok-write_pieces : goal.returns-in-Ok-write_pieces
 returns-in-Ok-write_pieces g c =

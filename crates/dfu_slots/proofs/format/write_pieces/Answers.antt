@@ -1,8 +1,6 @@
 use Rattle.std.proofs.Common.{ℕ, ◌+◌, ◌<◌, ◌≤◌, List, length, sym, subst, arith}
-use Rattle.dfu_slots.specs.Units.{IsMultiple, filled}
+use Rattle.dfu_slots.specs.Units.{IsMultiple}
 use Rattle.dfu_slots.specs.Medium.{Wrote, FailedWrite}
-use Rattle.dfu_slots.specs.Writes.{piece_writes}
-use Rattle.dfu_slots.proofs.Series.{series_broken}
 use Rattle.dfu_slots.proofs.Multiples.{multiple_piece}
 use Rattle.dfu_slots.proofs.Pieces.{OnTheWay, way_begins, way_on, way_broken, way_ends}
 use Rattle.dfu_slots.proofs.format.write_pieces.Goals as goal
@@ -24,21 +22,21 @@ loop-rest-preserved g c =
     let place = c.loop-rest.place in
     let rest = c.loop-rest.rest.now in
     let long : 4096 < length rest = omega (arith, c.loop-rest-test.true) in
-    let wrote = subst (λ (l : List ℕ). Wrote mid place l now) c.split_at.ensures.front c.in_ok-write.ensures.ok in
+    let wrote = subst (λ (l : List ℕ). Wrote mid place l now) c.split_at.ensures.front c.in-Ok.ensures.ok in
     subst (λ (l : List ℕ). OnTheWay old now c.args.at c.args.bytes.now (place + 4096) l) (sym c.split_at.ensures.back)
     (way_on old mid now c.args.at c.args.bytes.now place rest c.loop-rest.invariant long wrote)
 
-pub returns-in_err-write : goal.returns-in_err-write
-returns-in_err-write g c n le =
+pub returns-in-Err : goal.returns-in-Err
+returns-in-Err g c n le =
     let old = g.M.Medium.state c.args.medium.now in
     let mid = g.M.Medium.state c.loop-rest.medium in
     let now = g.M.Medium.state c.write.new.medium in
     let place = c.loop-rest.place in
     let rest = c.loop-rest.rest.now in
     let long : 4096 < length rest = omega (arith, c.loop-rest-test.true) in
-    let failed = subst (λ (l : List ℕ). FailedWrite mid place l now) c.split_at.ensures.front c.in_err-write.ensures.failed in
-    series_broken (piece_writes n c.args.at (filled old.unit c.args.bytes.now)) old now c.from_residual.result c.from_residual.ensures.0
-    (way_broken old mid now c.args.at c.args.bytes.now place rest c.loop-rest.invariant long n le failed)
+    let fault = c.in-Err.fault in
+    let failed = subst (λ (l : List ℕ). FailedWrite fault mid place l now) c.split_at.ensures.front c.in-Err.ensures.failed in
+    (way_broken old mid now c.args.at c.args.bytes.now place rest c.loop-rest.invariant long fault n le failed)
 
 pub returns : goal.returns
 returns g c n le =

@@ -9,7 +9,7 @@ returns-in-Err-clause-writes g c =
     c.len.result c.len-2.result c.size-size.result
     c.len.ensures.value c.len-2.ensures.value c.size-size.ensures.value c.if-count-eq0.false
     (some_left (length c.args.held.now.items) (sym c.is_empty.ensures ∙ c.if-is_empty.false)) c.requires.part
-    (g.M.Medium.state c.write_some.new.medium) c.as_slice.result.now c.hold-2.new.held.items c.split_at.result.0.now
+    c.in-Err.fault (g.M.Medium.state c.write_some.new.medium) c.as_slice.result.now c.hold-2.new.held.items c.split_at.result.0.now
     c.as_slice.ensures.value c.hold-2.ensures c.split_at.ensures.front c.in-Err.ensures
 
 pub returns-in-Ok-clause-writes : goal.returns-in-Ok-clause-writes

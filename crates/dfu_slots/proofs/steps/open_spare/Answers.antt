@@ -1,8 +1,8 @@
 use Rattle.dfu_slots.proofs.SpareOpened.{held_within, held_sized, spare_within, length_within, spare_opened}
 use Rattle.dfu_slots.proofs.steps.open_spare.Goals as goal
 
-pub write_filled-requires-clause-within : goal.write_filled-requires-clause-within
-write_filled-requires-clause-within g c =
+pub write_part-requires-clause-within : goal.write_part-requires-clause-within
+write_part-requires-clause-within g c =
     held_within (g.M.Medium.state c.args.medium.now) c.args.puts.now.held.items c.args.puts.now.end c.requires.sized c.requires.puts
     c.args.places.spare c.data_at.result c.len.result c.as_slice.result.now
     c.requires.spare c.data_at.ensures c.len.ensures.value c.as_slice.ensures.value
@@ -12,27 +12,27 @@ open_slot-requires-clause-sized g c =
     held_sized (g.M.Medium.state c.args.medium.now) c.args.puts.now.held.items c.args.puts.now.end c.requires.sized c.requires.puts
     c.args.places.spare c.data_at.result c.len.result c.as_slice.result.now
     c.requires.spare c.data_at.ensures c.len.ensures.value c.as_slice.ensures.value
-    (g.M.Medium.state c.write_filled.new.medium) c.in-Ok.ensures
+    (g.M.Medium.state c.write_part.new.medium) c.in-Ok.ensures
 
 pub open_slot-requires-clause-slot : goal.open_slot-requires-clause-slot
 open_slot-requires-clause-slot g c =
     spare_within (g.M.Medium.state c.args.medium.now) c.args.puts.now.held.items c.args.puts.now.end c.requires.sized c.requires.puts
     c.args.places.spare c.data_at.result c.len.result c.as_slice.result.now
     c.requires.spare c.data_at.ensures c.len.ensures.value c.as_slice.ensures.value
-    (g.M.Medium.state c.write_filled.new.medium) c.in-Ok.ensures
+    (g.M.Medium.state c.write_part.new.medium) c.in-Ok.ensures
 
 pub open_slot-requires-clause-room : goal.open_slot-requires-clause-room
 open_slot-requires-clause-room g c =
     length_within (g.M.Medium.state c.args.medium.now) c.args.puts.now.held.items c.args.puts.now.end c.requires.sized c.requires.puts
     c.args.places.spare c.data_at.result c.len.result c.as_slice.result.now
     c.requires.spare c.data_at.ensures c.len.ensures.value c.as_slice.ensures.value
-    (g.M.Medium.state c.write_filled.new.medium) c.in-Ok.ensures c.args.len c.requires.end
+    (g.M.Medium.state c.write_part.new.medium) c.in-Ok.ensures c.args.len c.requires.end
 
 pub returns-in-Ok : goal.returns-in-Ok
 returns-in-Ok g c =
     spare_opened (g.M.Medium.state c.args.medium.now) c.args.puts.now.held.items c.args.puts.now.end c.requires.sized c.requires.puts
     c.args.places.spare c.data_at.result c.len.result c.as_slice.result.now
     c.requires.spare c.data_at.ensures c.len.ensures.value c.as_slice.ensures.value
-    (g.M.Medium.state c.write_filled.new.medium) c.in-Ok.ensures
+    (g.M.Medium.state c.write_part.new.medium) c.in-Ok.ensures
     (g.M.Medium.state c.open_slot.new.medium) c.open_slot.result c.args.places.active c.generation-next.result c.args.len
     c.requires.active c.generation-next.ensures c.requires.end c.open_slot.ensures

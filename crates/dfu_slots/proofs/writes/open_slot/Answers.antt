@@ -11,7 +11,7 @@ returns-in-Err g c =
     (g.M.Medium.state c.write_unit.new.medium) c.args.at c.gate_of-size.result c.args.generation c.args.len
     (register (take c.args.len (slot_of (g.M.Medium.state c.args.medium.now) c.args.at).data_bytes)) c.make_header-header.result
     c.gate_of-size.ensures.value (c.make_header-header.ensures
-    ∙ ap (λ (n : ℕ). header 2 c.args.generation c.args.len n) c.register_of.ensures) c.in-Err.ensures.failed
+    ∙ ap (λ (n : ℕ). header 2 c.args.generation c.args.len n) c.register_of.ensures) c.in-Err.fault c.in-Err.ensures.failed
 
 pub returns-in-Ok : goal.returns-in-Ok
 returns-in-Ok g c =

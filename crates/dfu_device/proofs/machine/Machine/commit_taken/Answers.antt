@@ -1,4 +1,5 @@
 use Rattle.std.proofs.Common.{length}
+use Rattle.dfu_slots.specs.Changes.{fault_of}
 use Rattle.dfu_device.proofs.Commits.{commit_ready, rested_sound, committed, not_committed}
 use Rattle.dfu_device.proofs.machine.Machine.commit_taken.Goals as goal
 
@@ -6,15 +7,15 @@ pub returns-in-Ok-clause-done : goal.returns-in-Ok-clause-done
 returns-in-Ok-clause-done g c =
     let d = c.args.self.now in
     let r = commit_ready d.mode (length d.block.items) c.args.written d.slots c.requires.mode d.sound in
-    λ done. committed d.config d.slots c.commit.new.self c.args.next d.block.items c.args.written r
+    committed d.config d.slots c.commit.new.self c.args.next d.block.items c.args.written r
     (c.in-Ok.ensures.call r.begun r.room) c.in-Ok.ensures.image c.in-Ok.ensures.room c.requires.next
 
 pub returns-in-Err-clause-failed : goal.returns-in-Err-clause-failed
 returns-in-Err-clause-failed g c =
     let d = c.args.self.now in
     let r = commit_ready d.mode (length d.block.items) c.args.written d.slots c.requires.mode d.sound in
-    λ off. not_committed d.config d.slots c.commit.new.self d.block.items c.args.written r
-    (c.in-Err.ensures.call r.begun r.room) c.in-Err.ensures.kept c.in-Err.ensures.room
+    rw c.commit_code.ensures (rw c.write_fault-fault.ensures (not_committed (fault_of c.in-Err.fault) d.config d.slots
+    c.commit.new.self d.block.items c.args.written r (c.in-Err.ensures.call r.begun r.room) c.in-Err.ensures.kept c.in-Err.ensures.room))
 
 pub invariant_of-self : goal.invariant_of-self
 invariant_of-self g c = record {

@@ -23,7 +23,8 @@ pub unreachable-requires-in-Failed : goal.unreachable-requires-in-Failed
 unreachable-requires-in-Failed c =
     let m = c.in-Ok.medium in
     let unarmed : m.fuse ≡ Whole = ap (λ (s : MediumState). s.fuse) c.in-Ok.ensures in
-    broken_whole m c.in-Err.spoilt (format_series m c.args.image.now) unarmed (c.in-Err.ensures.failed c.in-Failed.is)
+    let broken = c.in-Err.ensures.failed c.in-Failed.is in
+    broken_whole broken.0 m c.in-Err.spoilt (format_series m c.args.image.now) unarmed broken.1
 
 pub returns-in-Ok-format-clause-ok : goal.returns-in-Ok-format-clause-ok
 returns-in-Ok-format-clause-ok c =

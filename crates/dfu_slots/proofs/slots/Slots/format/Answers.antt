@@ -52,5 +52,5 @@ returns-in-Ok-clause-fresh g c =
 
 pub returns-in-Err-clause-rose : goal.returns-in-Err-clause-rose
 returns-in-Err-clause-rose g c is =
-    broken_rose (format_series (g.M.Medium.state c.args.medium) c.args.image.now) (g.M.Medium.state c.args.medium)
+    broken_rose c.in-Err.field-0 (format_series (g.M.Medium.state c.args.medium) c.args.image.now) (g.M.Medium.state c.args.medium)
     (g.M.Medium.state c.write_image.new.medium) c.in-Err.ensures

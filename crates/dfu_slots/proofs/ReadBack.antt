@@ -1,0 +1,114 @@
+-- Bytes that are read back piece by piece.
+use Rattle.std.proofs.Common.{◌≡◌, ◌≢◌, ◌↔◌, Bool, true, false, not, ℕ, ◌+◌, ◌-◌, ◌≤◌, List, [], ◌∷◌, ◌++◌, length, take, drop, slice_range, refl, sym, ◌∙◌, ap, subst, arith, length-append, length-drop}
+use Rattle.std.specs.Bool.{Decides}
+use Rattle.std.proofs.lemmas.List.{length-take-le, take-append-drop, drop-drop, take_at, drop_at}
+use Rattle.std.proofs.lemmas.Bool.{true≢false}
+use Rattle.std.proofs.Math.Seq.{take-add}
+
+-- What `!=` says of the bytes that were read: none differs.
+pub found_same : (read piece : List ℕ) (differ same : Bool) → differ ≡ not same → Decides same (read ≡ piece) → differ ≡ false → read ≡ piece
+found_same read piece differ true is d none = d.0 refl
+found_same read piece differ false is d none = absurd (true≢false (sym is ∙ none))
+
+-- Or one does.
+pub found_other : (read piece : List ℕ) (differ same : Bool) → differ ≡ not same → Decides same (read ≡ piece) → differ ≡ true → read ≢ piece
+found_other read piece differ true is d some = absurd (true≢false (sym some ∙ is))
+found_other read piece differ false is d some = λ e. true≢false (sym (d.1 e))
+
+-- Exactly these bytes stand from there on.
+abbrev pub Stand : List ℕ → ℕ → List ℕ → Type 0
+Stand m at bytes = slice_range m at (at + length bytes) ≡ bytes
+
+range_is : (m : List ℕ) (at n : ℕ) → slice_range m at (at + n) ≡ take n (drop at m)
+range_is m at n = let e : at + n - at ≡ n = omega arith in ap (λ (k : ℕ). take k (drop at m)) e
+
+-- Two pieces stand there one behind the other.
+range_two : (m : List ℕ) (at a b : ℕ) → slice_range m at (at + (a + b)) ≡ slice_range m at (at + a) ++ slice_range m (at + a) (at + a + b)
+range_two m at a b =
+    range_is m at (a + b) ∙ take-add a b (drop at m)
+    ∙ ap (λ (l : List ℕ). take a (drop at m) ++ take b l) (drop-drop a at m)
+    ∙ sym (ap (λ (l : List ℕ). l ++ slice_range m (at + a) (at + a + b)) (range_is m at a)
+    ∙ ap (λ (l : List ℕ). take a (drop at m) ++ l) (range_is m (at + a) b))
+
+module _ (m : List ℕ) (at : ℕ) (xs ys : List ℕ) (room : at + length xs + length ys ≤ length m) where
+  size : length (slice_range m at (at + length xs)) ≡ length xs
+  size = ap length (range_is m at (length xs)) ∙ length-take-le (length xs) (drop at m) (omega (arith, room, length-drop at m))
+
+  whole_is : slice_range m at (at + length (xs ++ ys)) ≡ slice_range m at (at + length xs) ++ slice_range m (at + length xs) (at + length xs + length ys)
+  whole_is = ap (λ (n : ℕ). slice_range m at (at + n)) (length-append xs ys) ∙ range_two m at (length xs) (length ys)
+
+  -- The bytes stand there where both parts do.
+  both_stand : Stand m at xs → Stand m (at + length xs) ys → Stand m at (xs ++ ys)
+  both_stand a b = whole_is ∙ (λ i. a i ++ b i)
+
+  front_stands : Stand m at (xs ++ ys) → Stand m at xs
+  front_stands s =
+      sym (take_at (slice_range m at (at + length xs)) (slice_range m (at + length xs) (at + length xs + length ys)) (length xs) size)
+      ∙ ap (λ (l : List ℕ). take (length xs) l) (sym whole_is ∙ s) ∙ take_at xs ys (length xs) refl
+
+  back_stands : Stand m at (xs ++ ys) → Stand m (at + length xs) ys
+  back_stands s =
+      sym (drop_at (slice_range m at (at + length xs)) (slice_range m (at + length xs) (at + length xs + length ys)) (length xs) size)
+      ∙ ap (λ (l : List ℕ). drop (length xs) l) (sym whole_is ∙ s) ∙ drop_at xs ys (length xs) refl
+
+-- So many bytes of the medium lie ahead, and all bytes stand where they should exactly where the rest of them does.
+pub record ReadBack (m : List ℕ) (at : ℕ) (bytes : List ℕ) (ahead : ℕ) (rest : List ℕ) : Type 0 where
+  pub within : ahead ≤ length m
+  pub room : length rest ≤ ahead
+  pub same : Stand m at bytes ↔ Stand m (length m - ahead) rest
+
+-- Nothing is read back at first.
+pub back_none : (m : List ℕ) (at : ℕ) (bytes : List ℕ) → at + length bytes ≤ length m → (len : ℕ) → len ≡ length m → ReadBack m at bytes (len - at) bytes
+back_none m at bytes fits len is =
+    let place : length m - (len - at) ≡ at = omega (arith, fits, is) in
+    record {
+      within = omega (arith, is);
+      room = omega (arith, fits, is);
+      same = (
+        λ s. subst (λ (p : ℕ). Stand m p bytes) (sym place) s,
+        λ s. subst (λ (p : ℕ). Stand m p bytes) place s,
+      );
+    }
+
+module _ (m : List ℕ) (at : ℕ) (bytes : List ℕ) (ahead : ℕ) (rest piece next : List ℕ) (far : ReadBack m at bytes ahead rest)
+    (parts : rest ≡ piece ++ next) where
+  sizes : length rest ≡ length piece + length next
+  sizes = ap length parts ∙ length-append piece next
+
+  fits : length m - ahead + length piece + length next ≤ length m
+  fits = omega (arith, sizes, far.within, far.room)
+
+  -- A piece that stands there: the rest behind it decides.
+  pub piece_back : Stand m (length m - ahead) piece → ReadBack m at bytes (ahead - length piece) next
+  piece_back stands =
+      let on : length m - (ahead - length piece) ≡ length m - ahead + length piece = omega (arith, sizes, far.within, far.room) in
+      record {
+        within = omega (arith, far.within);
+        room = omega (arith, sizes, far.room);
+        same = (
+          λ s. subst (λ (p : ℕ). Stand m p next) (sym on) (back_stands m (length m - ahead) piece next fits
+              (subst (λ (l : List ℕ). Stand m (length m - ahead) l) parts (far.same.0 s))),
+          λ s. far.same.1 (subst (λ (l : List ℕ). Stand m (length m - ahead) l) (sym parts)
+              (both_stand m (length m - ahead) piece next fits stands (subst (λ (p : ℕ). Stand m p next) on s))),
+        );
+      }
+
+  -- A piece that does not stand there: the bytes do not.
+  pub piece_missing : ¬ Stand m (length m - ahead) piece → ¬ Stand m at bytes
+  piece_missing none s = none (front_stands m (length m - ahead) piece next fits
+      (subst (λ (l : List ℕ). Stand m (length m - ahead) l) parts (far.same.0 s)))
+
+-- What is cut in two is both parts, one behind the other.
+pub cut_is : (rest front back : List ℕ) (n : ℕ) → front ≡ take n rest → back ≡ drop n rest → rest ≡ front ++ back
+cut_is rest front back n a b = sym ((λ i. a i ++ b i) ∙ take-append-drop n rest)
+
+-- What was read is what stands there.
+pub read_there : (m : List ℕ) (place from : ℕ) (piece read : List ℕ) → from ≡ place → (n : ℕ) → n ≡ length piece
+    → read ≡ slice_range m from (from + n) → slice_range m place (place + length piece) ≡ read
+read_there m place from piece read here n size is = sym (is ∙ (λ i. slice_range m (here i) (here i + size i)))
+
+-- Nothing is left to be read back.
+pub back_done : (m : List ℕ) (at : ℕ) (bytes : List ℕ) (ahead : ℕ) (rest : List ℕ) → ReadBack m at bytes ahead rest → length rest ≡ 0
+    → Stand m at bytes
+back_done m at bytes ahead [] far none = far.same.1 (range_is m (length m - ahead) 0)
+back_done m at bytes ahead (x ∷ xs) far none = absurd (omega (arith, none))
