@@ -1,17 +1,14 @@
 -- An action in which a write is harmed has one result.
-use Rattle.std.proofs.Common.{◌≡◌, inl, inr, ℕ, Bool, true, List, ◌∷◌, [], length, refl, sym, ap, ◌∙◌, subst}
+use Rattle.std.proofs.Common.{◌≡◌, ℕ, Bool, true, List, [], refl, sym, ap, ◌∙◌, subst}
 use Rattle.dfu_wire.specs.declared.requests.Request.{Request as Asked}
-use Rattle.dfu_slots.specs.declared.fault.WriteFault.{WriteFault}
-use Rattle.dfu_slots.specs.Medium.Fuse.{Whole}
-use Rattle.dfu_slots.specs.Seen.{SlotsState, image_of, Call, Commit, Ending, AllWorked, BrokenBy, Called}
-use Rattle.dfu_slots.specs.Determined.{IsKnown, SameStore, called_one, called_same_end}
+use Rattle.dfu_slots.specs.Seen.{image_of}
+use Rattle.dfu_slots.specs.OneWrite.{IsKnown}
 use Rattle.dfu_device.specs.declared.answer.Answer.{Answer}
 use Rattle.dfu_device.specs.declared.answer.Answer.TheVariants as answer
-use Rattle.dfu_device.specs.Stage.{InError}
-use Rattle.dfu_device.specs.Table.{Plan, Sure, Writes, Commits, write_code, commit_code, plan, time_plan}
-use Rattle.dfu_device.specs.Outcome.{Luck, Works, FailsOld, outcome}
+use Rattle.dfu_device.specs.Table.{plan, time_plan}
+use Rattle.dfu_device.specs.Outcome.{outcome}
 use Rattle.dfu_device.specs.Shown.{Shown, profile}
-use Rattle.dfu_device.specs.Rows.{meant, asked_length, Answers, block_calls, Done, Handles}
+use Rattle.dfu_device.specs.Rows.{meant, asked_length, Done, Handles}
 use Rattle.dfu_device.specs.Came.{row_of}
 use Rattle.dfu_host.specs.Table.{Deed, Send, Wait, Reset, Done as IsDone, deed, Heard, Waited, WasReset, Restarted}
 use Rattle.dfu_host.specs.Host.{HostState}
@@ -25,117 +22,11 @@ use Rattle.dfu_link.specs.Course.{course_of}
 use Rattle.dfu_link.specs.Happening.{Fate, CutIn, Fail, Lie, Harm, Happening}
 use Rattle.dfu_link.specs.Bench.{Hosted, Bench}
 use Rattle.dfu_link.specs.Play.{Answered, took, heard_as, remembered}
-use Rattle.dfu_link.specs.Bytes.{fuse_of, armed, powered_up, HearsBack, Reaches, once, Sends, Acts, left_by, NextAction, Happens}
+use Rattle.dfu_link.specs.Bytes.{fuse_of, armed, HearsBack, Reaches, once, Sends, Acts, left_by, NextAction, Happens}
 use Rattle.dfu_link.specs.Comes.{happens}
 use Rattle.dfu_link.specs.OneResult.{SameDevice, AreOne, HarmsAWrite, OneResult}
+use Rattle.dfu_link.proofs.DoneOnce.{same_device, powered_same, disarmed_same, DoneOnce, done_once}
 use Rattle.dfu_link.proofs.Replies.{IsHosts, HostsDeed, hosts_deed, plan_heard, served}
-
--- Devices that are the same.
-
-same_store : (s : SlotsState) → SameStore s s
-same_store s = record { medium = record { bytes = refl; fuse = refl; unit = refl }; held = refl; put_end = refl }
-
-same_device : {w v : Shown} → w ≡ v → SameDevice w v
-same_device {w = w} e = subst (λ (z : Shown). SameDevice w z) e (record { config = refl; stage = refl; store = same_store w.slots })
-
--- After their power came back, and once they are disarmed, they are the same again.
-
-powered_same : {w v : Shown} → SameDevice w v → SameDevice (powered_up w) (powered_up v)
-powered_same same = record {
-  config = same.config;
-  stage = refl;
-  store = record {
-    medium = record { bytes = same.store.medium.bytes; fuse = refl; unit = same.store.medium.unit };
-    held = refl;
-    put_end = refl;
-  };
-}
-
-disarmed_same : {w v : Shown} → SameDevice w v → SameDevice (armed w Whole) (armed v Whole)
-disarmed_same same = record {
-  config = same.config;
-  stage = same.stage;
-  store = record {
-    medium = record { bytes = same.store.medium.bytes; fuse = refl; unit = same.store.medium.unit };
-    held = same.store.held;
-    put_end = same.store.put_end;
-  };
-}
-
--- A plan that was carried out twice from the same device: there is one reply, and the devices are the same.
-record DoneOnce (p : Plan) (len : ℕ) (w w' v' : Shown) (a b : Answer) (out other : List ℕ) : Type 0 where
-  luck : Luck
-  first : Answers len (outcome (image_of w.slots) p luck).reply a out
-  second : Answers len (outcome (image_of w.slots) p luck).reply b other
-  device : SameDevice w' v'
-
--- The same calls with the same end leave the same device, where they leave the same of the rest.
-same_calls : (calls : List Call) (ending : Ending) (w w' v' : Shown) → IsKnown w.slots.medium.fuse → w'.config ≡ v'.config → w'.stage ≡ v'.stage
-    → Called w.slots calls ending w'.slots → Called w.slots calls ending v'.slots → SameDevice w' v'
-same_calls calls ending w w' v' known config stage h k = record {
-  config = config;
-  stage = stage;
-  store = called_same_end calls ending w.slots w.slots w'.slots v'.slots (same_store w.slots) known h k;
-}
-
--- What broke a call off is one fault, and a call that worked was not broken off.
-fault_one : {f g : WriteFault} → BrokenBy f ≡ BrokenBy g → f ≡ g
-fault_one q = cc
-
-not_broken : {f : WriteFault} → AllWorked ≡ BrokenBy f → ⊥
-not_broken q = cc
-
--- The same calls end alike.
-ends_alike : (calls : List Call) (e d : Ending) (w w' v' : Shown) → IsKnown w.slots.medium.fuse → Called w.slots calls e w'.slots
-    → Called w.slots calls d v'.slots → e ≡ d
-ends_alike calls e d w w' v' known h k = called_one calls e d w.slots w.slots w'.slots v'.slots (same_store w.slots) known h k
-
-done_once : (p : Plan) (len : ℕ) (w w' v' : Shown) (a b : Answer) (out other : List ℕ) → IsKnown w.slots.medium.fuse
-    → Done p len w a out w' → Done p len w b other v' → DoneOnce p len w w' v' a b out other
-done_once (Sure reply stage) len w w' v' a b out other known (says, is) (says2, is2) =
-    record { luck = Works; first = says; second = says2; device = same_device (is ∙ sym is2) }
-done_once (Writes before block reply stage bad) len w w' v' a b out other known (inl (says, h)) (inl (says2, k)) = record {
-  luck = Works;
-  first = says;
-  second = says2;
-  device = same_calls (block_calls before block) AllWorked w w' v' known (h.config_is ∙ sym k.config_is) (h.stage_is ∙ sym k.stage_is)
-      h.calls k.calls;
-}
-done_once (Writes before block reply stage bad) len w w' v' a b out other known (inr (f, says, h)) (inr (g, says2, k)) =
-    let one : f ≡ g = fault_one (ends_alike (block_calls before block) (BrokenBy f) (BrokenBy g) w w' v' known h.calls k.calls) in
-    record {
-      luck = FailsOld f;
-      first = says;
-      second = subst (λ (x : WriteFault). Answers len (bad x) b other) (sym one) says2;
-      device = same_calls (block_calls before block) (BrokenBy f) w w' v' known (h.config_is ∙ sym k.config_is)
-          (h.stage_is ∙ ap (λ (x : WriteFault). InError (write_code x)) one ∙ sym k.stage_is) h.calls
-          (subst (λ (x : WriteFault). Called w.slots (block_calls before block) (BrokenBy x) v'.slots) (sym one) k.calls);
-    }
-done_once (Writes before block reply stage bad) len w w' v' a b out other known (inl (says, h)) (inr (g, says2, k)) =
-    absurd (not_broken (ends_alike (block_calls before block) AllWorked (BrokenBy g) w w' v' known h.calls k.calls))
-done_once (Writes before block reply stage bad) len w w' v' a b out other known (inr (f, says, h)) (inl (says2, k)) =
-    absurd (not_broken (ends_alike (block_calls before block) AllWorked (BrokenBy f) w v' w' known k.calls h.calls))
-done_once (Commits taken reply stage bad) len w w' v' a b out other known (inl (says, h)) (inl (says2, k)) = record {
-  luck = Works;
-  first = says;
-  second = says2;
-  device = same_calls (Commit (length taken) ∷ []) AllWorked w w' v' known (h.config_is ∙ sym k.config_is) (h.stage_is ∙ sym k.stage_is)
-      h.calls k.calls;
-}
-done_once (Commits taken reply stage bad) len w w' v' a b out other known (inr (f, says, h)) (inr (g, says2, k)) =
-    let one : f ≡ g = fault_one (ends_alike (Commit (length taken) ∷ []) (BrokenBy f) (BrokenBy g) w w' v' known h.calls k.calls) in
-    record {
-      luck = FailsOld f;
-      first = says;
-      second = subst (λ (x : WriteFault). Answers len (bad x) b other) (sym one) says2;
-      device = same_calls (Commit (length taken) ∷ []) (BrokenBy f) w w' v' known (h.config_is ∙ sym k.config_is)
-          (h.stage_is ∙ ap (λ (x : WriteFault). InError (commit_code x)) one ∙ sym k.stage_is) h.calls
-          (subst (λ (x : WriteFault). Called w.slots (Commit (length taken) ∷ []) (BrokenBy x) v'.slots) (sym one) k.calls);
-    }
-done_once (Commits taken reply stage bad) len w w' v' a b out other known (inl (says, h)) (inr (g, says2, k)) =
-    absurd (not_broken (ends_alike (Commit (length taken) ∷ []) AllWorked (BrokenBy g) w w' v' known h.calls k.calls))
-done_once (Commits taken reply stage bad) len w w' v' a b out other known (inr (f, says, h)) (inl (says2, k)) =
-    absurd (not_broken (ends_alike (Commit (length taken) ∷ []) AllWorked (BrokenBy f) w v' w' known k.calls h.calls))
 
 -- What two results of an action have in common: the devices are the same, and one thing is heard, but for want of memory.
 record ActedOnce (w' v' : Shown) (heard other : Heard) : Type 0 where

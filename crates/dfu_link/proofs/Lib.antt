@@ -43,5 +43,6 @@ pub mod RestLaws
 pub mod WholeLaws
 pub mod Beside
 pub mod LegalScripts
-pub mod Harmed
+mod DoneOnce
+mod Harmed
 pub mod Refusals

@@ -6,5 +6,6 @@ pub mod Writes
 pub mod Seen
 pub mod Changes
 pub mod Unarmed
+pub mod OneWrite
 pub mod Determined
 pub mod inside

@@ -7,7 +7,8 @@ ghost use Rattle.dfu_slots.specs.Medium.Fuse.{Whole};
 ghost use Rattle.dfu_slots.specs.Image.{Active, HasImage};
 ghost use Rattle.dfu_slots.specs.Seen.{SlotsState, Call, Ending, AllWorked, BrokenBy, Called, image_of};
 ghost use Rattle.dfu_slots.specs.Changes.{IsOpenFault};
-ghost use Rattle.dfu_slots.specs.Determined.{IsKnown, Same, SameStore};
+ghost use Rattle.dfu_slots.specs.OneWrite.{IsKnown, Same};
+ghost use Rattle.dfu_slots.specs.Determined.{SameStore};
 ghost use Rattle.dfu_slots.specs.declared.fault.OpenFault.{OpenFault};
 ghost use Rattle.dfu_slots.specs.declared.fault.WriteFault.{WriteFault};
 
