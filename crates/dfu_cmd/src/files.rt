@@ -7,7 +7,7 @@ use crate::exit::Exit;
 use crate::faults::fault_text;
 use crate::output::write_out;
 use crate::owner::Owned;
-use crate::replacing::replace;
+use crate::replacing::Replacement;
 use crate::running::run_text;
 use dfu_suffix::SuffixFault;
 use dfu_wire::Ids;
@@ -73,10 +73,12 @@ where
     let Ok(reader) = fs::open(rt, file) else {
         return fault_text(SuffixFault::Read, &mut out);
     };
-    let mut made = Vec::new(rt.alloc());
+    let mut made = Replacement::new(rt, to);
     let mut line = Vec::new(rt.alloc());
     let exit = add_text(rt.alloc(), reader, ids, &mut made, &mut line);
-    if exit == Exit::Done && replace(rt, to, &made).is_err() {
+    if exit != Exit::Done {
+        made.abandon();
+    } else if made.finish().is_err() {
         return fault_text(SuffixFault::Write, &mut out);
     }
     write_out(&mut out, &line, exit)

@@ -14,6 +14,7 @@ mod identifiers;
 mod numbers;
 mod output;
 mod owner;
+mod part;
 mod place;
 mod replacing;
 mod running;

@@ -1,92 +1,65 @@
 //! A file that takes the place of another, whole.
 
 use crate::owner::Owned;
-use crate::place::{Place, beside, place_of};
-use std::fs::{self, Metadata, OpenFile, OpenOptions, Permissions};
+use crate::part::{Part, begin, put, remove};
 use std::io::{self, ErrorKind, Write};
-use std::os::unix::fs::{MetadataExt, OpenOptionsExt, PermissionsExt};
 use std::rt::Files;
 
-/// How many names are tried for the part.
-const MAX_PARTS: u32 = 1000;
-
-/// A new file beside the one that it is to replace.
+/// What is to take the place of OUT, or of what OUT leads to, whole: bytes are written beside it, and
+/// then take its name, so that a cut of the machine leaves the old file or the new one. Until then
+/// what was there is as it was. The part is made at the first write, so that where nothing is
+/// written OUT isn't looked at.
 #[derive(Drop)]
-struct Part<F> {
-    name: String,
-    file: F,
+pub(crate) struct Replacement<'a, R: Files> {
+    rt: &'a R,
+    out: &'a str,
+    part: Option<Part<R::File>>,
 }
 
-/// The rights of a new file before the system's mask; where it replaces a file, its own user's
-/// alone until it gets the rights of that.
-fn first_rights(place: &Place) -> u32 {
-    match place.file {
-        Some(_) => 0o600,
-        None => 0o666,
-    }
-}
-
-/// Makes a file that wasn't there.
-fn new_part<R: Files + AllocGlobal>(rt: &R, place: &Place) -> io::Result<Part<R::File>> {
-    let mut how = OpenOptions::new();
-    how.write(true).create_new(true).mode(first_rights(place));
-    for number in 0..MAX_PARTS {
-        let part = format!(in rt.alloc(); ".dfu-part-{number}")?;
-        let name = beside(rt.alloc(), &place.name, &part)?;
-        match how.open(rt, name.as_str()) {
-            Ok(file) => return Ok(Part { name, file }),
-            Err(error) => {
-                if error.kind() != ErrorKind::AlreadyExists {
-                    return Err(error);
-                }
-            }
+impl<'a, R: Files> Replacement<'a, R> {
+    pub(crate) fn new(rt: &'a R, out: &'a str) -> Self {
+        Replacement {
+            rt,
+            out,
+            part: None,
         }
     }
-    Err(io::Error::from(ErrorKind::AlreadyExists))
-}
 
-/// The rights that a file has in place of one with this mode: the same; where it has another owner
-/// and group, that group has those of all others.
-pub(crate) fn rights_after(mode: u32, is_kept: bool) -> u32 {
-    if is_kept {
-        return mode & 0o777;
+    /// Replaces OUT by what was written. Where it fails, what was there is as it was.
+    pub(crate) fn finish(self) -> io::Result<()> {
+        let Some(part) = &self.part else {
+            return Err(io::Error::from(ErrorKind::NotFound));
+        };
+        let placed = put(self.rt, part);
+        if placed.is_err() {
+            remove(self.rt, part);
+        }
+        placed
     }
-    let others = mode & 0o007;
-    (mode & 0o707) | (others << 3)
-}
 
-/// Gives the new file the owner, the group and the rights of the old one; the owner and the group
-/// as far as the system lets it.
-fn take_rights<F: OpenFile + Owned>(file: &F, old: &Metadata) -> io::Result<()> {
-    let is_kept = file.set_owner(old.uid(), old.gid()).is_ok();
-    let rights = rights_after(old.mode(), is_kept);
-    file.set_permissions(Permissions::from_mode(rights))
-}
-
-/// Fills the part, which has its rights before it has any byte, and puts it on the disk.
-fn fill<F: Write + OpenFile + Owned>(file: &mut F, place: &Place, bytes: &[u8]) -> io::Result<()> {
-    if let Some(old) = &place.file {
-        take_rights(file, old)?;
+    /// Leaves OUT as it was.
+    pub(crate) fn abandon(self) {
+        if let Some(part) = &self.part {
+            remove(self.rt, part);
+        }
     }
-    file.write_all(bytes)?;
-    file.sync_all()
 }
 
-/// Puts the bytes in place of OUT, or of what OUT leads to, whole: they are written beside it and
-/// then take its name, so that a cut of the machine leaves the old file or the new one. Where it
-/// fails, what was there is as it was.
-pub(crate) fn replace<R: Files + AllocGlobal>(rt: &R, out: &str, bytes: &[u8]) -> io::Result<()>
+impl<R: Files + AllocGlobal> Write for Replacement<'_, R>
 where
     R::File: Owned,
 {
-    let place = place_of(rt, out)?;
-    let mut part = new_part(rt, &place)?;
-    let placed = match fill(&mut part.file, &place, bytes) {
-        Ok(()) => fs::rename(rt, part.name.as_str(), place.name.as_str()),
-        Err(error) => Err(error),
-    };
-    if placed.is_err() {
-        let _ = fs::remove_file(rt, part.name.as_str());
+    fn write(&mut self, buf: &[u8]) -> io::Result<usize> {
+        if self.part.is_none() {
+            self.part = Some(begin(self.rt, self.out)?);
+        }
+        match &mut self.part {
+            Some(part) => part.file.write(buf),
+            None => Ok(0),
+        }
     }
-    placed
+
+    fn flush(&mut self) -> io::Result<()> {
+        Ok(())
+    }
 }

@@ -1,6 +1,6 @@
 //! `dfu add` on the machine in memory: which calls it makes, and what stands there when one fails.
 
-use crate::replacing::rights_after;
+use crate::part::rights_after;
 use crate::tests::acting::{ADD, OLD, calls, ends, holds, machine_over, machine_with, prints};
 use crate::tests::machine::Kind;
 use crate::tests::{DIGITS, FOUR_ONES};
