@@ -1,7 +1,7 @@
 -- A session that its caller gives up ends as Aborted, and the abort spends no action.
 use Rattle.std.proofs.Common.{◌≡◌, refl, sym, ap, ◌∙◌, subst}
 use Rattle.dfu_host.specs.declared.report.Report.TheVariants as report
-use Rattle.dfu_host.specs.Table.{Phase, Over, OverUploaded, GiveUp, Heard, Restarted}
+use Rattle.dfu_host.specs.Phases.{Phase, Over, OverUploaded, GiveUp, Heard, Restarted}
 use Rattle.dfu_host.specs.Host.{HostState, IsOn, after_phase, aborted_in, aborted}
 use Rattle.dfu_host.specs.Budget.{takes_in, takes_left}
 use Rattle.dfu_host.specs.Aborting.{EndsAborted, SpendsNothing}

@@ -3,7 +3,8 @@ use Rattle.std.proofs.Common.{◌≡◌, ◌↔◌, ℕ, zero, suc, pred, ◌≤
 use Rattle.dfu_host.specs.declared.action.Action.{Action}
 use Rattle.dfu_host.specs.declared.action.Action.TheVariants as action
 use Rattle.dfu_host.specs.declared.seen.Seen.{Seen}
-use Rattle.dfu_host.specs.Table.{Task, Phase, Enter, Over, OverUploaded, GiveUp, Find, Deed, Send, Wait, Reset, Done, deed, Heard, Restarted, row}
+use Rattle.dfu_host.specs.Phases.{Task, Phase, Enter, Over, OverUploaded, GiveUp, Find, Deed, Send, Wait, Reset, Done, Heard, Restarted}
+use Rattle.dfu_host.specs.Table.{deed, row}
 use Rattle.dfu_host.specs.Wire.{Spells}
 use Rattle.dfu_host.specs.Host.{HostState, IsOver, budgeted, restarted, told, after_phase, Act, HostRow, HostRows, seen_all, sees}
 use Rattle.dfu_host.specs.Budget.{takes_in, takes_left, is_done, DoneInTime, StaysDone}

@@ -1,34 +1,42 @@
 -- The blocks of a payload as the code counts and cuts them.
-use Rattle.std.proofs.Common.{◌≡◌, ℕ, suc, ◌+◌, ◌-◌, ◌*◌, ◌/◌, ◌<◌, ◌≤◌, ◌==◌, nat_le, min, true, false, List, [], length, take, drop, slice_index_or, refl, sym, ap, ◌∙◌, arith, inl, inr}
+use Rattle.std.proofs.Common.{◌≡◌, ◌⊎◌, ℕ, suc, ◌+◌, ◌-◌, ◌*◌, ◌/◌, ◌<◌, ◌≤◌, ◌==◌, nat_le, min, true, false, List, [], length, take, drop, slice_index_or, refl, sym, ap, ◌∙◌, arith, inl, inr}
 use Rattle.std.proofs.Math.Nat.{suc-mul, lt-div-mul-add, div-mul-le_self, eq-or-lt_of_le}
 use Rattle.std.proofs.lemmas.Bool.{cases_lt, eqb-false, eq-eqb, le-leb, lt-leb, ne_eqb}
-use Rattle.std.proofs.lemmas.List.{take_min, take_rest}
+use Rattle.std.proofs.lemmas.List.{drop_min, take_min, take_rest}
 use Rattle.std.specs.Borrow.{Bor}
 use Rattle.dfu_host.specs.Blocks.{blocks}
 use Rattle.dfu_host.specs.declared.goal.Goal.{Goal}
 use Rattle.dfu_host.specs.declared.goal.Goal.TheVariants as goal
 use Rattle.dfu_host.specs.inside.Goals.{goal_of, payload_of, size_of}
 use Rattle.dfu_host.specs.Table as table
-use Rattle.dfu_host.specs.BlockLaws.{block_is, block_starts, block_counts}
+use Rattle.dfu_host.specs.BlockLaws.{block_at, block_starts, block_counts}
 
 -- The blocks of a session's payload are those that its task sends.
 pub pieces_are : (g : Goal) (t : ℕ) → table.blocks_of (goal_of g) t ≡ blocks (payload_of g) t
 unfolding blocks
 pieces_are (goal.Load payload) t = refl
 pieces_are (goal.Fetch bytes) t = refl
+pieces_are (goal.Verify payload) t = refl
+pieces_are (goal.Compare payload) t = refl
 
 -- A payload that is sent has a first block.
-pub first_starts : (g : Goal) (t : ℕ) (payload : Bor (List ℕ)) → g ≡ goal.Load payload → 0 < size_of g → 0 * t < length (payload_of g)
+pub first_starts : (g : Goal) (t : ℕ) (payload : Bor (List ℕ)) → (g ≡ goal.Load payload) ⊎ (g ≡ goal.Verify payload) → 0 < size_of g
+    → 0 * t < length (payload_of g)
 first_starts (goal.Load payload) t other e some = omega (arith, some)
-first_starts (goal.Fetch bytes) t other e some = absurd cc
+first_starts (goal.Verify payload) t other e some = omega (arith, some)
+first_starts (goal.Compare payload) t other e some = omega (arith, some)
+first_starts (goal.Fetch bytes) t other (inl e) some = absurd cc
+first_starts (goal.Fetch bytes) t other (inr e) some = absurd cc
 
 module _ (p : List ℕ) (t : ℕ) where
-  -- A block as a slice of what is left of the payload.
-  pub block_cut : (n m : ℕ) → 0 < t → n * t < length p → m ≡ min t (length (take (length p - n * t) (drop (n * t) p))) →
-      take m (take (length p - n * t) (drop (n * t) p)) ≡ slice_index_or (blocks p t) n []
-  block_cut n m ht h e =
-      let rest = take (length p - n * t) (drop (n * t) p) in
-      ap (λ z. take z rest) e ∙ take_min t rest ∙ ap (take t) (take_rest p (n * t)) ∙ sym (block_is p t n (block_counts p t n ht h))
+  -- A block as a slice of what is left of the payload, or nothing where nothing is left.
+  pub block_cut : (n start m : ℕ) → 0 < t → start ≡ min (n * t) (length p)
+      → m ≡ min t (length (take (length p - start) (drop start p)))
+      → take m (take (length p - start) (drop start p)) ≡ slice_index_or (blocks p t) n []
+  block_cut n start m ht begins e =
+      let rest = take (length p - start) (drop start p) in
+      ap (λ z. take z rest) e ∙ take_min t rest ∙ ap (take t) (take_rest p start)
+      ∙ ap (λ z. take t (drop z p)) begins ∙ ap (take t) (drop_min (n * t) p) ∙ sym (block_at p t n ht)
 
   -- A block is the last where what is left fits it.
   pub last_test : (n : ℕ) → 0 < t → n * t < length p → nat_le (length p - n * t) t ≡ (suc n == length (blocks p t))

@@ -4,3 +4,4 @@ pub mod Parts
 pub mod Aborting
 pub mod Budget
 pub mod Installing
+pub mod Verifying

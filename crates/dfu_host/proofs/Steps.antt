@@ -70,6 +70,7 @@ after_told h memory p heard never on = refl
 
 -- What is no restart goes by the table.
 pub told_row : (h : HostState) (p : table.Phase) (part : List ℕ) (word : Heard) → (word ≡ heard.Restarted → ⊥)
-    → spent h (table.row h.task p (heard_of part word)) h.restarts ≡ told h p (heard_of part word)
+    → spent (record h { task = table.task_after h.task p (heard_of part word) }) (table.row h.task p (heard_of part word)) h.restarts
+    ≡ told h p (heard_of part word)
 told_row h p part heard.Restarted never = absurd (never refl)
 told_row h p part word never = refl

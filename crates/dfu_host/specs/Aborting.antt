@@ -2,7 +2,7 @@
 use Rattle.std.specs.Prelude.{◌≡◌}
 use Rattle.dfu_host.specs.declared.report.Report.TheVariants as report
 use Rattle.dfu_host.specs.declared.seen.Seen.{Seen}
-use Rattle.dfu_host.specs.Table.{Over}
+use Rattle.dfu_host.specs.Phases.{Over}
 use Rattle.dfu_host.specs.Host.{HostState, IsOn, aborted, HostRow}
 use Rattle.dfu_host.specs.Budget.{takes_left}
 

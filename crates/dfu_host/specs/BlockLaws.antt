@@ -1,7 +1,9 @@
 -- Laws of the blocks of a payload.
-use Rattle.std.proofs.Common.{◌≡◌, ◌↔◌, ℕ, zero, suc, ◌+◌, ◌*◌, ◌<◌, ◌≤◌, List, [], ◌∷◌, ◌++◌, length, take, drop, slice_index_or, refl, sym, ap, ◌∙◌, subst, arith, append_assoc, append-nil, take-append-drop, length-append, length-take, length-drop, take_all, le_of_suc-le-suc}
-use Rattle.std.proofs.Math.Seq.{take-append_seam, drop-append_seam}
+use Rattle.std.proofs.Common.{◌≡◌, ◌↔◌, ℕ, zero, suc, ◌+◌, ◌*◌, ◌<◌, ◌≤◌, List, [], ◌∷◌, ◌++◌, length, take, drop, slice_index_or, refl, sym, ap, ◌∙◌, subst, arith, append_assoc, append-nil, take-append-drop, length-append, length-take, length-drop, take_all, le_of_suc-le-suc, inl, inr}
+use Rattle.std.proofs.Math.ListN.{drop_of_length-le}
+use Rattle.std.proofs.Math.Seq.{take-append_seam, drop-append_seam, take-nil}
 use Rattle.std.proofs.Math.Nat.{suc-mul}
+use Rattle.std.proofs.lemmas.Bool.{cases_lt}
 use Rattle.std.proofs.lemmas.List.{drop-drop}
 use Rattle.dfu_host.specs.Blocks.{joined, AreFull, Blocks, blocks_in, blocks, first}
 
@@ -107,6 +109,11 @@ counted_in (suc turns) t (x ∷ xs) (suc n) ht l h =
     (omega (arith, h, suc-mul n t, length-drop t (x ∷ xs))) in
     omega (arith, i)
 
+past_end : (pieces : List (List ℕ)) (n : ℕ) → length pieces ≤ n → slice_index_or pieces n [] ≡ []
+past_end [] n h = refl
+past_end (x ∷ xs) zero h = absurd (omega arith)
+past_end (x ∷ xs) (suc n) h = past_end xs n (le_of_suc-le-suc h)
+
 module _ (p : List ℕ) (t : ℕ) where
   -- The blocks joined are the payload.
   pub joined_blocks : 0 < t → joined (blocks p t) ≡ p
@@ -153,6 +160,18 @@ module _ (p : List ℕ) (t : ℕ) where
   unfolding blocks
   block_counts n ht h = counted_in (length p) t p n ht (omega arith) h
 
+  -- Block n is the t bytes at n times t, or what is left there, or nothing where there is no such block.
+  pub block_at : (n : ℕ) → 0 < t → slice_index_or (blocks p t) n [] ≡ take t (drop (n * t) p)
+  block_at n ht = elim (cases_lt n (length (blocks p t))) [
+    | inl is ↦ block_is n is
+    | inr past ↦
+        let end : length p ≤ n * t = elim (cases_lt (n * t) (length p)) [
+          | inl inside ↦ absurd (omega (arith, past, block_counts n ht inside))
+          | inr outside ↦ outside
+        ] in
+        past_end (blocks p t) n past ∙ sym (ap (take t) (drop_of_length-le p end) ∙ take-nil t)
+  ]
+
   -- Block n has as many bytes as the t bytes at n times t, or as are left there.
   pub block_size : (n : ℕ) → n < length (blocks p t) → length (slice_index_or (blocks p t) n []) ≡ length (take t (drop (n * t) p))
   block_size n h = ap length (block_is n h)
@@ -164,6 +183,44 @@ module _ (p : List ℕ) (t : ℕ) where
   -- Block n has at least one byte.
   pub full_block : (n : ℕ) → 0 < t → n < length (blocks p t) → 0 < length (slice_index_or (blocks p t) n [])
   full_block n ht h = omega (arith, block_size n h, length-take t (drop (n * t) p), length-drop (n * t) p, block_starts n h)
+
+-- Where block n has a byte, one more block is the first n and that one.
+pub first_next : (p : List ℕ) (t n : ℕ) → 0 < length (slice_index_or (blocks p t) n [])
+    → first p t (suc n) ≡ first p t n ++ slice_index_or (blocks p t) n []
+first_next p t n some = first_suc p t n (within (blocks p t) n some)
+  where
+    within : (pieces : List (List ℕ)) (n : ℕ) → 0 < length (slice_index_or pieces n []) → n < length pieces
+    within [] n h = absurd (omega arith)
+    within (x ∷ xs) zero h = omega arith
+    within (x ∷ xs) (suc n) h = omega (arith, within xs n h)
+
+-- Where there is no block n, the first n joined are the payload.
+pub first_past : (p : List ℕ) (t n : ℕ) → 0 < t → length (blocks p t) ≤ n → first p t n ≡ p
+first_past p t n ht h = ap joined (take_all n (blocks p t) h) ∙ joined_blocks p t ht
+
+-- Where block n has fewer than t bytes, or there is none, the first n joined and that one are the payload.
+pub last_short : (p : List ℕ) (t n : ℕ) → 0 < t → length (slice_index_or (blocks p t) n []) < t
+    → first p t n ++ slice_index_or (blocks p t) n [] ≡ p
+last_short p t n ht short = elim (cases_lt n (length (blocks p t))) [
+  | inl is ↦
+      let size = block_size p t n is in
+      let end : length (blocks p t) ≤ suc n = elim (cases_lt (suc n) (length (blocks p t))) [
+        | inl more ↦ absurd (omega (
+          arith,
+          short,
+          size,
+          length-take t (drop (n * t) p),
+          length-drop (n * t) p,
+          block_starts p t (suc n) more,
+          suc-mul n t,
+        ))
+        | inr past ↦ past
+      ] in
+      sym (first_suc p t n is) ∙ first_past p t (suc n) ht end
+  | inr past ↦
+      let none : slice_index_or (blocks p t) n [] ≡ [] = past_end (blocks p t) n past in
+      ap (λ z. first p t n ++ z) none ∙ append-nil (first p t n) ∙ first_past p t n ht past
+]
 
 -- For a size over 0, the blocks of a payload are one list, and no other.
 abbrev pub OneCut : Type 0

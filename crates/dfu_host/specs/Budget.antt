@@ -3,7 +3,7 @@ use Rattle.std.specs.Prelude.{◌≡◌, ℕ, ◌≤◌, max, Bool, true, false,
 use Rattle.dfu_host.specs.declared.action.Action.{Action}
 use Rattle.dfu_host.specs.declared.action.Action.TheVariants as action
 use Rattle.dfu_host.specs.declared.seen.Seen.{Seen}
-use Rattle.dfu_host.specs.Table.{Phase, Over, OverUploaded}
+use Rattle.dfu_host.specs.Phases.{Phase, Over, OverUploaded}
 use Rattle.dfu_host.specs.Host.{HostState, IsOver, HostRows}
 
 -- How often a host in this phase takes what is seen, at most, until it is done: as often as it has actions left, and once at least, in

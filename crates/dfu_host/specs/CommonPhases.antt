@@ -3,7 +3,8 @@ use Rattle.std.specs.Prelude.{ℕ}
 use Rattle.dfu_wire.specs.declared.codes.Code.{Code}
 use Rattle.dfu_wire.specs.declared.states.State.TheVariants.{DfuIdle}
 use Rattle.dfu_host.specs.declared.report.Report.TheVariants.{Aborted, Refused}
-use Rattle.dfu_host.specs.Table.{Task, Phase, Find, FindAgain, Detach, Enter, Clear, Quit, WaitFind, ResetFind, Trouble, GiveUp, Over, Heard, Status, start_of}
+use Rattle.dfu_host.specs.Phases.{Task, Phase, Find, FindAgain, Detach, Enter, Clear, Quit, WaitFind, ResetFind, Trouble, GiveUp, Over, Heard, Status}
+use Rattle.dfu_host.specs.Table.{start_of}
 
 -- The phases that each session has: those that look for the device's state and bring it to dfuIDLE or to appIDLE, and the last of a
 -- session that is given up.

@@ -4,7 +4,7 @@ use Rattle.std.specs.Prelude.{◌≡◌, ◌*◌, ◌<◌, List, length}
 use Rattle.dfu_host.specs.declared.report.Report.{Report}
 use Rattle.dfu_host.specs.declared.report.Report.TheVariants as report
 use Rattle.dfu_host.specs.declared.seen.Seen.{Seen}
-use Rattle.dfu_host.specs.Table.{ToFetch, Task, Phase, Find, FindAgain, Detach, Enter, Clear, Quit, WaitFind, ResetFind, Block, Ask, Poll, WaitPoll, Close, AskLast, Manifest, WaitManifest, WaitLast, Trouble, Fetch, LastUploaded, Last, GiveUp, Over, OverUploaded}
+use Rattle.dfu_host.specs.Phases.{ToFetch, Task, Phase, Find, FindAgain, Detach, Enter, Clear, Quit, WaitFind, ResetFind, Block, Ask, Poll, WaitPoll, Close, AskLast, Manifest, WaitManifest, WaitLast, Trouble, Fetch, LastUploaded, Compare, Last, GiveUp, Over, OverUploaded}
 use Rattle.dfu_host.specs.Host.{HostState, HostRows}
 
 -- A report that gives no bytes: any but Uploaded.
@@ -18,6 +18,8 @@ GivesNothing (report.Refused code) = Unit {0}
 GivesNothing report.RestartsSpent = Unit {0}
 GivesNothing report.TooManyBlocks = Unit {0}
 GivesNothing report.NoMemory = Unit {0}
+GivesNothing report.Verified = Unit {0}
+GivesNothing report.Different = Unit {0}
 
 -- What is kept in a phase: k full parts of an upload while part k is fetched, and at the end fewer bytes than 65,535 full parts have.
 -- A phase that keeps nothing ends in no Uploaded.
@@ -42,6 +44,7 @@ IsCounted task (WaitLast poll) = Unit {0}
 IsCounted task Trouble = Unit {0}
 IsCounted task (Fetch k kept) = (task.goal ≡ ToFetch) × (k < 65535) × (length kept ≡ k * task.transfer)
 IsCounted task (LastUploaded kept) = (task.goal ≡ ToFetch) × (length kept < 65535 * task.transfer)
+IsCounted task (Compare k) = Unit {0}
 IsCounted task (Last report) = GivesNothing report
 IsCounted task GiveUp = Unit {0}
 IsCounted task (Over report) = GivesNothing report
@@ -51,4 +54,4 @@ IsCounted task (OverUploaded kept) = (task.goal ≡ ToFetch) × (length kept < 6
 abbrev pub StaysCounted : Type 0
 StaysCounted =
     (h h' : HostState) (seens : List Seen) → 0 < h.task.transfer → IsCounted h.task h.phase → HostRows h seens h'
-    → IsCounted h.task h'.phase
+    → IsCounted h'.task h'.phase

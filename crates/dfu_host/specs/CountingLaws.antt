@@ -1,22 +1,27 @@
 -- Laws of what an upload keeps: it stays counted, row by row, whatever is heard.
-use Rattle.std.proofs.Common.{◌≡◌, ℕ, zero, suc, pred, ◌*◌, ◌<◌, ◌≤◌, nat_lt, ◌==◌, Bool, true, false, List, [], ◌∷◌, length, refl, sym, ap, ◌∙◌, subst, arith, length-append}
+use Rattle.std.proofs.Common.{◌≡◌, ℕ, zero, suc, pred, ◌*◌, ◌<◌, ◌≤◌, nat_lt, ◌==◌, Bool, true, false, List, [], ◌∷◌, length, slice_index_or, refl, sym, subst, arith, length-append}
+use Rattle.std.specs.Str.{bytes_eq}
 use Rattle.std.proofs.Math.Nat.{suc-mul, mul-le-mul_right}
 use Rattle.std.proofs.lemmas.Bool.{eqb-true, eqb-false, ltb-true}
 use Rattle.dfu_wire.specs.declared.codes.Code.{Code}
 use Rattle.dfu_wire.specs.declared.codes.Code.TheVariants as code
 use Rattle.dfu_wire.specs.declared.states.State.{State}
 use Rattle.dfu_wire.specs.declared.states.State.TheVariants as state
+use Rattle.dfu_host.specs.declared.report.Report.{Report}
 use Rattle.dfu_host.specs.declared.report.Report.TheVariants as report
-use Rattle.dfu_host.specs.declared.seen.Seen.{Seen}
-use Rattle.dfu_host.specs.Table.{Goal, ToLoad, ToFetch, Task, Phase, Find, Block, Ask, Poll, WaitPoll, Close, AskLast, Manifest, WaitManifest, WaitLast, Trouble, Fetch, LastUploaded, Last, GiveUp, Over, OverUploaded, Heard, Part, Restarted, start_of, pieces, troubled, polled, manifested, asked, asked_last, on_part, row, task_after}
-use Rattle.dfu_host.specs.Host.{HostState, budgeted, restarted, told, after_phase, after, HostRows, seen_all, sees}
+use Rattle.dfu_host.specs.Phases.{Goal, ToLoad, ToFetch, ToVerify, ToCompare, Task, Phase, Find, Block, Ask, Poll, WaitPoll, Close, AskLast, Manifest, WaitManifest, WaitLast, Trouble, Fetch, LastUploaded, Compare, Last, GiveUp, Over, OverUploaded, Heard, Part, Restarted}
+use Rattle.dfu_host.specs.Table.{start_of, pieces, troubled, polled, manifested, asked, asked_last, after_last, on_part, on_compared, row, task_after}
+use Rattle.dfu_host.specs.Host.{HostState, budgeted, restarted, told, after_phase, after, seen_all, sees}
 use Rattle.dfu_host.specs.CommonPhases.{IsCommon, CommonHolds}
 use Rattle.dfu_host.specs.RowLaws.{after_choice, after_ack, after_wait, after_reset, after_status, after_state, after_trouble, after_common}
-use Rattle.dfu_host.specs.Counting.{IsCounted, StaysCounted}
+use Rattle.dfu_host.specs.TaskLaws.{after_same_device}
+use Rattle.dfu_host.specs.Counting.{GivesNothing, IsCounted, StaysCounted}
 
 start_counted : (task : Task) (goal : Goal) → task.goal ≡ goal → IsCounted task (start_of goal)
 start_counted task (ToLoad payload) e = tt
 start_counted task ToFetch e = (e, omega arith, omega arith)
+start_counted task (ToVerify payload) e = tt
+start_counted task (ToCompare payload) e = tt
 
 anywhere_counted : (task : Task) (phase : Phase) → IsCommon phase → IsCounted task phase
 anywhere_counted task (Fetch k kept) h = elim h [ ]
@@ -89,6 +94,19 @@ part_counted task k kept (Part bytes) some c =
     (λ long. tt))
 part_counted task k kept heard some c = tt
 
+compared_counted : (task : Task) (k : ℕ) (block : List ℕ) (heard : Heard) → IsCounted task (on_compared task.transfer k block heard)
+compared_counted task k block (Part bytes) = let t = task.transfer in
+    after_choice (IsCounted task) (nat_lt t (length bytes)) _ _ (λ long. tt)
+    (λ fits. after_choice (IsCounted task) (bytes_eq bytes block) _ _
+    (λ same. after_choice (IsCounted task) (nat_lt (length bytes) t) _ _ (λ short. tt)
+    (λ full. after_choice (IsCounted task) (suc k == 65535) _ _ (λ e. tt) (λ more. tt)))
+    (λ other. tt))
+compared_counted task k block heard = tt
+
+last_counted : (task : Task) (goal : Goal) (r : Report) → GivesNothing r → IsCounted task (after_last goal r)
+last_counted task (ToVerify payload) r c = tt
+last_counted task goal r c = c
+
 row_counted : (task : Task) (phase : Phase) (heard : Heard) → 0 < task.transfer → IsCounted task phase
     → IsCounted (task_after task phase heard) (row task phase heard)
 row_counted task (Block n) heard some c = after_ack (IsCounted task) heard (Poll n) Trouble (Ask n) tt tt tt
@@ -106,7 +124,9 @@ row_counted task (WaitManifest poll) heard some c = after_wait (IsCounted task) 
 row_counted task (WaitLast poll) heard some c = after_wait (IsCounted task) heard (Last report.Unconfirmed) (WaitLast poll) tt tt
 row_counted task (Fetch k kept) heard some c = part_counted task k kept heard some c
 row_counted task (LastUploaded kept) heard some c = after_reset (IsCounted task) heard (OverUploaded kept) (LastUploaded kept) c c
-row_counted task (Last r) heard some c = after_reset (IsCounted task) heard (Over r) (Last r) c c
+row_counted task (Compare k) heard some c = compared_counted task k (slice_index_or (pieces task) k []) heard
+row_counted task (Last r) heard some c = let next = task_after task (Last r) heard in
+    after_reset (IsCounted next) heard (after_last task.goal r) (Last r) (last_counted next task.goal r c) c
 row_counted task (Over r) heard some c = c
 row_counted task (OverUploaded kept) heard some c = c
 row_counted task phase heard some c = after_common task (IsCounted task) Any (common_counted task) phase heard c (λ x. tt)
@@ -135,38 +155,17 @@ after_counted h (OverUploaded kept) heard same some c = rw same c
 after_counted h Find heard same some c = told_counted h Find heard some c
 after_counted h phase heard same some c = told_counted h phase heard some c
 
-restarted_task : (h : HostState) (phase : Phase) (restarts : ℕ) → (restarted h phase restarts).task ≡ h.task
-restarted_task h GiveUp restarts = refl
-restarted_task h phase zero = refl
-restarted_task h phase (suc restarts) = refl
-
-told_task : (h : HostState) (phase : Phase) (heard : Heard) → (told h phase heard).task ≡ h.task
-told_task h phase Restarted = restarted_task h phase h.restarts
-told_task h phase heard = refl
-
-same_task : (h : HostState) (phase : Phase) (heard : Heard) → (after_phase h phase heard).task ≡ h.task
-same_task h (Over r) heard = refl
-same_task h (OverUploaded kept) heard = refl
-same_task h Find heard = told_task h Find heard
-same_task h phase heard = told_task h phase heard
-
 -- What is kept is counted, whatever is heard.
 pub after_stays : (h : HostState) (heard : Heard) → 0 < h.task.transfer → IsCounted h.task h.phase
     → IsCounted (after h heard).task (after h heard).phase
 after_stays h heard some c = after_counted h h.phase heard refl some c
 
-after_same_task : (h : HostState) (heard : Heard) → (after h heard).task ≡ h.task
-after_same_task h heard = same_task h h.phase heard
-
-stays_in : (task : Task) (h h' : HostState) (seens : List Seen) → h.task ≡ task → 0 < task.transfer → IsCounted task h.phase
-    → HostRows h seens h' → IsCounted task h'.phase
-stays_in task h h' [] e some c seen_all = c
-stays_in task h h' (seen ∷ more) e some c (sees {mid = mid} step rows) =
-    let f : mid.task ≡ task = ap (λ (z : HostState). z.task) step.same ∙ after_same_task h step.heard ∙ e in
-    let d : IsCounted mid.task mid.phase = subst (λ (z : HostState). IsCounted z.task z.phase) (sym step.same)
-    (after_stays h step.heard (subst (λ (z : Task). 0 < z.transfer) (sym e) some) (subst (λ (z : Task). IsCounted z h.phase) (sym e) c)) in
-    stays_in task mid h' more f some (subst (λ (z : Task). IsCounted z mid.phase) f d) rows
-
 -- What a host keeps stays counted.
 pub stays_counted : StaysCounted
-stays_counted h h' seens some c rows = stays_in h.task h h' seens refl some c rows
+stays_counted h h' [] some c seen_all = c
+stays_counted h h' (seen ∷ more) some c (sees {mid = mid} step rows) =
+    let sized : 0 < mid.task.transfer =
+    subst (λ (z : HostState). 0 < z.task.transfer) (sym step.same) (omega (arith, some, (after_same_device h step.heard).transfer)) in
+    let d : IsCounted mid.task mid.phase =
+    subst (λ (z : HostState). IsCounted z.task z.phase) (sym step.same) (after_stays h step.heard some c) in
+    stays_counted mid h' more sized d rows

@@ -1,5 +1,5 @@
--- When a download is refused.
-use Rattle.std.specs.Prelude.{ℕ, ◌==◌, ◌&&◌, ◌||◌, not, Bool, List, [], ◌∷◌, length, find, Option}
+-- When a download is refused, and when one that is to be verified.
+use Rattle.std.specs.Prelude.{ℕ, ◌==◌, ◌&&◌, ◌||◌, not, Bool, List, [], ◌∷◌, ◌++◌, length, find, Option}
 use Rattle.dfu_wire.specs.declared.functionals.Functional.{Functional}
 use Rattle.dfu_wire.specs.declared.ids.Ids.{Ids}
 use Rattle.dfu_suffix.specs.Grammar.{Content}
@@ -22,10 +22,22 @@ refuses_download file functional device fault.CannotDownload = not functional.ca
 refuses_download file functional device fault.CannotUpload = not functional.can_upload
 refuses_download file functional device fault.BadDescriptor = functional.transfer == 0
 
+-- The refusals that go by the payload and its target, in the order in which they are looked for.
+abbrev pub payload_faults : List HostFault
+payload_faults = fault.EmptyPayload ∷ fault.WrongTarget ∷ fault.CannotDownload ∷ []
+
 -- The refusals of a download, in the order in which they are looked for.
 abbrev pub download_faults : List HostFault
-download_faults = fault.EmptyPayload ∷ fault.WrongTarget ∷ fault.CannotDownload ∷ fault.BadDescriptor ∷ []
+download_faults = payload_faults ++ fault.BadDescriptor ∷ []
 
 -- The first refusal of a download whose condition holds.
 abbrev pub first_download_fault : Content → Functional → Ids → Option HostFault
 first_download_fault file functional device = find (refuses_download file functional device) download_faults
+
+-- The refusals of a download that is to be verified, in the order in which they are looked for: the device has to upload too.
+abbrev pub verify_faults : List HostFault
+verify_faults = payload_faults ++ fault.CannotUpload ∷ fault.BadDescriptor ∷ []
+
+-- The first refusal of a download that is to be verified whose condition holds.
+abbrev pub first_verify_fault : Content → Functional → Ids → Option HostFault
+first_verify_fault file functional device = find (refuses_download file functional device) verify_faults

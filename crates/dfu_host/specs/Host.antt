@@ -1,11 +1,12 @@
 -- A host as one value, what it does, and what one more thing seen makes of it.
-use Rattle.std.specs.Prelude.{◌≡◌, ℕ, zero, suc, pred, max, List, [], ◌∷◌}
+use Rattle.std.specs.Prelude.{◌≡◌, ℕ, zero, suc, pred, max, Bool, true, false, IsTrue, List, [], ◌∷◌}
 use Rattle.dfu_wire.specs.declared.functionals.Functional.{Functional}
 use Rattle.dfu_host.specs.declared.limits.Limits.{Limits}
 use Rattle.dfu_host.specs.declared.report.Report.TheVariants as report
 use Rattle.dfu_host.specs.declared.action.Action.{Action}
 use Rattle.dfu_host.specs.declared.seen.Seen.{Seen}
-use Rattle.dfu_host.specs.Table.{Goal, Task, Phase, Find, FindAgain, Detach, Enter, Clear, Quit, WaitFind, ResetFind, Block, Ask, Poll, WaitPoll, Close, AskLast, Manifest, WaitManifest, WaitLast, Trouble, Fetch, LastUploaded, Last, GiveUp, Over, OverUploaded, deed, Heard, Restarted, row, task_after}
+use Rattle.dfu_host.specs.Phases.{Goal, Task, Phase, Find, FindAgain, Detach, Enter, Clear, Quit, WaitFind, ResetFind, Block, Ask, Poll, WaitPoll, Close, AskLast, Manifest, WaitManifest, WaitLast, Trouble, Fetch, LastUploaded, Compare, Last, GiveUp, Over, OverUploaded, Heard, NoRoom, Restarted}
+use Rattle.dfu_host.specs.Table.{deed, row, task_after}
 use Rattle.dfu_host.specs.Wire.{Hears, Spells}
 
 -- A host: its task, its phase, the actions that it has left, and the restarts of its device that it still takes.
@@ -55,6 +56,7 @@ IsOn (WaitLast poll) = Unit {0}
 IsOn Trouble = Unit {0}
 IsOn (Fetch k kept) = Unit {0}
 IsOn (LastUploaded kept) = Unit {0}
+IsOn (Compare k) = Unit {0}
 IsOn (Last report) = Unit {0}
 IsOn GiveUp = Unit {0}
 IsOn (Over report) = ⊥
@@ -117,10 +119,17 @@ aborted h = aborted_in h h.phase
 abbrev pub Act : HostState → Action → Type 0
 Act h action = Spells (deed h.task h.phase) action
 
--- What a host becomes by what it sees: the bytes are understood as its action says, and the table gives the rest.
+-- A phase that keeps what it asks for, and so wants memory: of an upload alone.
+abbrev pub wants_memory : Phase → Bool
+wants_memory (Fetch k kept) = true
+wants_memory phase = false
+
+-- What a host becomes by what it sees: the bytes are understood as its action says, with no want of memory but where the phase wants some,
+-- and the table gives the rest.
 pub record HostRow (h : HostState) (seen : Seen) (h' : HostState) : Type 0 where
   pub heard : Heard
   pub hears : Hears (deed h.task h.phase) seen heard
+  pub room : heard ≡ NoRoom → IsTrue (wants_memory h.phase)
   pub same : h' ≡ after h heard
 
 -- A host sees these, one after the other, and becomes what each makes of it.

@@ -1,10 +1,11 @@
--- How a session comes to report Installed.
-use Rattle.std.specs.Prelude.{◌≡◌, ◌⊎◌, ℕ, true}
+-- How a session comes to report Installed, and Verified.
+use Rattle.std.specs.Prelude.{◌≡◌, ◌⊎◌, ℕ, ◌<◌, true, List, [], length, slice_index_or}
 use Rattle.dfu_wire.specs.declared.codes.Code.TheVariants as code
 use Rattle.dfu_wire.specs.declared.states.State.TheVariants as state
 use Rattle.dfu_host.specs.declared.report.Report.{Report}
 use Rattle.dfu_host.specs.declared.report.Report.TheVariants as report
-use Rattle.dfu_host.specs.Table.{Task, Phase, Find, FindAgain, Detach, Enter, Clear, Quit, WaitFind, ResetFind, Block, Ask, Poll, WaitPoll, Close, AskLast, Manifest, WaitManifest, WaitLast, Trouble, Fetch, LastUploaded, Last, GiveUp, Over, OverUploaded, Heard, Status, row}
+use Rattle.dfu_host.specs.Phases.{Task, Phase, Find, FindAgain, Detach, Enter, Clear, Quit, WaitFind, ResetFind, Block, Ask, Poll, WaitPoll, Close, AskLast, Manifest, WaitManifest, WaitLast, Trouble, Fetch, LastUploaded, Compare, Last, GiveUp, Over, OverUploaded, Heard, Status, Part}
+use Rattle.dfu_host.specs.Table.{pieces, row}
 
 -- The report says that the payload is in place.
 abbrev pub IsInstalled : Report → Type 0
@@ -17,33 +18,50 @@ IsInstalled report.RestartsSpent = ⊥
 IsInstalled report.Uploaded = ⊥
 IsInstalled report.TooManyBlocks = ⊥
 IsInstalled report.NoMemory = ⊥
+IsInstalled report.Verified = ⊥
+IsInstalled report.Different = ⊥
 
--- The session is about to report Installed, or reports it.
-abbrev pub IsInstalling : Phase → Type 0
-IsInstalling Find = ⊥
-IsInstalling FindAgain = ⊥
-IsInstalling Detach = ⊥
-IsInstalling Enter = ⊥
-IsInstalling Clear = ⊥
-IsInstalling Quit = ⊥
-IsInstalling (WaitFind poll) = ⊥
-IsInstalling ResetFind = ⊥
-IsInstalling (Block n) = ⊥
-IsInstalling (Ask n) = ⊥
-IsInstalling (Poll n) = ⊥
-IsInstalling (WaitPoll n poll) = ⊥
-IsInstalling Close = ⊥
-IsInstalling AskLast = ⊥
-IsInstalling Manifest = ⊥
-IsInstalling (WaitManifest poll) = ⊥
-IsInstalling (WaitLast poll) = ⊥
-IsInstalling Trouble = ⊥
-IsInstalling (Fetch k kept) = ⊥
-IsInstalling (LastUploaded kept) = ⊥
-IsInstalling (Last report) = IsInstalled report
-IsInstalling GiveUp = ⊥
-IsInstalling (Over report) = IsInstalled report
-IsInstalling (OverUploaded kept) = ⊥
+-- The report says that the device gave the payload back.
+abbrev pub IsVerified : Report → Type 0
+IsVerified report.Verified = Unit {0}
+IsVerified report.Installed = ⊥
+IsVerified report.Unconfirmed = ⊥
+IsVerified report.Aborted = ⊥
+IsVerified report.GaveUp = ⊥
+IsVerified (report.Refused code) = ⊥
+IsVerified report.RestartsSpent = ⊥
+IsVerified report.Uploaded = ⊥
+IsVerified report.TooManyBlocks = ⊥
+IsVerified report.NoMemory = ⊥
+IsVerified report.Different = ⊥
+
+-- The session is about to end with such a report, or has ended so.
+abbrev pub IsEnding : (Report → Type 0) → Phase → Type 0
+IsEnding P Find = ⊥
+IsEnding P FindAgain = ⊥
+IsEnding P Detach = ⊥
+IsEnding P Enter = ⊥
+IsEnding P Clear = ⊥
+IsEnding P Quit = ⊥
+IsEnding P (WaitFind poll) = ⊥
+IsEnding P ResetFind = ⊥
+IsEnding P (Block n) = ⊥
+IsEnding P (Ask n) = ⊥
+IsEnding P (Poll n) = ⊥
+IsEnding P (WaitPoll n poll) = ⊥
+IsEnding P Close = ⊥
+IsEnding P AskLast = ⊥
+IsEnding P Manifest = ⊥
+IsEnding P (WaitManifest poll) = ⊥
+IsEnding P (WaitLast poll) = ⊥
+IsEnding P Trouble = ⊥
+IsEnding P (Fetch k kept) = ⊥
+IsEnding P (LastUploaded kept) = ⊥
+IsEnding P (Compare k) = ⊥
+IsEnding P (Last report) = P report
+IsEnding P GiveUp = ⊥
+IsEnding P (Over report) = P report
+IsEnding P (OverUploaded kept) = ⊥
 
 -- A tolerant device told after the close that it stands in dfuIDLE with OK.
 pub record IsConfirmed (task : Task) (phase : Phase) (heard : Heard) : Type 0 where
@@ -56,4 +74,19 @@ pub record IsConfirmed (task : Task) (phase : Phase) (heard : Heard) : Type 0 wh
 abbrev pub OnlyConfirmed : Type 0
 OnlyConfirmed =
     (task : Task) (phase : Phase) (heard : Heard)
-    → IsInstalling (row task phase heard) → (IsInstalling phase) ⊎ IsConfirmed task phase heard
+    → IsEnding IsInstalled (row task phase heard) → (IsEnding IsInstalled phase) ⊎ IsConfirmed task phase heard
+
+-- Where the image is compared, the last of the payload came back: its shorter block, or nothing behind its last full one.
+pub record IsMatched (task : Task) (phase : Phase) (heard : Heard) : Type 0 where
+  pub k : ℕ
+  pub bytes : List ℕ
+  pub compares : phase ≡ Compare k
+  pub came : heard ≡ Part bytes
+  pub same : bytes ≡ slice_index_or (pieces task) k []
+  pub last : length bytes < task.transfer
+
+-- No row leads to Verified but the one where the last of the payload came back.
+abbrev pub OnlyMatched : Type 0
+OnlyMatched =
+    (task : Task) (phase : Phase) (heard : Heard)
+    → IsEnding IsVerified (row task phase heard) → (IsEnding IsVerified phase) ⊎ IsMatched task phase heard

@@ -1,11 +1,13 @@
 pub mod Blocks
 pub mod BlockLaws
+pub mod Phases
 pub mod Table
 pub mod Clean
 pub mod Wire
 pub mod Host
 pub mod Download
 pub mod Installing
+pub mod Verifying
 pub mod Budget
 pub mod Aborting
 pub mod WireLaws

@@ -4,7 +4,8 @@ use Rattle.dfu_wire.specs.declared.codes.Code.{Code}
 use Rattle.dfu_wire.specs.declared.codes.Code.TheVariants as code
 use Rattle.dfu_wire.specs.declared.states.State.{State}
 use Rattle.dfu_wire.specs.declared.states.State.TheVariants as state
-use Rattle.dfu_host.specs.Table.{Task, Phase, Find, FindAgain, Detach, Enter, Clear, Quit, WaitFind, ResetFind, Trouble, GiveUp, Heard, Acked, Status, StateIs, Stalled, Waited, WasReset, start_of, listed, troubled, on_status, on_state, on_ack, on_waited, on_reset, row}
+use Rattle.dfu_host.specs.Phases.{Task, Phase, Find, FindAgain, Detach, Enter, Clear, Quit, WaitFind, ResetFind, Trouble, GiveUp, Heard, Acked, Status, StateIs, Stalled, Waited, WasReset}
+use Rattle.dfu_host.specs.Table.{start_of, listed, troubled, on_status, on_state, on_ack, on_waited, on_reset, row}
 use Rattle.dfu_host.specs.CommonPhases.{IsCommon, IsSeeking, CommonHolds}
 
 module _ (P : Phase → Type 0) where

@@ -1,84 +1,29 @@
 -- The host's table: what a host does in each phase, and which phase follows what is heard.
 use Rattle.std.specs.Prelude.{ℕ, zero, suc, ◌%◌, ◌==◌, nat_lt, max, Bool, true, false, if◌then◌else◌, List, [], ◌++◌, length, slice_index_or}
+use Rattle.std.specs.Str.{bytes_eq}
 use Rattle.dfu_wire.specs.declared.codes.Code.{Code}
 use Rattle.dfu_wire.specs.declared.codes.Code.TheVariants as code
 use Rattle.dfu_wire.specs.declared.states.State.{State}
 use Rattle.dfu_wire.specs.declared.states.State.TheVariants as state
-use Rattle.dfu_wire.specs.declared.requests.Request.{Request}
 use Rattle.dfu_wire.specs.declared.requests.Request.TheVariants as request
 use Rattle.dfu_host.specs.declared.report.Report.{Report}
 use Rattle.dfu_host.specs.declared.report.Report.TheVariants as report
 use Rattle.dfu_host.specs.Blocks.{blocks}
-
--- What a session is for: to install a payload, or to fetch the active image.
-pub data Goal : Type 0 where
-  ToLoad : (payload : List ℕ) → Goal
-  ToFetch : Goal
-
--- What a session is to do, and what its device's descriptor says.
-pub record Task : Type 0 where
-  pub goal : Goal
-  pub transfer : ℕ
-  pub tolerant : Bool
-  pub will_detach : Bool
-  pub detach_ms : ℕ
-
--- The phases of a session, with what each keeps. Block, Ask and Poll count blocks from 0; Fetch keeps what was uploaded.
-pub data Phase : Type 0 where
-  Find : Phase
-  FindAgain : Phase
-  Detach : Phase
-  Enter : Phase
-  Clear : Phase
-  Quit : Phase
-  WaitFind : (poll : ℕ) → Phase
-  ResetFind : Phase
-  Block : (n : ℕ) → Phase
-  Ask : (n : ℕ) → Phase
-  Poll : (n : ℕ) → Phase
-  WaitPoll : (n poll : ℕ) → Phase
-  Close : Phase
-  AskLast : Phase
-  Manifest : Phase
-  WaitManifest : (poll : ℕ) → Phase
-  WaitLast : (poll : ℕ) → Phase
-  Trouble : Phase
-  Fetch : (k : ℕ) (kept : List ℕ) → Phase
-  LastUploaded : (kept : List ℕ) → Phase
-  Last : Report → Phase
-  GiveUp : Phase
-  Over : Report → Phase
-  OverUploaded : (kept : List ℕ) → Phase
-
--- What a host does, of which the code's `Action` is the spelling: it sends a request with its body, waits, resets the bus, or is done.
-pub data Deed : Type 0 where
-  Send : (request : Request) (body : List ℕ) → Deed
-  Wait : (ms : ℕ) → Deed
-  Reset : Deed
-  Done : Report → Deed
-
--- What a host understands of what it sees. NoRoom is a part of an upload that found no memory.
-pub data Heard : Type 0 where
-  Acked : Heard
-  Status : Code → (poll : ℕ) → State → Heard
-  StateIs : State → Heard
-  Part : (bytes : List ℕ) → Heard
-  NoRoom : Heard
-  Stalled : Heard
-  Nothing : Heard
-  Waited : Heard
-  WasReset : Heard
-  Restarted : Heard
+pub use Rattle.dfu_host.specs.Phases.{Goal, ToLoad, ToFetch, ToVerify, ToCompare, Task, Phase, Find, FindAgain, Detach, Enter, Clear, Quit, WaitFind, ResetFind, Block, Ask, Poll, WaitPoll, Close, AskLast, Manifest, WaitManifest, WaitLast, Trouble, Fetch, LastUploaded, Compare, Last, GiveUp, Over, OverUploaded, Deed, Send, Wait, Reset, Done, Heard, Acked, Status, StateIs, Part, NoRoom, Stalled, Nothing, Waited, WasReset, Restarted}
 
 -- The phase in which the work begins once the device is in dfuIDLE.
 abbrev pub start_of : Goal → Phase
 start_of (ToLoad payload) = Block 0
 start_of ToFetch = Fetch 0 []
+start_of (ToVerify payload) = Block 0
+start_of (ToCompare payload) = Compare 0
 
--- The blocks of t bytes that a session with this goal sends.
+-- The blocks of t bytes of a session's payload; an upload has none.
 abbrev pub blocks_of : Goal → ℕ → List (List ℕ)
 blocks_of (ToLoad payload) t = blocks payload t
 blocks_of ToFetch t = []
+blocks_of (ToVerify payload) t = blocks payload t
+blocks_of (ToCompare payload) t = blocks payload t
 
 -- The blocks of a session, cut by its transfer size.
 abbrev pub pieces : Task → List (List ℕ)
@@ -118,6 +63,7 @@ deed task (WaitLast poll) = Wait poll
 deed task Trouble = get_status
 deed task (Fetch k kept) = Send (request.Upload (k % 65536) task.transfer) []
 deed task (LastUploaded kept) = Reset
+deed task (Compare k) = Send (request.Upload (k % 65536) task.transfer) []
 deed task (Last report) = Reset
 deed task GiveUp = Send request.Abort []
 deed task (Over report) = Done report
@@ -183,6 +129,20 @@ fetched t k kept bytes =
     else if nat_lt (length bytes) t then LastUploaded (kept ++ bytes)
     else Find
 
+-- Compare: an answer that is the block of that number, or none where there is no such block, or another answer, or one that is too long.
+-- A shorter one than a full one is the image's last.
+abbrev pub compared : (t k : ℕ) → (block bytes : List ℕ) → Phase
+compared t k block bytes =
+    if nat_lt t (length bytes) then Find
+    else if bytes_eq bytes block then (if nat_lt (length bytes) t then Last report.Verified
+    else if suc k == 65535 then Over report.TooManyBlocks else Compare (suc k))
+    else Last report.Different
+
+-- What follows the last reset: the report, or, where the payload is to be compared, a new beginning.
+abbrev pub after_last : Goal → Report → Phase
+after_last (ToVerify payload) report = Find
+after_last goal report = Over report
+
 -- What follows GETSTATUS: by the status, by a stall, or by nothing, which is all else that is heard.
 abbrev pub on_status : Heard → (Code → ℕ → State → Phase) → (stalled nothing : Phase) → Phase
 on_status (Status c poll s) told stalled nothing = told c poll s
@@ -217,6 +177,11 @@ on_part t k kept (Part bytes) = fetched t k kept bytes
 on_part t k kept NoRoom = Over report.NoMemory
 on_part t k kept heard = Find
 
+-- What follows UPLOAD where the image is compared: by the bytes. All else that is heard goes to Find.
+abbrev pub on_compared : (t k : ℕ) → (block : List ℕ) → Heard → Phase
+on_compared t k block (Part bytes) = compared t k block bytes
+on_compared t k block heard = Find
+
 -- The table, but for a restart of the device and the budget: the phase that follows.
 abbrev pub row : Task → Phase → Heard → Phase
 row task Find heard = on_status heard (λ c poll s. listed (start_of task.goal) s poll) FindAgain Find
@@ -239,11 +204,22 @@ row task (WaitLast poll) heard = on_waited heard (Last report.Unconfirmed) (Wait
 row task Trouble heard = on_status heard (troubled (start_of task.goal)) FindAgain Trouble
 row task (Fetch k kept) heard = on_part task.transfer k kept heard
 row task (LastUploaded kept) heard = on_reset heard (OverUploaded kept) (LastUploaded kept)
-row task (Last report) heard = on_reset heard (Over report) (Last report)
+row task (Compare k) heard = on_compared task.transfer k (slice_index_or (pieces task) k []) heard
+row task (Last report) heard = on_reset heard (after_last task.goal report) (Last report)
 row task GiveUp heard = Over report.Aborted
 row task (Over report) heard = Over report
 row task (OverUploaded kept) heard = OverUploaded kept
 
--- The task that follows, beside the phase: a session's task stays, in each phase and whatever is heard.
+-- The goal of a session whose last reset was done: what was to be verified is compared from then on.
+abbrev pub checked : Goal → Goal
+checked (ToVerify payload) = ToCompare payload
+checked goal = goal
+
+-- The goal that follows, beside the phase: it stays, but after the last reset.
+abbrev pub goal_after : Goal → Phase → Heard → Goal
+goal_after goal (Last report) WasReset = checked goal
+goal_after goal phase heard = goal
+
+-- The task that follows, beside the phase: all of it but the goal stays.
 abbrev pub task_after : Task → Phase → Heard → Task
-task_after task phase heard = task
+task_after task phase heard = record task { goal = goal_after task.goal phase heard }

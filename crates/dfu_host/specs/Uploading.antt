@@ -5,7 +5,7 @@ use Rattle.dfu_host.specs.declared.fault.HostFault.{HostFault}
 use Rattle.dfu_host.specs.declared.fault.HostFault.TheVariants as fault
 use Rattle.dfu_host.specs.declared.seen.Seen.{Seen}
 use Rattle.dfu_host.specs.declared.seen.Seen.TheVariants as seen
-use Rattle.dfu_host.specs.Table.{Phase, ToFetch, Find, FindAgain, Detach, Enter, Clear, Quit, WaitFind, ResetFind, Block, Ask, Poll, WaitPoll, Close, AskLast, Manifest, WaitManifest, WaitLast, Trouble, Fetch, LastUploaded, Last, GiveUp, Over, OverUploaded, Part, NoRoom}
+use Rattle.dfu_host.specs.Phases.{Phase, ToFetch, Find, FindAgain, Detach, Enter, Clear, Quit, WaitFind, ResetFind, Block, Ask, Poll, WaitPoll, Close, AskLast, Manifest, WaitManifest, WaitLast, Trouble, Fetch, LastUploaded, Compare, Last, GiveUp, Over, OverUploaded, Part, NoRoom}
 use Rattle.dfu_host.specs.Wire.{NeedsRoom}
 use Rattle.dfu_host.specs.Host.{HostState, after}
 
@@ -37,7 +37,7 @@ TakesAsPart h k seen.Waited h' = Unit {0}
 TakesAsPart h k seen.WasReset h' = Unit {0}
 TakesAsPart h k seen.Restarted h' = Unit {0}
 
--- What is seen where a part was asked for is taken as that part. Of the phases that ask for none nothing is said here.
+-- What is seen where a part is fetched is taken as that part. Of the phases that fetch none nothing is said here.
 abbrev pub TakesPart : HostState → Phase → Seen → HostState → Type 0
 TakesPart h Find seen h' = Unit {0}
 TakesPart h FindAgain seen h' = Unit {0}
@@ -59,6 +59,7 @@ TakesPart h (WaitLast poll) seen h' = Unit {0}
 TakesPart h Trouble seen h' = Unit {0}
 TakesPart h (Fetch k kept) seen h' = TakesAsPart h k seen h'
 TakesPart h (LastUploaded kept) seen h' = Unit {0}
+TakesPart h (Compare k) seen h' = Unit {0}
 TakesPart h (Last report) seen h' = Unit {0}
 TakesPart h GiveUp seen h' = Unit {0}
 TakesPart h (Over report) seen h' = Unit {0}
@@ -87,6 +88,7 @@ kept_in (WaitLast poll) = []
 kept_in Trouble = []
 kept_in (Fetch k kept) = kept
 kept_in (LastUploaded kept) = kept
+kept_in (Compare k) = []
 kept_in (Last report) = []
 kept_in GiveUp = []
 kept_in (Over report) = []

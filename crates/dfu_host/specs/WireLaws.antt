@@ -9,7 +9,7 @@ use Rattle.dfu_wire.specs.Status.{StatusFields, IsStatus}
 use Rattle.dfu_wire.specs.OneStatus.{IsStatus-one}
 use Rattle.dfu_host.specs.declared.seen.Seen.{Seen}
 use Rattle.dfu_host.specs.declared.seen.Seen.TheVariants as seen
-use Rattle.dfu_host.specs.Table.{Deed, Send, Wait, Reset, Done, Heard, Status, StateIs, Nothing}
+use Rattle.dfu_host.specs.Phases.{Deed, Send, Wait, Reset, Done, Heard, Status, StateIs, Nothing}
 use Rattle.dfu_host.specs.Wire.{ReadsStatus, ReadsState, Reads, HearsBytes, Hears}
 
 -- Bytes that spell a status are understood as that status.

@@ -37,7 +37,7 @@ impl<'f> Task<'f> {
             | Phase::WaitPoll(_, poll_ms)
             | Phase::WaitManifest(poll_ms)
             | Phase::WaitLast(poll_ms) => Action::Wait(poll_ms),
-            Phase::Fetch(block) => {
+            Phase::Fetch(block) | Phase::Compare(block) => {
                 let length = self.transfer;
                 send(Request::Upload { block, length }, &[])
             }

@@ -5,6 +5,7 @@ ghost use Rattle.dfu_host.specs.inside.Goals.{goal_of};
 ghost use Rattle.dfu_host.specs.Table as table;
 ghost use Rattle.dfu_host.specs.inside.View.{IsWithin, heard_of, phase_of, task_of};
 
+use crate::goal::Goal;
 use crate::heard::Heard;
 use crate::phase::Phase;
 use crate::report::Report;
@@ -76,14 +77,17 @@ impl Task<'_> {
         }
     }
 
-    /// The last reset.
+    /// The last reset, and then the report, or the comparison.
     pub(crate) fn after_last(&self, report: Report, heard: Heard) -> Phase
         ensures next { (memory part : List ℕ)
             → phase_of memory result ≡ table.row (task_of self.now) (table.Last report) (heard_of part heard) }
         ensures within { IsWithin self.now result }
     {
         match heard {
-            Heard::WasReset => Phase::Over(report),
+            Heard::WasReset => match &self.goal {
+                Goal::Verify(_) => Phase::Find,
+                _ => Phase::Over(report),
+            },
             _ => Phase::Last(report),
         }
     }

@@ -13,8 +13,9 @@ use crate::phase::Phase;
 use crate::report::Report;
 use crate::task::Task;
 
-/// After so many full parts an upload ends without its image. The limit is this project's own.
-const MOST_PARTS: u16 = 65_535;
+/// After so many full parts an upload ends without its image, and a comparison without its verdict.
+/// The limit is this project's own.
+pub(crate) const MOST_PARTS: u16 = 65_535;
 
 impl Task<'_> {
     /// Keeps a part of the image: it joins what was kept since the fetching began, unless it is
@@ -45,7 +46,7 @@ impl Task<'_> {
                     Err(_) => Heard::NoRoom,
                 }
             }
-            Goal::Load(_) => unreachable!(),
+            _ => unreachable!(),
         }
     }
 

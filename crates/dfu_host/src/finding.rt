@@ -14,7 +14,7 @@ use dfu_wire::{State, Status};
 
 impl Task<'_> {
     /// The phase in which the work begins once the device is in dfuIDLE. A payload has a first
-    /// block; of an image nothing is kept yet.
+    /// block; of an image nothing is kept or compared yet.
     fn start(&self) -> Phase
         ensures next { (memory : List ℕ) → phase_of memory result ≡ table.start_of (goal_of self.now.goal) }
         ensures within { IsWithin self.now result }
@@ -22,6 +22,8 @@ impl Task<'_> {
         match &self.goal {
             Goal::Load(_) => Phase::Block(0),
             Goal::Fetch(_) => Phase::Fetch(0),
+            Goal::Verify(_) => Phase::Block(0),
+            Goal::Compare(_) => Phase::Compare(0),
         }
     }
 

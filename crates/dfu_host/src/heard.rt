@@ -2,6 +2,7 @@
 
 ghost use Rattle.std.specs.Prelude.{◌≡◌, List, ℕ};
 ghost use Rattle.dfu_host.specs.inside.Goals.{memory_of};
+ghost use Rattle.dfu_host.specs.inside.Comparing.{Compares};
 ghost use Rattle.dfu_host.specs.inside.Keeping.{Keeps, RefusedRoom};
 ghost use Rattle.dfu_host.specs.Table.{deed};
 ghost use Rattle.dfu_host.specs.inside.View.{IsWithin, heard_of, part_of, phase_of, task_of};
@@ -22,6 +23,8 @@ pub(crate) enum Heard {
     StateIs(State),
     /// A part of an upload, of so many bytes. It is kept by now.
     Part(usize),
+    /// A part of an image that is compared, of so many bytes, and whether it is the payload's.
+    Compared { same: bool, len: usize },
     /// A part of an upload for which there was no memory.
     NoRoom,
     Stalled,
@@ -33,7 +36,8 @@ pub(crate) enum Heard {
 
 impl Task<'_> {
     /// What is understood of what is seen in a phase: bytes are read as the answer to the phase's
-    /// request, and where they are none, it is as if nothing came. A part of an upload is kept.
+    /// request, and where they are none, it is as if nothing came. A part of an upload is kept, one
+    /// of a comparison compared.
     pub(crate) fn hear(&mut self, phase: Phase, seen: Seen<'_>) -> Heard
         requires { IsWithin self.old phase }
         ensures task { task_of self.new ≡ task_of self.old }
@@ -41,6 +45,7 @@ impl Task<'_> {
         ensures hears { Hears (deed (task_of self.old) (phase_of (memory_of self.old.goal) phase)) seen.entry
             (heard_of (part_of seen.entry) result) }
         ensures keeps { Keeps self.old.transfer (memory_of self.old.goal) phase (part_of seen.entry) result (memory_of self.new.goal) }
+        ensures compares { Compares (task_of self.old) phase (part_of seen.entry) result }
         ensures room { RefusedRoom self.old phase (part_of seen.entry) result }
     {
         match seen {
@@ -62,6 +67,7 @@ impl Task<'_> {
         ensures hears { HearsBytes (deed (task_of self.old) (phase_of (memory_of self.old.goal) phase)) bytes.now
             (heard_of bytes.now result) }
         ensures keeps { Keeps self.old.transfer (memory_of self.old.goal) phase bytes.now result (memory_of self.new.goal) }
+        ensures compares { Compares (task_of self.old) phase bytes.now result }
         ensures room { RefusedRoom self.old phase bytes.now result }
     {
         match phase {
@@ -70,6 +76,7 @@ impl Task<'_> {
             }
             Phase::Ask(_) | Phase::AskLast => state_in(bytes),
             Phase::Fetch(number) => self.keep(number, bytes),
+            Phase::Compare(number) => self.compare(number, bytes),
             _ => Heard::Nothing,
         }
     }

@@ -8,8 +8,8 @@ use crate::goal::Goal;
 use crate::limits::Limits;
 use crate::phase::Phase;
 use crate::progress::{Progress, beginning};
+use crate::refusing::{gives_uploads, payload_for};
 use crate::seen::Seen;
-use crate::target::is_for;
 use crate::task::Task;
 use dfu_suffix::File;
 use dfu_wire::{Functional, Ids};
@@ -42,8 +42,8 @@ impl<'f> Model for Host<'f> {
 impl<'f> Host<'f> {
     ghost use Rattle.dfu_host.specs.Host.{Act, HostRow, IsOver, aborted, started};
     ghost use Rattle.dfu_host.specs.Budget.{is_done, takes_left};
-    ghost use Rattle.dfu_host.specs.Download.{first_download_fault};
-    ghost use Rattle.dfu_host.specs.Table.{ToFetch, ToLoad};
+    ghost use Rattle.dfu_host.specs.Download.{first_download_fault, first_verify_fault};
+    ghost use Rattle.dfu_host.specs.Phases.{ToFetch, ToLoad, ToVerify};
     ghost use Rattle.dfu_host.specs.Uploading.{TakesPart, first_upload_fault, kept_in};
     ghost use Rattle.dfu_host.specs.inside.Goals.{goal_of, size_of};
     ghost use Rattle.dfu_host.specs.declared.fault.HostFault.{HostFault};
@@ -66,20 +66,38 @@ impl<'f> Host<'f> {
         ensures refused { (fault : HostFault) → (result ≡ Err fault) ↔ (first_download_fault file.now functional.now device ≡ Some fault) }
         ensures started { IfOk result (λ h. h ≡ started functional.now (ToLoad file.now.payload) limits) }
     {
-        let payload = file.payload();
-        if payload.is_empty() {
-            return Err(HostFault::EmptyPayload);
-        }
-        if !is_for(file.ids(), device) {
-            return Err(HostFault::WrongTarget);
-        }
-        if !functional.can_download {
-            return Err(HostFault::CannotDownload);
-        }
+        let payload = payload_for(file, functional, device)?;
         if functional.transfer == 0 {
             return Err(HostFault::BadDescriptor);
         }
         Ok(Host::begin(Goal::Load(payload), functional, limits))
+    }
+
+    /// A host that is to install a file on the device with this descriptor and these identifiers,
+    /// as `download` has it, and then, after its last reset, to ask for the active image and compare
+    /// it with the payload, so that its report is neither Installed nor Unconfirmed, but Verified
+    /// or Different. It borrows the file's payload, takes no memory, and takes a transfer size of
+    /// 1 to 65,535. A payload of more than 65,534 full blocks ends as TooManyBlocks.
+    ///
+    /// The faults, in the order in which they are looked for:
+    ///
+    /// 1. `EmptyPayload`: the payload has no bytes.
+    /// 2. `WrongTarget`: the file's vendor or product is neither FFFFh nor the device's.
+    /// 3. `CannotDownload`: the descriptor has bitCanDnload 0.
+    /// 4. `CannotUpload`: the descriptor has bitCanUpload 0.
+    /// 5. `BadDescriptor`: the descriptor's transfer size is 0.
+    pub fn download_verified(
+        file: &File<'f>,
+        functional: &Functional,
+        device: Ids,
+        limits: Limits,
+    ) -> Result<Host<'f>, HostFault>
+        ensures refused { (fault : HostFault) → (result ≡ Err fault) ↔ (first_verify_fault file.now functional.now device ≡ Some fault) }
+        ensures started { IfOk result (λ h. h ≡ started functional.now (ToVerify file.now.payload) limits) }
+    {
+        let payload = payload_for(file, functional, device)?;
+        gives_uploads(functional)?;
+        Ok(Host::begin(Goal::Verify(payload), functional, limits))
     }
 
     /// A host that is to fetch the active image of the device with this descriptor. It keeps the
@@ -97,12 +115,7 @@ impl<'f> Host<'f> {
         ensures refused { (fault : HostFault) → (result ≡ Err fault) ↔ (first_upload_fault functional.now ≡ Some fault) }
         ensures started { IfOk result (λ h. h ≡ started functional.now ToFetch limits) }
     {
-        if !functional.can_upload {
-            return Err(HostFault::CannotUpload);
-        }
-        if functional.transfer == 0 {
-            return Err(HostFault::BadDescriptor);
-        }
+        gives_uploads(functional)?;
         Ok(Host::begin(Goal::Fetch(Vec::new(alloc)), functional, limits))
     }
 
@@ -146,7 +159,7 @@ impl<'f> Host<'f> {
     {
         let phase = self.progress.phase;
         let heard = self.task.hear(phase, seen);
-        self.progress = self.progress.after(&self.task, heard);
+        self.progress = self.progress.after(&mut self.task, heard);
     }
 
     /// Gives the session up: what the host wants next is ABORT, and whatever comes of it, the

@@ -5,7 +5,8 @@ ghost use Rattle.dfu_host.specs.Aborting.{EndsAborted, SpendsNothing};
 ghost use Rattle.dfu_host.specs.BlockLaws.{OneCut};
 ghost use Rattle.dfu_host.specs.Budget.{DoneInTime, StaysDone};
 ghost use Rattle.dfu_host.specs.Counting.{StaysCounted};
-ghost use Rattle.dfu_host.specs.Installing.{OnlyConfirmed};
+ghost use Rattle.dfu_host.specs.Installing.{OnlyConfirmed, OnlyMatched};
+ghost use Rattle.dfu_host.specs.Verifying.{ReportsItsOwn};
 ghost use Rattle.dfu_host.specs.WireLaws.{OneMeaning, StateUnderstood, StatusUnderstood};
 
 /// A payload is cut into blocks in one way: the pieces that joined give it, each of the transfer
@@ -40,6 +41,19 @@ pub fn understood_as_meant()
 /// close, that it stands in dfuIDLE with OK.
 pub fn installed_once_confirmed()
     ensures { OnlyConfirmed }
+{}
+
+/// No row of the table leads to Verified but the one where the last of the payload comes back: its
+/// shorter block, or nothing behind its last full one.
+pub fn verified_once_compared()
+    ensures { OnlyMatched }
+{}
+
+/// Whatever is seen, a session that verifies what it installs goes on with its payload, and is over
+/// with no report of an upload or of a download that isn't verified: neither Installed nor
+/// Unconfirmed.
+pub fn verified_reports_its_own()
+    ensures { ReportsItsOwn }
 {}
 
 /// Whatever is seen, an upload that fetches part k has kept k full parts, and one that ends as

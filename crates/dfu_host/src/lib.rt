@@ -7,6 +7,7 @@
 
 mod action;
 mod asking;
+mod comparing;
 mod ending;
 mod fault;
 mod fetching;
@@ -18,6 +19,7 @@ pub mod laws;
 mod limits;
 mod phase;
 mod progress;
+mod refusing;
 mod report;
 mod row;
 mod seen;

@@ -44,7 +44,9 @@ pub(crate) enum Phase {
     Trouble,
     /// Ask for the part of the image with this number, 0 to 65,534.
     Fetch(u16),
-    /// The last reset, and then the report.
+    /// Ask for the part of the image with this number, 0 to 65,534, and compare it.
+    Compare(u16),
+    /// The last reset, and then the report, or the comparison.
     Last(Report),
     /// The last reset, with all that was fetched kept.
     LastUploaded,

@@ -1,11 +1,12 @@
 //! How far a session has come: its phase, the budget of actions, and the count of restarts.
 
-ghost use Rattle.std.specs.Prelude.{◌≡◌, List, ℕ, max};
+ghost use Rattle.std.specs.Prelude.{◌≡◌, if◌then◌else◌, List, ℕ, max};
 ghost use Rattle.dfu_host.specs.inside.Goals.{memory_of};
 ghost use Rattle.dfu_host.specs.Host as host;
+ghost use Rattle.dfu_host.specs.inside.Comparing.{Compares};
 ghost use Rattle.dfu_host.specs.inside.Keeping.{Keeps};
 ghost use Rattle.dfu_host.specs.Table as table;
-ghost use Rattle.dfu_host.specs.inside.View.{IsWithin, heard_of, phase_of, state_of, state_with};
+ghost use Rattle.dfu_host.specs.inside.View.{IsWithin, heard_of, phase_of, state_of, state_with, task_of};
 ghost use Rattle.dfu_host.specs.declared.task.Task.{Task};
 
 use crate::heard::Heard;
@@ -36,13 +37,15 @@ pub(crate) fn beginning(limits: Limits) -> Progress
 }
 
 impl Progress {
-    /// Where the session stands after one action of which this was heard, and is kept.
-    pub(crate) fn after(self, task: &Task<'_>, heard: Heard) -> Progress
-        requires { IsWithin task.now self.phase }
+    /// Where the session stands after one action of which this was heard, and is kept; its task
+    /// goes on with it.
+    pub(crate) fn after(self, task: &mut Task<'_>, heard: Heard) -> Progress
+        requires { IsWithin task.old self.phase }
         ensures state { (memory part : List ℕ)
-            → Keeps task.now.transfer memory self.phase part heard (memory_of task.now.goal)
-            → state_of task.now result ≡ host.after (state_with memory task.now self) (heard_of part heard) }
-        ensures within { IsWithin task.now result.phase }
+            → Keeps task.old.transfer memory self.phase part heard (memory_of task.old.goal)
+            → Compares (task_of task.old) self.phase part heard
+            → state_of task.new result ≡ host.after (state_with memory task.old self) (heard_of part heard) }
+        ensures within { IsWithin task.new result.phase }
     {
         if let Phase::Over(_) | Phase::OverUploaded = self.phase {
             return self;
@@ -50,7 +53,10 @@ impl Progress {
         if let Heard::Restarted = heard {
             return self.restarted();
         }
-        self.spent(task.row(self.phase, heard), self.restarts)
+        let done = is_last_done(&self.phase, &heard);
+        let next = task.row(self.phase, heard);
+        task.go_on(done);
+        self.spent(next, self.restarts)
     }
 
     /// After a restart of the device.
@@ -81,6 +87,17 @@ impl Progress {
             actions,
             restarts,
         }
+    }
+}
+
+/// Whether this was the last reset, and it was done.
+fn is_last_done(phase: &Phase, heard: &Heard) -> bool
+    ensures { (goal : table.Goal) (memory part : List ℕ)
+        → table.goal_after goal (phase_of memory phase.now) (heard_of part heard.now) ≡ (if result then table.checked goal else goal) }
+{
+    match (phase, heard) {
+        (Phase::Last(_), Heard::WasReset) => true,
+        _ => false,
     }
 }
 

@@ -4,8 +4,8 @@ use dfu_wire::Code;
 
 /// How a session ended.
 ///
-/// Only [`Report::Installed`] says that the payload of this session is in place. All others
-/// leave open which image the device has.
+/// Only [`Report::Installed`] and [`Report::Verified`] say that the payload of this session is in
+/// place. All others leave open which image the device has.
 #[derive(Clone, Copy, Debug, PartialEq, Eq)]
 pub enum Report {
     /// A tolerant device took the whole payload, told after it that it stands in dfuIDLE with
@@ -26,8 +26,14 @@ pub enum Report {
     /// The parts came up to one that is shorter than the transfer size, which is the last. Of
     /// uploads alone.
     Uploaded,
-    /// 65,535 full parts came, which is more than an upload takes. Of uploads alone.
+    /// 65,535 full parts came, which is more than an upload or a comparison takes.
     TooManyBlocks,
     /// There was no memory for a part of the image. Of uploads alone.
     NoMemory,
+    /// After the last reset the device gave the whole payload back, and was reset once more. Of
+    /// downloads that are verified alone.
+    Verified,
+    /// After the last reset the device gave other bytes than the payload's. Of downloads that are
+    /// verified alone.
+    Different,
 }

@@ -2,6 +2,7 @@
 
 ghost use Rattle.std.specs.Prelude.{◌≡◌, List, ℕ};
 ghost use Rattle.dfu_host.specs.inside.Goals.{memory_of};
+ghost use Rattle.dfu_host.specs.inside.Comparing.{Compares};
 ghost use Rattle.dfu_host.specs.inside.Keeping.{Keeps};
 ghost use Rattle.dfu_host.specs.Table as table;
 ghost use Rattle.dfu_host.specs.inside.View.{IsWithin, heard_of, phase_of, task_of};
@@ -17,6 +18,7 @@ impl Task<'_> {
         requires { IsWithin self.now phase }
         ensures next { (memory part : List ℕ)
             → Keeps self.now.transfer memory phase part heard (memory_of self.now.goal)
+            → Compares (task_of self.now) phase part heard
             → phase_of (memory_of self.now.goal) result ≡ table.row (task_of self.now) (phase_of memory phase) (heard_of part heard) }
         ensures within { IsWithin self.now result }
     {
@@ -39,6 +41,7 @@ impl Task<'_> {
             Phase::WaitLast(poll_ms) => self.after_wait_last(poll_ms, heard),
             Phase::Trouble => self.after_trouble(heard),
             Phase::Fetch(number) => self.after_fetch(number, heard),
+            Phase::Compare(number) => self.after_compare(number, heard),
             Phase::Last(report) => self.after_last(report, heard),
             Phase::LastUploaded => self.after_last_uploaded(heard),
             Phase::GiveUp => Phase::Over(Report::Aborted),

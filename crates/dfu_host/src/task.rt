@@ -1,6 +1,6 @@
 //! What a session is to do.
 
-ghost use Rattle.std.specs.Prelude.{◌≡◌, ℕ, suc, ◌+◌, ◌*◌, ◌<◌, ◌^◌, ◌==◌, length, IsTrue, ◌↔◌, slice_index_or, []};
+ghost use Rattle.std.specs.Prelude.{◌≡◌, ℕ, suc, ◌+◌, ◌*◌, ◌<◌, ◌^◌, ◌==◌, length, IsTrue, ◌↔◌, slice_index_or, if◌then◌else◌, []};
 ghost use Rattle.dfu_host.specs.inside.Goals.{size_of};
 
 use crate::goal::Goal;
@@ -20,38 +20,40 @@ pub(crate) struct Task<'f> {
 }
 
 impl<'f> Task<'f> {
-    ghost use Rattle.dfu_host.specs.inside.Goals.{memory_of, payload_of};
+    ghost use Rattle.dfu_host.specs.inside.Goals.{goal_of, memory_of, payload_of};
     ghost use Rattle.dfu_host.specs.Table.{pieces};
-    ghost use Rattle.dfu_host.specs.inside.View.{task_of};
+    ghost use Rattle.dfu_host.specs.Table as table;
+    ghost use Rattle.dfu_host.specs.declared.phase.Phase.{Phase};
+    ghost use Rattle.dfu_host.specs.inside.View.{IsWithin, task_of};
 
-    /// The payload that is sent; an upload sends none.
+    /// The payload that is sent or compared; an upload has none.
     fn payload(&self) -> &'f [u8]
         ensures { result.now ≡ payload_of self.now.goal }
     {
         match &self.goal {
-            Goal::Load(payload) => payload,
+            Goal::Load(payload) | Goal::Verify(payload) | Goal::Compare(payload) => payload,
             Goal::Fetch(_) => &[],
         }
     }
 
-    /// The bytes in memory; a download has none.
+    /// The bytes in memory; only an upload has some.
     pub(crate) fn memory(&self) -> &[u8]
         ensures { result.now ≡ memory_of self.now.goal }
     {
         match &self.goal {
-            Goal::Load(_) => &[],
             Goal::Fetch(bytes) => bytes.as_slice(),
+            Goal::Load(_) | Goal::Verify(_) | Goal::Compare(_) => &[],
         }
     }
 
-    /// Block `number`, as a slice of the payload.
+    /// Block `number`, as a slice of the payload; it is empty where there is none.
     pub(crate) fn block(&self, number: usize) -> &'f [u8]
-        requires { number * self.now.transfer < length (payload_of self.now.goal) }
         ensures bytes { result.now ≡ slice_index_or (pieces (task_of self.now)) number [] }
         ensures fits { length result.now < 2 ^ 16 }
     {
         let transfer = self.transfer as usize;
-        let rest = &self.payload()[number * transfer..];
+        let payload = self.payload();
+        let rest = &payload[number.saturating_mul(transfer).min(payload.len())..];
         &rest[..transfer.min(rest.len())]
     }
 
@@ -63,6 +65,22 @@ impl<'f> Task<'f> {
     {
         let transfer = self.transfer as usize;
         self.payload().len() - number * transfer <= transfer
+    }
+
+    /// The task goes on: where the last reset was done, what was to be verified is compared.
+    pub(crate) fn go_on(&mut self, done: bool)
+        ensures task { task_of self.new
+            ≡ record (task_of self.old) { goal = if done then table.checked (goal_of self.old.goal) else goal_of self.old.goal } }
+        ensures within { (next : Phase) → IsWithin self.old next → IsWithin self.new next }
+        ensures memory { memory_of self.new.goal ≡ memory_of self.old.goal }
+    {
+        if !done {
+            return;
+        }
+        if let Goal::Verify(payload) = &self.goal {
+            let payload = *payload;
+            self.goal = Goal::Compare(payload);
+        }
     }
 
     /// How many blocks there are.

@@ -7,6 +7,7 @@ mod hostile;
 mod played;
 mod rows;
 mod uploads;
+mod verifying;
 
 use crate::{Action, Host, HostFault, Limits, Report, Seen};
 use dfu_suffix::read;
@@ -20,7 +21,7 @@ use played::{Step, follow, play, wants};
 use std::test::Fail;
 
 /// A clean download to a tolerant device.
-static CLEAN: [Step; 13] = [
+pub(crate) static CLEAN: [Step; 13] = [
     (GET_STATUS, APP_IDLE),
     (DETACH, Seen::Ack),
     (Action::Reset, Seen::WasReset),

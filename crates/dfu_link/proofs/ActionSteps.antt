@@ -2,14 +2,15 @@
 use Rattle.std.proofs.Common.{◌≡◌, ℕ, suc, ◌<◌, Bool, List, length, Option, Some, refl, sym, subst}
 use Rattle.dfu_device.specs.Stage.{Profile, InAppIdle}
 use Rattle.dfu_device.specs.Outcome.{Situation, Luck}
-use Rattle.dfu_host.specs.declared.report.Report.TheVariants.{Installed}
 use Rattle.dfu_host.specs.Blocks.{blocks, first}
-use Rattle.dfu_host.specs.Table.{Goal, ToLoad, ToFetch, Task, Phase, deed}
+use Rattle.dfu_host.specs.Phases.{Goal, ToLoad, ToFetch, ToVerify, ToCompare, Task, Phase, Deed}
+use Rattle.dfu_host.specs.Table.{deed, row, checked}
 use Rattle.dfu_host.specs.Host.{HostState, IsOn}
-use Rattle.dfu_link.specs.Session.{Machine, Live, Loading, Fetching, IsFirst, Begins, begins_not, takes, installs, Ends, ends_not, drops, Kind, AGo, Step, goes}
+use Rattle.dfu_link.specs.Session.{Machine, Live, Loading, IsFirst, SaysInPlace, Begins, begins_not, takes, installs, Ends, ends_not, drops, Kind, AGo, Step, goes}
 use Rattle.dfu_link.specs.Happening.{Fate}
-use Rattle.dfu_link.specs.Course.{course_of}
-use Rattle.dfu_link.specs.Play.{Link, given, Played, task_for, acted, gone}
+use Rattle.dfu_link.specs.Course.{Course, course_of}
+use Rattle.dfu_link.specs.Opening.{task_for}
+use Rattle.dfu_link.specs.Play.{Link, given, Played, Passed, acted, gone}
 use Rattle.dfu_link.specs.Bench.{Hosted}
 use Rattle.dfu_link.specs.LinkAgreement.{pending_of, IsSound}
 use Rattle.dfu_link.specs.Agreement.{live_goal, live_of, IsLiveOffer}
@@ -18,6 +19,10 @@ use Rattle.dfu_link.proofs.Quiet.{Quiet, stays, forgets, commits}
 use Rattle.dfu_link.proofs.Blocks.{ImageMoves, quietly, takes_block, loses_block}
 use Rattle.dfu_link.proofs.GoDownload.{go_download}
 use Rattle.dfu_link.proofs.GoUpload.{go_upload}
+use Rattle.dfu_link.proofs.Fates.{IfHeard, if_heard}
+use Rattle.dfu_link.proofs.GoCommon.{GoesQuietly}
+use Rattle.dfu_link.proofs.GoCompare.{go_compare}
+use Rattle.dfu_link.proofs.GoalLaws.{Next, goal_stays, same_deed, verify_next}
 use Rattle.dfu_link.proofs.Taking.{shown, goal_taken, task_by}
 
 record Moved (t : ℕ) (m m' : Machine) : Type 0 where
@@ -57,9 +62,49 @@ pub record Simulated (c : Profile) (offers : List (List ℕ)) (w : Link) (up : L
   pub sound : IsSound offers' r.link.device.stage
   pub offer : IsLiveOffer offers' (live_of r.link.session)
   pub fact : SessionFact c r.link.device r.link.session
-  pub done : r.answer.report ≡ Some Installed → r.link.device.stage ≡ InAppIdle
+  pub done : SaysInPlace r.answer.report → r.link.device.stage ≡ InAppIdle
 
 module _ (c : Profile) (sized : 0 < c.transfer) (offers : List (List ℕ)) where
+  -- What an action comes to by its fate: what is shown moves as it may, and what holds after what is heard.
+  record Comes (g : Goal) (phase : Phase) (s : Situation) (up : List ℕ) (d : Passed) : Type 0 where
+    moves : Moved c.transfer (shown offers s.image (pending_of s.stage) (live_goal g) up)
+        (shown offers d.device.image (pending_of d.device.stage) (live_goal g) up)
+    sound : IsSound offers d.device.stage
+    next : IfHeard d.heard (Next c g d.device phase)
+
+  comes_quietly : (g : Goal) (phase : Phase) (s : Situation) (up : List ℕ) (d : Passed)
+      → ((x : Phase) (y : Situation) → GoalFact c g x y → GoalFact c (checked g) x y)
+      → GoesQuietly c offers g (row (task_for c g) phase) s d → Comes g phase s up d
+  comes_quietly g phase s up d f q = record {
+    moves = moved_quiet (live_goal g) up q.quiet.moves;
+    sound = q.quiet.sound;
+    next = if_heard d.heard (λ heard. goal_stays c g f d.device phase heard) q.next;
+  }
+
+  comes : (s : Situation) (g : Goal) (phase : Phase) (up : List ℕ) (course : Course) (l k : Luck) → IsSound offers s.stage
+      → IsLiveOffer offers (live_goal g) → IsOn phase → GoalFact c g phase s → HasBlocks c g
+      → Comes g phase s up (acted c s (deed (task_for c g) phase) course l k)
+  comes s (ToLoad p) phase up course l k q o on f some =
+      let d = acted c s (deed (task_for c (ToLoad p)) phase) course l k in
+      let x = go_download c offers p some sized phase s on f q o course l k in
+      record {
+        moves = moved up x.moves;
+        sound = x.sound;
+        next = if_heard d.heard (λ heard. goal_stays c (ToLoad p) (λ x y h. h) d.device phase heard) x.next;
+      }
+  comes s ToFetch phase up course l k q o on f some =
+      comes_quietly ToFetch phase s up _ (λ x y h. h) (go_upload c offers phase s on f q course l k)
+  comes s (ToVerify p) phase up course l k q o on f some =
+      let d = acted c s (deed (task_for c (ToLoad p)) phase) course l k in
+      let x = go_download c offers p some sized phase s on f q o course l k in
+      subst (λ (z : Deed). Comes (ToVerify p) phase s up (acted c s z course l k)) (sym (same_deed c p phase)) (record {
+        moves = moved up x.moves;
+        sound = x.sound;
+        next = if_heard d.heard (λ heard. verify_next c p d.device phase heard) x.next;
+      })
+  comes s (ToCompare p) phase up course l k q o on f some =
+      comes_quietly (ToCompare p) phase s up _ (λ x y h. h) (go_compare c offers p some sized phase s on f q course l k)
+
   goal_simulated : (s : Situation) (g : Goal) (phase : Phase) (left again : ℕ) (up : List ℕ) (fate : Fate) (l k : Luck) (room : Bool)
       → IsSound offers s.stage → IsLiveOffer offers (live_goal g) → IsOn phase → GoalFact c g phase s → HasBlocks c g
       → let w : Link = record {
@@ -71,18 +116,11 @@ module _ (c : Profile) (sized : 0 < c.transfer) (offers : List (List ℕ)) where
           restarts = again;
         });
       } in Simulated c offers w up AGo (gone c w w.session fate l k room) offers
-  goal_simulated s (ToLoad p) phase left again up fate l k room q o on f some =
-      let d = acted c s (deed (task_for c (ToLoad p)) phase) (course_of fate) l k in
-      let g = go_download c offers p some sized phase s on f q o (course_of fate) l k in
-      let m = moved up g.moves in
-      let t = goal_taken c offers (ToLoad p) s d.device up phase left again room d.heard on o some f g.next in
-      record { step = goes m.first_part m.last_part t.says; sound = g.sound; offer = t.offer; fact = t.fact; done = t.done }
-  goal_simulated s ToFetch phase left again up fate l k room q o on f some =
-      let d = acted c s (deed (task_for c ToFetch) phase) (course_of fate) l k in
-      let g = go_upload c offers phase s on f q (course_of fate) l k in
-      let m = moved_quiet Fetching up g.quiet.moves in
-      let t = goal_taken c offers ToFetch s d.device up phase left again room d.heard on o some f g.next in
-      record { step = goes m.first_part m.last_part t.says; sound = g.quiet.sound; offer = t.offer; fact = t.fact; done = t.done }
+  goal_simulated s g phase left again up fate l k room q o on f some =
+      let d = acted c s (deed (task_for c g) phase) (course_of fate) l k in
+      let x = comes s g phase up (course_of fate) l k q o on f some in
+      let t = goal_taken c offers g s d.device up phase left again room d.heard on o some f x.next in
+      record { step = goes x.moves.first_part x.moves.last_part t.says; sound = x.sound; offer = t.offer; fact = t.fact; done = t.done }
 
   -- Each action of a live host is one step of the session machine, and what holds of the link holds after it.
   pub go_simulated : (s : Situation) (h : HostState) (up : List ℕ) (fate : Fate) (l k : Luck) (room : Bool) → IsSound offers s.stage

@@ -11,7 +11,7 @@ use Rattle.dfu_device.specs.Outcome.{Situation, Luck, Works, Outcome, handled, e
 use Rattle.dfu_device.specs.Shown.{Shown, profile, situation}
 use Rattle.dfu_device.specs.Rows.{meant, asked_length, Answers, Handles}
 use Rattle.dfu_device.specs.Came.{Came, asked_came, time_came}
-use Rattle.dfu_host.specs.Table.{Deed, Send, Wait, Reset, Done, Heard, Part, Waited, WasReset}
+use Rattle.dfu_host.specs.Phases.{Deed, Send, Wait, Reset, Done, Heard, Waited, WasReset}
 use Rattle.dfu_host.specs.Wire.{IsAsked}
 use Rattle.dfu_link.specs.declared.back.Back.{Back}
 use Rattle.dfu_link.specs.declared.course.Handling.{Handling}
@@ -21,6 +21,7 @@ use Rattle.dfu_link.specs.declared.course.Harming.TheVariants.{NoWrite, CutsPowe
 use Rattle.dfu_link.specs.Course.{Course}
 use Rattle.dfu_link.specs.Play.{heard_as, remembered, reached, heard_back, heard_over, over, waits_for, slipped, acted}
 use Rattle.dfu_link.specs.Bytes.{armed, bus_was_reset, HearsAnswer, HearsBack, Reaches, unseen, once, again, late, came_back, ended_back, Sends, Waits, Slips, ResetsBus, Acts}
+use Rattle.dfu_link.proofs.Fates.{all_remembered}
 use Rattle.dfu_link.proofs.Replies.{IsHosts, HostsDeed, plan_heard, served}
 
 -- The fuse of the medium is no part of what is shown.
@@ -39,11 +40,6 @@ pub record Went (fuse : Fuse) (c : Profile) (s : Situation) (d : Deed) (course :
   pub hears : heard ≡ remembered (acted c s d course first second).heard room
   pub fixed : profile w' ≡ c
   pub lucky : fuse ≡ Whole → (first ≡ Works) × (second ≡ Works)
-
--- With memory all is heard as it is.
-all_remembered : (x : Heard) → x ≡ remembered x true
-all_remembered (Part bytes) = refl
-all_remembered x = refl
 
 -- What comes back is heard, or nothing, or the restart.
 heard_by_course : (d : Deed) (harming : Harming) (back : Bool) (came : Back) (out : List ℕ) (heard x : Heard)

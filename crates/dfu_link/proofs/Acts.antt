@@ -8,7 +8,7 @@ use Rattle.dfu_host.specs.declared.action.Action.TheVariants as action
 use Rattle.dfu_host.specs.declared.seen.Seen.{Seen}
 use Rattle.dfu_host.specs.declared.seen.Seen.TheVariants as seen
 use Rattle.dfu_host.specs.Host.{HostState}
-use Rattle.dfu_host.specs.Table.{Deed, Send, Wait, Reset, Heard, Waited, WasReset}
+use Rattle.dfu_host.specs.Phases.{Deed, Send, Wait, Reset, Heard, Waited, WasReset}
 use Rattle.dfu_host.specs.Wire.{Spells, Hears}
 use Rattle.dfu_link.specs.declared.back.Back.{Back}
 use Rattle.dfu_link.specs.declared.course.Harming.{Harming}

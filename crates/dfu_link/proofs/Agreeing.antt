@@ -3,7 +3,7 @@ use Rattle.std.proofs.Common.{ℕ, List, [], ◌∷◌, refl, sym, ap, ◌∙◌
 use Rattle.dfu_slots.specs.Medium.Fuse.{Whole}
 use Rattle.dfu_slots.specs.Image.{Active, active_fused}
 use Rattle.dfu_device.specs.Stage.{Stage, InManifestSync, InManifest}
-use Rattle.dfu_host.specs.Table.{Goal, ToLoad, ToFetch}
+use Rattle.dfu_host.specs.Phases.{Goal, ToLoad, ToFetch, ToVerify, ToCompare}
 use Rattle.dfu_link.specs.Session.{Machine}
 use Rattle.dfu_link.specs.Play.{Link}
 use Rattle.dfu_link.specs.Bench.{Session, Nobody, Hosted, Bench}
@@ -23,6 +23,8 @@ closed_in stage = []
 abbrev goal_bytes : Goal → List ℕ
 goal_bytes (ToLoad payload) = payload
 goal_bytes ToFetch = []
+goal_bytes (ToVerify payload) = payload
+goal_bytes (ToCompare payload) = payload
 
 abbrev payload_in : Session → List ℕ
 payload_in Nobody = []
@@ -36,6 +38,8 @@ closed_sound stage rest = tt
 goal_offered : (goal : Goal) (x : List ℕ) → IsLiveOffer (x ∷ goal_bytes goal ∷ []) (live_goal goal)
 goal_offered (ToLoad payload) x = inr (inl refl)
 goal_offered ToFetch x = tt
+goal_offered (ToVerify payload) x = inr (inl refl)
+goal_offered (ToCompare payload) x = inr (inl refl)
 
 live_offered : (session : Session) (x : List ℕ) → IsLiveOffer (x ∷ payload_in session ∷ []) (live_of session)
 live_offered Nobody x = tt

@@ -102,7 +102,7 @@ gone shown {factory = factory} {s = s} {reports = reports} {b = b} {b' = b'} {m 
     let kept : b'.device.config ≡ b.device.config = (comes_sure comes).kept.config in
     record {
       after = f.after;
-      goes = (record { kind = f.kind; is = f.is; after = f.after; step = f.step; agrees = agrees; installed = f.installed }, refl);
+      goes = (record { kind = f.kind; is = f.is; after = f.after; step = f.step; agrees = agrees; in_place = f.in_place }, refl);
       beside = record {
         steady = given_then.0;
         vouches = record { agrees = agrees; known = known_on step beside.vouches.known };

@@ -8,14 +8,16 @@ use Rattle.dfu_device.specs.Outcome.{Situation, Luck}
 use Rattle.dfu_device.specs.Cases.{either_way}
 use Rattle.dfu_host.specs.Blocks.{blocks, first}
 use Rattle.dfu_host.specs.BlockLaws.{first_suc, full_block}
-use Rattle.dfu_host.specs.Table.{ToLoad, Phase, Block, Ask, Close, AskLast, Nothing, row}
+use Rattle.dfu_host.specs.Phases.{ToLoad, Phase, Block, Ask, Close, AskLast, Nothing}
+use Rattle.dfu_host.specs.Table.{row}
 use Rattle.dfu_link.specs.Session.{IsOneOf, IsFirst}
 use Rattle.dfu_link.specs.declared.course.Handling.{Handling}
 use Rattle.dfu_link.specs.declared.course.Handling.TheVariants.{Unseen, Once, Again, Late}
 use Rattle.dfu_link.specs.declared.course.Harming.{Harming}
 use Rattle.dfu_link.specs.declared.course.Harming.TheVariants.{NoWrite, CutsPower, FailsWrite, LiesInWrite}
 use Rattle.dfu_link.specs.Course.{Course}
-use Rattle.dfu_link.specs.Play.{task_for, Passed, reached, heard_back, ends_by, sent}
+use Rattle.dfu_link.specs.Opening.{task_for}
+use Rattle.dfu_link.specs.Play.{Passed, reached, heard_back, ends_by, sent}
 use Rattle.dfu_link.specs.LinkAgreement.{pending_of, IsSound}
 use Rattle.dfu_link.specs.Fact.{Begun, AllTaken, Fact}
 use Rattle.dfu_link.proofs.Quiet.{Quiet, stays, forgets, quiet_on}

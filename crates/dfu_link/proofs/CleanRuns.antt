@@ -3,22 +3,25 @@ use Rattle.std.proofs.Common.{◌≡◌, ℕ, zero, suc, ◌-◌, ◌≤◌, Boo
 use Rattle.dfu_suffix.proofs.ForCallers.{one_reading}
 use Rattle.dfu_device.specs.Stage.{Profile}
 use Rattle.dfu_device.specs.Outcome.{Works}
-use Rattle.dfu_device.specs.Shown.{profile}
+use Rattle.dfu_device.specs.Setting.{Setting}
+use Rattle.dfu_device.specs.Shown.{profile_of, profile}
 use Rattle.dfu_host.specs.declared.limits.Limits.{Limits}
 use Rattle.dfu_host.specs.declared.report.Report.{Report}
-use Rattle.dfu_host.specs.declared.report.Report.TheVariants.{Installed}
-use Rattle.dfu_host.specs.Table.{ToLoad}
 use Rattle.dfu_link.specs.Session.{said}
+use Rattle.dfu_link.specs.declared.aim.Aim.{Aim}
+use Rattle.dfu_link.specs.declared.aim.Aim.TheVariants.{Install, Verify}
 use Rattle.dfu_link.specs.Happening.{Pass, Happening, Offers, Goes, unharmed}
-use Rattle.dfu_link.specs.Play.{Link, Answered, silent, opened, Played, played}
+use Rattle.dfu_link.specs.Opening.{goal_of, opened}
+use Rattle.dfu_link.specs.Play.{Link, Answered, silent, Played, played}
 use Rattle.dfu_link.specs.Bench.{Bench, LinkState}
 use Rattle.dfu_link.specs.Bytes.{link_of}
-use Rattle.dfu_link.specs.CleanRun.{PassesTo, Quietly, here, there, resting, InstalledAfter}
+use Rattle.dfu_link.specs.CleanRun.{report_of, CanDo, PassesTo, Quietly, here, there, resting, InstalledAfter}
+use Rattle.dfu_link.specs.Refusing.{IsOffered}
 use Rattle.dfu_link.specs.Sure.{IsHarmless, IsAsPlayed, IsSure}
 use Rattle.dfu_link.specs.CleanSteps.{SureSteps, no_step, one_step, StepsInstall}
 use Rattle.dfu_link.specs.CleanInstall.{clean_passes, CanInstall, offer_and_passes, InstallsCleanly}
-use Rattle.dfu_link.proofs.Clean.{clean_run}
-use Rattle.dfu_link.proofs.Events.{has_transfer, can_download, bytes_of}
+use Rattle.dfu_link.proofs.Clean.{clean_run, takes_actions}
+use Rattle.dfu_link.proofs.Events.{has_transfer, can_download, can_upload, bytes_of}
 use Rattle.dfu_link.proofs.Chains.{Chain, no_more, one_more, same_profile}
 
 -- A chain of steps is sure.
@@ -98,36 +101,41 @@ last_pass {b = b} {c = c} {before = before} (suc n) (one_step {mid = mid} {repor
     f in
     record { says = ap (λ (r : Option Report). said r ++ later) t.told ∙ rest.says; link = rest.link }
 
+-- A device to which a file is offered can do what the session asks for.
+can_do : (aim : Aim) {s : Setting} {file payload : List ℕ} (room : ℕ) → IsOffered s aim file payload → CanDo aim (profile_of s room)
+can_do Install room offered = can_download offered
+can_do Verify room offered = (can_download offered, can_upload offered)
+
 -- The offer: the passes of a clean run are left.
-pub record HasBegun (b : Bench) (payload : List ℕ) (mid : Bench) (report : Option Report) : Type 0 where
+pub record HasBegun (b : Bench) (aim : Aim) (payload : List ℕ) (mid : Bench) (report : Option Report) : Type 0 where
   pub before : Link
-  pub quiet : Quietly (profile b.device) (link_of mid) (clean_passes b.device.config payload - 1) before
-  pub last : PassesTo (profile b.device) before (resting payload) (record { report = Some Installed; gave = None })
+  pub quiet : Quietly (profile b.device) (link_of mid) (clean_passes aim b.device.config payload - 1) before
+  pub last : PassesTo (profile b.device) before (resting payload) (record { report = Some (report_of aim); gave = None })
   pub fixed : profile mid.device ≡ profile b.device
   pub told : report ≡ None
 
-pub has_begun : (b mid : Bench) (report : Option Report) (file : List ℕ) (limits : Limits) (payload : List ℕ)
-    → CanInstall b file limits payload
-    → IsSure b (Offers file limits) mid report → HasBegun b payload mid report
-has_begun b mid report file limits payload can s =
+pub has_begun : (b mid : Bench) (report : Option Report) (aim : Aim) (file : List ℕ) (limits : Limits) (payload : List ℕ)
+    → CanInstall b aim file limits payload
+    → IsSure b (Offers aim file limits) mid report → HasBegun b aim payload mid report
+has_begun b mid report aim file limits payload can s =
     let c : Profile = profile b.device in
-    let n : ℕ = clean_passes b.device.config payload in
+    let n : ℕ = clean_passes aim b.device.config payload in
     let image : List ℕ = (link_of b).device.image in
-    let offer : Happening = Offers s.means.0 limits in
+    let offer : Happening = Offers aim s.means.0 limits in
     let same : s.means.0 ≡ payload = (one_reading file s.means.0 payload _ _ _ _ _ _ s.means.1.reads can.offered.reads).0 in
-    let start : Link = (played c (resting image) (Offers payload limits) Works Works true).link in
+    let start : Link = (played c (resting image) (Offers aim payload limits) Works Works true).link in
     let lead : LeadsTo mid report start silent =
     leads_to b mid report offer c start silent refl (is_played b mid report s.event offer s.means.2 tt s.works)
     (λ room. λ i. record {
       link = record {
         device = record { image = image; stage = can.rests i };
-        session = opened c (ToLoad (same i)) limits.actions limits.restarts;
+        session = opened c (goal_of aim (same i)) limits.actions limits.restarts;
       };
       answer = silent;
     }) in
-    let run : InstalledAfter c start n payload =
-    clean_run c image payload limits can.tolerant (can_download can.offered) (has_transfer can.offered)
-    (bytes_of can.offered) can.least can.room can.enough Works true in
+    let run : InstalledAfter c start n payload (report_of aim) =
+    clean_run c aim image payload limits can.tolerant (can_do aim _ can.offered) (has_transfer can.offered)
+    (bytes_of can.offered) can.least can.room can.parts can.enough Works true in
     record {
       before = run.before;
       quiet = subst (λ (z : Link). Quietly c z (n - 1) run.before) (sym lead.link) run.quiet;
@@ -137,14 +145,18 @@ has_begun b mid report file limits payload can s =
     }
 
 -- The whole run.
-clean_chain : {b b' : Bench} {reports : List Report} (file : List ℕ) (limits : Limits) (payload : List ℕ) (count : ℕ)
-    → CanInstall b file limits payload → count ≤ clean_passes b.device.config payload
-    → SureSteps b (offer_and_passes file limits count) reports b' → InstallsCleanly b payload count reports b'
-clean_chain {b = b} {b' = b'} file limits payload count can most (one_step {mid = mid} {report = report} {reports = later} s more) =
-    let n : ℕ = clean_passes b.device.config payload in
-    let x = has_begun b mid report file limits payload can s in
-    let some : suc (n - 1) ≡ n = omega arith in
-    let ends : count ≡ n → WasLast b' later (resting payload) Installed =
+clean_chain : {b b' : Bench} {reports : List Report} (aim : Aim) (file : List ℕ) (limits : Limits) (payload : List ℕ) (count : ℕ)
+    → CanInstall b aim file limits payload → count ≤ clean_passes aim b.device.config payload
+    → SureSteps b (offer_and_passes aim file limits count) reports b' → InstallsCleanly b aim payload count reports b'
+clean_chain {b = b} {b' = b'} aim file limits payload count can most (one_step {mid = mid} {report = report} {reports = later} s more) =
+    let n : ℕ = clean_passes aim b.device.config payload in
+    let x = has_begun b mid report aim file limits payload can s in
+    let some : suc (n - 1) ≡ n = omega (
+      arith,
+      takes_actions aim b.device.config.functional.transfer b.device.config.busy_ms b.device.config.manifest_ms
+          payload,
+    ) in
+    let ends : count ≡ n → WasLast b' later (resting payload) (report_of aim) =
     λ k. last_pass (n - 1) (subst (λ (z : ℕ). SureSteps mid (replicate z pass) later b') (k ∙ sym some) more) x.fixed x.quiet x.last in
     record {
       early = λ less. ap (λ (r : Option Report). said r ++ later) x.told
@@ -154,14 +166,14 @@ clean_chain {b = b} {b' = b'} file limits payload count can most (one_step {mid 
     }
 
 -- A run over all events of a clean run reports as it should.
-pub ran_clean : {w w' : LinkState} {hs : List Happening} {reports : List Report} (file : List ℕ) (limits : Limits) (payload : List ℕ)
-    (count : ℕ) → Chain w hs reports w' → CanInstall w.bench file limits payload
-    → hs ≡ offer_and_passes file limits count → count ≤ clean_passes w.bench.device.config payload
-    → InstallsCleanly w.bench payload count reports w'.bench
-ran_clean {w = w} {w' = w'} {reports = reports} file limits payload count chain can is most =
-    clean_chain file limits payload count can most (subst (λ (x : List Happening). SureSteps w.bench x reports w'.bench) is
+pub ran_clean : {w w' : LinkState} {hs : List Happening} {reports : List Report} (aim : Aim) (file : List ℕ) (limits : Limits) (payload : List ℕ)
+    (count : ℕ) → Chain w hs reports w' → CanInstall w.bench aim file limits payload
+    → hs ≡ offer_and_passes aim file limits count → count ≤ clean_passes aim w.bench.device.config payload
+    → InstallsCleanly w.bench aim payload count reports w'.bench
+ran_clean {w = w} {w' = w'} {reports = reports} aim file limits payload count chain can is most =
+    clean_chain aim file limits payload count can most (subst (λ (x : List Happening). SureSteps w.bench x reports w'.bench) is
     (sure_chain chain))
 
 -- Steps that come as a clean run does report as one.
 pub steps_install : StepsInstall
-steps_install b b' file limits payload count reports can most steps = clean_chain file limits payload count can most steps
+steps_install b b' aim file limits payload count reports can most steps = clean_chain aim file limits payload count can most steps

@@ -5,7 +5,8 @@ use Rattle.dfu_device.specs.declared.answer.Answer.TheVariants as answer
 use Rattle.dfu_device.specs.Table.{Plan, Sure, Writes, Commits, time_plan}
 use Rattle.dfu_device.specs.Shown.{Shown, profile}
 use Rattle.dfu_device.specs.Rows.{asked_length, setup_plan, Done, Handles, handled_as, Elapses}
-use Rattle.dfu_host.specs.Table.{Deed, Send, Wait, Reset, Done as IsDone, deed, Heard}
+use Rattle.dfu_host.specs.Phases.{Deed, Send, Wait, Reset, Done as IsDone, Heard}
+use Rattle.dfu_host.specs.Table.{deed}
 use Rattle.dfu_link.specs.declared.back.Back.{Back}
 use Rattle.dfu_link.specs.declared.course.Handling.{Handling}
 use Rattle.dfu_link.specs.declared.course.Handling.TheVariants.{Late}
@@ -57,7 +58,7 @@ after_config LiesInWrite w = refl
 -- No event changes what a device is set up as.
 pub happens_config : (event : Happening) (b b' : Bench) (answer : Answered) → Happens event b b' answer
     → b'.device.config ≡ b.device.config
-happens_config (Offers payload limits) b b' answer (e, f) = ap (λ (x : Bench). x.device.config) e
+happens_config (Offers aim payload limits) b b' answer (e, f) = ap (λ (x : Bench). x.device.config) e
 happens_config (Uploads limits) b b' answer (e, f) = ap (λ (x : Bench). x.device.config) e
 happens_config Aborts b b' answer (e, f) = ap (λ (x : Bench). x.device.config) e
 happens_config (Goes fate harm) b b' answer g =

@@ -2,7 +2,7 @@
 use Rattle.std.proofs.Common.{◌≡◌, ℕ, ◌*◌, ◌<◌, List, length, Option, Some, None, Ok, refl, sym, subst}
 use Rattle.dfu_host.specs.declared.report.Report.{Report}
 use Rattle.dfu_host.specs.declared.report.Report.TheVariants.{Uploaded}
-use Rattle.dfu_host.specs.Table.{Task, Phase, Over, OverUploaded, Heard, Restarted}
+use Rattle.dfu_host.specs.Phases.{Task, Phase, Over, OverUploaded, Heard, Restarted}
 use Rattle.dfu_host.specs.Host.{HostState, after, aborted_in}
 use Rattle.dfu_host.specs.Counting.{IsCounted}
 use Rattle.dfu_host.specs.CountingLaws.{after_stays}
@@ -105,7 +105,7 @@ acted_counted course w w' h h' some c acted = subst (λ (x : HostState). IsCount
 -- After each event what a live session keeps is counted.
 pub happens_counted : (event : Happening) (b b' : Bench) (answer : Answered) → SendsBytes b.session → IsCountedIn b.session
     → Happens event b b' answer → IsCountedIn b'.session
-happens_counted (Offers payload limits) b b' answer some c (e, f) = subst (λ (x : Bench). IsCountedIn x.session) (sym e) tt
+happens_counted (Offers aim payload limits) b b' answer some c (e, f) = subst (λ (x : Bench). IsCountedIn x.session) (sym e) tt
 happens_counted (Uploads limits) b b' answer some c (e, f) = subst (λ (x : Bench). IsCountedIn x.session) (sym e) tt
 happens_counted Aborts b b' answer some c (e, f) = subst (λ (x : Bench). IsCountedIn x.session) (sym e) (aborted_counted b.session c)
 happens_counted (Goes fate harm) b b' answer some c g = subst IsCountedIn (sym g.session)
@@ -118,7 +118,7 @@ happens_counted Cuts b b' answer some c (e, f) = subst (λ (x : Bench). IsCounte
 -- What an answer gives, by the device's transfer size.
 pub happens_fits : (p : Profile) (s : Situation) (event : Happening) (b b' : Bench) (answer : Answered)
     → SessionFact p s b.session → SendsBytes b.session → IsCountedIn b.session → Happens event b b' answer → Fits p.transfer answer
-happens_fits p s (Offers payload limits) b b' answer f some c (e, a) = subst (Fits p.transfer) (sym a) tt
+happens_fits p s (Offers aim payload limits) b b' answer f some c (e, a) = subst (Fits p.transfer) (sym a) tt
 happens_fits p s (Uploads limits) b b' answer f some c (e, a) = subst (Fits p.transfer) (sym a) tt
 happens_fits p s Aborts b b' answer f some c (e, a) = subst (Fits p.transfer) (sym a) tt
 happens_fits p s (Goes fate harm) b b' answer f some c g =

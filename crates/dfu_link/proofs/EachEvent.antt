@@ -1,88 +1,30 @@
 -- Each event of the link is a step of the session machine.
-use Rattle.std.proofs.Common.{◌≡◌, ℕ, ◌+◌, ◌<◌, ◌==◌, nat_le, max, Bool, List, ◌∷◌, ◌++◌, length, Some, None, refl, sym, subst, arith, inl, inr}
-use Rattle.dfu_device.specs.Stage.{Ack, Profile, Stage, InAppIdle, InAppDetach, InDfuIdle, InDownloadBusy, InManifestSync, InManifestSyncComplete, InManifest, InManifestWaitReset, InUploadIdle}
-use Rattle.dfu_device.specs.Table.{Plan, Commits, time_plan, reset_stage}
-use Rattle.dfu_device.specs.Outcome.{Situation, Luck, Works, outcome, elapsed}
-use Rattle.dfu_device.specs.Cases.{either_way}
+use Rattle.std.proofs.Common.{◌≡◌, ℕ, ◌<◌, Bool, List, ◌∷◌, length, None, refl, sym, subst, arith, inl, inr}
+use Rattle.dfu_device.specs.Stage.{Profile, Stage, InAppIdle, InAppDetach, InManifestSync, InManifest}
+use Rattle.dfu_device.specs.Table.{reset_stage}
+use Rattle.dfu_device.specs.Outcome.{Situation, Luck}
 use Rattle.dfu_host.specs.Blocks.{blocks}
 use Rattle.dfu_host.specs.BlockLaws.{block_counts}
-use Rattle.dfu_host.specs.Table.{Goal, ToLoad, ToFetch, Phase, Fetch, LastUploaded, GiveUp, Over, OverUploaded, Restarted}
+use Rattle.dfu_host.specs.Phases.{ToFetch, Phase, Find, GiveUp, Over, OverUploaded, Restarted}
 use Rattle.dfu_host.specs.Host.{HostState, IsOn, aborted_in}
-use Rattle.dfu_link.specs.Session.{Machine, Live, NoOne, Says, says_not, ATime, ARestart, Step, offered, uploads, aborts, passes, passes_installed, restarts}
+use Rattle.dfu_link.specs.declared.aim.Aim.{Aim}
+use Rattle.dfu_link.specs.declared.aim.Aim.TheVariants.{Install, Verify}
+use Rattle.dfu_link.specs.Session.{Machine, Live, NoOne, Loading, Says, says_not, AnOffer, ARestart, Step, offered, uploads, aborts, restarts}
 use Rattle.dfu_link.specs.Happening.{Happening, Offers, Uploads, Aborts, Goes, Passes, Resets, Cuts}
+use Rattle.dfu_link.specs.Opening.{goal_of}
 use Rattle.dfu_link.specs.Play.{kind_of, Link, Answered, silent, given, Played, took, restarted_to, played, IsAllowed, Play}
 use Rattle.dfu_link.specs.Bench.{Session, Nobody, Hosted}
 use Rattle.dfu_link.specs.LinkAgreement.{pending_of, IsSound, Agrees}
 use Rattle.dfu_link.specs.Agreement.{live_goal, live_of, IsLiveOffer}
-use Rattle.dfu_link.specs.Fact.{IsIdle, Fetches, FetchFact, GoalFact, SessionFact}
+use Rattle.dfu_link.specs.Fact.{HasBlocks, SessionFact}
 use Rattle.dfu_link.specs.Headline.{Follows}
-use Rattle.dfu_link.proofs.Kept.{fact_time}
 use Rattle.dfu_link.proofs.CommonFacts.{goal_anywhere}
 use Rattle.dfu_link.proofs.Taking.{shown, restart_taken, restart_plain, goes_by}
 use Rattle.dfu_link.proofs.Saying.{step_live}
+use Rattle.dfu_link.proofs.PassingTime.{time_steps, time_fact}
 use Rattle.dfu_link.proofs.ActionSteps.{Simulated, go_simulated}
 
 module _ (c : Profile) (offers : List (List ℕ)) where
-  -- Time alone.
-  time_steps : (i : List ℕ) (ms : ℕ) (stage : Stage) (live : Live) (up : List ℕ) → IsSound offers stage →
-      let s = (outcome i (time_plan c stage ms) Works).after in
-      Step c.tolerant c.transfer ATime (shown offers i (pending_of stage) live up) None (shown offers s.image (pending_of s.stage) live up)
-      × IsSound offers s.stage
-  time_steps i ms (InAppDetach timer passed) live up h =
-      let P : Plan → Type 0 = λ p. let s = (outcome i p Works).after in
-      Step c.tolerant c.transfer ATime (shown offers i None live up) None (shown offers s.image (pending_of s.stage) live up)
-      × IsSound offers s.stage in
-      either_way P (ms == 0) _ _ (passes, tt)
-      (either_way P c.will_detach _ _ (passes, tt)
-      (either_way P (nat_le (max 1 timer) (passed + ms)) _ _ (passes, tt) (passes, tt)))
-  time_steps i ms (InDownloadBusy before block number passed) live up h =
-      let P : Plan → Type 0 = λ p. let s = (outcome i p Works).after in
-      Step c.tolerant c.transfer ATime (shown offers i (Some (before ++ block)) live up) None
-      (shown offers s.image (pending_of s.stage) live up) × IsSound offers s.stage in
-      either_way P (ms == 0) _ _ (passes, tt) (either_way P (nat_le c.busy (passed + ms)) _ _ (passes, tt) (passes, tt))
-  time_steps i ms (InManifest taken passed) live up h =
-      let P : Plan → Type 0 = λ p. let s = (outcome i p Works).after in
-      Step c.tolerant c.transfer ATime (shown offers i (Some taken) live up) None (shown offers s.image (pending_of s.stage) live up)
-      × IsSound offers s.stage in
-      either_way P (ms == 0) _ _ (passes, h)
-      (either_way P (nat_le c.manifest (passed + ms)) _ _
-      (either_way (λ st. P (Commits taken Ack st (λ fault. Ack))) c.tolerant InManifestSyncComplete InManifestWaitReset (passes_installed refl h, tt)
-      (passes_installed refl h, tt))
-      (passes, h))
-  time_steps i ms stage live up h = (passes, h)
-
-  fetches_time : (n : ℕ) (kept image : List ℕ) (ms : ℕ) (stage : Stage) → Fetches n kept image stage
-      → Fetches n kept (outcome image (time_plan c stage ms) Works).after.image (outcome image (time_plan c stage ms) Works).after.stage
-  fetches_time n kept image ms InDfuIdle f = f
-  fetches_time n kept image ms (InUploadIdle place number) f = f
-  fetches_time n kept image ms stage f = elim f [ ]
-
-  idle_time : (kept image : List ℕ) (ms : ℕ) (stage : Stage) → (kept ≡ image) × IsIdle stage
-      → let d = (outcome image (time_plan c stage ms) Works).after in (kept ≡ d.image) × IsIdle d.stage
-  idle_time kept image ms InDfuIdle f = f
-  idle_time kept image ms stage f = elim f.1 [ ]
-
-  fetch_time : (s : Situation) (ms : ℕ) (phase : Phase) → IsOn phase → FetchFact phase s → FetchFact phase (elapsed c s ms Works)
-  fetch_time s ms (Fetch n kept) on f = (f.0, fetches_time n kept s.image ms s.stage f.1)
-  fetch_time s ms (LastUploaded kept) on f = idle_time kept s.image ms s.stage f
-  fetch_time s ms (OverUploaded kept) on f = elim on [ ]
-  fetch_time s ms (Over report) on f = elim on [ ]
-  fetch_time s ms phase on f = f
-
-  goal_time : (s : Situation) (ms : ℕ) (g : Goal) (phase : Phase) → IsOn phase → GoalFact c g phase s
-      → GoalFact c g phase (elapsed c s ms Works)
-  goal_time s ms (ToLoad p) phase on f = fact_time c s.image p phase ms s.stage f Works
-  goal_time s ms ToFetch phase on f = fetch_time s ms phase on f
-
-  time_fact : (s : Situation) (ms : ℕ) (session : Session) → SessionFact c s session → SessionFact c (elapsed c s ms Works) session
-  time_fact s ms Nobody f = tt
-  time_fact s ms (Hosted h) f = record {
-    task_is = f.task_is;
-    on = f.on;
-    some = f.some;
-    fact = goal_time s ms h.task.goal h.phase f.on f.fact;
-  }
-
   nothing_pends : (stage : Stage) → pending_of (reset_stage stage) ≡ None
   nothing_pends (InAppDetach timer passed) = refl
   nothing_pends stage = refl
@@ -103,7 +45,7 @@ module _ (c : Profile) (offers : List (List ℕ)) where
         sound = q;
         offer = tt;
         fact = tt;
-        done = λ x. cc;
+        done = λ x. elim x [ ];
       }
   restart_simulated s next (Hosted h) up n q o f =
       let taken = took h Restarted in
@@ -123,20 +65,25 @@ module _ (c : Profile) (offers : List (List ℕ)) where
   more_sound p (InManifest taken passed) h = inr h
   more_sound p stage h = tt
 
+-- What is live of a session that was offered.
+goal_live : (aim : Aim) (payload : List ℕ) → live_goal (goal_of aim payload) ≡ Loading payload
+goal_live Install payload = refl
+goal_live Verify payload = refl
+
 -- The offers after an event.
 abbrev offers_by : Happening → List (List ℕ) → List (List ℕ)
-offers_by (Offers payload limits) offers = payload ∷ offers
+offers_by (Offers aim payload limits) offers = payload ∷ offers
 offers_by event offers = offers
 
 -- What an event has to know of the transfer size: an offer, and an action of the host.
 abbrev pub Sizes : Profile → Session → Happening → Type 0
-Sizes c Nobody (Offers payload limits) = 0 < c.transfer
+Sizes c Nobody (Offers aim payload limits) = 0 < c.transfer
 Sizes c (Hosted h) (Goes fate harm) = 0 < c.transfer
 Sizes c session event = Unit {0}
 
 -- Where the transfer size is known, each event knows it.
 pub all_sized : (c : Profile) (session : Session) (event : Happening) → 0 < c.transfer → Sizes c session event
-all_sized c Nobody (Offers payload limits) h = h
+all_sized c Nobody (Offers aim payload limits) h = h
 all_sized c (Hosted host) (Goes fate harm) h = h
 all_sized c session event h = tt
 
@@ -150,27 +97,37 @@ module _ (c : Profile) where
   some_blocks : (p : List ℕ) → 0 < c.transfer → 0 < length p → 0 < length (blocks p c.transfer)
   some_blocks p sized h = block_counts p c.transfer 0 sized (omega (arith, h))
 
+  offered_blocks : (aim : Aim) (p : List ℕ) → 0 < c.transfer → 0 < length p → HasBlocks c (goal_of aim p)
+  offered_blocks Install p sized h = some_blocks p sized h
+  offered_blocks Verify p sized h = some_blocks p sized h
+
   simulated : (offers : List (List ℕ)) (s : Situation) (session : Session) (up : List ℕ) (event : Happening) (l k : Luck) (room : Bool)
       → Sizes c session event → IsAllowed session event → IsSound offers s.stage → IsLiveOffer offers (live_of session)
       → SessionFact c s session
       → let w : Link = record { device = s; session = session } in
       Simulated c offers w up (kind_of event) (played c w event l k room) (offers_by event offers)
-  simulated offers s Nobody up (Offers payload limits) l k room z a q o f =
+  simulated offers s Nobody up (Offers aim payload limits) l k room z a q o f =
       record {
-        step = offered refl;
+        step = subst (λ (x : Live). Step c.tolerant c.transfer (AnOffer payload) (shown offers s.image (pending_of s.stage) NoOne up) None
+            (shown (payload ∷ offers) s.image (pending_of s.stage) x up)) (sym (goal_live aim payload)) (offered refl);
         sound = more_sound c offers payload s.stage q;
-        offer = inl refl;
-        fact = record { task_is = goes_by c (ToLoad payload); on = tt; some = some_blocks payload z a; fact = tt };
-        done = λ e. cc;
+        offer = subst (IsLiveOffer (payload ∷ offers)) (sym (goal_live aim payload)) (inl refl);
+        fact = record {
+          task_is = goes_by c (goal_of aim payload);
+          on = tt;
+          some = offered_blocks aim payload z a;
+          fact = goal_anywhere c (goal_of aim payload) s Find tt;
+        };
+        done = λ e. elim e [ ];
       }
-  simulated offers s (Hosted h) up (Offers payload limits) l k room z a q o f = elim a [ ]
+  simulated offers s (Hosted h) up (Offers aim payload limits) l k room z a q o f = elim a [ ]
   simulated offers s Nobody up (Uploads limits) l k room z a q o f =
       record {
         step = uploads refl;
         sound = q;
         offer = tt;
         fact = record { task_is = goes_by c ToFetch; on = tt; some = tt; fact = tt };
-        done = λ e. cc;
+        done = λ e. elim e [ ];
       }
   simulated offers s (Hosted h) up (Uploads limits) l k room z a q o f = elim a [ ]
   simulated offers s Nobody up Aborts l k room z a q o f = elim a [ ]
@@ -187,13 +144,13 @@ module _ (c : Profile) where
           some = f.some;
           fact = goal_anywhere c h.task.goal s GiveUp tt;
         };
-        done = λ e. cc;
+        done = λ e. elim e [ ];
       })
   simulated offers s Nobody up (Goes fate harm) l k room z a q o f = elim a [ ]
   simulated offers s (Hosted h) up (Goes fate harm) l k room z a q o f = go_simulated c z offers s h up fate l k room q o f
   simulated offers s session up (Passes ms) l k room z a q o f =
       let t = time_steps c offers s.image ms s.stage (live_of session) up q in
-      record { step = t.0; sound = t.1; offer = o; fact = time_fact c offers s ms session f; done = λ e. cc }
+      record { step = t.0; sound = t.1; offer = o; fact = time_fact c offers s ms session f; done = λ e. elim e [ ] }
   simulated offers s session up Resets l k room z a q o f =
       restart_simulated c offers s (reset_stage s.stage) session up (nothing_pends c offers s.stage) (nothing_closed c offers s.stage) o f
   simulated offers s session up Cuts l k room z a q o f = restart_simulated c offers s InAppIdle session up refl tt o f
@@ -218,7 +175,7 @@ module _ (c : Profile) where
         step = s.step;
         agrees = record { cur = refl; pending = refl; live = refl; up_is = refl; sound = s.sound; offered = s.offer };
         fact = s.fact;
-        installed = λ e. (s.done e, step_live s.step e);
+        in_place = λ e. (s.done e, step_live s.step e);
       }
 
   -- The session machine follows a play that knows the transfer size.

@@ -8,21 +8,23 @@ use Rattle.dfu_device.specs.Shown.{Shown}
 use Rattle.dfu_device.specs.Rows.{Elapses}
 use Rattle.dfu_wire.specs.declared.functionals.Functional.{Functional}
 use Rattle.dfu_wire.specs.declared.ids.Ids.{Ids}
-use Rattle.dfu_host.specs.Download.{is_for, first_download_fault}
+use Rattle.dfu_host.specs.Download.{is_for, first_download_fault, first_verify_fault}
 use Rattle.dfu_host.specs.declared.fault.HostFault.{HostFault}
 use Rattle.dfu_host.specs.declared.limits.Limits.{Limits}
 use Rattle.dfu_host.specs.declared.report.Report.{Report}
 use Rattle.dfu_host.specs.Host.{HostState, started}
-use Rattle.dfu_host.specs.Table.{ToLoad}
+use Rattle.dfu_link.specs.declared.aim.Aim.{Aim}
+use Rattle.dfu_link.specs.declared.aim.Aim.TheVariants.{Install, Verify}
 use Rattle.dfu_link.specs.declared.fault.LinkFault.TheVariants as fault
 use Rattle.dfu_link.specs.declared.fault.OfferFault.{OfferFault}
 use Rattle.dfu_link.specs.declared.fault.OfferFault.TheVariants as offer_fault
 use Rattle.dfu_link.specs.Course.{course_of}
 use Rattle.dfu_link.specs.Happening.{Fate, Harm, Offers, Goes, Passes, Resets, Cuts}
+use Rattle.dfu_link.specs.Opening.{goal_of}
 use Rattle.dfu_link.specs.Play.{given, silent, told, took, settled, IsAllowed}
 use Rattle.dfu_link.specs.Bench.{Session, Nobody, Hosted}
 use Rattle.dfu_link.specs.Bytes.{powered_up, bus_was_reset}
-use Rattle.dfu_link.specs.Refusing.{IsOffered, IsBadOffer}
+use Rattle.dfu_link.specs.Refusing.{first_offer_fault, IsOffered, IsBadOffer}
 use Rattle.dfu_link.specs.Comes.{refuses, happens, HasCome, HasComeAlone}
 use Rattle.dfu_link.specs.Standing.{session_of, given_by, bench_of, link_state, SendsBytes, IsCountedIn}
 use Rattle.dfu_link.specs.Acting.{HasGone, ended, HasBegun}
@@ -106,6 +108,7 @@ go_comes fate harm w w' h h' host' gave gave' report sized counted e gone sessio
       last = gone.last;
       heard = gone.acted.heard;
       acts = gone.acted.acts;
+      room = gone.acted.room;
       device = gone.device;
       session = session ∙ ap (λ (x : HostState). (settled x x.phase).session) gone.acted.same;
       answered = refl;
@@ -124,83 +127,105 @@ pub not_first : (t : Bool) (fault : HostFault) (rest : Option HostFault) → con
 not_first true fault rest e = absurd cc
 not_first false fault rest e = (refl, e)
 
+is_true : (t : Bool) → not t ≡ false → t ≡ true
+is_true true e = refl
+is_true false e = absurd cc
+
+-- What is known of a payload and of a device's descriptor, where a session that is offered has no fault.
+record NoFault (aim : Aim) (payload : List ℕ) (f : Functional) : Type 0 where
+  some : (length payload == 0) ≡ false
+  loads : f.can_download ≡ true
+  gives : aim ≡ Verify → f.can_upload ≡ true
+  sized : (f.transfer == 0) ≡ false
+
+no_fault : (aim : Aim) (file : Content) (f : Functional) (ids : Ids) → first_offer_fault aim file f ids ≡ None → NoFault aim file.payload f
+no_fault Install file f ids e =
+    let a = not_first (length file.payload == 0) _ _ e in
+    let b = not_first (not (is_for file.ids ids)) _ _ a.1 in
+    let d = not_first (not f.can_download) _ _ b.1 in
+    let z = not_first (f.transfer == 0) _ _ d.1 in
+    record { some = a.0; loads = is_true f.can_download d.0; gives = λ other. absurd cc; sized = z.0 }
+no_fault Verify file f ids e =
+    let a = not_first (length file.payload == 0) _ _ e in
+    let b = not_first (not (is_for file.ids ids)) _ _ a.1 in
+    let d = not_first (not f.can_download) _ _ b.1 in
+    let u = not_first (not f.can_upload) _ _ d.1 in
+    let z = not_first (f.transfer == 0) _ _ u.1 in
+    record { some = a.0; loads = is_true f.can_download d.0; gives = λ same. is_true f.can_upload u.0; sized = z.0 }
+
+offered_so : {s : Setting} {aim : Aim} {file payload : List ℕ} → IsOffered s aim file payload → NoFault aim payload s.functional
+offered_so {s = s} {aim = aim} offered = no_fault aim _ s.functional s.ids offered.taken
+
 -- A file that is taken has bytes of payload, and the device takes blocks of some bytes.
-pub bytes_of : {s : Setting} {file payload : List ℕ} → IsOffered s file payload → 0 < length payload
-bytes_of {payload = payload} offered =
-    let a = not_first (length payload == 0) _ _ offered.taken in
-    let e : (length payload == 0) ≡ false = a.0 in
-    grind (arith, nat_tests)
+pub bytes_of : {s : Setting} {aim : Aim} {file payload : List ℕ} → IsOffered s aim file payload → 0 < length payload
+bytes_of {payload = payload} offered = let e : (length payload == 0) ≡ false = (offered_so offered).some in grind (arith, nat_tests)
 
 -- A device to which a file can be offered has a transfer size.
-pub has_transfer : {s : Setting} {file payload : List ℕ} → IsOffered s file payload → 0 < s.functional.transfer
-has_transfer {s = s} {payload = payload} offered =
-    let a = not_first (length payload == 0) _ _ offered.taken in
-    let b = not_first (not (is_for offered.ids s.ids)) _ _ a.1 in
-    let d = not_first (not s.functional.can_download) _ _ b.1 in
-    let z = not_first (s.functional.transfer == 0) _ _ d.1 in
-    let e : (s.functional.transfer == 0) ≡ false = z.0 in
-    grind (arith, nat_tests)
+pub has_transfer : {s : Setting} {aim : Aim} {file payload : List ℕ} → IsOffered s aim file payload → 0 < s.functional.transfer
+has_transfer {s = s} offered = let e : (s.functional.transfer == 0) ≡ false = (offered_so offered).sized in grind (arith, nat_tests)
 
 -- It can download.
-pub can_download : {s : Setting} {file payload : List ℕ} → IsOffered s file payload → s.functional.can_download ≡ true
-can_download {s = s} {payload = payload} offered =
-    let a = not_first (length payload == 0) _ _ offered.taken in
-    let b = not_first (not (is_for offered.ids s.ids)) _ _ a.1 in
-    let d = not_first (not s.functional.can_download) _ _ b.1 in
-    is_true s.functional.can_download d.0
-  where
-    is_true : (t : Bool) → not t ≡ false → t ≡ true
-    is_true true e = refl
-    is_true false e = absurd cc
+pub can_download : {s : Setting} {aim : Aim} {file payload : List ℕ} → IsOffered s aim file payload → s.functional.can_download ≡ true
+can_download offered = (offered_so offered).loads
+
+-- It can upload, where the file is to be verified.
+pub can_upload : {s : Setting} {file payload : List ℕ} → IsOffered s Verify file payload → s.functional.can_upload ≡ true
+can_upload offered = (offered_so offered).gives refl
 
 -- An offer while a session is live.
-pub offer_busy : (file : List ℕ) (limits : Limits) (w : Shown) (host : Option HostState) → is_some host ≡ true
-    → HasComeAlone (bench_of w host) (Offers file limits) (bench_of w host) (Err fault.HostBusy)
-offer_busy file limits w (Some h) e up = record { answer = Err fault.HostBusy; comes = refuses tt; whole = tt; up_is = refl; told = refl }
-offer_busy file limits w None e up = absurd cc
+pub offer_busy : (aim : Aim) (file : List ℕ) (limits : Limits) (w : Shown) (host : Option HostState) → is_some host ≡ true
+    → HasComeAlone (bench_of w host) (Offers aim file limits) (bench_of w host) (Err fault.HostBusy)
+offer_busy aim file limits w (Some h) e up = record { answer = Err fault.HostBusy; comes = refuses tt; whole = tt; up_is = refl; told = refl }
+offer_busy aim file limits w None e up = absurd cc
 
 -- An offer of a file that is not taken.
-pub offer_refused : (file : List ℕ) (limits : Limits) (w : Shown) (host : Option HostState) (why : OfferFault) → is_some host ≡ false
-    → IsBadOffer w.config file why → HasComeAlone (bench_of w host) (Offers file limits) (bench_of w host) (Err (fault.BadOffer why))
-offer_refused file limits w None why e bad up = record {
+pub offer_refused : (aim : Aim) (file : List ℕ) (limits : Limits) (w : Shown) (host : Option HostState) (why : OfferFault) → is_some host ≡ false
+    → IsBadOffer w.config aim file why → HasComeAlone (bench_of w host) (Offers aim file limits) (bench_of w host) (Err (fault.BadOffer why))
+offer_refused aim file limits w None why e bad up = record {
   answer = Err (fault.BadOffer why);
   comes = refuses (refl, bad);
   whole = tt;
   up_is = refl;
   told = refl;
 }
-offer_refused file limits w (Some h) why e bad up = absurd cc
+offer_refused aim file limits w (Some h) why e bad up = absurd cc
 
 -- An offer with which a session begins.
-pub offer_comes : (file : List ℕ) (limits : Limits) (w : Shown) (host : Option HostState) (h : HostState) → is_some host ≡ false
-    → w.slots.medium.fuse ≡ Whole → HasBegun w.config file limits h
-    → HasComeAlone (bench_of w host) (Offers file limits) (bench_of w (Some h)) (Ok None)
-offer_comes file limits w None h n e begun up = record {
+pub offer_comes : (aim : Aim) (file : List ℕ) (limits : Limits) (w : Shown) (host : Option HostState) (h : HostState) → is_some host ≡ false
+    → w.slots.medium.fuse ≡ Whole → HasBegun w.config aim file limits h
+    → HasComeAlone (bench_of w host) (Offers aim file limits) (bench_of w (Some h)) (Ok None)
+offer_comes aim file limits w None h n e begun up = record {
   answer = Ok silent;
   whole = tt;
   up_is = refl;
-  comes = happens {event = Offers begun.content.payload limits} (begun.content.payload, begun.offered, refl) (record {
+  comes = happens {event = Offers aim begun.content.payload limits} (begun.content.payload, begun.offered, refl) (record {
     allowed = bytes_of begun.offered;
     unarmed = e;
     happens = ((λ i. record { device = w; session = Hosted (begun.host i) }), refl);
   });
   told = refl;
 }
-offer_comes file limits w (Some h) k n e begun up = absurd cc
+offer_comes aim file limits w (Some h) k n e begun up = absurd cc
+
+-- The faults of a session that is offered go by the payload and the identifiers alone.
+pub same_fault : (aim : Aim) (c d : Content) (f : Functional) (ids : Ids) → c.payload ≡ d.payload → c.ids ≡ d.ids
+    → first_offer_fault aim c f ids ≡ first_offer_fault aim d f ids
+same_fault Install c d f ids p q = λ i. first_download_fault (record { payload = p i; ids = q i; dfu = c.dfu; suffix = c.suffix }) f ids
+same_fault Verify c d f ids p q = λ i. first_verify_fault (record { payload = p i; ids = q i; dfu = c.dfu; suffix = c.suffix }) f ids
 
 -- What was found of a file.
 abbrev Found : List ℕ → Content → Type 0
 Found file content = (extra : List ℕ) × IsFile content.payload content.ids content.dfu extra file × (content.suffix ≡ 16 + length extra)
 
 -- A file that is read but not taken.
-pub offer_bad : (s : Setting) (file : List ℕ) (content : Content) (f : Functional) (ids : Ids) (why : HostFault) → f ≡ s.functional
+pub offer_bad : (s : Setting) (aim : Aim) (file : List ℕ) (content : Content) (f : Functional) (ids : Ids) (why : HostFault) → f ≡ s.functional
     → ids ≡ s.ids → Found file content
-    → first_download_fault content f ids ≡ Some why → IsBadOffer s file (offer_fault.Host why)
-offer_bad s file content f ids why e k found h = (
+    → first_offer_fault aim content f ids ≡ Some why → IsBadOffer s aim file (offer_fault.Host why)
+offer_bad s aim file content f ids why e k found h = (
   content,
   record { extra = found.0; reads = found.1; suffix = found.2 },
-  subst (λ (x : Functional). first_download_fault content x s.ids ≡ Some why) e
-      (subst (λ (y : Ids). first_download_fault content f y ≡ Some why) k h),
+  subst (λ (x : Functional). first_offer_fault aim content x s.ids ≡ Some why) e
+      (subst (λ (y : Ids). first_offer_fault aim content f y ≡ Some why) k h),
 )
 
 -- Where a session begins, the download has no fault.
@@ -210,16 +235,16 @@ none_of None h f = refl
 none_of (Some why) h f = let e : ◌≡◌ {A = Result HostState HostFault} (Ok h) (Err why) = (f why).1 refl in absurd cc
 
 -- A file that is read and taken.
-pub offer_begins : (s : Setting) (file : List ℕ) (limits : Limits) (content : Content) (f : Functional) (ids : Ids) (h : HostState)
+pub offer_begins : (s : Setting) (aim : Aim) (file : List ℕ) (limits : Limits) (content : Content) (f : Functional) (ids : Ids) (h : HostState)
     → f ≡ s.functional → ids ≡ s.ids → Found file content
-    → ((why : HostFault) → (◌≡◌ {A = Result HostState HostFault} (Ok h) (Err why)) ↔ (first_download_fault content f ids ≡ Some why))
-    → h ≡ started f (ToLoad content.payload) limits → HasBegun s file limits h
-offer_begins s file limits content f ids h e k found none is =
-    let taken : first_download_fault content s.functional s.ids ≡ None =
-    subst (λ (x : Functional). first_download_fault content x s.ids ≡ None) e
-    (subst (λ (y : Ids). first_download_fault content f y ≡ None) k (none_of (first_download_fault content f ids) h none)) in
+    → ((why : HostFault) → (◌≡◌ {A = Result HostState HostFault} (Ok h) (Err why)) ↔ (first_offer_fault aim content f ids ≡ Some why))
+    → h ≡ started f (goal_of aim content.payload) limits → HasBegun s aim file limits h
+offer_begins s aim file limits content f ids h e k found none is =
+    let taken : first_offer_fault aim content s.functional s.ids ≡ None =
+    subst (λ (x : Functional). first_offer_fault aim content x s.ids ≡ None) e
+    (subst (λ (y : Ids). first_offer_fault aim content f y ≡ None) k (none_of (first_offer_fault aim content f ids) h none)) in
     record {
       content = content;
-      offered = record { ids = content.ids; dfu = content.dfu; extra = found.0; reads = found.1; taken = taken };
-      host = is ∙ ap (λ (x : Functional). started x (ToLoad content.payload) limits) e;
+      offered = record { ids = content.ids; dfu = content.dfu; extra = found.0; reads = found.1; taken = same_fault aim _ content s.functional s.ids refl refl ∙ taken };
+      host = is ∙ ap (λ (x : Functional). started x (goal_of aim content.payload) limits) e;
     }

@@ -127,6 +127,6 @@ tear_falls p k line old d f e (has, is) = subst (λ (g : ScriptFault). LineFalls
 -- There is no memory for the file that a line offers.
 pub offer_falls : (p : Point) (k : ℕ) (line : List ℕ) (old : Option (List ℕ)) (d : EventLine) (f : ScriptFault)
     → line_of line ≡ Some (Does d) → p.at.session ≡ Nobody → FindsNoRoom d f → LineFalls p k line old old f
-offer_falls p k line old (Offer file) f e free is = subst (λ (g : ScriptFault). LineFalls p k line old old g) (sym is)
-    (for_file (record { file = file; says = e }) free, refl)
+offer_falls p k line old (Offer aim file) f e free is = subst (λ (g : ScriptFault). LineFalls p k line old old g) (sym is)
+    (for_file (record { aim = aim; file = file; says = e }) free, refl)
 offer_falls p k line old d f e free is = elim is [ ]

@@ -1,15 +1,15 @@
 -- What an action that asks, waits or resets does to the device, whatever its fate.
-use Rattle.std.proofs.Common.{ℕ, Bool, true, false, List}
+use Rattle.std.proofs.Common.{◌≡◌, ℕ, Bool, true, false, List, refl}
 use Rattle.dfu_device.specs.Stage.{Request, GetStatus, GetState, Profile}
 use Rattle.dfu_device.specs.Table.{plan, reset_stage}
 use Rattle.dfu_device.specs.Outcome.{Situation, Luck, handled, was_reset, powered}
-use Rattle.dfu_host.specs.Table.{Phase, Heard, Nothing, Restarted}
+use Rattle.dfu_host.specs.Phases.{Phase, Heard, Part, Nothing, Restarted}
 use Rattle.dfu_link.specs.declared.course.Handling.{Handling}
 use Rattle.dfu_link.specs.declared.course.Handling.TheVariants.{Unseen, Once, Again, Late}
 use Rattle.dfu_link.specs.declared.course.Harming.{Harming}
 use Rattle.dfu_link.specs.declared.course.Harming.TheVariants.{NoWrite, CutsPower, FailsWrite, LiesInWrite}
 use Rattle.dfu_link.specs.Course.{Course}
-use Rattle.dfu_link.specs.Play.{heard_as, Passed, reached, heard_back, over, ends_by, slipped, waits_for, sent, waited, bus_reset}
+use Rattle.dfu_link.specs.Play.{heard_as, remembered, Passed, reached, heard_back, over, ends_by, slipped, waits_for, sent, waited, bus_reset}
 use Rattle.dfu_link.specs.LinkAgreement.{IsSound}
 use Rattle.dfu_link.specs.Fact.{Fact}
 use Rattle.dfu_link.proofs.Quiet.{stays, forgets, IsQuiet, IsPolite, quiet_polite, quiet_time, quiet_reset, quiet_then}
@@ -43,6 +43,11 @@ if_heard heard f h = f heard h
 pub any_heard : (heard : Heard) (P : Heard → Type 0) → ((x : Heard) → P x) → IfHeard heard P
 any_heard Restarted P f = tt
 any_heard heard P f = f heard
+
+-- With memory all is heard as it is.
+pub all_remembered : (x : Heard) → x ≡ remembered x true
+all_remembered (Part bytes) = refl
+all_remembered x = refl
 
 module _ (c : Profile) (offers : List (List ℕ)) where
   -- A cut of the power is quiet.

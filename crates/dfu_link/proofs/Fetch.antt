@@ -8,7 +8,8 @@ use Rattle.dfu_device.specs.Table.{Plan, Sure, error, plan, upload_plan, next_nu
 use Rattle.dfu_device.specs.Outcome.{Situation, Luck, outcome}
 use Rattle.dfu_device.specs.Cases.{either_way}
 use Rattle.dfu_host.specs.declared.report.Report.TheVariants.{TooManyBlocks}
-use Rattle.dfu_host.specs.Table.{ToFetch, Find, Fetch, LastUploaded, Over, Nothing, fetched, on_part}
+use Rattle.dfu_host.specs.Phases.{ToFetch, Find, Fetch, LastUploaded, Over, Nothing}
+use Rattle.dfu_host.specs.Table.{fetched, on_part}
 use Rattle.dfu_link.specs.declared.course.Handling.{Handling}
 use Rattle.dfu_link.specs.declared.course.Handling.TheVariants.{Unseen, Once, Again, Late}
 use Rattle.dfu_link.specs.declared.course.Harming.{Harming}

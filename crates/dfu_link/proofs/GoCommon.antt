@@ -3,11 +3,13 @@ use Rattle.std.proofs.Common.{ℕ, max, List, []}
 use Rattle.dfu_device.specs.Stage.{Detach as AskDetach, GetStatus, ClrStatus, Abort, Profile}
 use Rattle.dfu_device.specs.Outcome.{Situation, Luck, elapsed, was_reset}
 use Rattle.dfu_device.specs.Cases.{either_way}
-use Rattle.dfu_host.specs.Table.{Goal, Phase, Find, FindAgain, Detach, Enter, Clear, Quit, WaitFind, ResetFind, Trouble, GiveUp, deed, Heard, on_waited, on_reset, row}
+use Rattle.dfu_host.specs.Phases.{Goal, Phase, Find, FindAgain, Detach, Enter, Clear, Quit, WaitFind, ResetFind, Trouble, GiveUp, Heard}
+use Rattle.dfu_host.specs.Table.{deed, on_waited, on_reset, row}
 use Rattle.dfu_host.specs.CommonPhases.{IsCommon, IsSeeking}
 use Rattle.dfu_host.specs.RowLaws.{after_common}
 use Rattle.dfu_link.specs.Course.{Course}
-use Rattle.dfu_link.specs.Play.{task_for, Passed, slipped, waits_for, sent, waited, bus_reset, acted}
+use Rattle.dfu_link.specs.Opening.{task_for}
+use Rattle.dfu_link.specs.Play.{Passed, slipped, waits_for, sent, waited, bus_reset, acted}
 use Rattle.dfu_link.specs.LinkAgreement.{IsSound}
 use Rattle.dfu_link.specs.Fact.{GoalFact, HasBlocks}
 use Rattle.dfu_link.proofs.Quiet.{IsQuiet}

@@ -1,19 +1,22 @@
 -- One action of a download's host, in each phase and with each fate.
-use Rattle.std.proofs.Common.{ℕ, ◌%◌, ◌<◌, List, length}
+use Rattle.std.proofs.Common.{◌≡◌, ℕ, ◌%◌, ◌<◌, List, length}
 use Rattle.dfu_wire.specs.declared.codes.Code.{Code}
 use Rattle.dfu_wire.specs.declared.states.State.{State}
 use Rattle.dfu_device.specs.Stage.{GetStatus, GetState, Profile, Stage, InDfuIdle}
 use Rattle.dfu_device.specs.Table.{reset_stage}
-use Rattle.dfu_device.specs.Outcome.{Situation, Luck, elapsed}
+use Rattle.dfu_device.specs.Outcome.{Situation, Luck, elapsed, was_reset}
 use Rattle.dfu_host.specs.declared.report.Report.{Report}
-use Rattle.dfu_host.specs.declared.report.Report.TheVariants.{Installed, Unconfirmed}
+use Rattle.dfu_host.specs.declared.report.Report.TheVariants.{Installed, Unconfirmed, Verified}
 use Rattle.dfu_host.specs.Blocks.{blocks}
-use Rattle.dfu_host.specs.Table.{ToLoad, Phase, Block, Ask, Poll, WaitPoll, Close, AskLast, Manifest, WaitManifest, WaitLast, Trouble, Fetch, LastUploaded, Last, Over, OverUploaded, deed, Heard, polled, manifested, asked, asked_last, on_status, on_state, row}
+use Rattle.dfu_host.specs.Phases.{ToLoad, Phase, Block, Ask, Poll, WaitPoll, Close, AskLast, Manifest, WaitManifest, WaitLast, Trouble, Fetch, LastUploaded, Compare, Last, Over, OverUploaded, Heard}
+use Rattle.dfu_host.specs.Table.{deed, polled, manifested, asked, asked_last, on_status, on_state, row}
 use Rattle.dfu_host.specs.RowLaws.{after_status, after_state}
 use Rattle.dfu_host.specs.Host.{IsOn}
 use Rattle.dfu_link.specs.Session.{IsOneOf}
 use Rattle.dfu_link.specs.Course.{Course}
-use Rattle.dfu_link.specs.Play.{task_for, Passed, waits_for, sent, acted}
+use Rattle.dfu_link.specs.declared.course.Handling.{Handling}
+use Rattle.dfu_link.specs.Opening.{task_for}
+use Rattle.dfu_link.specs.Play.{Passed, waits_for, slipped, sent, acted}
 use Rattle.dfu_link.specs.LinkAgreement.{IsSound}
 use Rattle.dfu_link.specs.Fact.{IsIdle, IsInApp, EndsAs, Fact}
 use Rattle.dfu_link.proofs.Tells.{Tells, ToldBy}
@@ -60,11 +63,20 @@ module _ (c : Profile) (offers : List (List ℕ)) (p : List ℕ) (some : 0 < len
             (λ state. f d.device state w.fact) tt w.fact w.told) (state_knows c offers p phase s course l k a h);
       }
 
+  reset_in_place : (s : Situation) (stage : Stage) → (s.image ≡ p) × IsIdle stage → (s.image ≡ p) × IsInApp (reset_stage stage)
+  reset_in_place s InDfuIdle h = h
+  reset_in_place s stage h = elim h.1 [ ]
+
   reset_ends : (s : Situation) (stage : Stage) (report : Report) → EndsAs c p (record { image = s.image; stage = stage }) IsIdle report
       → EndsAs c p (record { image = s.image; stage = reset_stage stage }) IsInApp report
-  reset_ends s InDfuIdle Installed h = h
-  reset_ends s stage Installed h = elim h.2 [ ]
+  reset_ends s stage Installed h = let x = reset_in_place s stage (h.1, h.2) in (h.0, x.0, x.1)
+  reset_ends s stage Verified h = reset_in_place s stage h
   reset_ends s stage report h = h
+
+  -- A session that ends in dfuIDLE ends in appIDLE after the last reset, whatever time slips in.
+  pub last_ends : (s : Situation) (report : Report) (how : Handling) (l : Luck) → EndsAs c p s IsIdle report
+      → EndsAs c p (slipped c (was_reset s) how l) IsInApp report
+  last_ends s report how l h = slipped_fact c offers p (Over report) s how l (reset_ends s s.stage report h)
 
   passes : (phase : Phase) (s : Situation) (ms : ℕ) (course : Course) (l : Luck) → Fact c p phase s
       → Fact c p phase (elapsed c s (waits_for course.handling ms) l)
@@ -91,9 +103,10 @@ module _ (c : Profile) (offers : List (List ℕ)) (p : List ℕ) (some : 0 < len
   go_download (WaitLast poll) s on h q o course l k = well (WaitLast poll)
       (go_wait c offers (ToLoad p) (Last Unconfirmed) (WaitLast poll) s poll course l tt q)
   go_download (Last report) s on h q o course l k = well (Last report) (go_reset c offers (ToLoad p) (Over report) (Last report) s course l
-      (slipped_fact c offers p (Over report) s course.handling l (reset_ends s s.stage report h)))
+      (last_ends s report course.handling l h))
   go_download (Fetch k kept) s on h q o course l r = elim h [ ]
   go_download (LastUploaded kept) s on h q o course l k = elim h [ ]
+  go_download (Compare n) s on h q o course l k = elim h [ ]
   go_download (OverUploaded kept) s on h q o course l k = elim on [ ]
   go_download (Over report) s on h q o course l k = elim on [ ]
   go_download phase s on h q o course l k = well phase (go_common c offers (ToLoad p) some phase s h q course l k)

@@ -3,12 +3,14 @@ use Rattle.std.proofs.Common.{◌≡◌, ℕ, List, refl, sym, ◌∙◌}
 use Rattle.dfu_device.specs.Stage.{Profile, Stage, InAppDetach}
 use Rattle.dfu_device.specs.Table.{reset_stage}
 use Rattle.dfu_device.specs.Outcome.{Situation, Luck, elapsed, was_reset}
-use Rattle.dfu_host.specs.Table.{ToFetch, Phase, Fetch, LastUploaded, Over, OverUploaded, deed, row}
+use Rattle.dfu_host.specs.Phases.{ToFetch, Phase, Fetch, LastUploaded, Over, OverUploaded}
+use Rattle.dfu_host.specs.Table.{deed, row}
 use Rattle.dfu_host.specs.Host.{IsOn}
 use Rattle.dfu_link.specs.declared.course.Handling.{Handling}
 use Rattle.dfu_link.specs.declared.course.Handling.TheVariants.{Late}
 use Rattle.dfu_link.specs.Course.{Course}
-use Rattle.dfu_link.specs.Play.{task_for, slipped, acted}
+use Rattle.dfu_link.specs.Opening.{task_for}
+use Rattle.dfu_link.specs.Play.{slipped, acted}
 use Rattle.dfu_link.specs.LinkAgreement.{IsSound}
 use Rattle.dfu_link.specs.Fact.{FetchFact}
 use Rattle.dfu_link.proofs.Fetch.{go_fetch}

@@ -10,7 +10,8 @@ use Rattle.dfu_device.specs.Outcome.{outcome}
 use Rattle.dfu_device.specs.Shown.{Shown, profile}
 use Rattle.dfu_device.specs.Rows.{meant, asked_length, Done, Handles}
 use Rattle.dfu_device.specs.Came.{row_of}
-use Rattle.dfu_host.specs.Table.{Deed, Send, Wait, Reset, Done as IsDone, deed, Heard, Waited, WasReset, Restarted}
+use Rattle.dfu_host.specs.Phases.{Deed, Send, Wait, Reset, Done as IsDone, Heard, Waited, WasReset, Restarted}
+use Rattle.dfu_host.specs.Table.{deed}
 use Rattle.dfu_host.specs.Host.{HostState}
 use Rattle.dfu_host.specs.Wire.{IsAsked}
 use Rattle.dfu_link.specs.declared.back.Back.{Back}

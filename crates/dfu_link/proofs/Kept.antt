@@ -1,13 +1,13 @@
 -- Which facts stay as the host polls and as time passes.
-use Rattle.std.proofs.Common.{ℕ, suc, ◌+◌, ◌==◌, nat_le, List}
+use Rattle.std.proofs.Common.{◌≡◌, ℕ, suc, ◌+◌, ◌==◌, nat_le, List}
 use Rattle.dfu_device.specs.Stage.{GetStatus, GetState, Ack, Profile, Stage, InAppIdle, InDfuIdle, InDownloadSync, InDownloadSyncWritten, InDownloadBusy, InDownloadIdle, InManifestSync, InManifestSyncComplete, InManifest, InManifestWaitReset, InError}
 use Rattle.dfu_device.specs.Table.{Plan, Commits, plan, time_plan}
 use Rattle.dfu_device.specs.Outcome.{Situation, Luck, Works, FailsOld, FailsNew, outcome}
 use Rattle.dfu_device.specs.Cases.{either_way}
 use Rattle.dfu_host.specs.declared.report.Report.{Report}
-use Rattle.dfu_host.specs.declared.report.Report.TheVariants.{Installed}
+use Rattle.dfu_host.specs.declared.report.Report.TheVariants.{Installed, Verified}
 use Rattle.dfu_host.specs.Blocks.{first}
-use Rattle.dfu_host.specs.Table.{Phase, Find, FindAgain, Block, Ask, Poll, WaitPoll, Close, AskLast, Manifest, WaitManifest, Trouble, Fetch, LastUploaded, Last, Over, OverUploaded}
+use Rattle.dfu_host.specs.Phases.{Phase, Find, FindAgain, Block, Ask, Poll, WaitPoll, Close, AskLast, Manifest, WaitManifest, Trouble, Fetch, LastUploaded, Compare, Last, Over, OverUploaded}
 use Rattle.dfu_link.specs.Fact.{IsIdle, IsInApp, Begun, Asking, BlockIn, AllTaken, AskingLast, Managing, EndsAs, Fact}
 
 module _ (c : Profile) (i : List ℕ) where
@@ -97,16 +97,24 @@ module _ (c : Profile) (i : List ℕ) where
   whole_time p ms (InDownloadIdle taken number) h luck = h
   whole_time p ms stage h luck = elim h [ ]
 
+  idle_time : (p : List ℕ) (ms : ℕ) (stage : Stage) → (i ≡ p) × IsIdle stage → Then (λ s. (s.image ≡ p) × IsIdle s.stage) (time_plan c stage ms)
+  idle_time p ms InDfuIdle h luck = h
+  idle_time p ms stage h luck = elim h.1 [ ]
+
   last_report_time : (p : List ℕ) (ms : ℕ) (report : Report) (stage : Stage)
       → EndsAs c p (record { image = i; stage = stage }) IsIdle report → Then (λ s. EndsAs c p s IsIdle report) (time_plan c stage ms)
-  last_report_time p ms Installed InDfuIdle h luck = h
-  last_report_time p ms Installed stage h luck = elim h.2 [ ]
+  last_report_time p ms Installed stage h luck = let x = idle_time p ms stage (h.1, h.2) luck in (h.0, x.0, x.1)
+  last_report_time p ms Verified stage h luck = idle_time p ms stage h luck
   last_report_time p ms report stage h luck = h
+
+  app_time : (p : List ℕ) (ms : ℕ) (stage : Stage) → (i ≡ p) × IsInApp stage → Then (λ s. (s.image ≡ p) × IsInApp s.stage) (time_plan c stage ms)
+  app_time p ms InAppIdle h luck = h
+  app_time p ms stage h luck = elim h.1 [ ]
 
   over_time : (p : List ℕ) (ms : ℕ) (report : Report) (stage : Stage) → EndsAs c p (record { image = i; stage = stage }) IsInApp report
       → Then (λ s. EndsAs c p s IsInApp report) (time_plan c stage ms)
-  over_time p ms Installed InAppIdle h luck = h
-  over_time p ms Installed stage h luck = elim h.2 [ ]
+  over_time p ms Installed stage h luck = let x = app_time p ms stage (h.1, h.2) luck in (h.0, x.0, x.1)
+  over_time p ms Verified stage h luck = app_time p ms stage h luck
   over_time p ms report stage h luck = h
 
   -- Each fact stays as time passes.
@@ -125,6 +133,7 @@ module _ (c : Profile) (i : List ℕ) where
   fact_time p (Fetch k kept) ms stage h luck = elim h [ ]
   fact_time p (LastUploaded kept) ms stage h luck = elim h [ ]
   fact_time p (OverUploaded kept) ms stage h luck = elim h [ ]
+  fact_time p (Compare k) ms stage h luck = elim h [ ]
   fact_time p phase ms stage h luck = tt
 
   -- The phases that ask for the status, and what they know.

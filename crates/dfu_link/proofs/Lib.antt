@@ -10,10 +10,16 @@ pub mod Blocks
 pub mod GoDownload
 pub mod Fetch
 pub mod GoUpload
+pub mod GoalLaws
+pub mod GoCompare
 pub mod Taking
 pub mod ActionSteps
+pub mod PassingTime
 pub mod EachEvent
 pub mod Passes
+pub mod Finding
+pub mod Verified
+pub mod CleanCompare
 pub mod Turns
 pub mod Clean
 pub mod Reserved

@@ -12,6 +12,7 @@ use Rattle.dfu_slots.specs.Medium.Fuse.{Whole}
 use Rattle.dfu_link.specs.Play.{Answered, given}
 use Rattle.dfu_link.specs.Bench.{Bench, ShowsActive, LinkState}
 use Rattle.dfu_link.specs.Bytes.{armed}
+use Rattle.dfu_link.specs.declared.aim.Aim.{Aim}
 use Rattle.dfu_link.specs.Happening.{Happening, Offers}
 use Rattle.dfu_link.specs.Refusing.{IsLive}
 use Rattle.dfu_link.specs.Comes.{Comes, refuses, shown_as, gave_of, ComesWith, GivesWithUploaded, HasCome}
@@ -59,28 +60,28 @@ plays_one b c c' events e out r p h active =
     subst (λ (text : List ℕ). AllCome b (events ++ e ∷ []) (out ++ text) c'.bench) (sym same) (then_comes p h.comes active)
 
 -- An offer while a session is live.
-busy_offer : (b : Bench) (file : List ℕ) (limits : Limits) → IsLive b.session → Comes b (Offers file limits) b (Err HostBusy)
-busy_offer b file limits live = refuses live
+busy_offer : (b : Bench) (aim : Aim) (file : List ℕ) (limits : Limits) → IsLive b.session → Comes b (Offers aim file limits) b (Err HostBusy)
+busy_offer b aim file limits live = refuses live
 
 -- An offer while a session is live is refused, whatever its file is, and that is printed.
-pub busy_plays : (b : Bench) (file : List ℕ) (limits : Limits) (old new : Option (List ℕ)) → IsLive b.session
-    → ShowsActive b → Appends old new (answer_line (Err HostBusy)) → HasPlayed b (Offers file limits ∷ []) old b new
-busy_plays b file limits old new live active told = record {
+pub busy_plays : (b : Bench) (aim : Aim) (file : List ℕ) (limits : Limits) (old new : Option (List ℕ)) → IsLive b.session
+    → ShowsActive b → Appends old new (answer_line (Err HostBusy)) → HasPlayed b (Offers aim file limits ∷ []) old b new
+busy_plays b aim file limits old new live active told = record {
   out = answer_line (Err HostBusy);
-  plays = then_comes none_comes (busy_offer b file limits live) active;
+  plays = then_comes none_comes (busy_offer b aim file limits live) active;
   told = told;
 }
 
 -- So it is where the writer fails in it.
-pub busy_broken : (b : Bench) (file : List ℕ) (limits : Limits) (old new : Option (List ℕ)) → IsLive b.session
-    → ShowsActive b → IsOutInPart old new (answer_line (Err HostBusy)) → HasBroken b (Offers file limits ∷ []) old new
-busy_broken b file limits old new live active broke = record {
-  played = Offers file limits ∷ [];
+pub busy_broken : (b : Bench) (aim : Aim) (file : List ℕ) (limits : Limits) (old new : Option (List ℕ)) → IsLive b.session
+    → ShowsActive b → IsOutInPart old new (answer_line (Err HostBusy)) → HasBroken b (Offers aim file limits ∷ []) old new
+busy_broken b aim file limits old new live active broke = record {
+  played = Offers aim file limits ∷ [];
   left = [];
   split = refl;
   after = b;
   out = answer_line (Err HostBusy);
-  plays = then_comes none_comes (busy_offer b file limits live) active;
+  plays = then_comes none_comes (busy_offer b aim file limits live) active;
   broke = broke;
 }
 

@@ -9,9 +9,10 @@ use Rattle.dfu_device.specs.Stage.{Profile, Stage, InDfuIdle, InDownloadSync, In
 use Rattle.dfu_device.specs.Outcome.{Situation}
 use Rattle.dfu_host.specs.Blocks.{blocks, first}
 use Rattle.dfu_host.specs.BlockLaws.{first_all}
-use Rattle.dfu_host.specs.Table.{ToLoad, Block, Close, troubled, polled, manifested, asked, asked_last}
+use Rattle.dfu_host.specs.Phases.{ToLoad, Block, Close}
+use Rattle.dfu_host.specs.Table.{troubled, polled, manifested, asked, asked_last}
 use Rattle.dfu_host.specs.RowLaws.{after_trouble}
-use Rattle.dfu_link.specs.Play.{task_for}
+use Rattle.dfu_link.specs.Opening.{task_for}
 use Rattle.dfu_link.specs.Fact.{IsIdle, Begun, Asking, BlockIn, AllTaken, AskingLast, Managing, Fact}
 use Rattle.dfu_link.proofs.Tells.{Tells, ToldBy}
 use Rattle.dfu_link.proofs.CommonFacts.{common_facts}

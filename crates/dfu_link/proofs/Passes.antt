@@ -1,16 +1,19 @@
--- Passes of a download, one after the other, for every budget.
+-- Passes of a session, one after the other, for every budget.
 use Rattle.std.proofs.Common.{◌≡◌, ℕ, suc, ◌+◌, Bool, true, false, List, refl, ap, ◌∙◌, subst, arith}
 use Rattle.dfu_device.specs.Stage.{Profile, Stage}
 use Rattle.dfu_device.specs.Outcome.{Luck, Works}
-use Rattle.dfu_host.specs.Table.{ToLoad, Phase, Over, OverUploaded, deed, Heard}
+use Rattle.dfu_host.specs.Phases.{Goal, Phase, Over, OverUploaded, Heard}
+use Rattle.dfu_host.specs.Table.{deed}
 use Rattle.dfu_host.specs.Host.{HostState, IsOn, budgeted}
 use Rattle.dfu_link.specs.Happening.{Pass}
 use Rattle.dfu_link.specs.Course.{course_of}
 use Rattle.dfu_link.specs.Bench.{Hosted}
-use Rattle.dfu_link.specs.Play.{Link, silent, task_for, Took, settled, took, remembered, Passed, acted}
+use Rattle.dfu_link.specs.Opening.{task_for}
+use Rattle.dfu_link.specs.Play.{Link, silent, Took, settled, took, remembered, has_room, Passed, acted}
 use Rattle.dfu_link.specs.CleanRun.{PassesTo, Quietly, here, there}
 
-both_ways : {c : Profile} {a b d : Link} {j k : ℕ} → Quietly c a j b → Quietly c b k d → Quietly c a (j + k) d
+-- Passes after passes.
+pub both_ways : {c : Profile} {a b d : Link} {j k : ℕ} → Quietly c a j b → Quietly c b k d → Quietly c a (j + k) d
 both_ways {c = c} {a = a} {d = d} {k = k} here q = subst (λ n. Quietly c a n d) (let e : k ≡ 0 + k = omega arith in e) q
 both_ways {c = c} {a = a} {d = d} {k = k} (there {n = j} e q) r =
     subst (λ n. Quietly c a n d) (let e : suc (j + k) ≡ suc j + k = omega arith in e) (there e (both_ways q r))
@@ -20,12 +23,12 @@ pub split : {P : Type 0} (t : Bool) → (t ≡ true → P) → (t ≡ false → 
 split true f g = f refl
 split false f g = g refl
 
-module _ (c : Profile) (p : List ℕ) (again : ℕ) where
-  -- The host of this download, in a phase.
+module _ (c : Profile) (goal : Goal) (again : ℕ) where
+  -- The host of a session with this goal, in a phase.
   abbrev pub host_at : Phase → ℕ → HostState
-  host_at phase left = record { task = task_for c (ToLoad p); phase = phase; actions = left; restarts = again }
+  host_at phase left = record { task = task_for c goal; phase = phase; actions = left; restarts = again }
 
-  -- A link with this download in a phase.
+  -- A link with this session in a phase.
   abbrev pub at : List ℕ → Stage → Phase → ℕ → Link
   at image stage phase left = record { device = record { image = image; stage = stage }; session = Hosted (host_at phase left) }
 
@@ -73,12 +76,12 @@ module _ (c : Profile) (p : List ℕ) (again : ℕ) where
 
   -- One action: what the device does, what the host hears, and the phase to which it comes.
   pub one_by : {i j : List ℕ} {s t : Stage} {phase next : Phase} (heard : Heard) (mid : Phase)
-      → ((k : Luck) → acted c (record { image = i; stage = s }) (deed (task_for c (ToLoad p)) phase) (course_of Pass) Works k
+      → ((k : Luck) → acted c (record { image = i; stage = s }) (deed (task_for c goal) phase) (course_of Pass) Works k
       ≡ record { device = record { image = j; stage = t }; heard = heard })
-      → ((l : ℕ) (room : Bool) → took (host_at phase (suc (suc l))) (remembered heard room) ≡ comes_to mid l) → mid ≡ next → IsOn next
+      → ((l : ℕ) (room : Bool) → took (host_at phase (suc (suc l))) (remembered heard (has_room phase room)) ≡ comes_to mid l) → mid ≡ next → IsOn next
       → Leads i s phase 1 j t next
   one_by {j = j} {t = t} {phase = phase} {next = next} heard mid e f g on = one (λ l k room.
-      ap (λ (d : Passed). let q = took (host_at phase (suc (suc l))) (remembered d.heard room) in
+      ap (λ (d : Passed). let q = took (host_at phase (suc (suc l))) (remembered d.heard (has_room phase room)) in
       record { link = record { device = d.device; session = q.session }; answer = q.answer }) (e k)
       ∙ ap (λ (q : Took). record { link = record { device = record { image = j; stage = t }; session = q.session }; answer = q.answer })
       (f l room ∙ ap (λ x. comes_to x l) g ∙ comes_on next l on))

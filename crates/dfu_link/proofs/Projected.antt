@@ -1,5 +1,5 @@
 -- A play with its bytes is a play of what the benches show.
-use Rattle.std.proofs.Common.{◌≡◌, Bool, true, refl, sym, ap, ◌∙◌, subst}
+use Rattle.std.proofs.Common.{◌≡◌, Bool, true, false, IsTrue, refl, sym, ap, ◌∙◌, subst}
 use Rattle.dfu_slots.specs.Medium.{Fuse}
 use Rattle.dfu_slots.specs.Medium.Fuse.{Whole}
 use Rattle.dfu_slots.specs.Seen.{image_restarted, room_restarted}
@@ -7,12 +7,14 @@ use Rattle.dfu_device.specs.Stage.{Profile, InAppIdle}
 use Rattle.dfu_device.specs.Outcome.{Situation, Luck, Works, Outcome, elapsed, powered}
 use Rattle.dfu_device.specs.Shown.{Shown, profile, situation}
 use Rattle.dfu_device.specs.Came.{time_came}
-use Rattle.dfu_host.specs.Table.{Deed, deed, Heard}
+use Rattle.dfu_host.specs.Phases.{Phase, Fetch, Deed, Heard, Part, NoRoom}
+use Rattle.dfu_host.specs.Table.{deed}
+use Rattle.dfu_host.specs.Host.{wants_memory}
 use Rattle.dfu_link.specs.Happening.{Fate, Harm, Happening, Offers, Uploads, Aborts, Goes, Passes, Resets, Cuts}
 use Rattle.dfu_link.specs.declared.course.Harming.{Harming}
 use Rattle.dfu_link.specs.declared.course.Harming.TheVariants.{NoWrite, CutsPower, FailsWrite, LiesInWrite}
 use Rattle.dfu_link.specs.Course.{Course, course_of}
-use Rattle.dfu_link.specs.Play.{Answered, over, acted, took, told, played, gone, IsAllowed}
+use Rattle.dfu_link.specs.Play.{Answered, remembered, has_room, over, acted, took, told, played, gone, IsAllowed}
 use Rattle.dfu_link.specs.Bench.{Session, Bench}
 use Rattle.dfu_link.specs.Bytes.{fuse_of, armed, powered_up, left_by, link_of, NextAction, Happens, BytePlay}
 use Rattle.dfu_link.specs.Understood.{Shows, BytesShow}
@@ -62,6 +64,14 @@ record Showed (b : Bench) (event : Happening) (fuse : Fuse) (b' : Bench) (answer
   sure : fuse ≡ Whole → (room : Bool) × (played (profile b.device) (link_of b) event Works Works room
       ≡ record { link = link_of b'; answer = answer })
 
+-- A host whose phase wants no memory hears what it would hear with memory.
+heard_in : (phase : Phase) (heard x : Heard) (room : Bool) → heard ≡ remembered x room → (heard ≡ NoRoom → IsTrue (wants_memory phase))
+    → heard ≡ remembered x (has_room phase room)
+heard_in (Fetch k kept) heard x room e h = e
+heard_in phase heard x true e h = e
+heard_in phase heard (Part bytes) false e h = let none : false ≡ true = h e in absurd cc
+heard_in phase heard x false e h = e
+
 goes_show : (fate : Fate) (harm : Harm) (b b' : Bench) (answer : Answered) → IsAllowed b.session (Goes fate harm)
     → NextAction b.session fate harm b b' answer → Showed b (Goes fate harm) (fuse_of (course_of fate).harming harm) b' answer
 goes_show fate harm b b' answer allowed g =
@@ -69,14 +79,15 @@ goes_show fate harm b b' answer allowed g =
     let course = course_of fate in
     let x = armed_goes d course (fuse_of course.harming harm) b.device g.last g.heard
     (acts_go d course (armed b.device (fuse_of course.harming harm)) g.last g.heard (hosts_deed g.host.task g.host.phase) g.acts) in
+    let hears = heard_in g.host.phase g.heard _ x.room x.hears g.room in
     let there : (acted (profile b.device) (situation b.device) d course x.first x.second).device ≡ situation b'.device = x.device
     ∙ sym (after_situation course.harming g.last) ∙ sym (ap situation g.device) in
     let same : played (profile b.device) (link_of b) (Goes fate harm) x.first x.second x.room
     ≡ record { link = link_of b'; answer = answer } =
     ap (λ (z : Session). gone (profile b.device) (link_of b) z fate x.first x.second x.room) g.live
     ∙ (λ i. record {
-      link = record { device = there i; session = (ap (λ (h : Heard). (took g.host h).session) (sym x.hears) ∙ sym g.session) i };
-      answer = (ap (λ (h : Heard). (took g.host h).answer) (sym x.hears) ∙ sym g.answered) i;
+      link = record { device = there i; session = (ap (λ (h : Heard). (took g.host h).session) (sym hears) ∙ sym g.session) i };
+      answer = (ap (λ (h : Heard). (took g.host h).answer) (sym hears) ∙ sym g.answered) i;
     }) in
     record {
       shown = record {
@@ -113,8 +124,8 @@ at_once b b' now event answer said allowed unarmed same fixed whole e f =
 
 shows : (event : Happening) (b b' : Bench) (answer : Answered) → IsAllowed b.session event → b.device.slots.medium.fuse ≡ Whole
     → Happens event b b' answer → Showed b event (fuse_in event) b' answer
-shows (Offers payload limits) b b' answer allowed unarmed (e, f) =
-    at_once b b' _ (Offers payload limits) answer _ allowed unarmed refl refl unarmed e f
+shows (Offers aim payload limits) b b' answer allowed unarmed (e, f) =
+    at_once b b' _ (Offers aim payload limits) answer _ allowed unarmed refl refl unarmed e f
 shows (Uploads limits) b b' answer allowed unarmed (e, f) =
     at_once b b' _ (Uploads limits) answer _ allowed unarmed refl refl unarmed e f
 shows Aborts b b' answer allowed unarmed (e, f) = at_once b b' _ Aborts answer _ allowed unarmed refl refl unarmed e f

@@ -1,11 +1,8 @@
 -- An event has one answer.
 use Rattle.std.proofs.Common.{◌≡◌, ℕ, List, Option, Some, None, refl, sym, ap, ◌∙◌, subst}
-use Rattle.dfu_wire.specs.declared.functionals.Functional.{Functional}
-use Rattle.dfu_wire.specs.declared.ids.Ids.{Ids}
-use Rattle.dfu_suffix.specs.Grammar.{Content}
 use Rattle.dfu_suffix.proofs.ForCallers.{never_both, one_reading}
 use Rattle.dfu_host.specs.declared.fault.HostFault.{HostFault}
-use Rattle.dfu_host.specs.Download.{first_download_fault}
+use Rattle.dfu_link.specs.declared.aim.Aim.{Aim}
 use Rattle.dfu_host.specs.declared.limits.Limits.{Limits}
 use Rattle.dfu_device.specs.Setting.{Setting}
 use Rattle.dfu_link.specs.declared.fault.LinkFault.TheVariants as fault
@@ -14,34 +11,32 @@ use Rattle.dfu_link.specs.declared.fault.OfferFault.TheVariants as offer_fault
 use Rattle.dfu_link.specs.Play.{IsAllowed}
 use Rattle.dfu_link.specs.Bench.{Session, Nobody, Hosted}
 use Rattle.dfu_link.specs.Happening.{Offers, Uploads, Aborts, Goes, Passes, Resets, Cuts}
-use Rattle.dfu_link.specs.Refusing.{IsOffered, IsBadOffer, CanGive, IsBadUpload, IsLive}
+use Rattle.dfu_link.specs.Refusing.{first_offer_fault, IsOffered, IsBadOffer, CanGive, IsBadUpload, IsLive}
+use Rattle.dfu_link.proofs.Events.{same_fault}
 use Rattle.dfu_link.specs.OneAnswer.{OneRefusal, RefusedIsNoPlay, OneEvent}
 
--- The faults of a download go by the payload and the identifiers alone.
-same_fault : (c d : Content) (f : Functional) (ids : Ids) → c.payload ≡ d.payload → c.ids ≡ d.ids
-    → first_download_fault c f ids ≡ first_download_fault d f ids
-same_fault c d f ids p q = λ i. first_download_fault (record { payload = p i; ids = q i; dfu = c.dfu; suffix = c.suffix }) f ids
-
 -- A file that is taken has no fault.
-pub offered_not_bad : (s : Setting) (file payload : List ℕ) (why : OfferFault) → IsOffered s file payload → IsBadOffer s file why → ⊥
-offered_not_bad s file payload (offer_fault.Suffix f) o first = never_both file f (payload, o.ids, o.dfu, o.extra, o.reads) first
-offered_not_bad s file payload (offer_fault.Host f) o (content, says, first) =
+pub offered_not_bad : (s : Setting) (aim : Aim) (file payload : List ℕ) (why : OfferFault) → IsOffered s aim file payload
+    → IsBadOffer s aim file why → ⊥
+offered_not_bad s aim file payload (offer_fault.Suffix f) o first = never_both file f (payload, o.ids, o.dfu, o.extra, o.reads) first
+offered_not_bad s aim file payload (offer_fault.Host f) o (content, says, first) =
     let same = one_reading file content.payload payload _ _ _ _ _ _ says.reads o.reads in
-    let taken : first_download_fault content s.functional s.ids ≡ None = same_fault content
-    (record { payload = payload; ids = o.ids; dfu = content.dfu; suffix = content.suffix }) s.functional s.ids same.0 same.1
+    let taken : first_offer_fault aim content s.functional s.ids ≡ None = same_fault aim content _ s.functional
+    s.ids same.0 same.1
     ∙ o.taken in
     absurd cc
 
 -- A file that is not taken has one fault.
-one_bad : (s : Setting) (file : List ℕ) (why other : OfferFault) → IsBadOffer s file why → IsBadOffer s file other → why ≡ other
-one_bad s file (offer_fault.Suffix f) (offer_fault.Suffix g) x y = let e : Some f ≡ Some g = sym x ∙ y in cc
-one_bad s file (offer_fault.Suffix f) (offer_fault.Host g) x (content, says, first) =
+one_bad : (s : Setting) (aim : Aim) (file : List ℕ) (why other : OfferFault) → IsBadOffer s aim file why → IsBadOffer s aim file other
+    → why ≡ other
+one_bad s aim file (offer_fault.Suffix f) (offer_fault.Suffix g) x y = let e : Some f ≡ Some g = sym x ∙ y in cc
+one_bad s aim file (offer_fault.Suffix f) (offer_fault.Host g) x (content, says, first) =
     absurd (never_both file f (content.payload, content.ids, content.dfu, says.extra, says.reads) x)
-one_bad s file (offer_fault.Host f) (offer_fault.Suffix g) (content, says, first) y =
+one_bad s aim file (offer_fault.Host f) (offer_fault.Suffix g) (content, says, first) y =
     absurd (never_both file g (content.payload, content.ids, content.dfu, says.extra, says.reads) y)
-one_bad s file (offer_fault.Host f) (offer_fault.Host g) (content, says, first) (other, reads, second) =
+one_bad s aim file (offer_fault.Host f) (offer_fault.Host g) (content, says, first) (other, reads, second) =
     let same = one_reading file content.payload other.payload _ _ _ _ _ _ says.reads reads.reads in
-    let e : Some f ≡ Some g = sym first ∙ (same_fault content other s.functional s.ids same.0 same.1 ∙ second) in
+    let e : Some f ≡ Some g = sym first ∙ (same_fault aim content other s.functional s.ids same.0 same.1 ∙ second) in
     cc
 
 -- An upload has one fault, or none.
@@ -58,14 +53,14 @@ bad_or_given s why x gives = x
 
 -- An event is refused as one fault.
 pub one_refusal : OneRefusal
-one_refusal b (Offers file limits) fault.HostBusy fault.HostBusy x y = refl
-one_refusal b (Offers file limits) fault.HostBusy (fault.BadOffer g) x y = absurd (subst IsLive y.0 x)
-one_refusal b (Offers file limits) fault.HostBusy other x y = elim y [ ]
-one_refusal b (Offers file limits) (fault.BadOffer f) fault.HostBusy x y = absurd (subst IsLive x.0 y)
-one_refusal b (Offers file limits) (fault.BadOffer f) (fault.BadOffer g) x y =
-    ap (λ (why : OfferFault). fault.BadOffer why) (one_bad b.device.config file f g x.1 y.1)
-one_refusal b (Offers file limits) (fault.BadOffer f) other x y = elim y [ ]
-one_refusal b (Offers file limits) why other x y = elim x [ ]
+one_refusal b (Offers aim file limits) fault.HostBusy fault.HostBusy x y = refl
+one_refusal b (Offers aim file limits) fault.HostBusy (fault.BadOffer g) x y = absurd (subst IsLive y.0 x)
+one_refusal b (Offers aim file limits) fault.HostBusy other x y = elim y [ ]
+one_refusal b (Offers aim file limits) (fault.BadOffer f) fault.HostBusy x y = absurd (subst IsLive x.0 y)
+one_refusal b (Offers aim file limits) (fault.BadOffer f) (fault.BadOffer g) x y =
+    ap (λ (why : OfferFault). fault.BadOffer why) (one_bad b.device.config aim file f g x.1 y.1)
+one_refusal b (Offers aim file limits) (fault.BadOffer f) other x y = elim y [ ]
+one_refusal b (Offers aim file limits) why other x y = elim x [ ]
 one_refusal b (Uploads limits) fault.HostBusy fault.HostBusy x y = refl
 one_refusal b (Uploads limits) fault.HostBusy (fault.BadOffer g) x y = absurd (subst IsLive y.0 x)
 one_refusal b (Uploads limits) fault.HostBusy other x y = elim y [ ]
@@ -86,9 +81,9 @@ one_refusal b Cuts why other x y = elim x [ ]
 
 -- No play.
 
-busy_no_offer : (s : Session) (payload : List ℕ) (limits : Limits) → IsLive s → IsAllowed s (Offers payload limits) → ⊥
-busy_no_offer Nobody payload limits live a = live
-busy_no_offer (Hosted h) payload limits live a = a
+busy_no_offer : (s : Session) (aim : Aim) (payload : List ℕ) (limits : Limits) → IsLive s → IsAllowed s (Offers aim payload limits) → ⊥
+busy_no_offer Nobody aim payload limits live a = live
+busy_no_offer (Hosted h) aim payload limits live a = a
 
 busy_no_upload : (s : Session) (limits : Limits) → IsLive s → IsAllowed s (Uploads limits) → ⊥
 busy_no_upload Nobody limits live a = live
@@ -96,9 +91,9 @@ busy_no_upload (Hosted h) limits live a = a
 
 -- An event that is refused is no play.
 pub refused_no_play : RefusedIsNoPlay
-refused_no_play b (Offers file limits) fault.HostBusy event x m a =
-    busy_no_offer b.session m.0 limits x (subst (IsAllowed b.session) m.2 a)
-refused_no_play b (Offers file limits) (fault.BadOffer f) event x m a = offered_not_bad b.device.config file m.0 f m.1 x.1
+refused_no_play b (Offers aim file limits) fault.HostBusy event x m a =
+    busy_no_offer b.session aim m.0 limits x (subst (IsAllowed b.session) m.2 a)
+refused_no_play b (Offers aim file limits) (fault.BadOffer f) event x m a = offered_not_bad b.device.config aim file m.0 f m.1 x.1
 refused_no_play b (Uploads limits) fault.HostBusy event x m a =
     busy_no_upload b.session limits x (subst (IsAllowed b.session) m.1 a)
 refused_no_play b (Uploads limits) (fault.BadOffer f) event x m a = bad_or_given b.device.config f x.1 m.0
@@ -112,8 +107,8 @@ refused_no_play b h why event x m a = elim x [ ]
 
 -- What happens means one event.
 pub one_event : OneEvent
-one_event s (Offers file limits) event other m n =
+one_event s (Offers aim file limits) event other m n =
     let same : m.0 ≡ n.0 = (one_reading file m.0 n.0 _ _ _ _ _ _ m.1.reads n.1.reads).0 in
-    m.2 ∙ (ap (λ (p : List ℕ). Offers p limits) same ∙ sym n.2)
+    m.2 ∙ (ap (λ (p : List ℕ). Offers aim p limits) same ∙ sym n.2)
 one_event s (Uploads limits) event other m n = m.1 ∙ sym n.1
 one_event s h event other m n = m ∙ sym n

@@ -6,7 +6,8 @@ use Rattle.dfu_device.specs.Stage.{Request, Dnload, Upload, GetStatus, ClrStatus
 use Rattle.dfu_device.specs.Table.{Plan, Sure, Writes, Commits, plan, block_plan, upload_plan, is_empty, next_number}
 use Rattle.dfu_device.specs.Outcome.{Luck, Works, FailsOld, FailsNew, outcome}
 use Rattle.dfu_device.specs.Cases.{either_way}
-use Rattle.dfu_host.specs.Table.{Task, Phase, Find, FindAgain, Detach, Enter, Clear, Quit, Block, Ask, Poll, Close, AskLast, Manifest, Trouble, Fetch, GiveUp, Deed, Send, deed, Heard, Acked, Part, Stalled}
+use Rattle.dfu_host.specs.Phases.{Task, Phase, Find, FindAgain, Detach, Enter, Clear, Quit, Block, Ask, Poll, Close, AskLast, Manifest, Trouble, Fetch, Compare, GiveUp, Deed, Send, Heard, Acked, Part, Stalled}
+use Rattle.dfu_host.specs.Table.{deed}
 use Rattle.dfu_link.specs.Play.{heard_as, remembered}
 use Rattle.dfu_wire.specs.declared.requests.Request.{Request as Asked}
 use Rattle.dfu_wire.specs.declared.requests.Request.TheVariants as request
@@ -137,6 +138,7 @@ hosts_deed task AskLast = (refl, refl)
 hosts_deed task Manifest = (refl, refl)
 hosts_deed task Trouble = (refl, refl)
 hosts_deed task (Fetch k kept) = refl
+hosts_deed task (Compare k) = refl
 hosts_deed task GiveUp = refl
 hosts_deed task phase = tt
 

@@ -1,8 +1,8 @@
 -- What the steps of the session machine say and install.
 use Rattle.std.proofs.Common.{◌≡◌, ◌⊎◌, ℕ, Bool, List, [], ◌∷◌, Option, Some, refl, sym, ap, ◌∙◌, subst, inl, inr}
 use Rattle.dfu_host.specs.declared.report.Report.{Report}
-use Rattle.dfu_host.specs.declared.report.Report.TheVariants.{Installed, Uploaded}
-use Rattle.dfu_link.specs.Session.{Machine, Loading, IsOneOf, Begins, begins_not, takes, installs, Ends, ends_not, drops, Says, says_not, says_installed, says_uploaded, says_other, Kind, AnOffer, SaysNoPromise, Step, offered, uploads, aborts, passes, passes_installed, restarts, goes, stops, and_then}
+use Rattle.dfu_host.specs.declared.report.Report.TheVariants.{Installed, Uploaded, Verified}
+use Rattle.dfu_link.specs.Session.{Machine, Loading, IsOneOf, Begins, begins_not, takes, installs, Ends, ends_not, drops, Says, says_not, says_installed, says_verified, says_uploaded, says_other, Kind, AnOffer, SaysInPlace, SaysNoPromise, Step, offered, uploads, aborts, passes, passes_installed, restarts, goes, stops, and_then}
 use Rattle.dfu_link.specs.Headline.{offers_after, OnlyOffered}
 
 begins_live : {t : ℕ} {m m' : Machine} → Begins t m m' → m'.live ≡ m.live
@@ -14,27 +14,35 @@ ends_live : {m m' : Machine} → Ends m m' → m'.live ≡ m.live
 ends_live ends_not = refl
 ends_live drops = refl
 
-says_live : {tolerant : Bool} {m m' : Machine} {report : Option Report} → Says tolerant m report m' → report ≡ Some Installed
-    → m.live ≡ Loading m'.cur
-says_live says_not e = absurd cc
-says_live (says_installed live none tolerant) e = live
-says_live (says_uploaded live) e = absurd cc
-says_live (says_other plain one) e = absurd (subst SaysNoPromise e plain)
+-- A report that promises nothing doesn't say that the payload is in place.
+not_in_place : (report : Option Report) → SaysNoPromise report → SaysInPlace report → ⊥
+not_in_place (Some Installed) plain e = plain
+not_in_place (Some Verified) plain e = plain
+not_in_place report plain e = e
 
--- Where Installed is said, the payload of the live session is the active image.
+says_live : {tolerant : Bool} {m m' : Machine} {report : Option Report} → Says tolerant m report m' → SaysInPlace report
+    → m.live ≡ Loading m'.cur
+says_live says_not e = elim e [ ]
+says_live (says_installed live none tolerant) e = live
+says_live (says_verified live none) e = live
+says_live (says_uploaded live) e = elim e [ ]
+says_live (says_other {report = report} plain one) e = absurd (not_in_place (Some report) plain e)
+
+-- Where Installed or Verified is said, the payload of the live session is the active image.
 pub step_live : {tolerant : Bool} {t : ℕ} {kind : Kind} {m m' : Machine} {report : Option Report} → Step tolerant t kind m report m'
-    → report ≡ Some Installed → m.live ≡ Loading m'.cur
-step_live (offered none) e = absurd cc
-step_live (uploads none) e = absurd cc
-step_live aborts e = absurd cc
-step_live passes e = absurd cc
-step_live (passes_installed some h) e = absurd cc
-step_live (restarts s plain) e = absurd (subst SaysNoPromise e plain)
+    → SaysInPlace report → m.live ≡ Loading m'.cur
+step_live (offered none) e = elim e [ ]
+step_live (uploads none) e = elim e [ ]
+step_live aborts e = elim e [ ]
+step_live passes e = elim e [ ]
+step_live (passes_installed some h) e = elim e [ ]
+step_live {report = report} (restarts s plain) e = absurd (not_in_place report plain e)
 step_live (goes b d s) e = sym (ends_live d ∙ begins_live b) ∙ says_live s e
 
 says_up : {tolerant : Bool} {m m' : Machine} {report : Option Report} → Says tolerant m report m' → report ≡ Some Uploaded → m'.up ≡ m'.cur
 says_up says_not e = absurd cc
 says_up (says_installed live none tolerant) e = absurd cc
+says_up (says_verified live none) e = absurd cc
 says_up (says_uploaded live) e = refl
 says_up (says_other plain one) e = absurd (subst SaysNoPromise e plain)
 
@@ -66,6 +74,7 @@ says_same : {tolerant : Bool} {m m' : Machine} {report : Option Report} → Says
     → (m'.offers ≡ m.offers) × (m'.cur ≡ m.cur)
 says_same says_not = (refl, refl)
 says_same (says_installed live none tolerant) = (refl, refl)
+says_same (says_verified live none) = (refl, refl)
 says_same (says_uploaded live) = (refl, refl)
 says_same (says_other plain one) = (refl, refl)
 

@@ -35,7 +35,7 @@ use Rattle.dfu_link.proofs.Agreeing.{machine_of, machine_agrees, agrees_on, link
 
 -- What happens is of the kind that its event is of.
 kind_is : (s : Setting) (h event : Happening) → Means s h event → IsOfKind h (kind_of event)
-kind_is s (Offers file limits) event m = (m.0, m.1.ids, m.1.dfu, m.1.extra, m.1.reads, ap kind_of m.2)
+kind_is s (Offers aim file limits) event m = (m.0, m.1.ids, m.1.dfu, m.1.extra, m.1.reads, ap kind_of m.2)
 kind_is s (Uploads limits) event m = ap kind_of m.1
 kind_is s h event m = ap kind_of m
 
@@ -43,19 +43,19 @@ kind_is s h event m = ap kind_of m
 
 -- An event with which a session begins knows the transfer size.
 abbrev BeginsSized : (t : ℕ) → Happening → Type 0
-BeginsSized t (Offers payload limits) = 0 < t
+BeginsSized t (Offers aim payload limits) = 0 < t
 BeginsSized t (Uploads limits) = 0 < t
 BeginsSized t event = Unit {0}
 
 begins_sized : (s : Setting) (h event : Happening) → Means s h event → BeginsSized s.functional.transfer event
-begins_sized s (Offers file limits) event m = subst (BeginsSized s.functional.transfer) (sym m.2) (has_transfer m.1)
+begins_sized s (Offers aim file limits) event m = subst (BeginsSized s.functional.transfer) (sym m.2) (has_transfer m.1)
 begins_sized s (Uploads limits) event m = subst (BeginsSized s.functional.transfer) (sym m.1) (gives_transfer s m.0)
 begins_sized s h event m = subst (BeginsSized s.functional.transfer) (sym m) tt
 
 sizes : (w : Shown) (session : Session) (event : Happening) → BeginsSized w.config.functional.transfer event
     → SessionFact (profile w) (situation w) session → SendsBytes session → Sizes (profile w) session event
 sizes w (Hosted host) event begins f z = all_sized (profile w) (Hosted host) event (subst (λ (n : ℕ). 0 < n) f.task_is.transfer z)
-sizes w Nobody (Offers payload limits) begins f z = begins
+sizes w Nobody (Offers aim payload limits) begins f z = begins
 sizes w Nobody event begins f z = tt
 
 -- After an event no session is live, or the transfer size is known.
@@ -64,7 +64,7 @@ sized_or_none : (w : Shown) (session : Session) (event : Happening) (b' : Bench)
     → IsAllowed session event → Happens event (record { device = w; session = session }) b' answer
     → (0 < (profile w).transfer) ⊎ (b'.session ≡ Nobody)
 sized_or_none w (Hosted host) event b' answer begins f z a x = inl (subst (λ (n : ℕ). 0 < n) f.task_is.transfer z)
-sized_or_none w Nobody (Offers payload limits) b' answer begins f z a x = inl begins
+sized_or_none w Nobody (Offers aim payload limits) b' answer begins f z a x = inl begins
 sized_or_none w Nobody (Uploads limits) b' answer begins f z a x = inl begins
 sized_or_none w Nobody (Passes ms) b' answer begins f z a x = inr x.1
 sized_or_none w Nobody Resets b' answer begins f z a x = inr (ap (λ (b : Bench). b.session) x.0)
@@ -123,7 +123,7 @@ comes_follow shown {b = b} {b' = b'} {h = h} up steady shows (happens {event = e
       after = f.after;
       step = f.step;
       agrees = agrees_on b' (given answer.gave up) f.after shows f.agrees;
-      installed = λ e. let x = f.installed e in (x.0, x.1 ∙ ap Loading (sym f.agrees.cur));
+      in_place = λ e. let x = f.in_place e in (x.0, x.1 ∙ ap Loading (sym f.agrees.cur));
     }
 
 -- The session machine follows each event that comes.

@@ -3,17 +3,20 @@ use Rattle.std.proofs.Common.{◌≡◌, ◌≢◌, ℕ, zero, suc, pred, Bool, 
 use Rattle.dfu_device.specs.Stage.{Profile, Stage, InAppIdle}
 use Rattle.dfu_device.specs.Outcome.{Situation}
 use Rattle.dfu_host.specs.declared.report.Report.{Report}
-use Rattle.dfu_host.specs.declared.report.Report.TheVariants.{Installed, Aborted, RestartsSpent, Uploaded}
-use Rattle.dfu_host.specs.Table.{Goal, ToLoad, ToFetch, Task, Phase, Find, Fetch, GiveUp, Over, OverUploaded, Heard, Part, NoRoom, Restarted, row}
+use Rattle.dfu_host.specs.declared.report.Report.TheVariants.{Installed, Aborted, RestartsSpent, Uploaded, Verified}
+use Rattle.dfu_host.specs.Phases.{Goal, ToLoad, ToFetch, ToVerify, ToCompare, Task, Phase, Find, Fetch, GiveUp, Over, OverUploaded, Heard, Part, Restarted}
+use Rattle.dfu_host.specs.Table.{row, checked, goal_after}
 use Rattle.dfu_host.specs.Host.{HostState, IsOn, budgeted, restarted, after_phase, told as host_told}
-use Rattle.dfu_link.specs.Session.{Machine, Live, NoOne, Loading, Fetching, PromisesNothing, Says, says_not, says_installed, says_uploaded, says_other, SaysNoPromise}
+use Rattle.dfu_link.specs.Session.{Machine, Live, NoOne, Loading, Fetching, PromisesNothing, Says, says_not, says_installed, says_verified, says_uploaded, says_other, SaysInPlace, SaysNoPromise}
 use Rattle.dfu_link.specs.Bench.{Nobody}
-use Rattle.dfu_link.specs.Play.{given, task_for, Took, settled, took, remembered}
+use Rattle.dfu_link.specs.Opening.{task_for}
+use Rattle.dfu_link.specs.Play.{given, Took, settled, took, remembered, has_room}
 use Rattle.dfu_link.specs.LinkAgreement.{pending_of}
 use Rattle.dfu_link.specs.Agreement.{live_goal, live_of, IsLiveOffer}
 use Rattle.dfu_link.specs.Fact.{IsInApp, EndsAs, GoalFact, HasBlocks, GoesBy, SessionFact}
-use Rattle.dfu_link.proofs.Fates.{IfHeard}
+use Rattle.dfu_link.proofs.Fates.{IfHeard, all_remembered}
 use Rattle.dfu_link.proofs.CommonFacts.{goal_anywhere}
+use Rattle.dfu_link.proofs.GoalLaws.{after_goal, live_after, Next}
 
 -- The machine that a link shows.
 abbrev pub shown : List (List ℕ) → List ℕ → Option (List ℕ) → Live → List ℕ → Machine
@@ -40,22 +43,27 @@ task_by c task g = λ i. record {
 }
 
 module _ (c : Profile) (offers : List (List ℕ)) where
-  -- What a host took, over a device.
-  pub record TookWell (s : Situation) (g : Goal) (up : List ℕ) (t : Took) : Type 0 where
-    pub says : Says c.tolerant (shown offers s.image (pending_of s.stage) (live_goal g) up) t.answer.report
+  -- What a host took, over a device, where this was live.
+  pub record TookWell (s : Situation) (live : Live) (up : List ℕ) (t : Took) : Type 0 where
+    pub says : Says c.tolerant (shown offers s.image (pending_of s.stage) live up) t.answer.report
         (shown offers s.image (pending_of s.stage) (live_of t.session) (given t.answer.gave up))
     pub fact : SessionFact c s t.session
     pub offer : IsLiveOffer offers (live_of t.session)
-    pub done : t.answer.report ≡ Some Installed → s.stage ≡ InAppIdle
+    pub done : SaysInPlace t.answer.report → s.stage ≡ InAppIdle
 
   live_goal_one : (g : Goal) → live_goal g ≢ NoOne
   live_goal_one (ToLoad p) e = cc
   live_goal_one ToFetch e = cc
+  live_goal_one (ToVerify p) e = cc
+  live_goal_one (ToCompare p) e = cc
+
+  -- A session that is over with this report, and gives nothing.
+  abbrev Ended : Report → Took
+  Ended report = record { session = Nobody; answer = record { report = Some report; gave = None } }
 
   over_well : (i : List ℕ) (stage : Stage) (p up : List ℕ) (report : Report)
       → EndsAs c p (record { image = i; stage = stage }) IsInApp report
-      → TookWell (record { image = i; stage = stage }) (ToLoad p) up
-      (record { session = Nobody; answer = record { report = Some report; gave = None } })
+      → TookWell (record { image = i; stage = stage }) (Loading p) up (Ended report)
   over_well i InAppIdle p up Installed h = record {
     says = says_installed (ap Loading (sym h.1)) refl h.0;
     fact = tt;
@@ -63,22 +71,35 @@ module _ (c : Profile) (offers : List (List ℕ)) where
     done = λ e. refl;
   }
   over_well i stage p up Installed h = elim h.2 [ ]
-  over_well i stage p up report h = record { says = says_other h (live_goal_one (ToLoad p)); fact = tt; offer = tt; done = λ e. cc }
+  over_well i InAppIdle p up Verified h = record {
+    says = says_verified (ap Loading (sym h.0)) refl;
+    fact = tt;
+    offer = tt;
+    done = λ e. refl;
+  }
+  over_well i stage p up Verified h = elim h.1 [ ]
+  over_well i stage p up report h = record {
+    says = says_other h (live_goal_one (ToLoad p));
+    fact = tt;
+    offer = tt;
+    done = λ e. elim e [ ];
+  }
 
   plain_well : (s : Situation) (g : Goal) (up : List ℕ) (report : Report) → PromisesNothing report
-      → TookWell s g up (record { session = Nobody; answer = record { report = Some report; gave = None } })
+      → TookWell s (live_goal g) up (Ended report)
   plain_well s g up Installed h = elim h [ ]
-  plain_well s g up report h = record { says = says_other h (live_goal_one g); fact = tt; offer = tt; done = λ e. cc }
+  plain_well s g up Verified h = elim h [ ]
+  plain_well s g up report h = record { says = says_other h (live_goal_one g); fact = tt; offer = tt; done = λ e. elim e [ ] }
 
   uploaded_well : (s : Situation) (up kept : List ℕ) → kept ≡ s.image
-      → TookWell s ToFetch up (record { session = Nobody; answer = record { report = Some Uploaded; gave = Some kept } })
+      → TookWell s Fetching up (record { session = Nobody; answer = record { report = Some Uploaded; gave = Some kept } })
   uploaded_well s up kept e =
       record {
         says = subst (λ x. Says c.tolerant (shown offers s.image (pending_of s.stage) Fetching up) (Some Uploaded)
             (shown offers s.image (pending_of s.stage) NoOne x)) (sym e) (says_uploaded refl);
         fact = tt;
         offer = tt;
-        done = λ x. cc;
+        done = λ x. elim x [ ];
       }
 
   -- What a host that goes by this task, with a budget left, makes of a phase.
@@ -92,40 +113,42 @@ module _ (c : Profile) (offers : List (List ℕ)) where
     some : HasBlocks c task.goal
 
   budget_well : (s : Situation) (task : Task) (up : List ℕ) (phase : Phase) (left again : ℕ) → Lives task → IsOn phase
-      → GoalFact c task.goal phase s → TookWell s task.goal up (budget task phase left again)
+      → GoalFact c task.goal phase s → TookWell s (live_goal task.goal) up (budget task phase left again)
   budget_well s task up (Over report) left again v on f = elim on [ ]
   budget_well s task up (OverUploaded kept) left again v on f = elim on [ ]
   budget_well s task up phase zero again v on f = record {
     says = says_other tt (live_goal_one task.goal);
     fact = tt;
     offer = tt;
-    done = λ e. cc;
+    done = λ e. elim e [ ];
   }
   budget_well s task up phase (suc left) again v on f = record {
     says = says_not;
     fact = record { task_is = v.task_is; on = on; some = v.some; fact = f };
     offer = v.offer;
-    done = λ e. cc;
+    done = λ e. elim e [ ];
   }
 
   ended_well : (s : Situation) (g : Goal) (up : List ℕ) (report : Report) → GoalFact c g (Over report) s
-      → TookWell s g up (record { session = Nobody; answer = record { report = Some report; gave = None } })
+      → TookWell s (live_goal g) up (Ended report)
   ended_well s (ToLoad p) up report f = over_well s.image s.stage p up report f
   ended_well s ToFetch up report f = plain_well s ToFetch up report f
+  ended_well s (ToVerify p) up report f = over_well s.image s.stage p up report f
+  ended_well s (ToCompare p) up report f = over_well s.image s.stage p up report f
 
   kept_well : (s : Situation) (g : Goal) (up kept : List ℕ) → GoalFact c g (OverUploaded kept) s
-      → TookWell s g up (record { session = Nobody; answer = record { report = Some Uploaded; gave = Some kept } })
-  kept_well s (ToLoad p) up kept f = elim f [ ]
+      → TookWell s (live_goal g) up (record { session = Nobody; answer = record { report = Some Uploaded; gave = Some kept } })
   kept_well s ToFetch up kept f = uploaded_well s up kept f
+  kept_well s g up kept f = elim f [ ]
 
   spent_well : (s : Situation) (task : Task) (up : List ℕ) (phase : Phase) (left again : ℕ) → Lives task
-      → GoalFact c task.goal phase s → TookWell s task.goal up (budget task phase left again)
+      → GoalFact c task.goal phase s → TookWell s (live_goal task.goal) up (budget task phase left again)
   spent_well s task up (Over report) left again v f = ended_well s task.goal up report f
   spent_well s task up (OverUploaded kept) left again v f = kept_well s task.goal up kept f
   spent_well s task up phase left again v f = budget_well s task up phase left again v tt f
 
   restarted_well : (s : Situation) (h : HostState) (up : List ℕ) (phase : Phase) (again : ℕ) → Lives h.task
-      → let q = restarted h phase again in TookWell s h.task.goal up (settled q q.phase)
+      → let q = restarted h phase again in TookWell s (live_goal h.task.goal) up (settled q q.phase)
   restarted_well s h up GiveUp again v = plain_well s h.task.goal up Aborted tt
   restarted_well s h up phase zero v = plain_well s h.task.goal up RestartsSpent tt
   restarted_well s h up phase (suc again) v = budget_well s h.task up Find (pred h.actions) again v tt
@@ -134,10 +157,24 @@ module _ (c : Profile) (offers : List (List ℕ)) where
   -- A restart of the device, told to a live host.
   pub restart_taken : (s : Situation) (h : HostState) (up : List ℕ) → IsOn h.phase → GoesBy c h.task
       → IsLiveOffer offers (live_goal h.task.goal)
-      → HasBlocks c h.task.goal → TookWell s h.task.goal up (took h Restarted)
+      → HasBlocks c h.task.goal → TookWell s (live_goal h.task.goal) up (took h Restarted)
   restart_taken s h up on e o some =
-      subst (λ (q : HostState). TookWell s h.task.goal up (settled q q.phase)) (sym (after_on h h.phase Restarted on))
+      subst (λ (q : HostState). TookWell s (live_goal h.task.goal) up (settled q q.phase)) (sym (after_on h h.phase Restarted on))
       (restarted_well s h up h.phase h.restarts (record { task_is = e; offer = o; some = some }))
+
+  lives_checked : (g : Goal) → Lives (task_for c g) → Lives (task_for c (checked g))
+  lives_checked (ToLoad p) v = v
+  lives_checked ToFetch v = v
+  lives_checked (ToVerify p) v = record { task_is = goes_by c (ToCompare p); offer = v.offer; some = v.some }
+  lives_checked (ToCompare p) v = v
+
+  -- Where a part of an upload finds no memory, the session is over.
+  part_well : (g : Goal) (k : ℕ) (kept : List ℕ) (s d : Situation) (room : Bool) (heard : Heard) → GoalFact c g (Fetch k kept) s
+      → IfHeard heard (Next c g d (Fetch k kept)) → IfHeard (remembered heard room) (Next c g d (Fetch k kept))
+  part_well ToFetch k kept s d false (Part bytes) f n = tt
+  part_well ToFetch k kept s d true heard f n = subst (λ (x : Heard). IfHeard x (Next c ToFetch d (Fetch k kept))) (all_remembered heard) n
+  part_well ToFetch k kept s d false heard f n = n
+  part_well g k kept s d room heard f n = elim f [ ]
 
   -- It says nothing that promises.
   restarted_plain : (h : HostState) (phase : Phase) (again : ℕ) → let q = restarted h phase again in
@@ -153,39 +190,36 @@ module _ (c : Profile) (offers : List (List ℕ)) where
       (restarted_plain h h.phase h.restarts)
 
   module _ (g : Goal) where
-    -- The fact of the phase that follows, by what is heard.
-    abbrev Next : Situation → Phase → Heard → Type 0
-    Next s phase heard = GoalFact c g (row (task_for c g) phase heard) s
-
     -- The host of a session with this goal, in this phase.
     abbrev At : Phase → (left again : ℕ) → HostState
     At phase left again = record { task = task_for c g; phase = phase; actions = left; restarts = again }
 
+    row_well : (s : Situation) (up : List ℕ) (phase : Phase) (left again : ℕ) (heard : Heard) → Lives (task_for c g)
+        → Next c g s phase heard → TookWell s (live_goal g) up
+        (budget (task_for c (goal_after g phase heard)) (row (task_for c g) phase heard) (pred left) again)
+    row_well s up phase left again heard v n =
+        let next = goal_after g phase heard in
+        let lives : Lives (task_for c next) = after_goal (λ x. Lives (task_for c x)) g v (lives_checked g v) phase heard in
+        subst (λ (x : Live). TookWell s x up (budget (task_for c next) (row (task_for c g) phase heard) (pred left) again))
+        (live_after g phase heard) (spent_well s (task_for c next) up (row (task_for c g) phase heard) (pred left) again lives n)
+
     told_well : (s : Situation) (up : List ℕ) (phase : Phase) (left again : ℕ) (heard : Heard) → Lives (task_for c g)
-        → IfHeard heard (Next s phase) → let q = host_told (At phase left again) phase heard in TookWell s g up (settled q q.phase)
+        → IfHeard heard (Next c g s phase) → let q = host_told (At phase left again) phase heard in
+        TookWell s (live_goal g) up (settled q q.phase)
     told_well s up phase left again Restarted v n = restarted_well s (At phase left again) up phase again v
-    told_well s up phase left again heard v n =
-        spent_well s (task_for c g) up (row (task_for c g) phase heard) (pred left) again v n
+    told_well s up phase left again heard v n = row_well s up phase left again heard v n
 
     -- With or without memory for a part.
-    room_well : (phase : Phase) (s d : Situation) (room : Bool) (heard : Heard) → GoalFact c g phase s → IfHeard heard (Next d phase)
-        → IfHeard (remembered heard room) (Next d phase)
-    room_well phase s d false (Part bytes) f n = no_part g phase f n
-      where
-        no_part : (g : Goal) (phase : Phase) → GoalFact c g phase s → GoalFact c g (row (task_for c g) phase (Part bytes)) d
-            → GoalFact c g (row (task_for c g) phase NoRoom) d
-        no_part (ToLoad p) (Fetch k kept) f h = elim f [ ]
-        no_part ToFetch (Fetch k kept) f h = tt
-        no_part g phase f h = h
-    room_well phase s d true (Part bytes) f n = n
-    room_well phase s d room heard f n = n
+    room_well : (phase : Phase) (s d : Situation) (room : Bool) (heard : Heard) → GoalFact c g phase s → IfHeard heard (Next c g d phase)
+        → IfHeard (remembered heard (has_room phase room)) (Next c g d phase)
+    room_well (Fetch k kept) s d room heard f n = part_well g k kept s d room heard f n
+    room_well phase s d room heard f n = subst (λ (x : Heard). IfHeard x (Next c g d phase)) (all_remembered heard) n
 
     -- A host takes what it hears, and what holds of the link holds after it.
     pub goal_taken : (s d : Situation) (up : List ℕ) (phase : Phase) (left again : ℕ) (room : Bool) (heard : Heard) → IsOn phase
-        → IsLiveOffer offers (live_goal g) → HasBlocks c g → GoalFact c g phase s → IfHeard heard (Next d phase)
-        → TookWell d g up (took (At phase left again) (remembered heard room))
+        → IsLiveOffer offers (live_goal g) → HasBlocks c g → GoalFact c g phase s → IfHeard heard (Next c g d phase)
+        → TookWell d (live_goal g) up (took (At phase left again) (remembered heard (has_room phase room)))
     goal_taken s d up phase left again room heard on o some f n =
-        subst (λ (q : HostState). TookWell d g up (settled q q.phase))
-        (sym (after_on (At phase left again) phase (remembered heard room) on))
-        (told_well d up phase left again (remembered heard room) (record { task_is = goes_by c g; offer = o; some = some })
-        (room_well phase s d room heard f n))
+        let x = remembered heard (has_room phase room) in
+        subst (λ (q : HostState). TookWell d (live_goal g) up (settled q q.phase)) (sym (after_on (At phase left again) phase x on))
+        (told_well d up phase left again x (record { task_is = goes_by c g; offer = o; some = some }) (room_well phase s d room heard f n))

@@ -6,7 +6,7 @@ use Rattle.dfu_device.specs.Stage.{GetStatus, GetState, Profile, Stage, InAppIdl
 use Rattle.dfu_device.specs.Table.{Writes, Commits, write_code, commit_code, plan, time_plan}
 use Rattle.dfu_device.specs.Outcome.{Luck, Works, FailsOld, FailsNew, outcome}
 use Rattle.dfu_device.specs.Cases.{either_way}
-use Rattle.dfu_host.specs.Table.{Heard, Status, StateIs}
+use Rattle.dfu_host.specs.Phases.{Heard, Status, StateIs}
 use Rattle.dfu_link.specs.Play.{heard_as}
 
 -- A state that was told, where it stays as time passes.

@@ -10,7 +10,7 @@ use Rattle.dfu_host.specs.declared.fault.HostFault.{HostFault}
 use Rattle.dfu_host.specs.declared.limits.Limits.{Limits}
 use Rattle.dfu_host.specs.declared.report.Report.{Report}
 use Rattle.dfu_host.specs.Host.{HostState, started}
-use Rattle.dfu_host.specs.Table.{ToFetch}
+use Rattle.dfu_host.specs.Phases.{ToFetch}
 use Rattle.dfu_link.specs.declared.fault.LinkFault.{LinkFault}
 use Rattle.dfu_link.specs.declared.fault.LinkFault.TheVariants as fault
 use Rattle.dfu_link.specs.declared.fault.OfferFault.TheVariants as offer_fault

@@ -1,5 +1,5 @@
 -- What the link's small functions do, each as its part of a play.
-use Rattle.std.specs.Prelude.{◌≡◌, ℕ, List, Option, Some, None, Result, Ok, Err}
+use Rattle.std.specs.Prelude.{◌≡◌, ℕ, IsTrue, List, Option, Some, None, Result, Ok, Err}
 use Rattle.dfu_suffix.specs.Grammar.{Content}
 use Rattle.dfu_wire.specs.declared.requests.Request.{Request as Asked}
 use Rattle.dfu_device.specs.Setting.{Setting}
@@ -9,9 +9,11 @@ use Rattle.dfu_host.specs.declared.report.Report.{Report}
 use Rattle.dfu_host.specs.declared.report.Report.TheVariants.{Uploaded}
 use Rattle.dfu_host.specs.declared.seen.Seen.{Seen}
 use Rattle.dfu_host.specs.declared.seen.Seen.TheVariants as seen
-use Rattle.dfu_host.specs.Host.{HostState, after, started}
+use Rattle.dfu_host.specs.Host.{HostState, after, started, wants_memory}
 use Rattle.dfu_host.specs.Wire.{Hears}
-use Rattle.dfu_host.specs.Table.{Phase, Over, OverUploaded, Deed, Send, deed, Heard, ToLoad}
+use Rattle.dfu_host.specs.Phases.{Phase, Over, OverUploaded, Deed, Send, Heard, NoRoom}
+use Rattle.dfu_host.specs.Table.{deed}
+use Rattle.dfu_link.specs.declared.aim.Aim.{Aim}
 use Rattle.dfu_link.specs.declared.back.Back.{Back}
 use Rattle.dfu_link.specs.declared.course.Course.{Course as GivenCourse}
 use Rattle.dfu_link.specs.declared.course.Harming.{Harming}
@@ -21,6 +23,7 @@ use Rattle.dfu_link.specs.declared.fault.LinkFault.{LinkFault}
 use Rattle.dfu_link.specs.declared.fault.LinkFault.TheVariants.{NoHost}
 use Rattle.dfu_link.specs.Happening.{Harm, harmed}
 use Rattle.dfu_link.specs.Bench.{Session, Nobody, Hosted}
+use Rattle.dfu_link.specs.Opening.{goal_of}
 use Rattle.dfu_link.specs.Play.{silent, Took, settled}
 use Rattle.dfu_link.specs.Bytes.{fuse_of, armed, HearsBack, Sends, Waits, ResetsBus, Acts, left_by}
 use Rattle.dfu_link.specs.Refusing.{IsOffered}
@@ -52,15 +55,17 @@ pub record HasWaited (ms : ℕ) (course : Course) (w : Shown) (seen : Seen) (w' 
 pub record HasReset (course : Course) (w : Shown) (seen : Seen) (w' : Shown) : Type 0 where
   pub resets : (d : Deed) (heard : Heard) → Hears d seen heard → ResetsBus course w w' heard
 
--- A host took what it heard of what came back.
+-- A host took what it heard of what came back. It finds no memory only where its phase wants some.
 pub record HasHeard (h : HostState) (b : Back) (out : List ℕ) (h' : HostState) : Type 0 where
   pub heard : Heard
   pub hears : HearsBack (deed h.task h.phase) b out heard
+  pub room : heard ≡ NoRoom → IsTrue (wants_memory h.phase)
   pub same : h' ≡ after h heard
 
 -- A host's action went by its course, and the host took what it heard.
 pub record HasActed (h : HostState) (course : Course) (w w' : Shown) (h' : HostState) : Type 0 where
   pub heard : Heard
+  pub room : heard ≡ NoRoom → IsTrue (wants_memory h.phase)
   pub acts : Acts (deed h.task h.phase) course w w' heard
   pub same : h' ≡ after h heard
 
@@ -86,8 +91,8 @@ abbrev pub abort_told : Session → Result (Option Report) LinkFault
 abort_told Nobody = Err NoHost
 abort_told (Hosted h) = Ok None
 
--- A session begins with a file that is offered.
-pub record HasBegun (s : Setting) (file : List ℕ) (limits : Limits) (h : HostState) : Type 0 where
+-- A session begins with a file that is offered for this.
+pub record HasBegun (s : Setting) (aim : Aim) (file : List ℕ) (limits : Limits) (h : HostState) : Type 0 where
   pub content : Content
-  pub offered : IsOffered s file content.payload
-  pub host : h ≡ started s.functional (ToLoad content.payload) limits
+  pub offered : IsOffered s aim file content.payload
+  pub host : h ≡ started s.functional (goal_of aim content.payload) limits

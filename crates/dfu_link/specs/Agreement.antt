@@ -2,7 +2,7 @@
 use Rattle.std.specs.Prelude.{◌≡◌, ℕ, List, ◌++◌, Option, Some, None}
 use Rattle.dfu_slots.specs.Image.{Active}
 use Rattle.dfu_device.specs.Stage.{Stage, InAppIdle, InAppDetach, InDfuIdle, InDownloadSync, InDownloadSyncWritten, InDownloadBusy, InDownloadIdle, InManifestSync, InManifestSyncComplete, InManifest, InManifestWaitReset, InUploadIdle, InError}
-use Rattle.dfu_host.specs.Table.{Goal, ToLoad, ToFetch}
+use Rattle.dfu_host.specs.Phases.{Goal, ToLoad, ToFetch, ToVerify, ToCompare}
 use Rattle.dfu_link.specs.Session.{IsOneOf, Machine, Live, NoOne, Loading, Fetching}
 use Rattle.dfu_link.specs.Bench.{Session, Nobody, Hosted, Bench}
 
@@ -38,6 +38,8 @@ pending_in (Shut taken) = Some taken
 abbrev pub live_goal : Goal → Live
 live_goal (ToLoad payload) = Loading payload
 live_goal ToFetch = Fetching
+live_goal (ToVerify payload) = Loading payload
+live_goal (ToCompare payload) = Loading payload
 
 -- What is live on a link.
 abbrev pub live_of : Session → Live

@@ -1,5 +1,5 @@
 -- A play with its bytes: requests and answers go as bytes, and the device stands on a medium.
-use Rattle.std.specs.Prelude.{◌≡◌, ℕ, Bool, true, false, List}
+use Rattle.std.specs.Prelude.{◌≡◌, ℕ, Bool, true, false, IsTrue, List}
 use Rattle.dfu_wire.specs.declared.requests.Request.{Request as Asked}
 use Rattle.dfu_slots.specs.Medium.{Fuse}
 use Rattle.dfu_slots.specs.Medium.Fuse.{Whole, Armed, Lying}
@@ -10,8 +10,9 @@ use Rattle.dfu_device.specs.Stage.{InAppIdle}
 use Rattle.dfu_device.specs.Table.{reset_stage}
 use Rattle.dfu_device.specs.Shown.{Shown, profile, situation}
 use Rattle.dfu_device.specs.Rows.{Handles, Elapses}
-use Rattle.dfu_host.specs.Table.{ToLoad, ToFetch, Deed, Send, Wait, Reset, Done, deed, Heard, Acked, Stalled, Nothing, Waited, WasReset, Restarted}
-use Rattle.dfu_host.specs.Host.{HostState}
+use Rattle.dfu_host.specs.Phases.{ToFetch, Deed, Send, Wait, Reset, Done, Heard, Acked, NoRoom, Stalled, Nothing, Waited, WasReset, Restarted}
+use Rattle.dfu_host.specs.Table.{deed}
+use Rattle.dfu_host.specs.Host.{HostState, wants_memory}
 use Rattle.dfu_host.specs.Wire.{IsAsked, HearsBytes}
 use Rattle.dfu_link.specs.declared.back.Back.{Back}
 use Rattle.dfu_link.specs.declared.back.Back.TheVariants as back
@@ -22,7 +23,8 @@ use Rattle.dfu_link.specs.declared.course.Harming.TheVariants.{NoWrite, CutsPowe
 use Rattle.dfu_link.specs.Course.{Course, course_of}
 use Rattle.dfu_link.specs.Happening.{Fate, Harm, Happening, Offers, Uploads, Aborts, Goes, Passes, Resets, Cuts}
 use Rattle.dfu_link.specs.Bench.{Bench, Session, Hosted}
-use Rattle.dfu_link.specs.Play.{heard_over, waits_for, Link, Answered, silent, opened, took, told, aborted, IsAllowed}
+use Rattle.dfu_link.specs.Opening.{goal_of, opened}
+use Rattle.dfu_link.specs.Play.{heard_over, waits_for, Link, Answered, silent, took, told, aborted, IsAllowed}
 
 -- The fuse of the medium in an action: a cut stops all writes after the harmed one; a failure and a lie are of that one alone.
 abbrev pub fuse_of : Harming → Harm → Fuse
@@ -116,21 +118,22 @@ left_by LiesInWrite w = armed w Whole
 abbrev pub link_of : Bench → Link
 link_of b = record { device = situation b.device; session = b.session }
 
--- The host's next action on a bench.
+-- The host's next action on a bench. It finds no memory only where its phase wants some.
 pub record NextAction (h : Session) (fate : Fate) (harm : Harm) (b b' : Bench) (answer : Answered) : Type 0 where
   pub host : HostState
   pub live : h ≡ Hosted host
   pub last : Shown
   pub heard : Heard
   pub acts : Acts (deed host.task host.phase) (course_of fate) (armed b.device (fuse_of (course_of fate).harming harm)) last heard
+  pub room : heard ≡ NoRoom → IsTrue (wants_memory host.phase)
   pub device : b'.device ≡ left_by (course_of fate).harming last
   pub session : b'.session ≡ (took host heard).session
   pub answered : answer ≡ (took host heard).answer
 
 -- Each event on a bench.
 abbrev pub Happens : Happening → Bench → Bench → Answered → Type 0
-Happens (Offers payload limits) b b' answer =
-    (b' ≡ record { device = b.device; session = opened (profile b.device) (ToLoad payload) limits.actions limits.restarts })
+Happens (Offers aim payload limits) b b' answer =
+    (b' ≡ record { device = b.device; session = opened (profile b.device) (goal_of aim payload) limits.actions limits.restarts })
     × (answer ≡ silent)
 Happens (Uploads limits) b b' answer =
     (b' ≡ record { device = b.device; session = opened (profile b.device) ToFetch limits.actions limits.restarts }) × (answer ≡ silent)

@@ -2,6 +2,7 @@
 use Rattle.std.specs.Prelude.{◌≡◌, ℕ, ◌≤◌, List, [], ◌∷◌, ◌++◌, take, drop, Option}
 use Rattle.dfu_host.specs.declared.limits.Limits.{Limits}
 use Rattle.dfu_host.specs.declared.report.Report.{Report}
+use Rattle.dfu_link.specs.declared.aim.Aim.{Aim}
 use Rattle.dfu_link.specs.declared.fault.LinkFault.{LinkFault}
 use Rattle.dfu_link.specs.Session.{said}
 use Rattle.dfu_link.specs.Bench.{Bench}
@@ -18,14 +19,14 @@ pub data SureSteps : Bench → List Happening → List Report → Bench → Type
 
 -- Whatever memory there is: an offer and at most the passes of a clean run, let come by steps, report as a clean run does.
 abbrev pub StepsInstall : Type 0
-StepsInstall = (b b' : Bench) (file : List ℕ) (limits : Limits) (payload : List ℕ) (count : ℕ) (reports : List Report)
-    → CanInstall b file limits payload → count ≤ clean_passes b.device.config payload
-    → SureSteps b (offer_and_passes file limits count) reports b' → InstallsCleanly b payload count reports b'
+StepsInstall = (b b' : Bench) (aim : Aim) (file : List ℕ) (limits : Limits) (payload : List ℕ) (count : ℕ) (reports : List Report)
+    → CanInstall b aim file limits payload → count ≤ clean_passes aim b.device.config payload
+    → SureSteps b (offer_and_passes aim file limits count) reports b' → InstallsCleanly b aim payload count reports b'
 
 -- And none of these steps is refused.
 abbrev pub StepsStand : Type 0
-StepsStand = (b b' : Bench) (file : List ℕ) (limits : Limits) (payload : List ℕ) (count at : ℕ) (reports : List Report) (next : Happening)
+StepsStand = (b b' : Bench) (aim : Aim) (file : List ℕ) (limits : Limits) (payload : List ℕ) (count at : ℕ) (reports : List Report) (next : Happening)
     (more : List Happening) (fault : LinkFault)
-    → CanInstall b file limits payload → count ≤ clean_passes b.device.config payload
-    → SureSteps b (take at (offer_and_passes file limits count)) reports b' → drop at (offer_and_passes file limits count) ≡ next ∷ more
+    → CanInstall b aim file limits payload → count ≤ clean_passes aim b.device.config payload
+    → SureSteps b (take at (offer_and_passes aim file limits count)) reports b' → drop at (offer_and_passes aim file limits count) ≡ next ∷ more
     → ¬ IsRefused b' next fault

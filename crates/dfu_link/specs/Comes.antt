@@ -13,7 +13,7 @@ use Rattle.dfu_link.specs.Refusing.{IsOffered, CanGive, IsRefused}
 
 -- What happens, as the event of a device of these settings: an offer is that of the file's payload, and all else is what it is.
 abbrev pub Means : Setting → Happening → Happening → Type 0
-Means s (Offers file limits) e = (payload : List ℕ) × IsOffered s file payload × (e ≡ Offers payload limits)
+Means s (Offers aim file limits) e = (payload : List ℕ) × IsOffered s aim file payload × (e ≡ Offers aim payload limits)
 Means s (Uploads limits) e = CanGive s × (e ≡ Uploads limits)
 Means s Aborts e = e ≡ Aborts
 Means s (Goes fate harm) e = e ≡ Goes fate harm

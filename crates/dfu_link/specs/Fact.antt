@@ -1,11 +1,11 @@
 -- The phase fact: what holds of the device in each phase of a live session, kept by every event beside agreement.
 use Rattle.std.specs.Prelude.{[], ◌%◌, take, ◌≡◌, ℕ, suc, ◌<◌, IsTrue, List, ◌++◌, length}
 use Rattle.dfu_host.specs.declared.report.Report.{Report}
-use Rattle.dfu_host.specs.declared.report.Report.TheVariants.{Installed}
+use Rattle.dfu_host.specs.declared.report.Report.TheVariants.{Installed, Verified}
 use Rattle.dfu_host.specs.Blocks.{blocks, first}
 use Rattle.dfu_device.specs.Stage.{Profile, Stage, InAppIdle, InDfuIdle, InDownloadSync, InDownloadSyncWritten, InDownloadBusy, InDownloadIdle, InManifestSync, InManifestSyncComplete, InManifest, InManifestWaitReset, InUploadIdle, InError}
 use Rattle.dfu_device.specs.Outcome.{Situation}
-use Rattle.dfu_host.specs.Table.{Goal, ToLoad, ToFetch, Task, Phase, Block, Ask, Poll, WaitPoll, Close, AskLast, Manifest, WaitManifest, WaitLast, Fetch, LastUploaded, Last, Over, OverUploaded}
+use Rattle.dfu_host.specs.Phases.{Goal, ToLoad, ToFetch, ToVerify, ToCompare, Task, Phase, Block, Ask, Poll, WaitPoll, Close, AskLast, Manifest, WaitManifest, WaitLast, Fetch, LastUploaded, Compare, Last, Over, OverUploaded}
 use Rattle.dfu_host.specs.CommonPhases.{IsCommon}
 use Rattle.dfu_host.specs.Host.{HostState, IsOn}
 use Rattle.dfu_link.specs.Session.{PromisesNothing}
@@ -68,10 +68,11 @@ Managing p image InManifestWaitReset = image ≡ p
 Managing p image (InError code) = Unit {0}
 Managing p image stage = ⊥
 
--- Where a session ends with Installed the device is tolerant, the payload is active and the state is this one; a download's other reports
--- promise nothing.
+-- Where a session ends with Verified the payload is active and the state is this one, and where it ends with Installed the device is
+-- tolerant besides; the other reports of a session with a payload promise nothing.
 abbrev pub EndsAs : Profile → List ℕ → Situation → (Stage → Type 0) → Report → Type 0
 EndsAs c p s P Installed = IsTrue c.tolerant × (s.image ≡ p) × P s.stage
+EndsAs c p s P Verified = (s.image ≡ p) × P s.stage
 EndsAs c p s P report = PromisesNothing report
 
 -- Fetch k: what was kept is the active image as far as the device's place, and the number that is expected is k.
@@ -84,7 +85,7 @@ Fetches k kept image stage = ⊥
 
 -- Nothing is known of the device in the common phases, whatever a session is for.
 
--- In a download's phases. Those of an upload do not occur.
+-- In a download's phases, also where it is to be verified. Those of an upload and of a comparison do not occur.
 abbrev pub Fact : Profile → List ℕ → Phase → Situation → Type 0
 Fact c p (Block n) s = (n < length (blocks p c.transfer)) × Begun p c.transfer n s.stage
 Fact c p (Ask n) s = (n < length (blocks p c.transfer)) × Asking p c.transfer n s.stage
@@ -99,7 +100,7 @@ Fact c p (Last report) s = EndsAs c p s IsIdle report
 Fact c p (Over report) s = EndsAs c p s IsInApp report
 Fact c p phase s = IsCommon phase
 
--- In an upload's phases. Those of a download do not occur.
+-- In an upload's phases. Those of a download and of a comparison do not occur.
 abbrev pub FetchFact : Phase → Situation → Type 0
 FetchFact (Fetch k kept) s = (k < 65535) × Fetches k kept s.image s.stage
 FetchFact (LastUploaded kept) s = (kept ≡ s.image) × IsIdle s.stage
@@ -107,15 +108,27 @@ FetchFact (OverUploaded kept) s = kept ≡ s.image
 FetchFact (Over report) s = PromisesNothing report
 FetchFact phase s = IsCommon phase
 
+-- In a comparison's phases: the first k blocks are the active image as far as the device's place. Those of a download and of an upload do
+-- not occur.
+abbrev pub CompareFact : Profile → List ℕ → Phase → Situation → Type 0
+CompareFact c p (Compare k) s = (k < 65535) × Fetches k (first p c.transfer k) s.image s.stage
+CompareFact c p (Last report) s = EndsAs c p s IsIdle report
+CompareFact c p (Over report) s = EndsAs c p s IsInApp report
+CompareFact c p phase s = IsCommon phase
+
 -- By what the session is for.
 abbrev pub GoalFact : Profile → Goal → Phase → Situation → Type 0
 GoalFact c (ToLoad p) phase s = Fact c p phase s
 GoalFact c ToFetch phase s = FetchFact phase s
+GoalFact c (ToVerify p) phase s = Fact c p phase s
+GoalFact c (ToCompare p) phase s = CompareFact c p phase s
 
--- A download has a block at least.
+-- A payload has a block at least.
 abbrev pub HasBlocks : Profile → Goal → Type 0
 HasBlocks c (ToLoad p) = 0 < length (blocks p c.transfer)
 HasBlocks c ToFetch = Unit {0}
+HasBlocks c (ToVerify p) = 0 < length (blocks p c.transfer)
+HasBlocks c (ToCompare p) = 0 < length (blocks p c.transfer)
 
 -- A session's task goes by the device's descriptor.
 pub record GoesBy (c : Profile) (task : Task) : Type 0 where
@@ -124,7 +137,7 @@ pub record GoesBy (c : Profile) (task : Task) : Type 0 where
   pub will_detach : task.will_detach ≡ c.will_detach
   pub detach_ms : task.detach_ms ≡ c.detach_ms
 
--- The fact of a live host: its task goes by the device's descriptor, it is not done, a download has a block at least, and what holds of the
+-- The fact of a live host: its task goes by the device's descriptor, it is not done, a payload has a block at least, and what holds of the
 -- device fits its phase.
 pub record HostFact (c : Profile) (s : Situation) (h : HostState) : Type 0 where
   pub task_is : GoesBy c h.task

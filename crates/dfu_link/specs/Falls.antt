@@ -5,6 +5,7 @@ use Rattle.dfu_slots.specs.Units.{IsMultiple}
 use Rattle.dfu_device.specs.declared.fault.ConfigFault.{ConfigFault}
 use Rattle.dfu_device.specs.Setting.{FirstFault}
 use Rattle.dfu_device.specs.Shown.{Shown}
+use Rattle.dfu_link.specs.declared.aim.Aim.{Aim}
 use Rattle.dfu_link.specs.Bench.{Nobody, Bench}
 use Rattle.dfu_link.specs.Happening.{Happening}
 use Rattle.dfu_suffix.specs.Writing.{IsOutInPart}
@@ -40,8 +41,9 @@ pub record IsSetting (line : List ℕ) : Type 0 where
 
 -- A line offers a file.
 pub record IsOffer (line : List ℕ) : Type 0 where
+  pub aim : Aim
   pub file : List ℕ
-  pub says : line_of line ≡ Some (Does (Offer file))
+  pub says : line_of line ≡ Some (Does (Offer aim file))
 
 -- A line needs memory: for the file that it offers while no session is live, or for the tear that it brings.
 pub data NeedsMemory (p : Point) (line : List ℕ) : Type 0 where

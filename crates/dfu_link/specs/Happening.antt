@@ -3,6 +3,8 @@ use Rattle.std.specs.Prelude.{ℕ, List, [], take}
 use Rattle.dfu_host.specs.declared.limits.Limits.{Limits}
 use Rattle.dfu_link.specs.declared.fate.Fate.{Fate as GivenFate}
 use Rattle.dfu_link.specs.declared.fate.Fate.TheVariants as fate
+use Rattle.dfu_link.specs.declared.aim.Aim.{Aim}
+use Rattle.dfu_link.specs.declared.aim.Aim.TheVariants.{Install, Verify}
 use Rattle.dfu_link.specs.declared.event.Event.{Event as GivenEvent}
 use Rattle.dfu_link.specs.declared.event.Event.TheVariants as event
 
@@ -24,9 +26,10 @@ pub record Harm : Type 0 where
   pub writes : ℕ
   pub tear : List ℕ
 
--- An event, as its caller gives it; in a play the bytes of an offer are the payload.
+-- An event, as its caller gives it; in a play the bytes of an offer are the payload. A file is offered to be installed, or to be installed
+-- and verified.
 pub data Happening : Type 0 where
-  Offers : (file : List ℕ) → Limits → Happening
+  Offers : Aim → (file : List ℕ) → Limits → Happening
   Uploads : Limits → Happening
   Aborts : Happening
   Goes : Fate → Harm → Happening
@@ -68,7 +71,8 @@ harm_in (fate.Lie writes tear) = harmed writes tear.now
 
 -- What happens, of the event that a caller names.
 abbrev pub happening : GivenEvent → Happening
-happening (event.Offer file limits) = Offers file.now limits
+happening (event.Offer file limits) = Offers Install file.now limits
+happening (event.OfferVerified file limits) = Offers Verify file.now limits
 happening (event.Upload limits) = Uploads limits
 happening event.Abort = Aborts
 happening (event.Go f) = Goes (fate_of f) (harm_in f)

@@ -1,22 +1,21 @@
 -- The laws of plays, as statements.
-use Rattle.std.specs.Prelude.{◌≡◌, ◌⊎◌, ℕ, ◌<◌, Bool, List, [], ◌∷◌, Option, Some}
+use Rattle.std.specs.Prelude.{◌≡◌, ◌⊎◌, ℕ, ◌<◌, Bool, List, [], ◌∷◌, Option}
 use Rattle.dfu_device.specs.Stage.{Profile, InAppIdle}
 use Rattle.dfu_host.specs.declared.report.Report.{Report}
-use Rattle.dfu_host.specs.declared.report.Report.TheVariants.{Installed}
-use Rattle.dfu_link.specs.Session.{Machine, Loading, IsOneOf, Kind, AnOffer, Step, Legal}
+use Rattle.dfu_link.specs.Session.{Machine, Loading, IsOneOf, SaysInPlace, Kind, AnOffer, Step, Legal}
 use Rattle.dfu_link.specs.Happening.{Happening}
 use Rattle.dfu_link.specs.Play.{kind_of, Link, Answered, given, Play}
 use Rattle.dfu_link.specs.LinkAgreement.{Agrees}
 use Rattle.dfu_link.specs.Fact.{SessionFact}
 
--- The session machine follows an event: it makes one legal step, agreement and the phase fact hold again, and where Installed is reported
--- the device is in appIDLE, and the payload of the session that was live is the active image.
+-- The session machine follows an event: it makes one legal step, agreement and the phase fact hold again, and where Installed or
+-- Verified is reported the device is in appIDLE, and the payload of the session that was live is the active image.
 pub record Follows (c : Profile) (m : Machine) (event : Happening) (w' : Link) (up' : List ℕ) (report : Option Report) : Type 0 where
   pub after : Machine
   pub step : Step c.tolerant c.transfer (kind_of event) m report after
   pub agrees : Agrees w' up' after
   pub fact : SessionFact c w'.device w'.session
-  pub installed : report ≡ Some Installed → (w'.device.stage ≡ InAppIdle) × (m.live ≡ Loading w'.device.image)
+  pub in_place : SaysInPlace report → (w'.device.stage ≡ InAppIdle) × (m.live ≡ Loading w'.device.image)
 
 -- Each play is one legal step of every session machine that the link agrees with.
 abbrev pub Simulation : Type 0

@@ -16,6 +16,7 @@ keyword_of w =
     else if bytes_eq w (codes "image") then Some key.Image
     else if bytes_eq w (codes "limits") then Some key.Limits
     else if bytes_eq w (codes "offer") then Some key.Offer
+    else if bytes_eq w (codes "verify") then Some key.Verify
     else if bytes_eq w (codes "upload") then Some key.Upload
     else if bytes_eq w (codes "abort") then Some key.Abort
     else if bytes_eq w (codes "go") then Some key.Go

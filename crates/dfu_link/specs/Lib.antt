@@ -2,6 +2,7 @@ pub mod Session
 pub mod Happening
 pub mod Course
 pub mod Bench
+pub mod Opening
 pub mod Play
 pub mod Agreement
 pub mod LinkAgreement

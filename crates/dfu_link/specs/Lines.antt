@@ -4,6 +4,8 @@ use Rattle.dfu_wire.specs.Functional.{functional_of}
 use Rattle.dfu_slots.specs.declared.unit.Unit.{Unit as WriteUnit}
 use Rattle.dfu_slots.specs.declared.unit.Unit.TheVariants.{Byte, U16, U64, U256}
 use Rattle.dfu_wire.specs.Identifier.{identifier_in}
+use Rattle.dfu_link.specs.declared.aim.Aim.{Aim}
+use Rattle.dfu_link.specs.declared.aim.Aim.TheVariants.{Install, Verify}
 use Rattle.dfu_link.specs.Words.{◌>>=◌, guard, bytes_of, number_of, pair_of, first, ends, words_of}
 use Rattle.dfu_link.specs.Happening.{Fate, Pass, LostOut, LostBack, Twice, TwiceLostBack, Slip, CutIn, Fail, Lie, unharmed, harmed}
 use Rattle.dfu_link.specs.Said.{Said, Blank, Sets, LimitsTo, Does, Show, TheIds, TheDevice, TheUnit, TheCapacity, TheImage, Offer, Upload, Abort, Go, Time, Reset, Cut}
@@ -95,11 +97,11 @@ limits_of words = do
   restarts ← small_at 65535 actions.1
   ends (LimitsTo actions.0 restarts.0) restarts.1
 
--- After `offer`: the bytes of the file.
-unfoldable pub offer_of : List (List ℕ) → Option Said
-offer_of words = do
+-- After `offer` and `verify`: the bytes of the file.
+unfoldable pub offer_of : Aim → List (List ℕ) → Option Said
+offer_of aim words = do
   file ← hex_at words
-  ends (Does (Offer file.0)) file.1
+  ends (Does (Offer aim file.0)) file.1
 
 -- After `time`: the milliseconds.
 unfoldable pub time_of : List (List ℕ) → Option Said
@@ -153,7 +155,8 @@ by_keyword key.Unit words = unit_of words
 by_keyword key.Capacity words = capacity_of words
 by_keyword key.Image words = image_of words
 by_keyword key.Limits words = limits_of words
-by_keyword key.Offer words = offer_of words
+by_keyword key.Offer words = offer_of Install words
+by_keyword key.Verify words = offer_of Verify words
 by_keyword key.Upload words = ends (Does Upload) words
 by_keyword key.Abort words = ends (Does Abort) words
 by_keyword key.Go words = go_of words

@@ -26,7 +26,7 @@ pub record HasPlayed (b : Bench) (events : List Happening) (old : Option (List �
 
 -- The file of an offer; other events have none.
 abbrev pub file_bytes : EventLine → List ℕ
-file_bytes (Offer file) = file
+file_bytes (Offer aim file) = file
 file_bytes events = []
 
 -- A line was done, and what it prints is out.
@@ -116,7 +116,7 @@ CannotConfigure x s fault = StopsSetting x s fault
 
 -- There is no memory for the file that is offered.
 abbrev pub FindsNoRoom : EventLine → ScriptFault → Type 0
-FindsNoRoom (Offer file) fault = fault ≡ NoMemory
+FindsNoRoom (Offer aim file) fault = fault ≡ NoMemory
 FindsNoRoom events fault = ⊥
 
 -- There is no memory for the tear that a line brings.

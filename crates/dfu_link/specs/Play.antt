@@ -1,14 +1,15 @@
 -- The table of fates: what an event of the link does to a device and a host, over the device table and the host table.
 use Rattle.std.specs.Prelude.{◌≡◌, ℕ, ◌<◌, Bool, true, false, List, length, Option, Some, None}
-use Rattle.dfu_wire.specs.declared.functionals.Functional.{Functional}
 use Rattle.dfu_host.specs.declared.report.Report.{Report}
 use Rattle.dfu_host.specs.declared.report.Report.TheVariants.{Uploaded}
 use Rattle.dfu_device.specs.Stage.{Request, Reply, Ack, StatusOf, StateOf, Data, Stall, Profile}
 use Rattle.dfu_device.specs.Table.{Plan, plan}
 use Rattle.dfu_device.specs.Outcome.{Situation, Luck, Works, outcome, handled, elapsed, was_reset, powered}
 use Rattle.dfu_device.specs.Rows.{meant}
-use Rattle.dfu_host.specs.Table.{Goal, ToLoad, ToFetch, Task, Phase, Over, OverUploaded, Deed, Send, Wait, Reset, Done, deed, Heard, Acked, Status, StateIs, Part, NoRoom, Stalled, Nothing, Waited, WasReset, Restarted}
-use Rattle.dfu_host.specs.Host.{HostState, begun, after, aborted as host_aborted, task_for as host_task_for}
+use Rattle.dfu_host.specs.Phases.{ToFetch, Phase, Fetch, Over, OverUploaded, Deed, Send, Wait, Reset, Done, Heard, Acked, Status, StateIs, Part, NoRoom, Stalled, Nothing, Waited, WasReset, Restarted}
+use Rattle.dfu_host.specs.Table.{deed}
+use Rattle.dfu_host.specs.Host.{HostState, after, aborted as host_aborted}
+use Rattle.dfu_link.specs.Opening.{goal_of, opened}
 use Rattle.dfu_link.specs.Session.{Kind, AnOffer, AnUpload, AnAbort, ATime, ARestart, AGo}
 use Rattle.dfu_link.specs.Happening.{Fate, Happening, Offers, Uploads, Aborts, Goes, Passes, Resets, Cuts}
 use Rattle.dfu_link.specs.declared.course.Handling.{Handling}
@@ -22,7 +23,7 @@ use Rattle.dfu_link.specs.Bench.{Session, Nobody, Hosted}
 
 -- What an event is to the session machine.
 abbrev pub kind_of : Happening → Kind
-kind_of (Offers payload limits) = AnOffer payload
+kind_of (Offers aim payload limits) = AnOffer payload
 kind_of (Uploads limits) = AnUpload
 kind_of Aborts = AnAbort
 kind_of (Goes fate harm) = AGo
@@ -55,28 +56,6 @@ given (Some bytes) up = bytes
 pub record Played : Type 0 where
   pub link : Link
   pub answer : Answered
-
--- The host.
-
--- The descriptor of a device with this profile, whose version no task goes by.
-abbrev pub descriptor_of : Profile → Functional
-descriptor_of c = record {
-  can_download = c.can_download;
-  can_upload = c.can_upload;
-  tolerant = c.tolerant;
-  will_detach = c.will_detach;
-  detach_ms = c.detach_ms;
-  transfer = c.transfer;
-  version = 0x0110;
-}
-
--- A session's task with this goal is the host's task by the device's descriptor.
-abbrev pub task_for : Profile → Goal → Task
-task_for c goal = host_task_for (descriptor_of c) goal
-
--- A session that begins, with the device's task for this goal.
-abbrev pub opened : Profile → Goal → (actions restarts : ℕ) → Session
-opened c goal actions restarts = Hosted (begun (task_for c goal) actions restarts)
 
 -- What becomes of a session by what its host takes: it stays live, or it is over with its report.
 pub record Took : Type 0 where
@@ -117,6 +96,11 @@ heard_as Stall = Stalled
 abbrev pub remembered : Heard → (room : Bool) → Heard
 remembered (Part bytes) false = NoRoom
 remembered heard room = heard
+
+-- Whether there is memory for what a phase keeps: only one that fetches a part of an upload needs any.
+abbrev pub has_room : Phase → (room : Bool) → Bool
+has_room (Fetch k kept) room = room
+has_room phase room = true
 
 -- The device after an action, and what the host hears of it; after a cut it hears of the restart alone.
 pub record Passed : Type 0 where
@@ -199,7 +183,7 @@ abbrev pub gone : Profile → Link → Session → Fate → (first second : Luck
 gone c w Nobody fate l k room = record { link = w; answer = silent }
 gone c w (Hosted h) fate l k room =
     let d = acted c w.device (deed h.task h.phase) (course_of fate) l k in
-    let t = took h (remembered d.heard room) in
+    let t = took h (remembered d.heard (has_room h.phase room)) in
     record { link = record { device = d.device; session = t.session }; answer = t.answer }
 
 -- A restart that comes from outside: the device is in this situation, and a live host is told.
@@ -209,8 +193,10 @@ restarted_to s session = let t = told session in record { link = record { device
 -- Each event. The harm that an action does to a write is in the luck of the medium. Between actions the medium is not armed, so that it
 -- works while time passes.
 abbrev pub played : Profile → Link → Happening → (first second : Luck) → (room : Bool) → Played
-played c w (Offers payload limits) l k room =
-    record { link = record { device = w.device; session = opened c (ToLoad payload) limits.actions limits.restarts }; answer = silent }
+played c w (Offers aim payload limits) l k room = record {
+  link = record { device = w.device; session = opened c (goal_of aim payload) limits.actions limits.restarts };
+  answer = silent;
+}
 played c w (Uploads limits) l k room =
     record { link = record { device = w.device; session = opened c ToFetch limits.actions limits.restarts }; answer = silent }
 played c w Aborts l k room = record { link = record { device = w.device; session = aborted w.session }; answer = silent }
@@ -222,14 +208,14 @@ played c w Cuts l k room = restarted_to (powered w.device) w.session
 -- An event that is not refused: a session begins only where none is live, and no offer is empty; an abort and an action need a live
 -- session.
 abbrev pub IsAllowed : Session → Happening → Type 0
-IsAllowed Nobody (Offers payload limits) = 0 < length payload
+IsAllowed Nobody (Offers aim payload limits) = 0 < length payload
 IsAllowed Nobody (Uploads limits) = Unit {0}
 IsAllowed Nobody Aborts = ⊥
 IsAllowed Nobody (Goes fate harm) = ⊥
 IsAllowed Nobody (Passes ms) = Unit {0}
 IsAllowed Nobody Resets = Unit {0}
 IsAllowed Nobody Cuts = Unit {0}
-IsAllowed (Hosted h) (Offers payload limits) = ⊥
+IsAllowed (Hosted h) (Offers aim payload limits) = ⊥
 IsAllowed (Hosted h) (Uploads limits) = ⊥
 IsAllowed (Hosted h) Aborts = Unit {0}
 IsAllowed (Hosted h) (Goes fate harm) = Unit {0}

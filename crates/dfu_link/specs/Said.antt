@@ -5,6 +5,7 @@ use Rattle.dfu_wire.specs.declared.functionals.Functional.{Functional}
 use Rattle.dfu_slots.specs.declared.unit.Unit.{Unit as WriteUnit}
 use Rattle.dfu_link.specs.Words.{bytes_of}
 use Rattle.dfu_link.specs.Happening.{Fate, CutIn, Fail, Lie, Harm, harmed, fate_of, harm_in}
+use Rattle.dfu_link.specs.declared.aim.Aim.{Aim}
 use Rattle.dfu_link.specs.declared.scripting.hex_text.HexText.{HexText}
 use Rattle.dfu_link.specs.declared.scripting.line.HarmKind as kinds
 use Rattle.dfu_link.specs.declared.scripting.line.HarmKind.TheVariants as kind
@@ -27,10 +28,10 @@ pub data ConfigLine : Type 0 where
   TheCapacity : ℕ → ConfigLine
   TheImage : List ℕ → ConfigLine
 
--- The events of a line: a file is offered, an upload begins, the session is given up, the host takes so many actions of one fate, which
--- harm a write alike, time passes, the bus is reset, or the power is cut.
+-- The events of a line: a file is offered, to be installed or to be verified too, an upload begins, the session is given up, the host
+-- takes so many actions of one fate, which harm a write alike, time passes, the bus is reset, or the power is cut.
 pub data EventLine : Type 0 where
-  Offer : (file : List ℕ) → EventLine
+  Offer : Aim → (file : List ℕ) → EventLine
   Upload : EventLine
   Abort : EventLine
   Go : Fate → Harm → (times : ℕ) → EventLine
@@ -69,7 +70,7 @@ harm_fate kind.Lie = Lie
 
 -- The events of a line as the code has it.
 abbrev pub event_line_of : event_lines.EventLine → EventLine
-event_line_of (events.Offer text) = Offer (hex_bytes text)
+event_line_of (events.Offer aim text) = Offer aim (hex_bytes text)
 event_line_of events.Upload = Upload
 event_line_of events.Abort = Abort
 event_line_of (events.Go f times) = Go (fate_of f) (harm_in f) times

@@ -118,7 +118,7 @@ point limits at = record { limits = limits; at = at }
 
 -- The events of an event line.
 abbrev pub events_of : Limits → EventLine → List Happening
-events_of limits (Offer file) = Offers file limits ∷ []
+events_of limits (Offer aim file) = Offers aim file limits ∷ []
 events_of limits Upload = Uploads limits ∷ []
 events_of limits Abort = Aborts ∷ []
 events_of limits (Go fate harm times) = replicate times (Goes fate harm)

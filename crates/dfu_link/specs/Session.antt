@@ -1,7 +1,7 @@
 -- The session machine: what a user of the link relies on, with no state of the standard, no stall, no timer and no slot in it.
 use Rattle.std.specs.Prelude.{◌≡◌, ◌≢◌, ◌⊎◌, ℕ, suc, ◌<◌, Bool, IsTrue, List, [], ◌∷◌, ◌++◌, length, Option, Some, None}
 use Rattle.dfu_host.specs.declared.report.Report.{Report}
-use Rattle.dfu_host.specs.declared.report.Report.TheVariants.{Installed, Unconfirmed, Aborted, GaveUp, Refused, RestartsSpent, Uploaded, TooManyBlocks, NoMemory}
+use Rattle.dfu_host.specs.declared.report.Report.TheVariants.{Installed, Unconfirmed, Aborted, GaveUp, Refused, RestartsSpent, Uploaded, TooManyBlocks, NoMemory, Verified, Different}
 use Rattle.dfu_host.specs.Blocks.{blocks, first}
 
 -- The session that is live: none, one that installs a payload, or one that uploads the active image.
@@ -35,15 +35,14 @@ pub data Begins (t : ℕ) : Machine → Machine → Type 0 where
   begins_not : {m : Machine} → Begins t m m
   takes : {m : Machine} {p : List ℕ} (n : ℕ) → m.live ≡ Loading p → n < length (blocks p t) → IsFirst p t n m.pending
       → Begins t m (record m { pending = Some (first p t (suc n)) })
-  installs : {m : Machine} {x : List ℕ} → m.pending ≡ Some x → IsOneOf x m.offers
-      → Begins t m (record m { cur = x; pending = None })
+  installs : {m : Machine} {x : List ℕ} → m.pending ≡ Some x → IsOneOf x m.offers → Begins t m (record m { cur = x; pending = None })
 
 -- Drop, so that what was pending is forgotten, or not.
 pub data Ends : Machine → Machine → Type 0 where
   ends_not : {m : Machine} → Ends m m
   drops : {m : Machine} → Ends m (record m { pending = None })
 
--- A report that promises nothing: any but Installed and Uploaded.
+-- A report that promises nothing: any but Installed, Uploaded and Verified.
 abbrev pub PromisesNothing : Report → Type 0
 PromisesNothing Installed = ⊥
 PromisesNothing Uploaded = ⊥
@@ -54,15 +53,18 @@ PromisesNothing (Refused code) = Unit {0}
 PromisesNothing RestartsSpent = Unit {0}
 PromisesNothing TooManyBlocks = Unit {0}
 PromisesNothing NoMemory = Unit {0}
+PromisesNothing Verified = ⊥
+PromisesNothing Different = Unit {0}
 
--- Say a report, or none; the session is over then. Installed is said only where the live payload is the active image, nothing is pending
--- and the device is tolerant; Uploaded gives the active image; another report needs a live session and promises nothing.
+-- Say a report, or none; the session is over then. Verified is said only where the live payload is the active image and nothing is pending,
+-- and Installed only where besides the device is tolerant; Uploaded gives the active image; another report needs a live session and
+-- promises nothing.
 pub data Says (tolerant : Bool) : Machine → Option Report → Machine → Type 0 where
   says_not : {m : Machine} → Says tolerant m None m
   says_installed : {m : Machine} → m.live ≡ Loading m.cur → m.pending ≡ None → IsTrue tolerant
       → Says tolerant m (Some Installed) (record m { live = NoOne })
-  says_uploaded : {m : Machine} → m.live ≡ Fetching
-      → Says tolerant m (Some Uploaded) (record m { live = NoOne; up = m.cur })
+  says_verified : {m : Machine} → m.live ≡ Loading m.cur → m.pending ≡ None → Says tolerant m (Some Verified) (record m { live = NoOne })
+  says_uploaded : {m : Machine} → m.live ≡ Fetching → Says tolerant m (Some Uploaded) (record m { live = NoOne; up = m.cur })
   says_other : {m : Machine} {report : Report} → PromisesNothing report → m.live ≢ NoOne
       → Says tolerant m (Some report) (record m { live = NoOne })
 
@@ -77,6 +79,12 @@ pub data Kind : Type 0 where
   ATime : Kind
   ARestart : Kind
   AGo : Kind
+
+-- A report that says that the payload is in place: Installed or Verified.
+abbrev pub SaysInPlace : Option Report → Type 0
+SaysInPlace (Some Installed) = Unit {0}
+SaysInPlace (Some Verified) = Unit {0}
+SaysInPlace report = ⊥
 
 -- Nothing is reported, or a report that promises nothing.
 abbrev pub SaysNoPromise : Option Report → Type 0

@@ -29,7 +29,7 @@ HarmsNothing LiesInWrite = ⊥
 -- The event is no action of the host in which a write is harmed.
 abbrev pub IsHarmless : Happening → Type 0
 IsHarmless (Goes fate harm) = HarmsNothing (course_of fate).harming
-IsHarmless (Offers payload limits) = Unit {0}
+IsHarmless (Offers aim payload limits) = Unit {0}
 IsHarmless (Uploads limits) = Unit {0}
 IsHarmless Aborts = Unit {0}
 IsHarmless (Passes ms) = Unit {0}

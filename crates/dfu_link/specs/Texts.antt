@@ -42,6 +42,8 @@ report_line report.RestartsSpent uploaded = codes "report restarts-spent\n"
 report_line report.Uploaded uploaded = uploaded_line uploaded
 report_line report.TooManyBlocks uploaded = codes "report too-many-blocks\n"
 report_line report.NoMemory uploaded = codes "report no-memory\n"
+report_line report.Verified uploaded = codes "report verified\n"
+report_line report.Different uploaded = codes "report different\n"
 
 -- The line of a refused event.
 abbrev pub refusal_line : LinkFault → List ℕ

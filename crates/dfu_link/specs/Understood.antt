@@ -9,7 +9,8 @@ use Rattle.dfu_device.specs.Stage.{Profile, Stage}
 use Rattle.dfu_device.specs.Shown.{profile}
 use Rattle.dfu_device.specs.Rows.{meant, asked_length, Answers}
 use Rattle.dfu_wire.specs.declared.requests.Request.{Request as Asked}
-use Rattle.dfu_host.specs.Table.{Task, Phase, Send, deed, Heard}
+use Rattle.dfu_host.specs.Phases.{Task, Phase, Send, Heard}
+use Rattle.dfu_host.specs.Table.{deed}
 use Rattle.dfu_link.specs.Play.{Answered, Play, heard_as, remembered}
 use Rattle.dfu_link.specs.Bytes.{HearsAnswer, link_of, BytePlay}
 use Rattle.dfu_link.specs.Happening.{Happening}

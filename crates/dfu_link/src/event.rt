@@ -9,6 +9,9 @@ pub enum Event<'f, 't> {
     /// A whole DFU file (USB DFU 1.1, appendix B) is offered to the device; the session that
     /// begins may last for so long.
     Offer { file: &'f [u8], limits: Limits },
+    /// A whole DFU file is offered, to be installed as with `Offer`, and compared with the device's
+    /// active image after the reset at its end. Only a device that uploads takes it.
+    OfferVerified { file: &'f [u8], limits: Limits },
     /// An upload of the device's active image begins; the session may last for so long.
     Upload { limits: Limits },
     /// The session that is live is given up.

@@ -15,14 +15,15 @@ ghost use Rattle.dfu_link.specs.Understood.{ImageShown, BytesShow, Understood};
 use dfu_slots::laws::{refused_has_no_image, shown_image_is_active};
 
 /// Each play of an event, from a link that agrees with a session machine, is one legal step of it.
-/// Agreement and the phase fact hold again, and Installed is reported only in appIDLE with exactly
-/// that session's payload active.
+/// Agreement and the phase fact hold again, and Installed and Verified are reported only in appIDLE
+/// with exactly that session's payload active.
 pub fn simulation()
     ensures { Simulation }
 {}
 
 /// A download in which nothing is lost and nothing fails is installed after exactly the clean count
-/// of actions: Installed is reported in the last of them and nothing in those before.
+/// of actions, and verified after exactly the clean count of that: Installed or Verified is reported
+/// in the last of them and nothing in those before.
 pub fn clean_run()
     ensures { CleanRun }
 {}

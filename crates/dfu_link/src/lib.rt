@@ -6,6 +6,7 @@
 #![tactic(auto)]
 
 mod acting;
+mod aim;
 mod back;
 mod course;
 mod event;

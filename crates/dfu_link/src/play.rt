@@ -7,6 +7,7 @@ ghost use Rattle.dfu_link.specs.Happening.{Offers, Goes, fate_of, harm_in, happe
 ghost use Rattle.dfu_link.specs.Comes.{HasCome, HasComeAlone};
 ghost use Rattle.dfu_link.specs.Acting.{report_of, ended, abort_told};
 
+use crate::aim::Aim;
 use crate::event::Event;
 use crate::fate::Fate;
 use crate::fault::LinkFault;
@@ -66,16 +67,17 @@ fn restart<'f>(host: &mut Option<Host<'f>>, gave: &mut Option<Host<'f>>) -> Opti
 fn offer<'f, M: Medium>(
     device: &Device<M>,
     host: &mut Option<Host<'f>>,
+    aim: Aim,
     file: &'f [u8],
     limits: Limits,
 ) -> Result<Option<Report>, LinkFault>
     requires { IsSteady (bench_of device.now host.old) }
-    ensures { HasComeAlone (bench_of device.now host.old) (Offers file.now limits) (bench_of device.now host.new) result }
+    ensures { HasComeAlone (bench_of device.now host.old) (Offers aim file.now limits) (bench_of device.now host.new) result }
 {
     if host.is_some() {
         return Err(LinkFault::HostBusy);
     }
-    match begin(device, file, limits) {
+    match begin(device, aim, file, limits) {
         Ok(begun) => {
             *host = Some(begun);
             Ok(None)
@@ -129,7 +131,8 @@ pub(crate) fn play<'f, M: Faulty>(
     ensures { HasCome (link_state device.old host.old gave.old) (happening event.entry) (link_state device.new host.new gave.new) result }
 {
     match event {
-        Event::Offer { file, limits } => offer(device, host, file, limits),
+        Event::Offer { file, limits } => offer(device, host, Aim::Install, file, limits),
+        Event::OfferVerified { file, limits } => offer(device, host, Aim::Verify, file, limits),
         Event::Upload { limits } => upload(alloc, device, host, limits),
         Event::Abort => abort(host),
         Event::Go(fate) => go(device, host, gave, fate),

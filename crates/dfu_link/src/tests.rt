@@ -10,6 +10,7 @@ mod plain;
 mod runs;
 mod scripts;
 mod uploads;
+mod verifying;
 
 use crate::{Event, Fate};
 use bench::{AMPLE, Setup, USUAL, W, go, offer, pass, play, stands, world};

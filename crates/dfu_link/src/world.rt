@@ -74,8 +74,8 @@ impl<'f, M: Faulty> World<'f, M> {
     ///
     /// 1. `HostBusy`: an offer or an upload while a session is live.
     /// 2. `NoHost`: an abort or an action, whatever its fate, while no session is live.
-    /// 3. `BadOffer`: of an offer, the fault of `dfu_suffix::read`, else that of `Host::download`; of
-    ///    an upload, that of `Host::upload`.
+    /// 3. `BadOffer`: of an offer, the fault of `dfu_suffix::read`, else that of `Host::download` or
+    ///    `Host::download_verified`; of an upload, that of `Host::upload`.
     pub fn step(&mut self, event: Event<'f, '_>) -> Result<Option<Report>, LinkFault>
         ensures play { HasCome self.old (happening event.entry) self.new result }
         ensures legal { AllFollow self.old (happening event.entry) self.new result }

@@ -113,6 +113,24 @@ fn scripts_print_what_comes_of_them(rt: HostRuntime) -> Result<(), Fail> {
     all_print(&rt, rt.alloc(), &PLAYED, Exit::Done)
 }
 
+/// Scripts with downloads that are verified.
+#[rattlefmt::skip]
+static VERIFIED: [(&str, &str); 8] = [
+    ("verify W / go pass 19", "report verified / image ffffffff"),
+    ("verify W / go pass 18", "image ffffffff"),
+    ("device 03 255 8 1 5 10 / verify W / go pass 18", "report verified / image ffffffff"),
+    ("device 03 255 8 1 5 10 / verify W / go pass 10 / go slip 4 / go pass 7", "report different / image 00"),
+    ("device 05 255 8 1 5 10 / verify W", "refused BadOffer CannotUpload / image 00"),
+    ("device 07 255 4 1 5 10 / verify W / go pass 20", "report verified / image ffffffff"),
+    ("limits 100 1 / verify W / go pass 17 / reset / go pass 6", "report verified / image ffffffff"),
+    ("limits 100 1 / verify W / go pass 10 / go cut 1 a5 / go pass 19", "report verified / image ffffffff"),
+];
+
+#[test]
+fn scripts_verify_what_they_install(rt: HostRuntime) -> Result<(), Fail> {
+    all_print(&rt, rt.alloc(), &VERIFIED, Exit::Done)
+}
+
 /// Scripts in which power or a write is lost.
 #[rattlefmt::skip]
 static LOST: [(&str, &str); 15] = [

@@ -18,6 +18,7 @@ pub record Joined (t k : ℕ) (memory part : List ℕ) (heard : ℕ) (memory' : 
 -- memory, since no phase that can follow keeps any of it.
 abbrev pub KeepsPart : (t k : ℕ) → (memory : List ℕ) → (part : List ℕ) → Heard → (memory' : List ℕ) → Type 0
 KeepsPart t k memory part (heard.Part heard) memory' = Joined t k memory part heard memory'
+KeepsPart t k memory part (heard.Compared same heard) memory' = ⊥
 KeepsPart t k memory part heard.Acked memory' = Unit {0}
 KeepsPart t k memory part (heard.Told status) memory' = Unit {0}
 KeepsPart t k memory part (heard.StateIs state) memory' = Unit {0}
@@ -45,6 +46,7 @@ RefusedRoom t phase part heard.Acked = Unit {0}
 RefusedRoom t phase part (heard.Told status) = Unit {0}
 RefusedRoom t phase part (heard.StateIs state) = Unit {0}
 RefusedRoom t phase part (heard.Part length) = Unit {0}
+RefusedRoom t phase part (heard.Compared same length) = Unit {0}
 RefusedRoom t phase part heard.Stalled = Unit {0}
 RefusedRoom t phase part heard.Nothing = Unit {0}
 RefusedRoom t phase part heard.Waited = Unit {0}

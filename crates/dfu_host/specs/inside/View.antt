@@ -40,12 +40,13 @@ phase_of memory phase.Trouble = table.Trouble
 phase_of memory (phase.Last report) = table.Last report
 phase_of memory (phase.Fetch k) = table.Fetch k (kept_at k memory)
 phase_of memory phase.LastUploaded = table.LastUploaded memory
+phase_of memory (phase.Compare k) = table.Compare k
 phase_of memory phase.GiveUp = table.GiveUp
 phase_of memory (phase.Over report) = table.Over report
 phase_of memory phase.OverUploaded = table.OverUploaded memory
 
 -- What a phase needs of its task: a block that there is, a payload to close, or an image to fetch, of which the parts 0 to 65,534 are
--- asked for, or nothing.
+-- asked for, as they are of one that is compared, or nothing.
 abbrev pub IsWithin : Task → Phase → Type 0
 IsWithin t phase.Find = Unit {0}
 IsWithin t phase.FindAgain = Unit {0}
@@ -67,17 +68,19 @@ IsWithin t (phase.WaitLast poll) = Unit {0}
 IsWithin t phase.Trouble = Unit {0}
 IsWithin t (phase.Fetch k) = IsFetch t.goal × (k < 65535)
 IsWithin t phase.LastUploaded = Unit {0}
+IsWithin t (phase.Compare k) = k < 65535
 IsWithin t (phase.Last report) = Unit {0}
 IsWithin t phase.GiveUp = Unit {0}
 IsWithin t (phase.Over report) = Unit {0}
 IsWithin t phase.OverUploaded = Unit {0}
 
--- What the code heard, where the part of an upload has these bytes.
+-- What the code heard, where the part that came has these bytes.
 abbrev pub heard_of : (part : List ℕ) → Heard → table.Heard
 heard_of part heard.Acked = table.Acked
 heard_of part (heard.Told status) = table.Status status.code status.poll_ms status.state
 heard_of part (heard.StateIs state) = table.StateIs state
 heard_of part (heard.Part length) = table.Part part
+heard_of part (heard.Compared same length) = table.Part part
 heard_of part heard.NoRoom = table.NoRoom
 heard_of part heard.Stalled = table.Stalled
 heard_of part heard.Nothing = table.Nothing

@@ -63,6 +63,9 @@ fn answered(row: &Row, bytes: &[u8]) -> Option<u8> {
         Asks::State => by_state(row.5, bytes),
         Asks::Part if bytes.len() < 8 => Some(b'Y'),
         Asks::Part => None,
+        Asks::Compared(letter) if bytes == row.5 => Some(letter),
+        Asks::Compared(_) if bytes.len() <= 8 => Some(b'Z'),
+        Asks::Compared(_) => None,
     }
 }
 
@@ -106,6 +109,8 @@ pub(crate) struct Session<'f> {
     /// The file of a download; of an upload nothing.
     pub(crate) file: &'f [u8],
     pub(crate) device: &'f Functional,
+    /// What is seen before a comparison begins; of all others nothing.
+    pub(crate) before: &'f [Seen<'static>],
     /// The rows behind those of finding the device, and those that are its own.
     pub(crate) rows: &'f [Row],
     pub(crate) own: &'f [Row],
@@ -120,9 +125,12 @@ impl<'f> Session<'f> {
         };
         let mut host = if self.file.is_empty() {
             Host::upload(self.alloc, self.device, limits)?
-        } else {
+        } else if self.before.is_empty() {
             Host::download(&read(self.file)?, self.device, DEVICE, limits)?
+        } else {
+            Host::download_verified(&read(self.file)?, self.device, DEVICE, limits)?
         };
+        told(&mut host, self.before);
         told(&mut host, row.1);
         Ok(host)
     }

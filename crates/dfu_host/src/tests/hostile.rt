@@ -4,7 +4,7 @@ use super::dialogue::{ABORT, DFU_IDLE, SILENT, TOLERANT, WRITTEN};
 use super::files::NINE;
 use super::following::{Session, after, refusal};
 use super::played::{shows, told, wants};
-use super::rows::{ERROR, FETCHING, FINDING, Row, SENDING, SILENTLY, TOLERANTLY};
+use super::rows::{COMPARING, ERROR, FETCHING, FINDING, Row, SENDING, SILENTLY, TOLERANTLY};
 use crate::Seen::{Ack, Bytes, Nothing, Restarted, Stall, Waited, WasReset};
 use crate::{Action, Host, Report, Seen};
 use std::process::Abort;
@@ -166,6 +166,7 @@ fn download_to_a_tolerant_device(rt: HostRuntime) -> Result<(), Fail> {
         alloc: rt.alloc(),
         file: &NINE,
         device: &TOLERANT,
+        before: &[],
         rows: &SENDING,
         own: &TOLERANTLY,
     };
@@ -178,6 +179,7 @@ fn download_to_another_device(rt: HostRuntime) -> Result<(), Fail> {
         alloc: rt.alloc(),
         file: &NINE,
         device: &SILENT,
+        before: &[],
         rows: &SENDING,
         own: &SILENTLY,
     };
@@ -190,7 +192,26 @@ fn upload(rt: HostRuntime) -> Result<(), Fail> {
         alloc: rt.alloc(),
         file: &[],
         device: &TOLERANT,
+        before: &[],
         rows: &FETCHING,
+        own: &[],
+    };
+    try_session(&rt, &session)
+}
+
+/// The download of a session that is to be verified, up to its last reset.
+static INSTALLED: [Seen<'static>; 8] = [
+    DFU_IDLE, Ack, WRITTEN, Ack, WRITTEN, Ack, DFU_IDLE, WasReset,
+];
+
+#[test]
+fn comparison(rt: HostRuntime) -> Result<(), Fail> {
+    let session = Session {
+        alloc: rt.alloc(),
+        file: &NINE,
+        device: &TOLERANT,
+        before: &INSTALLED,
+        rows: &COMPARING,
         own: &[],
     };
     try_session(&rt, &session)

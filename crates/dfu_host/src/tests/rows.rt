@@ -19,6 +19,9 @@ pub(crate) enum Asks {
     State,
     /// A part of an upload of under eight bytes leads to Last with Uploaded.
     Part,
+    /// A part of a comparison that is these bytes leads to the phase of the letter, any other of at
+    /// most eight bytes to Last with Different.
+    Compared(u8),
 }
 
 /// The letter of a phase, what is seen on the way to it, its action, what follows an Ack, a Stall,
@@ -67,6 +70,9 @@ const PART_1: Action<'static> = Action::Send {
 };
 
 const FULL: Seen<'static> = Bytes(b"12345678");
+
+/// The part behind it, which is the last.
+const REST: Seen<'static> = Bytes(b"9");
 
 /// A status of dfuERROR with errADDRESS.
 pub(crate) const ERROR: Seen<'static> = Bytes(&[8, 0, 0, 0, 10, 0]);
@@ -135,4 +141,17 @@ pub(crate) static FETCHING: [Row; 5] = [
     (b'b', &[DFU_IDLE, FULL], PART_1, b"FFFFF", Asks::Part, b""),
     (b'Y', &[DFU_IDLE, FULL, WRITTEN], RESET, b"YYYYy", Asks::Nothing, b""),
     (b'y', &[DFU_IDLE, FULL, WRITTEN, WasReset], Action::Done(Report::Uploaded), b"yyyyy", Asks::Nothing, b""),
+];
+
+/// Of a comparison by eights: Enter, Compare 0 and 1, Last with Verified and with Different, and
+/// those ends.
+#[rattlefmt::skip]
+pub(crate) static COMPARING: [Row; 7] = [
+    (b'E', &[APP_IDLE, Ack], RESET, b"EEEEF", Asks::Nothing, b""),
+    (b'B', &[DFU_IDLE], PART_0, b"FFFFF", Asks::Compared(b'b'), b"12345678"),
+    (b'b', &[DFU_IDLE, FULL], PART_1, b"FFFFF", Asks::Compared(b'Y'), b"9"),
+    (b'Y', &[DFU_IDLE, FULL, REST], RESET, b"YYYYy", Asks::Nothing, b""),
+    (b'y', &[DFU_IDLE, FULL, REST, WasReset], Action::Done(Report::Verified), b"yyyyy", Asks::Nothing, b""),
+    (b'Z', &[DFU_IDLE, FULL, WRITTEN], RESET, b"ZZZZz", Asks::Nothing, b""),
+    (b'z', &[DFU_IDLE, REST, WasReset], Action::Done(Report::Different), b"zzzzz", Asks::Nothing, b""),
 ];

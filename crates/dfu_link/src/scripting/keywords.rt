@@ -13,6 +13,7 @@ pub(crate) enum Keyword {
     Image,
     Limits,
     Offer,
+    Verify,
     Upload,
     Abort,
     Go,
@@ -54,6 +55,8 @@ pub(crate) fn read_keyword(word: &[u8]) -> Option<Keyword>
         Some(Keyword::Limits)
     } else if word == b"offer".as_slice() {
         Some(Keyword::Offer)
+    } else if word == b"verify".as_slice() {
+        Some(Keyword::Verify)
     } else if word == b"upload".as_slice() {
         Some(Keyword::Upload)
     } else if word == b"abort".as_slice() {

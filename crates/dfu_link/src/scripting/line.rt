@@ -2,6 +2,7 @@
 
 ghost use Rattle.std.specs.Prelude.{◌≤◌};
 
+use crate::aim::Aim;
 use crate::fate::Fate;
 use crate::scripting::hex_text::HexText;
 use dfu_slots::Unit;
@@ -47,7 +48,10 @@ pub(crate) enum HarmKind {
 #[derive(Clone, Copy)]
 pub(crate) enum EventLine<'l> {
     /// A file is offered.
-    Offer(HexText<'l>),
+    Offer {
+        aim: Aim,
+        file: HexText<'l>,
+    },
     /// An upload begins.
     Upload,
     /// The session is given up.

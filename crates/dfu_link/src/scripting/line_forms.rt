@@ -6,6 +6,7 @@ ghost use Rattle.dfu_link.specs.Happening.{fate_of, harm_in};
 ghost use Rattle.dfu_link.specs.Said.{said_of, Go, Does, harm_fate};
 ghost use Rattle.dfu_link.specs.Lines.{small_at, ids_of, device_of, unit_named, unit_of, capacity_of, image_of, limits_of, offer_of, time_of, pass_of, slip_of, harmed_of, by_fate, go_of};
 
+use crate::aim::Aim;
 use crate::fate::Fate;
 use crate::scripting::fields::{
     attributes_at, ended, hex_at, identifier_at, number_at, short_at, small_at,
@@ -108,13 +109,13 @@ pub(crate) fn limits(line: &[u8]) -> Option<Line<'_>>
     ended(Line::Limits { actions, restarts }, rest)
 }
 
-/// `offer HEX`.
+/// `offer HEX` and `verify HEX`.
 #[tactic(auto, unfolding(crate::specs::Lines::offer_of))]
-pub(crate) fn offer(line: &[u8]) -> Option<Line<'_>>
-    ensures { Reads said_of result (offer_of (words_of line.now)) }
+pub(crate) fn offer(aim: Aim, line: &[u8]) -> Option<Line<'_>>
+    ensures { Reads said_of result (offer_of aim (words_of line.now)) }
 {
     let (file, rest) = hex_at(line)?;
-    ended(Line::Do(EventLine::Offer(file)), rest)
+    ended(Line::Do(EventLine::Offer { aim, file }), rest)
 }
 
 /// `time MS`.

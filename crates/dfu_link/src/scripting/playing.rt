@@ -1,13 +1,14 @@
 //! The events of an event line, played.
 
 ghost use Rattle.std.specs.Prelude.{◌≡◌, OnOk, OnErr, IfOk, IfErr, replicate};
-ghost use Rattle.dfu_link.specs.Happening.{harmed, fate_of, harm_in, happening};
+ghost use Rattle.dfu_link.specs.Happening.{Offers, harmed, fate_of, harm_in, happening};
 ghost use Rattle.dfu_link.specs.Refusing.{IsLive};
 ghost use Rattle.dfu_link.specs.Said.{EventLine, harm_fate, event_line_of, tear_bytes};
 ghost use Rattle.dfu_link.specs.ScriptRun.{events_of};
 ghost use Rattle.dfu_link.specs.Falls.{HasBroken};
 ghost use Rattle.dfu_link.specs.Moving.{HasPlayed, file_bytes, FindsNoRoom, FindsNoTear};
 
+use crate::aim::Aim;
 use crate::event::Event;
 use crate::fate::Fate;
 use crate::fault::LinkFault;
@@ -47,7 +48,7 @@ pub(crate) fn file_of(alloc: Global, events: EventLine<'_>) -> Result<Vec<u8>, S
     ensures fault { IfErr result (λ f. FindsNoRoom (event_line_of events.entry) f) }
 {
     match events {
-        EventLine::Offer(text) => bytes_of(alloc, text),
+        EventLine::Offer { file, .. } => bytes_of(alloc, file),
         _ => Ok(Vec::new(alloc)),
     }
 }
@@ -75,6 +76,16 @@ fn harmed(harm: HarmKind, writes: u32, tear: &[u8]) -> Fate<'_>
     }
 }
 
+/// The offer of a file.
+fn offered<'f>(aim: Aim, file: &'f [u8], limits: Limits) -> Event<'f, 'static>
+    ensures { happening result ≡ Offers aim file.now limits }
+{
+    match aim {
+        Aim::Install => Event::Offer { file, limits },
+        Aim::Verify => Event::OfferVerified { file, limits },
+    }
+}
+
 /// Plays the events of a line, and writes what is printed of them.
 pub(crate) fn play_events<'f, M: Faulty, W: Write>(
     world: &mut World<'f, M>,
@@ -93,7 +104,7 @@ pub(crate) fn play_events<'f, M: Faulty, W: Write>(
     ensures fault { IfErr result (λ f. f ≡ ScriptFault.Write) }
 {
     match events {
-        EventLine::Offer(_) => play(world, Event::Offer { file, limits }, 1, writer),
+        EventLine::Offer { aim, .. } => play(world, offered(aim, file, limits), 1, writer),
         EventLine::Upload => play(world, Event::Upload { limits }, 1, writer),
         EventLine::Abort => play(world, Event::Abort, 1, writer),
         EventLine::Go { fate, times } => play(world, Event::Go(fate), times, writer),
@@ -123,7 +134,7 @@ pub(crate) fn play_live<'f, M: Faulty, W: Write>(
     ensures fault { IfErr result (λ f. f ≡ ScriptFault.Write) }
 {
     match events {
-        EventLine::Offer(_) => {
+        EventLine::Offer { .. } => {
             // Called for its clause `active`, which a refusal's bench needs; what it answers isn't
             // used.
             let _ = world.device();

@@ -5,6 +5,7 @@ ghost use Rattle.dfu_link.specs.Words.{Reads, words_of};
 ghost use Rattle.dfu_link.specs.Said.{said_of};
 ghost use Rattle.dfu_link.specs.Lines.{is_comment, says, by_keyword, line_of};
 
+use crate::aim::Aim;
 use crate::scripting::fields::ended;
 use crate::scripting::keywords::{Keyword, read_keyword};
 use crate::scripting::line::{EventLine, Line};
@@ -24,7 +25,8 @@ fn by_keyword(keyword: Keyword, rest: &[u8]) -> Option<Line<'_>>
         Keyword::Capacity => capacity(rest),
         Keyword::Image => image(rest),
         Keyword::Limits => limits(rest),
-        Keyword::Offer => offer(rest),
+        Keyword::Offer => offer(Aim::Install, rest),
+        Keyword::Verify => offer(Aim::Verify, rest),
         Keyword::Upload => ended(Line::Do(EventLine::Upload), rest),
         Keyword::Abort => ended(Line::Do(EventLine::Abort), rest),
         Keyword::Go => go(rest),

@@ -46,6 +46,8 @@ fn say_report<W: Write>(writer: &mut W, report: Report, uploaded: &[u8]) -> Resu
         Report::Uploaded => say_uploaded(writer, uploaded),
         Report::TooManyBlocks => write_out(writer, b"report too-many-blocks\n"),
         Report::NoMemory => write_out(writer, b"report no-memory\n"),
+        Report::Verified => write_out(writer, b"report verified\n"),
+        Report::Different => write_out(writer, b"report different\n"),
     }
 }
 

@@ -92,7 +92,11 @@ pub(crate) fn event(dice: &mut Dice, number: u32) -> Event<'static, 'static> {
         restarts: dice.roll(3) as u16,
     };
     match dice.roll(40) {
-        0 | 1 => Event::Offer {
+        0 => Event::Offer {
+            file: file(number),
+            limits,
+        },
+        1 => Event::OfferVerified {
             file: file(number),
             limits,
         },

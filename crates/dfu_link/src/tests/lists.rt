@@ -134,8 +134,9 @@ fn taken_apart(
     }
 }
 
-/// After each event the image is the first one or an offered one, and where the host reports
-/// Installed the device stands in appIDLE with the image that was offered last.
+/// After each event the image is the first one or an offered one; where the host reports Installed
+/// or Verified the device stands in appIDLE with the image that was offered last, and where it
+/// reports Different with another one.
 fn play_list(rt: &impl Abort, alloc: Global, dice: &mut Dice) -> Result<(), Fail> {
     let setup = setup(dice);
     let unit = dice.roll(4);
@@ -146,17 +147,20 @@ fn play_list(rt: &impl Abort, alloc: Global, dice: &mut Dice) -> Result<(), Fail
         let number = dice.roll(5);
         let event = event(dice, number);
         let answer = world.step(event);
-        if let (Event::Offer { .. }, Ok(_)) = (event, answer) {
+        if let (Event::Offer { .. } | Event::OfferVerified { .. }, Ok(_)) = (event, answer) {
             offered |= 1 << number;
             last = number;
         }
         let mut buffer = [0; 256];
         let image = shown(world.device(), &mut buffer);
         assert!(rt; is_known(image, offered));
-        if answer == Ok(Some(Report::Installed)) {
+        if let Ok(Some(Report::Installed | Report::Verified)) = answer {
             assert!(rt; image == payload(last));
             assert_eq!(rt; world.device().state(), State::AppIdle);
             assert_eq!(rt; world.device().code(), Code::Ok);
+        }
+        if answer == Ok(Some(Report::Different)) {
+            assert!(rt; image != payload(last));
         }
         looked_at(rt, alloc, world.device(), unit)?;
         if dice.roll(4) == 0 {

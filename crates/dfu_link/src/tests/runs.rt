@@ -2,6 +2,7 @@
 
 ghost use Rattle.std.specs.Prelude.{◌≡◌, ℕ, List, IsTrue};
 ghost use Rattle.dfu_host.specs.declared.limits.Limits.{Limits};
+ghost use Rattle.dfu_link.specs.declared.aim.Aim.{Aim};
 ghost use Rattle.dfu_link.specs.Bytes.{link_of};
 ghost use Rattle.dfu_link.specs.CleanRun.{resting};
 ghost use Rattle.dfu_link.specs.Running.{happenings};
@@ -18,15 +19,15 @@ use std::alloc::{AllocError, Global};
 use std::process::Abort;
 use std::test::Fail;
 
-/// An offer and the passes of a clean download. Where all of it came, the payload is the active
-/// image of a device in appIDLE, and that was reported.
+/// An offer and the passes of a clean run, verified or not. Where all of it came, the payload is the
+/// active image of a device in appIDLE, and that was reported.
 fn installs<'f, M: Faulty>(
     world: &mut World<'f, M>,
     alloc: Global,
     events: &[Event<'f, '_>],
 ) -> bool
-    ensures { (file payload : List ℕ) (limits : Limits) → CanInstall world.old.bench file limits payload
-        → happenings events.now ≡ offer_and_passes file limits (clean_passes world.old.bench.device.config payload)
+    ensures { (aim : Aim) (file payload : List ℕ) (limits : Limits) → CanInstall world.old.bench aim file limits payload
+        → happenings events.now ≡ offer_and_passes aim file limits (clean_passes aim world.old.bench.device.config payload)
         → IsTrue result → link_of world.new.bench ≡ resting payload }
 {
     match run(world, alloc, events) {
@@ -103,7 +104,7 @@ fn refused_allocation_in_a_run(rt: HostRuntime) -> Result<(), Fail> {
 }
 
 /// A file of so many zeros, for every device.
-fn zeros(alloc: Global, len: usize) -> Result<Vec<u8>, AllocError> {
+pub(crate) fn zeros(alloc: Global, len: usize) -> Result<Vec<u8>, AllocError> {
     let mut bytes = vec![in alloc; 0u8; len]?;
     bytes.extend_from_slice(&[
         0xff, 0xff, 0xff, 0xff, 0xff, 0xff, 0x00, 0x01, 0x55, 0x46, 0x44, 0x10,

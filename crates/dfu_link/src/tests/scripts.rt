@@ -4,6 +4,7 @@ mod limits;
 mod portions;
 mod rows;
 mod streams;
+mod verifying;
 
 use crate::ScriptFault;
 use rows::ends;

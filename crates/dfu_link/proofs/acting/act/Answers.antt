@@ -10,6 +10,7 @@ returns-in-Send g c =
       heard = c.tell.ensures.heard;
       acts = acts_send (deed h.task h.phase) (course_in c.args.course) _ c.in-Send.body c.tell.ensures.heard c.in-Send.ensures.act
           c.send-back.ensures c.as_slice.ensures.value c.tell.ensures.hears;
+      room = c.tell.ensures.room;
       same = c.tell.ensures.same;
     }
 
@@ -21,6 +22,7 @@ returns-in-Wait g c =
       heard = row.heard;
       acts = acts_wait (deed h.task h.phase) (course_in c.args.course) c.in-Wait.ms c.args.device.now c.wait-seen.new.device row.heard
           c.in-Wait.ensures.act (c.wait-seen.ensures.waits _ _ row.hears);
+      room = row.room;
       same = row.same;
     }
 
@@ -32,5 +34,6 @@ returns-in-Reset g c =
       heard = row.heard;
       acts = acts_reset (deed h.task h.phase) (course_in c.args.course) c.args.device.now c.reset_bus-seen.new.device row.heard
           c.in-Reset.ensures.act (c.reset_bus-seen.ensures.resets _ _ row.hears);
+      room = row.room;
       same = row.same;
     }

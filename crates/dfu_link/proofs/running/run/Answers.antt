@@ -14,7 +14,7 @@ returns-then-is_err g c =
     rw c.reserve.ensures.items (record {
       runs = s.runs;
       legal = λ m a. chain_follows s.chain m a;
-      clean = λ file limits payload count can is most. stopped_clean file limits payload count s can is most;
+      clean = λ aim file limits payload count can is most. stopped_clean aim file limits payload count s can is most;
     })
 
 pub returns-in-Err : goal.returns-in-Err
@@ -23,7 +23,7 @@ returns-in-Err g c =
     rw c.reserve.ensures.items (record {
       runs = s.runs;
       legal = λ m a. chain_follows s.chain m a;
-      clean = λ file limits payload count can is most. stopped_clean file limits payload count s can is most;
+      clean = λ aim file limits payload count can is most. stopped_clean aim file limits payload count s can is most;
     })
 
 pub loop-i-preserved : goal.loop-i-preserved
@@ -38,7 +38,7 @@ returns g c =
     record {
       runs = chain_runs chain;
       legal = λ m a. chain_follows chain m a;
-      clean = λ file limits payload count can is most. ran_clean file limits payload count chain can is most;
+      clean = λ aim file limits payload count can is most. ran_clean aim file limits payload count chain can is most;
     }
 
 pub note-requires : goal.note-requires

@@ -1,4 +1,4 @@
-use Rattle.std.proofs.Common.{◌*◌, ◌<◌, length, ap, sym, ◌∙◌, slice_index_or, []}
+use Rattle.std.proofs.Common.{◌≡◌, ◌*◌, min, length, ap, sym, ◌∙◌, arith, slice_index_or, []}
 use Rattle.dfu_host.specs.Blocks.{blocks}
 use Rattle.dfu_host.proofs.Counts.{block_cut, pieces_are}
 use Rattle.dfu_host.proofs.task.Task.block.Goals as goal
@@ -6,7 +6,8 @@ use Rattle.dfu_host.proofs.task.Task.block.Goals as goal
 pub returns-clause-bytes : goal.returns-clause-bytes
 returns-clause-bytes c =
     let t = c.args.self.now.transfer in
-    let h : c.args.number * t < length c.payload.result.now = rw c.payload.ensures c.requires in
-    block_cut c.payload.result.now t c.args.number c.min.result c.args.self.now.transfers h c.min.ensures
-    ∙ ap (λ z. slice_index_or (blocks z t) c.args.number []) c.payload.ensures
+    let begins : c.min.result ≡ min (c.args.number * t) (length c.payload-payload.result.now) =
+    omega (arith, c.min.ensures, c.saturating_mul.ensures) in
+    block_cut c.payload-payload.result.now t c.args.number c.min.result c.min-2.result c.args.self.now.transfers begins c.min-2.ensures
+    ∙ ap (λ z. slice_index_or (blocks z t) c.args.number []) c.payload-payload.ensures
     ∙ ap (λ z. slice_index_or z c.args.number []) (sym (pieces_are c.args.self.now.goal t))

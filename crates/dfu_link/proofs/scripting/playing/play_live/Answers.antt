@@ -20,7 +20,7 @@ returns-in-Offer-clause-ok g c =
     on_ok_map c.say.result (Appends old new (answer_line (Err HostBusy)))
     (HasPlayed b (events_of c.args.limits (event_line_of c.args.events)) old b new)
     (λ told. subst (λ (d : EventLine). HasPlayed b (events_of c.args.limits (event_line_of d)) old b new) (sym c.in-Offer.is)
-    (busy_plays b (hex_bytes c.in-Offer.field-0) c.args.limits old new c.requires.live c.device.ensures.active told))
+    (busy_plays b c.in-Offer.aim (hex_bytes c.in-Offer.file) c.args.limits old new c.requires.live c.device.ensures.active told))
     c.say.ensures.ok
 
 pub returns-in-Offer-clause-err : goal.returns-in-Offer-clause-err
@@ -31,5 +31,5 @@ returns-in-Offer-clause-err g c =
     on_err_map c.say.result (IsOutInPart old new (answer_line (Err HostBusy)))
     (HasBroken b (events_of c.args.limits (event_line_of c.args.events)) old new)
     (λ broke. subst (λ (d : EventLine). HasBroken b (events_of c.args.limits (event_line_of d)) old new) (sym c.in-Offer.is)
-    (busy_broken b (hex_bytes c.in-Offer.field-0) c.args.limits old new c.requires.live c.device.ensures.active broke))
+    (busy_broken b c.in-Offer.aim (hex_bytes c.in-Offer.file) c.args.limits old new c.requires.live c.device.ensures.active broke))
     c.say.ensures.err

@@ -1,0 +1,70 @@
+-- What a session is for, the phases in which it stands, what it does in them, and what it understands of what it sees.
+use Rattle.std.specs.Prelude.{ℕ, Bool, List}
+use Rattle.dfu_wire.specs.declared.codes.Code.{Code}
+use Rattle.dfu_wire.specs.declared.states.State.{State}
+use Rattle.dfu_wire.specs.declared.requests.Request.{Request}
+use Rattle.dfu_host.specs.declared.report.Report.{Report}
+
+-- What a session is for: to install a payload; to fetch the active image; to install a payload and then compare it; or, once it was
+-- installed and the device was reset, to compare it with the active image.
+pub data Goal : Type 0 where
+  ToLoad : (payload : List ℕ) → Goal
+  ToFetch : Goal
+  ToVerify : (payload : List ℕ) → Goal
+  ToCompare : (payload : List ℕ) → Goal
+
+-- What a session is to do, and what its device's descriptor says.
+pub record Task : Type 0 where
+  pub goal : Goal
+  pub transfer : ℕ
+  pub tolerant : Bool
+  pub will_detach : Bool
+  pub detach_ms : ℕ
+
+-- The phases of a session, with what each keeps. Block, Ask, Poll and Compare count blocks from 0; Fetch keeps what was uploaded.
+pub data Phase : Type 0 where
+  Find : Phase
+  FindAgain : Phase
+  Detach : Phase
+  Enter : Phase
+  Clear : Phase
+  Quit : Phase
+  WaitFind : (poll : ℕ) → Phase
+  ResetFind : Phase
+  Block : (n : ℕ) → Phase
+  Ask : (n : ℕ) → Phase
+  Poll : (n : ℕ) → Phase
+  WaitPoll : (n poll : ℕ) → Phase
+  Close : Phase
+  AskLast : Phase
+  Manifest : Phase
+  WaitManifest : (poll : ℕ) → Phase
+  WaitLast : (poll : ℕ) → Phase
+  Trouble : Phase
+  Fetch : (k : ℕ) (kept : List ℕ) → Phase
+  LastUploaded : (kept : List ℕ) → Phase
+  Compare : (k : ℕ) → Phase
+  Last : Report → Phase
+  GiveUp : Phase
+  Over : Report → Phase
+  OverUploaded : (kept : List ℕ) → Phase
+
+-- What a host does, of which the code's `Action` is the spelling: it sends a request with its body, waits, resets the bus, or is done.
+pub data Deed : Type 0 where
+  Send : (request : Request) (body : List ℕ) → Deed
+  Wait : (ms : ℕ) → Deed
+  Reset : Deed
+  Done : Report → Deed
+
+-- What a host understands of what it sees. NoRoom is a part of an upload that found no memory.
+pub data Heard : Type 0 where
+  Acked : Heard
+  Status : Code → (poll : ℕ) → State → Heard
+  StateIs : State → Heard
+  Part : (bytes : List ℕ) → Heard
+  NoRoom : Heard
+  Stalled : Heard
+  Nothing : Heard
+  Waited : Heard
+  WasReset : Heard
+  Restarted : Heard
