@@ -8,7 +8,7 @@ use Rattle.dfu_slots.specs.declared.fault.PutFault.{PutFault}
 use Rattle.dfu_slots.specs.Medium.{Rose, written}
 use Rattle.dfu_slots.specs.Seen.{SlotsState, spare_of, is_begun, room_of, is_shaped, Call, Begin, Put, Ending, AllWorked, BrokenBy, DidCall, Called}
 use Rattle.dfu_slots.specs.Changes.{fault_of, ending_of}
-use Rattle.dfu_device.specs.inside.Fields.{is_put}
+use Rattle.dfu_device.specs.Parts.{is_put}
 use Rattle.dfu_device.specs.Rows.{block_calls}
 
 -- One call that was made is a series of one call.

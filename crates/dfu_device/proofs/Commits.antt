@@ -7,7 +7,7 @@ use Rattle.dfu_slots.specs.Seen.{SlotsState, image_of, spare_of, is_begun, room_
 use Rattle.dfu_device.specs.Setting.{Setting}
 use Rattle.dfu_device.specs.declared.mode.Mode.{Mode}
 use Rattle.dfu_device.specs.declared.mode.Mode.TheVariants as mode
-use Rattle.dfu_device.specs.inside.Fields.{shows, stage_of, is_put, is_sound}
+use Rattle.dfu_device.specs.Parts.{shows, stage_of, is_put, is_sound}
 use Rattle.dfu_device.specs.Table.{commit_code}
 use Rattle.dfu_device.specs.Rows.{Committed, FailedCommit}
 use Rattle.dfu_device.proofs.Calls.{called_one}

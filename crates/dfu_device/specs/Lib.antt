@@ -3,6 +3,7 @@ pub mod Table
 pub mod Outcome
 pub mod Setting
 pub mod Shown
+pub mod Parts
 pub mod Rows
 pub mod Cases
 pub mod Came

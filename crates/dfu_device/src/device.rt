@@ -42,19 +42,22 @@ use std::marker::Model;
 ///   may have none. On `Stall` endpoint 0 is stalled; that is an answer like the others, and the device
 ///   goes on from the state that it is in then.
 /// - Time is told as it passes, as at each tick of a timer: a call with the milliseconds since the last
-///   one. The medium is written within the call that comes to the end of the busy or the manifestation
-///   time, and where that time is 0 within the `handle` that answers GETSTATUS.
+///   one. Only appDETACH, dfuDNBUSY and dfuMANIFEST count it; elsewhere no call is needed. The medium is
+///   written within the call that comes to the end of the busy or the manifestation time, and where that
+///   time is 0 within the `handle` that answers GETSTATUS.
 /// - A reset of the bus is told once an enumeration: one in dfuIDLE ends the upgrade mode, as the
 ///   table has it. With power a device begins in appIDLE; a bootloader that is to begin in dfuIDLE
 ///   gives it a DETACH and a reset of its own.
 /// - Then the state says what runs: the application in appIDLE and appDETACH, the upgrade elsewhere. A
 ///   device with bitWillDetach goes from appDETACH to dfuIDLE by a tick, and there its maker detaches it
 ///   from the bus. In dfuMANIFEST-WAIT-RESET it waits for its maker or the host to reset it.
+/// - A program that keeps its state elsewhere between two calls takes the device apart by `into_parts`, and
+///   puts it together by `from_parts`.
 #[derive(Drop)]
 pub struct Device<M: Medium> {
     // A layer of its own: its functions read its fields, which keep an invariant, and a caller of
     // `Device` sees one plain value, `Shown`, whatever those fields are.
-    machine: Machine<M>,
+    pub(crate) machine: Machine<M>,
 }
 
 impl<M: Medium> Model for Device<M> {
@@ -116,7 +119,8 @@ impl<M: Medium> Device<M> {
 
     /// So many milliseconds pass; 0 change nothing. They count in appDETACH, dfuDNBUSY and dfuMANIFEST,
     /// where they add up from the moment the state was entered (USB DFU 1.1, appendix A). At most one
-    /// change comes of a call; the rest of its time is dropped.
+    /// change comes of a call; the rest of its time is dropped. In every other state a call changes nothing,
+    /// and may be left out.
     pub fn elapse(&mut self, ms: u32)
         ensures row { Elapses ms self.old self.new }
     {

@@ -7,7 +7,7 @@ ghost use Rattle.dfu_slots.specs.Changes.{fault_of, ending_of};
 ghost use Rattle.dfu_device.specs.Stage.{StateOf, InDownloadSyncWritten, InDownloadIdle, InError, state_of, poll_of, status_of};
 ghost use Rattle.dfu_device.specs.Table.{write_code, commit_code, block_plan};
 ghost use Rattle.dfu_device.specs.Shown.{profile};
-ghost use Rattle.dfu_device.specs.inside.Fields.{is_put, stage_of};
+ghost use Rattle.dfu_device.specs.Parts.{is_put, stage_of};
 ghost use Rattle.dfu_device.specs.Rows.{Answers, Done, WroteBlock, FailedBlock, Committed, FailedCommit, block_calls};
 ghost use Rattle.dfu_device.specs.inside.View.{shown};
 

@@ -9,6 +9,7 @@ mod device;
 mod downloads;
 mod effects;
 mod fault;
+mod from_parts;
 pub mod laws;
 mod machine;
 mod mode;
@@ -20,6 +21,7 @@ pub use answer::Answer;
 pub use config::Config;
 pub use device::Device;
 pub use fault::ConfigFault;
+pub use mode::Mode;
 
 #[cfg(test)]
 mod tests;

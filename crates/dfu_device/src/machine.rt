@@ -5,7 +5,7 @@ ghost use Rattle.dfu_slots.specs.Seen.{image_of, spare_of};
 ghost use Rattle.dfu_device.specs.Stage.{InAppIdle, state_of, code_of};
 ghost use Rattle.dfu_device.specs.Table.{reset_stage};
 ghost use Rattle.dfu_device.specs.Shown.{Shown, powered_on};
-ghost use Rattle.dfu_device.specs.inside.Fields.{is_sound};
+ghost use Rattle.dfu_device.specs.Parts.{is_sound};
 ghost use Rattle.dfu_device.specs.Rows.{Serves, Handles, body_length};
 
 use crate::mode::Mode;

@@ -1,62 +1,82 @@
-//! The state of the machine inside a device.
+//! Where a device stands.
 
 use dfu_wire::Code;
 
-/// The state of the machine inside a device, with what it keeps there: `written` bytes were put in the
-/// spare slot, and a block that is not written stands beside the mode; `number` is that of the next
-/// block, and `passed` how many milliseconds passed in this state.
-#[derive(Clone, Copy)]
+/// Where a device stands: a state of the standard (USB DFU 1.1, section 6.1.2), with what the device keeps there beside its
+/// slot store and the block that is not written. What a mode does not name is forgotten when it is entered.
+///
+/// `written` is how many bytes of a download were put in the spare slot of the store; `number` is that of the next
+/// block; `passed` is how many milliseconds passed in this state.
+#[derive(Clone, Copy, Debug, PartialEq, Eq, Drop)]
 pub enum Mode {
-    /// appIDLE
+    /// appIDLE: the application runs.
     AppIdle,
-    /// appDETACH
+    /// appDETACH: the device got DETACH, and goes back to appIDLE once `timer` milliseconds have passed, at least 1, if it
+    /// does not detach by itself.
     AppDetach {
+        /// wTimeout of the DETACH or wDetachTimeOut, whichever is less, in milliseconds.
         timer: u32,
+        /// Milliseconds in this state.
         passed: u32,
     },
-    /// dfuIDLE
+    /// dfuIDLE: nothing is taken.
     DfuIdle,
-    /// dfuDNLOAD-SYNC, block not written
+    /// dfuDNLOAD-SYNC: the block stands beside the mode, and is not written yet.
     DownloadSync {
+        /// Bytes before the block.
         written: u32,
+        /// The next block's number.
         number: u16,
     },
-    /// dfuDNLOAD-SYNC, block written
+    /// dfuDNLOAD-SYNC: the block is written.
     DownloadSyncWritten {
+        /// All bytes taken, 1 or more.
         written: u32,
+        /// The next block's number.
         number: u16,
     },
-    /// dfuDNBUSY
+    /// dfuDNBUSY: the block is being written: it stands beside the mode until the busy time has passed.
     DownloadBusy {
+        /// Bytes before the block.
         written: u32,
+        /// The next block's number.
         number: u16,
+        /// Milliseconds in this state.
         passed: u32,
     },
-    /// dfuDNLOAD-IDLE
+    /// dfuDNLOAD-IDLE: the next block may come.
     DownloadIdle {
+        /// All bytes taken, 1 or more.
         written: u32,
+        /// The next block's number.
         number: u16,
     },
-    /// dfuMANIFEST-SYNC, not complete
+    /// dfuMANIFEST-SYNC, not complete: the download is closed, and its bytes are not in place yet.
     ManifestSync {
+        /// All bytes taken, 1 or more.
         written: u32,
     },
-    /// dfuMANIFEST-SYNC, complete
+    /// dfuMANIFEST-SYNC, complete: the bytes taken are the active image.
     ManifestSyncComplete,
-    /// dfuMANIFEST
+    /// dfuMANIFEST: the bytes taken are being put in place, until the manifestation time has passed.
     Manifest {
+        /// All bytes taken, 1 or more.
         written: u32,
+        /// Milliseconds in this state.
         passed: u32,
     },
-    /// dfuMANIFEST-WAIT-RESET
+    /// dfuMANIFEST-WAIT-RESET: the bytes taken are the active image, and the device waits for a reset.
     ManifestWaitReset,
-    /// dfuUPLOAD-IDLE: how many bytes of the image were sent
+    /// dfuUPLOAD-IDLE: a part of the image was sent.
     UploadIdle {
+        /// How many bytes of the image were sent.
         place: u32,
+        /// The next part's number.
         number: u16,
     },
-    /// dfuERROR
+    /// dfuERROR.
     Error {
+        /// The status code.
         code: Code,
     },
 }

@@ -9,6 +9,7 @@ use std::process::Abort;
 use std::test::Fail;
 
 mod all_setups;
+mod apart;
 mod blocks;
 mod cells;
 mod lies;

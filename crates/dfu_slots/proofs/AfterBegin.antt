@@ -4,7 +4,7 @@ use Rattle.dfu_slots.specs.Medium.{Rose}
 use Rattle.dfu_slots.specs.Layout.{Slot, IsOpen}
 use Rattle.dfu_slots.specs.Image.{gate_of, Active, HasImage}
 use Rattle.dfu_slots.specs.Seen.{SlotsState, store_on, spare_slot, image_of, spare_of, is_begun, room_of, is_shaped, Begin, writes_of, DidCall}
-use Rattle.dfu_slots.specs.inside.Store.{IsStore}
+use Rattle.dfu_slots.specs.Store.{IsStore}
 use Rattle.dfu_slots.specs.Changes.{IsBroken, ending_of, Changes}
 use Rattle.dfu_slots.specs.declared.fault.PutFault.{PutFault}
 use Rattle.dfu_slots.proofs.Stands.{standing}

@@ -6,7 +6,7 @@ use Rattle.dfu_slots.specs.Medium.{Rose, written}
 use Rattle.dfu_slots.specs.Layout.{slot_size, slot, IsOpen}
 use Rattle.dfu_slots.specs.Image.{gate_of, capacity_of, Active, HasImage, spare_at}
 use Rattle.dfu_slots.specs.Seen.{SlotsState, store_on, spare_slot, held_at, image_of, spare_of, is_begun, room_of, is_shaped, Commit, writes_of, CallWorked, CallFailed, DidCall}
-use Rattle.dfu_slots.specs.inside.Store.{IsStore}
+use Rattle.dfu_slots.specs.Store.{IsStore}
 use Rattle.dfu_slots.specs.Changes.{IsBroken, ending_of, Changes}
 use Rattle.dfu_slots.specs.declared.fault.PutFault.{PutFault}
 use Rattle.dfu_slots.specs.declared.fault.PutFault.TheVariants.{TooLarge, Failed, NotVerified, NotBegun}

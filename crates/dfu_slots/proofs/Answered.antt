@@ -4,7 +4,7 @@ use Rattle.std.proofs.lemmas.Bool.{cases_lt}
 use Rattle.dfu_slots.specs.Layout.{IsOpen}
 use Rattle.dfu_slots.specs.Image.{capacity_of}
 use Rattle.dfu_slots.specs.Seen.{SlotsState, store_on, spare_slot, is_begun, room_of, Call, Begin, writes_of, CallWorked, CallFailed, AllWorked, BrokenBy, DidCall}
-use Rattle.dfu_slots.specs.inside.Store.{IsStore}
+use Rattle.dfu_slots.specs.Store.{IsStore}
 use Rattle.dfu_slots.specs.Changes.{IsBroken, ending_of, Changes}
 use Rattle.dfu_slots.specs.declared.fault.PutFault.{PutFault}
 use Rattle.dfu_slots.specs.declared.fault.PutFault.TheVariants.{TooLarge, Failed, NotVerified, NotBegun}

@@ -7,7 +7,7 @@ use Rattle.dfu_slots.specs.Units.{unit_size, gate_size, IsMultiple, whole_part, 
 use Rattle.dfu_slots.specs.Medium.{MediumState}
 use Rattle.dfu_slots.specs.Image.{gate_of, capacity_of, IsSized}
 use Rattle.dfu_slots.specs.Seen.{SlotsState, held_at, data_place}
-use Rattle.dfu_slots.specs.inside.Store.{HasPuts}
+use Rattle.dfu_slots.specs.Store.{HasPuts}
 use Rattle.dfu_slots.proofs.Stands.{two_slots}
 use Rattle.dfu_slots.proofs.Newest.{spare_end}
 

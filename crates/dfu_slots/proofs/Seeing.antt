@@ -7,7 +7,7 @@ use Rattle.dfu_slots.specs.Medium.{MediumState, Fuse, written}
 use Rattle.dfu_slots.specs.Layout.{capacity, slot, OPEN, IsOpen, header_length}
 use Rattle.dfu_slots.specs.Image.{gate_of, capacity_of, Active, HasImage, has_image_fused, active_at, spare_at, spare}
 use Rattle.dfu_slots.specs.Seen.{SlotsState, store_of, store_on, fused, spare_slot, held_at, image_of, spare_of, is_begun, room_of, is_shaped, image_fused, spare_fused, begun_fused, room_fused}
-use Rattle.dfu_slots.specs.inside.Store.{HasPuts, IsStore}
+use Rattle.dfu_slots.specs.Store.{HasPuts, IsStore}
 use Rattle.dfu_slots.proofs.Stands.{ActiveAt, standing, active_from}
 use Rattle.dfu_slots.proofs.Torn.{written_torn}
 use Rattle.dfu_slots.proofs.Parts.{data_length}

@@ -9,7 +9,7 @@ use Rattle.dfu_slots.specs.Image.{gate_of, slot_of, capacity_of, IsSized, active
 use Rattle.dfu_slots.specs.Writes.{write_some, part_writes, open_writes, commit_writes}
 use Rattle.dfu_slots.specs.Seen.{SlotsState, store_of, spare_slot, spare_of, held_at, data_place, writes_of, Commit}
 use Rattle.dfu_slots.specs.inside.Series.{Series}
-use Rattle.dfu_slots.specs.inside.Store.{HasPuts}
+use Rattle.dfu_slots.specs.Store.{HasPuts}
 use Rattle.dfu_slots.proofs.Stands.{two_slots}
 use Rattle.dfu_slots.proofs.Newest.{spare_end}
 use Rattle.dfu_slots.proofs.Parts.{data_length}

@@ -6,7 +6,8 @@ use Rattle.dfu_slots.specs.Medium.{MediumState}
 use Rattle.dfu_slots.specs.Layout.{Slot}
 use Rattle.dfu_slots.specs.Image.{gate_of, Active, HasImage, active_at, spare_at, spare}
 use Rattle.dfu_slots.specs.Seen.{SlotsState, image_of, room_of}
-use Rattle.dfu_slots.specs.inside.Store.{IsStore, IsKept}
+use Rattle.dfu_slots.specs.Store.{IsStore}
+use Rattle.dfu_slots.specs.inside.Kept.{IsKept}
 use Rattle.dfu_slots.proofs.Stands.{ActiveAt, standing}
 use Rattle.dfu_slots.proofs.Newest.{places_are}
 use Rattle.dfu_slots.proofs.Seeing.{image_is, active_on, room_from}

@@ -1,9 +1,9 @@
 -- The active image is one, and is read at the place that the test finds.
-use Rattle.std.proofs.Common.{◌≡◌, ℕ, ◌≤◌, List, length, take, drop, slice_range, refl, sym, ◌∙◌, ap, subst, arith}
+use Rattle.std.proofs.Common.{◌≡◌, ℕ, ◌+◌, ◌-◌, ◌*◌, ◌≤◌, List, length, take, drop, slice_range, refl, sym, ◌∙◌, ap, subst, arith}
 use Rattle.std.proofs.lemmas.List.{take-take}
 use Rattle.std.proofs.lemmas.Slice.{between_is}
 use Rattle.dfu_slots.specs.Medium.{MediumState}
-use Rattle.dfu_slots.specs.Layout.{capacity, slot, HasHeader}
+use Rattle.dfu_slots.specs.Layout.{slot_size, capacity, slot, HasHeader}
 use Rattle.dfu_slots.specs.Image.{Counts, Active, active_at, gate_of}
 use Rattle.dfu_slots.proofs.Stands.{HasTwoSlots, ActiveAt, standing}
 use Rattle.dfu_slots.proofs.Counting.{header_length_is}
@@ -49,6 +49,18 @@ module _ (g : ℕ) (bytes : List ℕ) (p : ℕ) (here : p ≡ active_at g bytes)
       let whole = (slot g bytes p).data_bytes in
       between_is whole i j ∙ ap (λ (l : List ℕ). drop i l)
       (sym (take-take j (length image) whole le) ∙ ap (λ (l : List ℕ). take j l) (sym image_at)) ∙ sym (between_is image i j)
+
+  -- The active image stands on the medium behind the gate unit and the header unit of that slot.
+  pub image_there : slice_range bytes (p + 2 * g) (p + 2 * g + length image) ≡ image
+  image_there =
+      let from = p + 2 * g in
+      let size : from + length image - from ≡ length image = omega arith in
+      ap (λ (n : ℕ). take n (drop from bytes)) size
+      ∙ sym (image_at ∙ take-take (length image) (p + slot_size bytes - from) (drop from bytes) (omega (arith, active_fits)))
+
+  -- It ends within the medium.
+  pub image_end : p + 2 * g + length image ≤ length bytes
+  image_end = omega (arith, here, active_end g bytes sized, active_fits, sized.room)
 
 -- No medium has two active images.
 pub active_unique : (m : MediumState) (x y : List ℕ) → Active m x → Active m y → x ≡ y

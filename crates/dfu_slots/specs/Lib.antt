@@ -4,6 +4,7 @@ pub mod Layout
 pub mod Image
 pub mod Writes
 pub mod Seen
+pub mod Store
 pub mod Changes
 pub mod Unarmed
 pub mod OneWrite

@@ -1,3 +1,3 @@
 pub mod Series
-pub mod Store
+pub mod Kept
 pub mod Sim

@@ -5,6 +5,7 @@
 mod changes;
 mod fault;
 mod format;
+mod from_parts;
 pub mod laws;
 mod layout;
 mod medium;

@@ -30,6 +30,13 @@ pub trait Medium: Drop {
     fn unit(&self) -> Unit
         ensures { result ≡ (state self.now).unit };
 
+    /// Whether the register over its images goes by a table of 64 bytes, in about five times as many instructions, and not
+    /// by those of 16,384 bytes. It is the same register. A program all of whose media answer the constant `true` links
+    /// without the large tables.
+    fn has_small_tables(&self) -> bool {
+        false
+    }
+
     /// Reads the bytes from `at` on. The range must lie within the length.
     fn read(&self, at: u32, out: &mut [u8])
         requires { at + length out.old ≤ length (state self.now).bytes }

@@ -1,14 +1,14 @@
 //! The slot store.
-ghost use Rattle.std.specs.Prelude.{◌≡◌, ◌≢◌, [], ◌+◌, ◌≤◌, ◌↔◌, length, take, slice_range, OnOk, OnErr, IfErr, IfOk, IsOk, true};
+ghost use Rattle.std.specs.Prelude.{◌≡◌, ◌≢◌, [], ◌+◌, ◌*◌, ◌≤◌, ◌↔◌, length, take, slice_range, OnOk, OnErr, IfErr, IfOk, IsOk, true};
 ghost use Rattle.dfu_slots.specs.Medium.{Rose, AllWrites, BrokenWrites};
 ghost use Rattle.dfu_slots.specs.Medium.Fuse.{Whole, Armed, Lying};
-ghost use Rattle.dfu_slots.specs.Image.{capacity_of, Active, HasImage};
+ghost use Rattle.dfu_slots.specs.Image.{gate_of, capacity_of, active_at, Active, HasImage};
 ghost use Rattle.dfu_slots.specs.Seen.{store_on, fused, image_of, spare_of, is_begun, room_of, is_shaped, format_series};
 ghost use Rattle.dfu_slots.specs.Changes.{CanFormat, IsFormatFault, IsOpenFault};
 
 use crate::places::{Places, look};
 use crate::puts::Puts;
-use crate::read::{capacity_of, header_len, read_data};
+use crate::read::{capacity_of, data_at, header_len, is_open, read_data};
 use crate::{Faulty, FormatFault, Medium, OpenFault, WriteFault, format, open};
 use std::marker::Model;
 
@@ -27,7 +27,7 @@ pub struct Slots<M: Medium> {
 
 impl<M: Medium> Model for Slots<M> {
     ghost use Rattle.dfu_slots.specs.Seen.{SlotsState, store_of};
-    ghost use Rattle.dfu_slots.specs.inside.Store.{IsKept};
+    ghost use Rattle.dfu_slots.specs.inside.Kept.{IsKept};
 
     ghost Value = { SlotsState };
 
@@ -129,6 +129,14 @@ impl<M: Medium> Slots<M> {
         self.puts.end
     }
 
+    /// Whether the gate of the spare slot is closed, so that `put` and `commit` are not refused with `NotBegun`.
+    #[tactic(auto, unfolding(crate::specs::Seen::is_begun))]
+    pub fn is_begun(&self) -> bool
+        ensures { result ≡ is_begun self.now }
+    {
+        !is_open(&self.medium, self.places.spare)
+    }
+
     /// How many bytes the active image has, from 0 to the capacity.
     pub fn active_len(&self) -> u32
         ensures image { result ≡ length (image_of self.now) }
@@ -139,6 +147,16 @@ impl<M: Medium> Slots<M> {
             Some(len) => len,
             None => unreachable!(),
         }
+    }
+
+    /// Where the first byte of the active image stands on the medium: a program may run it there. It holds until the next `commit`.
+    pub fn image_at(&self) -> u32
+        ensures value { let m = self.now.medium in result ≡ active_at (gate_of m) m.bytes + 2 * gate_of m }
+        ensures within { result + length (image_of self.now) ≤ length self.now.medium.bytes }
+        ensures bytes { let image = image_of self.now in
+            slice_range self.now.medium.bytes result (result + length image) ≡ image }
+    {
+        data_at(&self.medium, self.places.active)
     }
 
     /// Reads bytes of the active image, from `at` on. The range must lie within the image.

@@ -4,7 +4,7 @@ use Rattle.dfu_device.specs.declared.mode.Mode.{Mode}
 use Rattle.dfu_device.specs.declared.mode.Mode.TheVariants as mode
 use Rattle.dfu_device.specs.Stage.{Profile, poll_of}
 use Rattle.dfu_device.specs.Shown.{profile}
-use Rattle.dfu_device.specs.inside.Fields.{stage_of}
+use Rattle.dfu_device.specs.Parts.{stage_of}
 use Rattle.dfu_device.specs.inside.View.{shown}
 use Rattle.dfu_device.proofs.machine.Machine.poll_ms.Goals as goal
 

@@ -1,6 +1,6 @@
 use Rattle.std.proofs.Common.{◌≡◌, ◌⊎◌, ℕ, ◌+◌, inl, inr, true, length, arith, ap, sym, ◌∙◌, subst}
 use Rattle.dfu_device.specs.declared.mode.Mode.TheVariants as mode
-use Rattle.dfu_device.specs.inside.Fields.{is_put}
+use Rattle.dfu_device.specs.Parts.{is_put}
 use Rattle.dfu_device.proofs.Commits.{block_room, written_sound}
 use Rattle.dfu_device.proofs.machine.Machine.write_block.Goals as goal
 use Rattle.dfu_device.proofs.machine.Machine.write_block.Goals.{then-late, else-late}

@@ -1,4 +1,4 @@
--- How the machine inside a device keeps what a contract sees of it.
+-- The parts of a device beside its configuration: its slot store, where it stands (`Mode`), and a block that is not written.
 use Rattle.std.specs.Prelude.{ℕ, ◌+◌, Bool, true, nat_le, nat_lt, ◌&&◌, ◌||◌, ◌==◌, List, take}
 use Rattle.dfu_slots.specs.Seen.{SlotsState, spare_of, is_begun, room_of, is_shaped}
 use Rattle.dfu_device.specs.declared.mode.Mode.{Mode}
@@ -23,7 +23,7 @@ stage_of mode.ManifestWaitReset spare block = InManifestWaitReset
 stage_of (mode.UploadIdle place number) spare block = InUploadIdle place number
 stage_of (mode.Error code) spare block = InError code
 
--- What is seen of a machine with these fields.
+-- The device of these parts, as a contract sees it.
 abbrev pub shows : Setting → SlotsState → Mode → List ℕ → Shown
 shows config slots m block = record { config = config; slots = slots; stage = stage_of m (spare_of slots) block }
 
@@ -44,6 +44,6 @@ is_filled (mode.ManifestSync written) block s = nat_lt 0 written && (nat_le writ
 is_filled (mode.Manifest written passed) block s = nat_lt 0 written && (nat_le written (room_of s) && is_put written s)
 is_filled m block s = true
 
--- What is true of the fields of every machine.
+-- The parts are a device's, the block having so many bytes.
 abbrev pub is_sound : Mode → ℕ → SlotsState → Bool
 is_sound m block s = is_shaped s && is_filled m block s

@@ -1,0 +1,106 @@
+//! A device is taken apart, and put together again: for a caller who keeps its parts between two calls.
+
+ghost use Rattle.std.specs.Prelude.{◌≡◌, ◌<◌, ◌^◌, ◌+◌, ◌==◌, ◌&&◌, ◌||◌, ◌↔◌, nat_le, nat_lt, length, IsOk, IfOk, IfErr, IsTrue};
+ghost use Rattle.dfu_slots.specs.Seen.{room_of};
+ghost use Rattle.dfu_device.specs.Parts.{shows, is_put, is_sound};
+
+use crate::machine::Machine;
+use crate::mode::Mode;
+use crate::{Config, Device};
+use arrayvec::ArrayVec;
+use dfu_slots::{Medium, Slots};
+
+impl<M: Medium> Device<M> {
+    /// Takes the device apart: its slot store, where it stands, and the block that is not written, which counts in
+    /// dfuDNLOAD-SYNC and dfuDNBUSY alone. `from_parts` makes the same device of them and of `config`.
+    pub fn into_parts(self) -> (Slots<M>, Mode, ArrayVec<u8, 4096>)
+        ensures parts { shows self.config result.0 result.1 result.2.items ≡ self }
+        ensures sound { IsTrue (is_sound result.1 (length result.2.items) result.0) }
+    {
+        let Machine {
+            config: _,
+            slots,
+            mode,
+            block,
+        } = self.machine;
+        (slots, mode, block)
+    }
+
+    /// Puts a device together of its configuration, its slot store, where it stands, and the block that is not written.
+    /// They are a device's exactly where the store has put what the mode says:
+    ///
+    /// - where a block is not written (dfuDNLOAD-SYNC, dfuDNBUSY), it has bytes and ends within the capacity, and what was
+    ///   `written` before it, if anything, is what was put since `begin`;
+    /// - where all is written (dfuDNLOAD-SYNC, dfuDNLOAD-IDLE, dfuMANIFEST-SYNC before it is complete, dfuMANIFEST), that is
+    ///   1 byte or more, within the capacity, and is what was put since `begin`;
+    /// - elsewhere always.
+    ///
+    /// # Errors
+    ///
+    /// The slot store as it was, exactly where they are not.
+    pub fn from_parts(
+        config: Config,
+        slots: Slots<M>,
+        mode: Mode,
+        block: ArrayVec<u8, 4096>,
+    ) -> Result<Device<M>, Slots<M>>
+        ensures parts { IsOk result ↔ IsTrue (is_sound mode (length block.items) slots) }
+        ensures device { IfOk result (λ d. d ≡ shows config slots mode block.items) }
+        ensures err { IfErr result (λ s. s ≡ slots) }
+    {
+        if !is_sound(&slots, mode, block.len()) {
+            return Err(slots);
+        }
+        Ok(Device {
+            machine: Machine {
+                config,
+                slots,
+                mode,
+                block,
+            },
+        })
+    }
+}
+
+// Whether so many bytes were put in the closed spare, and no more.
+fn is_put<M: Medium>(slots: &Slots<M>, written: u32) -> bool
+    ensures { result ≡ is_put written slots.now }
+{
+    slots.is_begun() && slots.put_end() == written
+}
+
+// Whether all is written, and some of it.
+fn is_written<M: Medium>(slots: &Slots<M>, written: u32) -> bool
+    ensures { result ≡ (nat_lt 0 written && (nat_le written (room_of slots.now) && is_put written slots.now)) }
+{
+    0 < written && written <= slots.capacity() && is_put(slots, written)
+}
+
+// Whether a block of so many bytes finds room behind what is written.
+fn is_next<M: Medium>(slots: &Slots<M>, written: u32, block: usize) -> bool
+    requires { block < 2 ^ 32 }
+    ensures { result ≡ (nat_lt 0 block && (nat_le (written + block) (room_of slots.now) && ((written == 0) || is_put written slots.now))) }
+{
+    0 < block
+        && u64::from(written) + block as u64 <= u64::from(slots.capacity())
+        && (written == 0 || is_put(slots, written))
+}
+
+// Whether these are a device's.
+fn is_sound<M: Medium>(slots: &Slots<M>, mode: Mode, block: usize) -> bool
+    requires { block < 2 ^ 32 }
+    ensures { result ≡ is_sound mode block slots.now }
+{
+    // Called for its clauses, which say that the store is shaped.
+    let _ = slots.capacity();
+    match mode {
+        Mode::DownloadSync { written, .. } | Mode::DownloadBusy { written, .. } => {
+            is_next(slots, written, block)
+        }
+        Mode::DownloadSyncWritten { written, .. }
+        | Mode::DownloadIdle { written, .. }
+        | Mode::ManifestSync { written }
+        | Mode::Manifest { written, .. } => is_written(slots, written),
+        _ => true,
+    }
+}
