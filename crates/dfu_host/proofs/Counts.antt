@@ -2,12 +2,12 @@
 use Rattle.std.proofs.Common.{◌≡◌, ◌⊎◌, ℕ, suc, ◌+◌, ◌-◌, ◌*◌, ◌/◌, ◌<◌, ◌≤◌, ◌==◌, nat_le, min, true, false, List, [], length, take, drop, slice_index_or, refl, sym, ap, ◌∙◌, arith, inl, inr}
 use Rattle.std.proofs.Math.Nat.{suc-mul, lt-div-mul-add, div-mul-le_self, eq-or-lt_of_le}
 use Rattle.std.proofs.lemmas.Bool.{cases_lt, eqb-false, eq-eqb, le-leb, lt-leb, ne_eqb}
-use Rattle.std.proofs.lemmas.List.{drop_min, take_min, take_rest}
+use Rattle.std.proofs.lemmas.List.{drop_min, length-take, take_min, take_rest}
 use Rattle.std.specs.Borrow.{Bor}
 use Rattle.dfu_host.specs.Blocks.{blocks}
 use Rattle.dfu_host.specs.declared.goal.Goal.{Goal}
 use Rattle.dfu_host.specs.declared.goal.Goal.TheVariants as goal
-use Rattle.dfu_host.specs.inside.Goals.{goal_of, payload_of, size_of}
+use Rattle.dfu_host.specs.Goals.{goal_of, payload_of, size_of}
 use Rattle.dfu_host.specs.Table as table
 use Rattle.dfu_host.specs.BlockLaws.{block_at, block_starts, block_counts}
 
@@ -15,7 +15,7 @@ use Rattle.dfu_host.specs.BlockLaws.{block_at, block_starts, block_counts}
 pub pieces_are : (g : Goal) (t : ℕ) → table.blocks_of (goal_of g) t ≡ blocks (payload_of g) t
 unfolding blocks
 pieces_are (goal.Load payload) t = refl
-pieces_are (goal.Fetch bytes) t = refl
+pieces_are goal.Fetch t = refl
 pieces_are (goal.Verify payload) t = refl
 pieces_are (goal.Compare payload) t = refl
 
@@ -25,8 +25,8 @@ pub first_starts : (g : Goal) (t : ℕ) (payload : Bor (List ℕ)) → (g ≡ go
 first_starts (goal.Load payload) t other e some = omega (arith, some)
 first_starts (goal.Verify payload) t other e some = omega (arith, some)
 first_starts (goal.Compare payload) t other e some = omega (arith, some)
-first_starts (goal.Fetch bytes) t other (inl e) some = absurd cc
-first_starts (goal.Fetch bytes) t other (inr e) some = absurd cc
+first_starts goal.Fetch t other (inl e) some = absurd cc
+first_starts goal.Fetch t other (inr e) some = absurd cc
 
 module _ (p : List ℕ) (t : ℕ) where
   -- A block as a slice of what is left of the payload, or nothing where nothing is left.
@@ -37,6 +37,13 @@ module _ (p : List ℕ) (t : ℕ) where
       let rest = take (length p - start) (drop start p) in
       ap (λ z. take z rest) e ∙ take_min t rest ∙ ap (take t) (take_rest p start)
       ∙ ap (λ z. take t (drop z p)) begins ∙ ap (take t) (drop_min (n * t) p) ∙ sym (block_at p t n ht)
+
+  -- A block is as much of the payload as it has bytes, from its first one on.
+  pub block_begins : (n : ℕ) (block : List ℕ) → 0 < t → block ≡ slice_index_or (blocks p t) n [] → block ≡ take (length block) (drop (n * t) p)
+  block_begins n block ht is =
+      let rest = drop (n * t) p in
+      let e : block ≡ take t rest = is ∙ block_at p t n ht in
+      e ∙ sym (ap (λ z. take z rest) (ap length e ∙ length-take t rest) ∙ take_min t rest)
 
   -- A block is the last where what is left fits it.
   pub last_test : (n : ℕ) → 0 < t → n * t < length p → nat_le (length p - n * t) t ≡ (suc n == length (blocks p t))

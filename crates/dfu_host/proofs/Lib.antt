@@ -1,6 +1,6 @@
 pub mod Counts
 pub mod Steps
-pub mod Parts
+pub mod ImageParts
 pub mod Aborting
 pub mod Budget
 pub mod Installing

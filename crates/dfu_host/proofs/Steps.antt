@@ -12,7 +12,8 @@ use Rattle.dfu_host.specs.declared.heard.Heard.{Heard}
 use Rattle.dfu_host.specs.declared.heard.Heard.TheVariants as heard
 use Rattle.dfu_host.specs.Table as table
 use Rattle.dfu_host.specs.Host.{HostState, budgeted, spent, restarted, told, after_phase}
-use Rattle.dfu_host.specs.inside.View.{phase_of, heard_of}
+use Rattle.dfu_host.specs.InParts.{phase_of}
+use Rattle.dfu_host.specs.inside.View.{heard_of}
 
 -- A tolerant device's status in any other state.
 pub confirmed_else : (start : table.Phase) (c : Code) (poll : ℕ) (s : State) → (s ≡ state.DfuIdle → ⊥) → (s ≡ state.ManifestSync → ⊥)

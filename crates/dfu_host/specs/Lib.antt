@@ -5,6 +5,8 @@ pub mod Table
 pub mod Clean
 pub mod Wire
 pub mod Host
+pub mod Goals
+pub mod InParts
 pub mod Download
 pub mod Installing
 pub mod Verifying
@@ -12,6 +14,8 @@ pub mod Budget
 pub mod Aborting
 pub mod WireLaws
 pub mod Uploading
+pub mod Keeping
+pub mod Taking
 pub mod TaskLaws
 pub mod CommonPhases
 pub mod RowLaws

@@ -1,5 +1,5 @@
 -- Words that only this crate's own functions cite: what the values of the code stand for, and what becomes of a part in memory.
-pub mod Goals
 pub mod View
 pub mod Comparing
-pub mod Keeping
+pub mod HeardParts
+pub mod Memories

@@ -1,11 +1,12 @@
 //! The action of each phase, as it is handed out.
 
-ghost use Rattle.std.specs.Prelude.{◌≡◌, ◌≤◌, ◌*◌, ◌<◌, ◌^◌, length};
+ghost use Rattle.std.specs.Prelude.{◌≡◌, ◌≤◌, ◌*◌, ◌<◌, ◌^◌, List, ℕ, drop, length, take};
 ghost use Rattle.dfu_wire.specs.Request.{IsUnnamed};
 ghost use Rattle.dfu_host.specs.Table as table;
 ghost use Rattle.dfu_host.specs.Wire.{Spells};
-ghost use Rattle.dfu_host.specs.inside.Goals.{memory_of};
-ghost use Rattle.dfu_host.specs.inside.View.{IsWithin, phase_of, task_of};
+ghost use Rattle.dfu_host.specs.Goals.{payload_of};
+ghost use Rattle.dfu_host.specs.InParts.{IsCut, IsWithin, begins_at, phase_of};
+ghost use Rattle.dfu_host.specs.inside.View.{task_of};
 
 use crate::action::Action;
 use crate::phase::Phase;
@@ -16,8 +17,9 @@ use dfu_wire::Request;
 impl<'f> Task<'f> {
     /// The action of a phase.
     pub(crate) fn action(&self, phase: Phase) -> Action<'f>
-        requires { IsWithin self.now phase }
-        ensures { Spells (table.deed (task_of self.now) (phase_of (memory_of self.now.goal) phase)) result }
+        requires { IsWithin self.now.goal self.now.transfer phase }
+        ensures spells { (memory : List ℕ) → Spells (table.deed (task_of self.now) (phase_of memory phase)) result }
+        ensures cut { IsCut (payload_of self.now.goal) (begins_at self.now.transfer phase) result }
     {
         match phase {
             Phase::Find | Phase::FindAgain | Phase::Poll(_) | Phase::Manifest | Phase::Trouble => {
@@ -49,7 +51,8 @@ impl<'f> Task<'f> {
 
     /// A wait where the device detaches by itself, of 1 ms at least, else a reset.
     fn entering(&self) -> Action<'f>
-        ensures { Spells (table.deed (task_of self.now) table.Enter) result }
+        ensures spells { Spells (table.deed (task_of self.now) table.Enter) result }
+        ensures cut { (payload : List ℕ) (from : ℕ) → IsCut payload from result }
     {
         if self.will_detach {
             Action::Wait(self.detach_ms.max(1) as u32)
@@ -62,7 +65,8 @@ impl<'f> Task<'f> {
 /// DNLOAD of a block; its number wraps at 65,536.
 fn download(number: usize, body: &[u8]) -> Action<'_>
     requires { length body.now < 2 ^ 16 }
-    ensures { Spells (table.download number body.now) result }
+    ensures spells { Spells (table.download number body.now) result }
+    ensures cut { (payload : List ℕ) (from : ℕ) → body.now ≡ take (length body.now) (drop from payload) → IsCut payload from result }
 {
     let block = (number % 65_536) as u16;
     let length = body.len() as u16;
@@ -72,7 +76,8 @@ fn download(number: usize, body: &[u8]) -> Action<'_>
 /// One of the seven requests, with its body.
 fn send(request: Request, body: &[u8]) -> Action<'_>
     requires { IsUnnamed request → ⊥ }
-    ensures { Spells (table.Send request body.now) result }
+    ensures spells { Spells (table.Send request body.now) result }
+    ensures cut { (payload : List ℕ) (from : ℕ) → body.now ≡ take (length body.now) (drop from payload) → IsCut payload from result }
 {
     match request.setup() {
         Some(setup) => Action::Send {

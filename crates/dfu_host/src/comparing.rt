@@ -5,7 +5,8 @@ ghost use Rattle.std.specs.Str.{bytes_eq};
 ghost use Rattle.dfu_host.specs.inside.Comparing.{Compares, IsCompared};
 ghost use Rattle.dfu_host.specs.Table as table;
 ghost use Rattle.dfu_host.specs.Table.{pieces};
-ghost use Rattle.dfu_host.specs.inside.View.{IsWithin, heard_of, phase_of, task_of};
+ghost use Rattle.dfu_host.specs.InParts.{IsWithin, phase_of};
+ghost use Rattle.dfu_host.specs.inside.View.{heard_of, task_of};
 
 use crate::fetching::MOST_PARTS;
 use crate::heard::Heard;
@@ -16,7 +17,7 @@ use crate::task::Task;
 impl Task<'_> {
     /// Compares a part of the image with the block of its number.
     pub(crate) fn compare(&self, number: u16, part: &[u8]) -> Heard
-        requires { IsWithin self.now (Phase.Compare number) }
+        requires { IsWithin self.now.goal self.now.transfer (Phase.Compare number) }
         ensures hears { result ≡ Heard.Compared (bytes_eq part.now (slice_index_or (pieces (task_of self.now)) number [])) (length part.now) }
     {
         Heard::Compared {
@@ -27,10 +28,10 @@ impl Task<'_> {
 
     /// UPLOAD of a part, which is compared by now.
     pub(crate) fn after_compare(&self, number: u16, heard: Heard) -> Phase
-        requires { IsWithin self.now (Phase.Compare number) }
+        requires { IsWithin self.now.goal self.now.transfer (Phase.Compare number) }
         ensures next { (memory part : List ℕ) → Compares (task_of self.now) (Phase.Compare number) part heard
             → phase_of memory result ≡ table.row (task_of self.now) (table.Compare number) (heard_of part heard) }
-        ensures within { IsWithin self.now result }
+        ensures within { IsWithin self.now.goal self.now.transfer result }
     {
         match heard {
             Heard::Compared { same, len } => self.compared(number, same, len),
@@ -44,7 +45,7 @@ impl Task<'_> {
         ensures next { (memory part : List ℕ)
             → IsCompared (task_of self.now) number part same len
             → phase_of memory result ≡ table.compared self.now.transfer number (slice_index_or (pieces (task_of self.now)) number []) part }
-        ensures within { IsWithin self.now result }
+        ensures within { IsWithin self.now.goal self.now.transfer result }
     {
         let transfer = self.transfer as usize;
         if len > transfer {

@@ -1,9 +1,10 @@
 //! The rows of the phases that follow the last block, and of the one that follows a refusal.
 
 ghost use Rattle.std.specs.Prelude.{◌≡◌, true, false, List, ℕ};
-ghost use Rattle.dfu_host.specs.inside.Goals.{goal_of};
+ghost use Rattle.dfu_host.specs.Goals.{goal_of};
 ghost use Rattle.dfu_host.specs.Table as table;
-ghost use Rattle.dfu_host.specs.inside.View.{IsWithin, heard_of, phase_of, task_of};
+ghost use Rattle.dfu_host.specs.InParts.{IsWithin, phase_of};
+ghost use Rattle.dfu_host.specs.inside.View.{heard_of, task_of};
 
 use crate::goal::Goal;
 use crate::heard::Heard;
@@ -18,7 +19,7 @@ impl Task<'_> {
     pub(crate) fn troubled(&self, status: Status) -> Phase
         ensures next { (memory : List ℕ)
             → phase_of memory result ≡ table.troubled (table.start_of (goal_of self.now.goal)) status.code status.poll_ms status.state }
-        ensures within { IsWithin self.now result }
+        ensures within { IsWithin self.now.goal self.now.transfer result }
     {
         match status.state() {
             State::Error => match status.code() {
@@ -32,7 +33,7 @@ impl Task<'_> {
     /// GETSTATUS, to learn whether the new image is in place.
     pub(crate) fn after_manifest(&self, heard: Heard) -> Phase
         ensures next { (memory part : List ℕ) → phase_of memory result ≡ table.row (task_of self.now) table.Manifest (heard_of part heard) }
-        ensures within { IsWithin self.now result }
+        ensures within { IsWithin self.now.goal self.now.transfer result }
     {
         match heard {
             Heard::Told(status) => self.manifested(status),
@@ -45,7 +46,7 @@ impl Task<'_> {
     pub(crate) fn after_wait_manifest(&self, poll_ms: u32, heard: Heard) -> Phase
         ensures next { (memory part : List ℕ)
             → phase_of memory result ≡ table.row (task_of self.now) (table.WaitManifest poll_ms) (heard_of part heard) }
-        ensures within { IsWithin self.now result }
+        ensures within { IsWithin self.now.goal self.now.transfer result }
     {
         match heard {
             Heard::Waited => Phase::Manifest,
@@ -57,7 +58,7 @@ impl Task<'_> {
     pub(crate) fn after_wait_last(&self, poll_ms: u32, heard: Heard) -> Phase
         ensures next { (memory part : List ℕ)
             → phase_of memory result ≡ table.row (task_of self.now) (table.WaitLast poll_ms) (heard_of part heard) }
-        ensures within { IsWithin self.now result }
+        ensures within { IsWithin self.now.goal self.now.transfer result }
     {
         match heard {
             Heard::Waited => Phase::Last(Report::Unconfirmed),
@@ -68,7 +69,7 @@ impl Task<'_> {
     /// GETSTATUS, to learn why something was refused.
     pub(crate) fn after_trouble(&self, heard: Heard) -> Phase
         ensures next { (memory part : List ℕ) → phase_of memory result ≡ table.row (task_of self.now) table.Trouble (heard_of part heard) }
-        ensures within { IsWithin self.now result }
+        ensures within { IsWithin self.now.goal self.now.transfer result }
     {
         match heard {
             Heard::Told(status) => self.troubled(status),
@@ -81,7 +82,7 @@ impl Task<'_> {
     pub(crate) fn after_last(&self, report: Report, heard: Heard) -> Phase
         ensures next { (memory part : List ℕ)
             → phase_of memory result ≡ table.row (task_of self.now) (table.Last report) (heard_of part heard) }
-        ensures within { IsWithin self.now result }
+        ensures within { IsWithin self.now.goal self.now.transfer result }
     {
         match heard {
             Heard::WasReset => match &self.goal {
@@ -97,7 +98,7 @@ impl Task<'_> {
         ensures next { (memory : List ℕ)
             → phase_of memory result
             ≡ table.manifested (table.start_of (goal_of self.now.goal)) self.now.tolerant status.code status.poll_ms status.state }
-        ensures within { IsWithin self.now result }
+        ensures within { IsWithin self.now.goal self.now.transfer result }
     {
         if self.tolerant {
             self.confirmed(status)
@@ -111,7 +112,7 @@ impl Task<'_> {
         ensures next { (memory : List ℕ)
             → phase_of memory result
             ≡ table.manifested (table.start_of (goal_of self.now.goal)) true status.code status.poll_ms status.state }
-        ensures within { IsWithin self.now result }
+        ensures within { IsWithin self.now.goal self.now.transfer result }
     {
         match (status.state(), status.code()) {
             (State::ManifestSync | State::Manifest, _) => Phase::WaitManifest(status.poll_ms()),
@@ -126,7 +127,7 @@ impl Task<'_> {
         ensures next { (memory : List ℕ)
             → phase_of memory result
             ≡ table.manifested (table.start_of (goal_of self.now.goal)) false status.code status.poll_ms status.state }
-        ensures within { IsWithin self.now result }
+        ensures within { IsWithin self.now.goal self.now.transfer result }
     {
         match status.state() {
             State::ManifestSync | State::Manifest => Phase::WaitLast(status.poll_ms()),

@@ -1,14 +1,15 @@
 //! The rows of the phases that fetch the image, and its parts in memory.
 
-ghost use Rattle.std.specs.Prelude.{◌≡◌, ◌⊎◌, ◌+◌, ◌<◌, List, ℕ, length};
-ghost use Rattle.dfu_host.specs.inside.Goals.{capacity_of, memory_of};
-ghost use Rattle.dfu_host.specs.inside.Keeping.{Joined, Keeps, RefusedRoom};
+ghost use Rattle.std.specs.Prelude.{◌≡◌, ◌⊎◌, ◌+◌, ◌<◌, Bool, true, false, IfSome, None, List, ℕ, length};
+ghost use Rattle.dfu_host.specs.inside.HeardParts.{Joined, Keeps, KeepsPart, RefusedRoom};
 ghost use Rattle.dfu_host.specs.Table as table;
-ghost use Rattle.dfu_host.specs.inside.View.{IsWithin, heard_of, kept_at, phase_of, task_of};
+ghost use Rattle.dfu_host.specs.Keeping.{KeptPart, Stored};
+ghost use Rattle.dfu_host.specs.InParts.{IsWithin, kept_at, phase_of};
+ghost use Rattle.dfu_host.specs.inside.View.{heard_of, task_of};
 ghost use Rattle.dfu_host.specs.Wire.{is_kept};
 
-use crate::goal::Goal;
 use crate::heard::Heard;
+use crate::part::Part;
 use crate::phase::Phase;
 use crate::report::Report;
 use crate::task::Task;
@@ -18,35 +19,34 @@ use crate::task::Task;
 pub(crate) const MOST_PARTS: u16 = 65_535;
 
 impl Task<'_> {
-    /// Keeps a part of the image: it joins what was kept since the fetching began, unless it is
-    /// too long, or the full one that is one too many. Where there is no memory for it, that is
-    /// heard in its place; that comes only where the vector had no room for it and a growth was
-    /// refused.
-    pub(crate) fn keep(&mut self, number: u16, part: &[u8]) -> Heard
-        requires { IsWithin self.old (Phase.Fetch number) }
-        ensures task { task_of self.new ≡ task_of self.old }
-        ensures within { IsWithin self.new (Phase.Fetch number) }
+    /// What is heard of a part of the image: the part, or, where its caller refused it and it needs
+    /// room, that there was none.
+    pub(crate) fn received(&self, number: u16, part: &[u8], refused: bool) -> Heard
+        requires { IsWithin self.now.goal self.now.transfer (Phase.Fetch number) }
         ensures heard { (result ≡ Heard.Part (length part.now)) ⊎ (result ≡ Heard.NoRoom) }
-        ensures keeps { Keeps self.old.transfer (memory_of self.old.goal) (Phase.Fetch number) part.now result (memory_of self.new.goal) }
-        ensures room { RefusedRoom self.old (Phase.Fetch number) part.now result }
-        ensures full { result ≡ Heard.NoRoom
-            → capacity_of self.old.goal < length (kept_at number (memory_of self.old.goal)) + length part.now }
+        ensures keeps { (memory memory' : List ℕ) → KeptPart self.now.transfer number part.now refused memory memory'
+            → KeepsPart self.now.transfer number memory part.now result memory' }
+        ensures room { RefusedRoom self.now (Phase.Fetch number) part.now result }
     {
-        let heard = Heard::Part(part.len());
-        if !self.is_kept(number, part.len()) {
-            return heard;
+        if refused && !part.is_empty() && self.is_kept(number, part.len()) {
+            Heard::NoRoom
+        } else {
+            Heard::Part(part.len())
         }
-        match &mut self.goal {
-            Goal::Fetch(kept) => {
-                if number == 0 {
-                    kept.clear();
-                }
-                match kept.extend_from_slice(part) {
-                    Ok(()) => heard,
-                    Err(_) => Heard::NoRoom,
-                }
-            }
-            _ => unreachable!(),
+    }
+
+    /// The part that is to be kept of bytes that come where one is asked for.
+    pub(crate) fn part_in<'s>(&self, number: u16, bytes: &'s [u8]) -> Option<Part<'s>>
+        requires { number < 65535 }
+        ensures some { IfSome result (λ part. (refused : Bool) (memory memory' : List ℕ)
+            → Stored part.number part.bytes.now refused memory memory'
+            → KeptPart self.now.transfer number bytes.now refused memory memory') }
+        ensures none { result ≡ None → (memory : List ℕ) → KeptPart self.now.transfer number bytes.now false memory memory }
+    {
+        if self.is_kept(number, bytes.len()) {
+            Some(Part { number, bytes })
+        } else {
+            None
         }
     }
 
@@ -62,12 +62,12 @@ impl Task<'_> {
 
     /// UPLOAD of a part, which is kept by now.
     pub(crate) fn after_fetch(&self, number: u16, heard: Heard) -> Phase
-        requires { IsWithin self.now (Phase.Fetch number) }
-        ensures next { (memory part : List ℕ)
-            → Keeps self.now.transfer memory (Phase.Fetch number) part heard (memory_of self.now.goal)
-            → phase_of (memory_of self.now.goal) result
+        requires { IsWithin self.now.goal self.now.transfer (Phase.Fetch number) }
+        ensures next { (memory memory' part : List ℕ)
+            → Keeps self.now.transfer memory (Phase.Fetch number) part heard memory'
+            → phase_of memory' result
             ≡ table.row (task_of self.now) (table.Fetch number (kept_at number memory)) (heard_of part heard) }
-        ensures within { IsWithin self.now result }
+        ensures within { IsWithin self.now.goal self.now.transfer result }
     {
         match heard {
             Heard::Part(len) => self.fetched(number, len),
@@ -78,11 +78,11 @@ impl Task<'_> {
 
     /// What follows a part of so many bytes.
     fn fetched(&self, number: u16, len: usize) -> Phase
-        requires { IsWithin self.now (Phase.Fetch number) }
-        ensures next { (memory part : List ℕ)
-            → Joined self.now.transfer number memory part len (memory_of self.now.goal)
-            → phase_of (memory_of self.now.goal) result ≡ table.fetched self.now.transfer number (kept_at number memory) part }
-        ensures within { IsWithin self.now result }
+        requires { IsWithin self.now.goal self.now.transfer (Phase.Fetch number) }
+        ensures next { (memory memory' part : List ℕ)
+            → Joined self.now.transfer number memory part len memory'
+            → phase_of memory' result ≡ table.fetched self.now.transfer number (kept_at number memory) part }
+        ensures within { IsWithin self.now.goal self.now.transfer result }
     {
         let transfer = self.transfer as usize;
         if len < transfer {
@@ -100,7 +100,7 @@ impl Task<'_> {
     pub(crate) fn after_last_uploaded(&self, heard: Heard) -> Phase
         ensures next { (memory part : List ℕ)
             → phase_of memory result ≡ table.row (task_of self.now) (table.LastUploaded memory) (heard_of part heard) }
-        ensures within { IsWithin self.now result }
+        ensures within { IsWithin self.now.goal self.now.transfer result }
     {
         match heard {
             Heard::WasReset => Phase::OverUploaded,

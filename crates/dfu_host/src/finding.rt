@@ -2,9 +2,10 @@
 //! goes by (states: USB DFU 1.1, appendix A).
 
 ghost use Rattle.std.specs.Prelude.{◌≡◌, List, ℕ};
-ghost use Rattle.dfu_host.specs.inside.Goals.{goal_of};
+ghost use Rattle.dfu_host.specs.Goals.{goal_of};
 ghost use Rattle.dfu_host.specs.Table as table;
-ghost use Rattle.dfu_host.specs.inside.View.{IsWithin, heard_of, phase_of, task_of};
+ghost use Rattle.dfu_host.specs.InParts.{IsWithin, phase_of};
+ghost use Rattle.dfu_host.specs.inside.View.{heard_of, task_of};
 
 use crate::goal::Goal;
 use crate::heard::Heard;
@@ -17,11 +18,11 @@ impl Task<'_> {
     /// block; of an image nothing is kept or compared yet.
     fn start(&self) -> Phase
         ensures next { (memory : List ℕ) → phase_of memory result ≡ table.start_of (goal_of self.now.goal) }
-        ensures within { IsWithin self.now result }
+        ensures within { IsWithin self.now.goal self.now.transfer result }
     {
         match &self.goal {
             Goal::Load(_) => Phase::Block(0),
-            Goal::Fetch(_) => Phase::Fetch(0),
+            Goal::Fetch => Phase::Fetch(0),
             Goal::Verify(_) => Phase::Block(0),
             Goal::Compare(_) => Phase::Compare(0),
         }
@@ -31,7 +32,7 @@ impl Task<'_> {
     pub(crate) fn listed(&self, status: Status) -> Phase
         ensures next { (memory : List ℕ)
             → phase_of memory result ≡ table.listed (table.start_of (goal_of self.now.goal)) status.state status.poll_ms }
-        ensures within { IsWithin self.now result }
+        ensures within { IsWithin self.now.goal self.now.transfer result }
     {
         match status.state() {
             State::AppIdle => Phase::Detach,
@@ -48,7 +49,7 @@ impl Task<'_> {
     /// GETSTATUS, to find out where the device stands.
     pub(crate) fn after_find(&self, heard: Heard) -> Phase
         ensures next { (memory part : List ℕ) → phase_of memory result ≡ table.row (task_of self.now) table.Find (heard_of part heard) }
-        ensures within { IsWithin self.now result }
+        ensures within { IsWithin self.now.goal self.now.transfer result }
     {
         match heard {
             Heard::Told(status) => self.listed(status),
@@ -61,7 +62,7 @@ impl Task<'_> {
     pub(crate) fn after_find_again(&self, heard: Heard) -> Phase
         ensures next { (memory part : List ℕ)
             → phase_of memory result ≡ table.row (task_of self.now) table.FindAgain (heard_of part heard) }
-        ensures within { IsWithin self.now result }
+        ensures within { IsWithin self.now.goal self.now.transfer result }
     {
         match heard {
             Heard::Told(status) => self.listed(status),
@@ -73,7 +74,7 @@ impl Task<'_> {
     /// DETACH.
     pub(crate) fn after_detach(&self, heard: Heard) -> Phase
         ensures next { (memory part : List ℕ) → phase_of memory result ≡ table.row (task_of self.now) table.Detach (heard_of part heard) }
-        ensures within { IsWithin self.now result }
+        ensures within { IsWithin self.now.goal self.now.transfer result }
     {
         match heard {
             Heard::Acked => Phase::Enter,
@@ -84,7 +85,7 @@ impl Task<'_> {
     /// A wait where the device detaches by itself, else a reset.
     pub(crate) fn after_enter(&self, heard: Heard) -> Phase
         ensures next { (memory part : List ℕ) → phase_of memory result ≡ table.row (task_of self.now) table.Enter (heard_of part heard) }
-        ensures within { IsWithin self.now result }
+        ensures within { IsWithin self.now.goal self.now.transfer result }
     {
         match heard {
             Heard::Waited if self.will_detach => Phase::Find,
@@ -97,7 +98,7 @@ impl Task<'_> {
     pub(crate) fn after_wait_find(&self, poll_ms: u32, heard: Heard) -> Phase
         ensures next { (memory part : List ℕ)
             → phase_of memory result ≡ table.row (task_of self.now) (table.WaitFind poll_ms) (heard_of part heard) }
-        ensures within { IsWithin self.now result }
+        ensures within { IsWithin self.now.goal self.now.transfer result }
     {
         match heard {
             Heard::Waited => Phase::Find,
@@ -109,7 +110,7 @@ impl Task<'_> {
     pub(crate) fn after_reset_find(&self, heard: Heard) -> Phase
         ensures next { (memory part : List ℕ)
             → phase_of memory result ≡ table.row (task_of self.now) table.ResetFind (heard_of part heard) }
-        ensures within { IsWithin self.now result }
+        ensures within { IsWithin self.now.goal self.now.transfer result }
     {
         match heard {
             Heard::WasReset => Phase::Find,

@@ -1,15 +1,40 @@
 //! What a session is for.
 
-/// What a session is for, with what it needs for that.
-#[derive(Drop)]
-pub(crate) enum Goal<'f> {
+ghost use Rattle.std.specs.Prelude.{◌≡◌, IsTrue, false};
+ghost use Rattle.dfu_host.specs.Goals.{IsFetch, payload_of};
+
+/// What a session is for. It takes no memory: what an upload keeps is its caller's.
+#[derive(Clone, Copy)]
+pub enum Goal<'f> {
     /// To install a payload, which has at least one byte.
     Load(&'f [u8]),
-    /// To fetch the active image. The parts that came are kept here; how many of the bytes count,
-    /// the phase says.
-    Fetch(Vec<u8>),
+    /// To fetch the active image.
+    Fetch,
     /// To install a payload, which has at least one byte, and to compare it after the last reset.
     Verify(&'f [u8]),
     /// To compare the active image with the payload, which has at least one byte.
     Compare(&'f [u8]),
+}
+
+impl<'f> Goal<'f> {
+    /// The payload that is sent or compared; an upload has none.
+    pub(crate) fn payload(&self) -> &'f [u8]
+        ensures { result.now ≡ payload_of self.now }
+    {
+        match self {
+            Goal::Load(payload) | Goal::Verify(payload) | Goal::Compare(payload) => payload,
+            Goal::Fetch => &[],
+        }
+    }
+
+    /// Whether the image is fetched.
+    pub(crate) fn is_fetch(&self) -> bool
+        ensures yes { IsTrue result → IsFetch self.now }
+        ensures no { result ≡ false → IsFetch self.now → ⊥ }
+    {
+        match self {
+            Goal::Fetch => true,
+            Goal::Load(_) | Goal::Verify(_) | Goal::Compare(_) => false,
+        }
+    }
 }

@@ -1,11 +1,12 @@
 //! What is understood of what is seen.
 
 ghost use Rattle.std.specs.Prelude.{◌≡◌, List, ℕ};
-ghost use Rattle.dfu_host.specs.inside.Goals.{memory_of};
 ghost use Rattle.dfu_host.specs.inside.Comparing.{Compares};
-ghost use Rattle.dfu_host.specs.inside.Keeping.{Keeps, RefusedRoom};
+ghost use Rattle.dfu_host.specs.inside.HeardParts.{Keeps, RefusedRoom};
 ghost use Rattle.dfu_host.specs.Table.{deed};
-ghost use Rattle.dfu_host.specs.inside.View.{IsWithin, heard_of, part_of, phase_of, task_of};
+ghost use Rattle.dfu_host.specs.Keeping.{Kept, KeptBytes};
+ghost use Rattle.dfu_host.specs.InParts.{IsWithin, phase_of};
+ghost use Rattle.dfu_host.specs.inside.View.{heard_of, part_of, task_of};
 ghost use Rattle.dfu_host.specs.Wire.{Hears, HearsBytes, ReadsStatus, ReadsState};
 ghost use Rattle.dfu_host.specs.declared.phase.Phase.{Phase};
 ghost use Rattle.dfu_host.specs.declared.task.Task.{Task};
@@ -36,21 +37,20 @@ pub(crate) enum Heard {
 
 impl Task<'_> {
     /// What is understood of what is seen in a phase: bytes are read as the answer to the phase's
-    /// request, and where they are none, it is as if nothing came. A part of an upload is kept, one
-    /// of a comparison compared.
-    pub(crate) fn hear(&mut self, phase: Phase, seen: Seen<'_>) -> Heard
-        requires { IsWithin self.old phase }
-        ensures task { task_of self.new ≡ task_of self.old }
-        ensures within { IsWithin self.new phase }
-        ensures hears { Hears (deed (task_of self.old) (phase_of (memory_of self.old.goal) phase)) seen.entry
+    /// request, and where they are none, it is as if nothing came. A part of an upload is kept or
+    /// refused by now; one of a comparison is compared.
+    pub(crate) fn hear(&self, phase: Phase, seen: Seen<'_>, refused: bool) -> Heard
+        requires { IsWithin self.now.goal self.now.transfer phase }
+        ensures hears { (memory : List ℕ) → Hears (deed (task_of self.now) (phase_of memory phase)) seen.entry
             (heard_of (part_of seen.entry) result) }
-        ensures keeps { Keeps self.old.transfer (memory_of self.old.goal) phase (part_of seen.entry) result (memory_of self.new.goal) }
-        ensures compares { Compares (task_of self.old) phase (part_of seen.entry) result }
-        ensures room { RefusedRoom self.old phase (part_of seen.entry) result }
+        ensures keeps { (memory memory' : List ℕ) → Kept self.now.transfer phase seen.entry refused memory memory'
+            → Keeps self.now.transfer memory phase (part_of seen.entry) result memory' }
+        ensures compares { Compares (task_of self.now) phase (part_of seen.entry) result }
+        ensures room { RefusedRoom self.now phase (part_of seen.entry) result }
     {
         match seen {
             Seen::Ack => Heard::Acked,
-            Seen::Bytes(bytes) => self.answered(phase, bytes),
+            Seen::Bytes(bytes) => self.answered(phase, bytes, refused),
             Seen::Stall => Heard::Stalled,
             Seen::Nothing => Heard::Nothing,
             Seen::Waited => Heard::Waited,
@@ -60,22 +60,21 @@ impl Task<'_> {
     }
 
     /// What bytes say that come in a phase.
-    fn answered(&mut self, phase: Phase, bytes: &[u8]) -> Heard
-        requires { IsWithin self.old phase }
-        ensures task { task_of self.new ≡ task_of self.old }
-        ensures within { IsWithin self.new phase }
-        ensures hears { HearsBytes (deed (task_of self.old) (phase_of (memory_of self.old.goal) phase)) bytes.now
+    fn answered(&self, phase: Phase, bytes: &[u8], refused: bool) -> Heard
+        requires { IsWithin self.now.goal self.now.transfer phase }
+        ensures hears { (memory : List ℕ) → HearsBytes (deed (task_of self.now) (phase_of memory phase)) bytes.now
             (heard_of bytes.now result) }
-        ensures keeps { Keeps self.old.transfer (memory_of self.old.goal) phase bytes.now result (memory_of self.new.goal) }
-        ensures compares { Compares (task_of self.old) phase bytes.now result }
-        ensures room { RefusedRoom self.old phase bytes.now result }
+        ensures keeps { (memory memory' : List ℕ) → KeptBytes self.now.transfer phase bytes.now refused memory memory'
+            → Keeps self.now.transfer memory phase bytes.now result memory' }
+        ensures compares { Compares (task_of self.now) phase bytes.now result }
+        ensures room { RefusedRoom self.now phase bytes.now result }
     {
         match phase {
             Phase::Find | Phase::FindAgain | Phase::Poll(_) | Phase::Manifest | Phase::Trouble => {
                 status_in(bytes)
             }
             Phase::Ask(_) | Phase::AskLast => state_in(bytes),
-            Phase::Fetch(number) => self.keep(number, bytes),
+            Phase::Fetch(number) => self.received(number, bytes, refused),
             Phase::Compare(number) => self.compare(number, bytes),
             _ => Heard::Nothing,
         }

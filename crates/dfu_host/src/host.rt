@@ -1,16 +1,16 @@
 //! The host machine.
 
-ghost use Rattle.std.specs.Prelude.{◌≡◌, ◌≤◌, ◌<◌, ◌-◌, ◌↔◌, IsTrue, IfOk, Err, Some};
+ghost use Rattle.std.specs.Prelude.{◌≡◌, ◌≤◌, ◌-◌, ◌↔◌, IsTrue, IfOk, Err, Some};
 
 use crate::action::Action;
 use crate::fault::HostFault;
 use crate::goal::Goal;
 use crate::limits::Limits;
+use crate::memory::Memory;
 use crate::phase::Phase;
-use crate::progress::{Progress, beginning};
-use crate::refusing::{gives_uploads, payload_for};
+use crate::refusing::{gives_uploads, goal_to_load, goal_to_verify};
 use crate::seen::Seen;
-use crate::task::Task;
+use crate::session::Session;
 use dfu_suffix::File;
 use dfu_wire::{Functional, Ids};
 use std::alloc::Global;
@@ -24,19 +24,18 @@ use std::marker::Model;
 /// that are left.
 #[derive(Drop)]
 pub struct Host<'f> {
-    task: Task<'f>,
-    progress: Progress,
+    session: Session<'f>,
+    memory: Memory,
 }
 
 impl<'f> Model for Host<'f> {
     ghost use Rattle.dfu_host.specs.Host.{HostState};
-    ghost use Rattle.dfu_host.specs.inside.View.{IsWithin, state_of};
+    ghost use Rattle.dfu_host.specs.InParts.{host_of};
+    ghost use Rattle.dfu_host.specs.inside.Memories.{bytes_of};
 
     ghost Value = { HostState };
 
-    ghost view = { λ h. state_of h.task h.progress };
-
-    ghost invariant = { λ h. IsWithin h.task h.progress.phase };
+    ghost view = { λ h. host_of (bytes_of h.memory) h.session };
 }
 
 impl<'f> Host<'f> {
@@ -45,7 +44,6 @@ impl<'f> Host<'f> {
     ghost use Rattle.dfu_host.specs.Download.{first_download_fault, first_verify_fault};
     ghost use Rattle.dfu_host.specs.Phases.{ToFetch, ToLoad, ToVerify};
     ghost use Rattle.dfu_host.specs.Uploading.{TakesPart, first_upload_fault, kept_in};
-    ghost use Rattle.dfu_host.specs.inside.Goals.{goal_of, size_of};
     ghost use Rattle.dfu_host.specs.declared.fault.HostFault.{HostFault};
 
     /// A host that is to install a file on the device with this descriptor and these
@@ -66,11 +64,10 @@ impl<'f> Host<'f> {
         ensures refused { (fault : HostFault) → (result ≡ Err fault) ↔ (first_download_fault file.now functional.now device ≡ Some fault) }
         ensures started { IfOk result (λ h. h ≡ started functional.now (ToLoad file.now.payload) limits) }
     {
-        let payload = payload_for(file, functional, device)?;
-        if functional.transfer == 0 {
-            return Err(HostFault::BadDescriptor);
-        }
-        Ok(Host::begin(Goal::Load(payload), functional, limits))
+        let goal = goal_to_load(file, functional, device)?;
+        let session = Session::begin(goal, functional, limits);
+        let memory = Memory::Nothing;
+        Ok(Host { session, memory })
     }
 
     /// A host that is to install a file on the device with this descriptor and these identifiers,
@@ -95,9 +92,10 @@ impl<'f> Host<'f> {
         ensures refused { (fault : HostFault) → (result ≡ Err fault) ↔ (first_verify_fault file.now functional.now device ≡ Some fault) }
         ensures started { IfOk result (λ h. h ≡ started functional.now (ToVerify file.now.payload) limits) }
     {
-        let payload = payload_for(file, functional, device)?;
-        gives_uploads(functional)?;
-        Ok(Host::begin(Goal::Verify(payload), functional, limits))
+        let goal = goal_to_verify(file, functional, device)?;
+        let session = Session::begin(goal, functional, limits);
+        let memory = Memory::Nothing;
+        Ok(Host { session, memory })
     }
 
     /// A host that is to fetch the active image of the device with this descriptor. It keeps the
@@ -116,26 +114,9 @@ impl<'f> Host<'f> {
         ensures started { IfOk result (λ h. h ≡ started functional.now ToFetch limits) }
     {
         gives_uploads(functional)?;
-        Ok(Host::begin(Goal::Fetch(Vec::new(alloc)), functional, limits))
-    }
-
-    /// A host that begins: its task is this goal, and all else goes by the descriptor and the
-    /// limits.
-    fn begin(goal: Goal<'f>, functional: &Functional, limits: Limits) -> Host<'f>
-        requires some { 0 < size_of goal }
-        requires transfers { 0 < functional.now.transfer }
-        ensures { result ≡ started functional.now (goal_of goal.entry) limits }
-    {
-        Host {
-            task: Task {
-                goal,
-                transfer: functional.transfer,
-                tolerant: functional.tolerant,
-                will_detach: functional.will_detach,
-                detach_ms: functional.detach_ms,
-            },
-            progress: beginning(limits),
-        }
+        let session = Session::begin(Goal::Fetch, functional, limits);
+        let memory = Memory::Bytes(Vec::new(alloc));
+        Ok(Host { session, memory })
     }
 
     /// What the host wants done next. It changes nothing, so it may be asked again.
@@ -143,7 +124,7 @@ impl<'f> Host<'f> {
         ensures act { Act self.now result }
         ensures done { IsTrue (is_done result) ↔ (takes_left self.now ≡ 0) }
     {
-        self.task.action(self.progress.phase)
+        self.session.next()
     }
 
     /// Tells the host what came of its action. Whatever it is told, it is done after at most
@@ -157,9 +138,8 @@ impl<'f> Host<'f> {
         ensures over { IsOver self.old.phase → self.new ≡ self.old }
         ensures part { TakesPart self.old self.old.phase seen.entry self.new }
     {
-        let phase = self.progress.phase;
-        let heard = self.task.hear(phase, seen);
-        self.progress = self.progress.after(&mut self.task, heard);
+        let refused = self.memory.refuses(&self.session, seen);
+        self.session.told(seen, refused);
     }
 
     /// Gives the session up: what the host wants next is ABORT, and whatever comes of it, the
@@ -168,10 +148,7 @@ impl<'f> Host<'f> {
     pub fn abort(&mut self)
         ensures { self.new ≡ aborted self.old }
     {
-        match self.progress.phase {
-            Phase::Over(_) | Phase::OverUploaded => {}
-            _ => self.progress.phase = Phase::GiveUp,
-        }
+        self.session.abort();
     }
 
     /// What an upload keeps: all that was fetched, once the host is done with `Uploaded`. Before
@@ -180,9 +157,9 @@ impl<'f> Host<'f> {
     pub fn uploaded(&self) -> &[u8]
         ensures { result.now ≡ kept_in self.now.phase }
     {
-        match self.progress.phase {
+        match self.session.parts().phase {
             Phase::Fetch(0) => &[],
-            Phase::Fetch(_) | Phase::LastUploaded | Phase::OverUploaded => self.task.memory(),
+            Phase::Fetch(_) | Phase::LastUploaded | Phase::OverUploaded => self.memory.as_slice(),
             _ => &[],
         }
     }

@@ -17,22 +17,31 @@ mod heard;
 mod host;
 pub mod laws;
 mod limits;
+mod memory;
+mod part;
+mod parts;
 mod phase;
 mod progress;
 mod refusing;
 mod report;
+mod room;
 mod row;
 mod seen;
 mod sending;
+mod session;
 mod target;
 mod task;
 
 pub use action::Action;
 pub use fault::HostFault;
+pub use goal::Goal;
 pub use host::Host;
 pub use limits::Limits;
+pub use parts::Parts;
+pub use phase::Phase;
 pub use report::Report;
 pub use seen::Seen;
+pub use session::Session;
 
 #[cfg(test)]
 mod tests;

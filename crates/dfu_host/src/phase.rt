@@ -5,7 +5,7 @@ use crate::report::Report;
 /// Where a session stands, with what it has to remember there. Blocks are counted from 0, poll
 /// times are in milliseconds.
 #[derive(Clone, Copy)]
-pub(crate) enum Phase {
+pub enum Phase {
     /// Ask for the status, to find out where the device stands.
     Find,
     /// The same, after a stall.

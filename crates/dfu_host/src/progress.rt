@@ -1,13 +1,15 @@
 //! How far a session has come: its phase, the budget of actions, and the count of restarts.
 
 ghost use Rattle.std.specs.Prelude.{◌≡◌, if◌then◌else◌, List, ℕ, max};
-ghost use Rattle.dfu_host.specs.inside.Goals.{memory_of};
 ghost use Rattle.dfu_host.specs.Host as host;
 ghost use Rattle.dfu_host.specs.inside.Comparing.{Compares};
-ghost use Rattle.dfu_host.specs.inside.Keeping.{Keeps};
+ghost use Rattle.dfu_host.specs.inside.HeardParts.{Keeps};
 ghost use Rattle.dfu_host.specs.Table as table;
-ghost use Rattle.dfu_host.specs.inside.View.{IsWithin, heard_of, phase_of, state_of, state_with, task_of};
+ghost use Rattle.dfu_host.specs.InParts.{IsWithin, phase_of};
+ghost use Rattle.dfu_host.specs.inside.View.{heard_of, state_with, task_of};
 ghost use Rattle.dfu_host.specs.declared.task.Task.{Task};
+ghost use Rattle.std.specs.Borrow.{Bor};
+ghost use Rattle.dfu_host.specs.Goals.{Carries};
 
 use crate::heard::Heard;
 use crate::limits::Limits;
@@ -40,12 +42,13 @@ impl Progress {
     /// Where the session stands after one action of which this was heard, and is kept; its task
     /// goes on with it.
     pub(crate) fn after(self, task: &mut Task<'_>, heard: Heard) -> Progress
-        requires { IsWithin task.old self.phase }
-        ensures state { (memory part : List ℕ)
-            → Keeps task.old.transfer memory self.phase part heard (memory_of task.old.goal)
+        requires { IsWithin task.old.goal task.old.transfer self.phase }
+        ensures state { (memory memory' part : List ℕ)
+            → Keeps task.old.transfer memory self.phase part heard memory'
             → Compares (task_of task.old) self.phase part heard
-            → state_of task.new result ≡ host.after (state_with memory task.old self) (heard_of part heard) }
-        ensures within { IsWithin task.new result.phase }
+            → state_with memory' task.new result ≡ host.after (state_with memory task.old self) (heard_of part heard) }
+        ensures payload { (payload : Bor (List ℕ)) → Carries payload task.old.goal → Carries payload task.new.goal }
+        ensures within { IsWithin task.new.goal task.new.transfer result.phase }
     {
         if let Phase::Over(_) | Phase::OverUploaded = self.phase {
             return self;
@@ -63,7 +66,7 @@ impl Progress {
     fn restarted(self) -> Progress
         ensures state { (task : Task) (memory old : List ℕ) → state_with memory task result
             ≡ host.restarted (state_with old task self) (phase_of old self.phase) self.restarts }
-        ensures within { (task : Task) → IsWithin task result.phase }
+        ensures within { (task : Task) → IsWithin task.goal task.transfer result.phase }
     {
         if let Phase::GiveUp = self.phase {
             return self.spent(Phase::Over(Report::Aborted), self.restarts);
@@ -79,7 +82,7 @@ impl Progress {
     fn spent(self, next: Phase, restarts: u16) -> Progress
         ensures state { (task : Task) (memory old : List ℕ) → state_with memory task result
             ≡ host.spent (state_with old task self) (phase_of memory next) restarts }
-        ensures within { (task : Task) → IsWithin task next → IsWithin task result.phase }
+        ensures within { (task : Task) → IsWithin task.goal task.transfer next → IsWithin task.goal task.transfer result.phase }
     {
         let actions = self.actions.saturating_sub(1);
         Progress {
@@ -104,7 +107,7 @@ fn is_last_done(phase: &Phase, heard: &Heard) -> bool
 /// The phase of a session with so many actions left: without any it gives up, unless it is over.
 fn budgeted(left: u32, phase: Phase) -> Phase
     ensures next { (memory : List ℕ) → phase_of memory result ≡ host.budgeted left (phase_of memory phase) }
-    ensures within { (task : Task) → IsWithin task phase → IsWithin task result }
+    ensures within { (task : Task) → IsWithin task.goal task.transfer phase → IsWithin task.goal task.transfer result }
 {
     match phase {
         Phase::Over(_) | Phase::OverUploaded => phase,

@@ -1,16 +1,51 @@
 //! The refusals that several sessions share.
 
 ghost use Rattle.std.specs.Prelude.{◌≡◌, ◌<◌, IfErr, IfOk, None, Some, find, length};
-ghost use Rattle.dfu_host.specs.Download.{payload_faults, refuses_download};
+ghost use Rattle.dfu_host.specs.Download.{first_download_fault, first_verify_fault, payload_faults, refuses_download};
+ghost use Rattle.dfu_host.specs.Goals.{goal_of, size_of};
+ghost use Rattle.dfu_host.specs.Phases.{ToLoad, ToVerify};
 ghost use Rattle.dfu_host.specs.Uploading.{first_upload_fault};
 
 use crate::fault::HostFault;
+use crate::goal::Goal;
 use crate::target::is_for;
 use dfu_suffix::File;
 use dfu_wire::{Functional, Ids};
 
+/// The goal of a session that installs a file.
+pub(crate) fn goal_to_load<'f>(
+    file: &File<'f>,
+    functional: &Functional,
+    device: Ids,
+) -> Result<Goal<'f>, HostFault>
+    ensures err { IfErr result (λ fault. first_download_fault file.now functional.now device ≡ Some fault) }
+    ensures ok { IfOk result (λ goal. first_download_fault file.now functional.now device ≡ None) }
+    ensures goal { IfOk result (λ goal. (goal_of goal ≡ ToLoad file.now.payload) × (0 < size_of goal) × (0 < functional.now.transfer)) }
+{
+    let payload = payload_for(file, functional, device)?;
+    if functional.transfer == 0 {
+        return Err(HostFault::BadDescriptor);
+    }
+    Ok(Goal::Load(payload))
+}
+
+/// The goal of a session that installs a file and compares it.
+pub(crate) fn goal_to_verify<'f>(
+    file: &File<'f>,
+    functional: &Functional,
+    device: Ids,
+) -> Result<Goal<'f>, HostFault>
+    ensures err { IfErr result (λ fault. first_verify_fault file.now functional.now device ≡ Some fault) }
+    ensures ok { IfOk result (λ goal. first_verify_fault file.now functional.now device ≡ None) }
+    ensures goal { IfOk result (λ goal. (goal_of goal ≡ ToVerify file.now.payload) × (0 < size_of goal) × (0 < functional.now.transfer)) }
+{
+    let payload = payload_for(file, functional, device)?;
+    gives_uploads(functional)?;
+    Ok(Goal::Verify(payload))
+}
+
 /// The payload of a file that a device takes.
-pub(crate) fn payload_for<'f>(
+fn payload_for<'f>(
     file: &File<'f>,
     functional: &Functional,
     device: Ids,

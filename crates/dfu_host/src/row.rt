@@ -1,11 +1,11 @@
 //! The host's table.
 
 ghost use Rattle.std.specs.Prelude.{◌≡◌, List, ℕ};
-ghost use Rattle.dfu_host.specs.inside.Goals.{memory_of};
 ghost use Rattle.dfu_host.specs.inside.Comparing.{Compares};
-ghost use Rattle.dfu_host.specs.inside.Keeping.{Keeps};
+ghost use Rattle.dfu_host.specs.inside.HeardParts.{Keeps};
 ghost use Rattle.dfu_host.specs.Table as table;
-ghost use Rattle.dfu_host.specs.inside.View.{IsWithin, heard_of, phase_of, task_of};
+ghost use Rattle.dfu_host.specs.InParts.{IsWithin, phase_of};
+ghost use Rattle.dfu_host.specs.inside.View.{heard_of, task_of};
 
 use crate::heard::Heard;
 use crate::phase::Phase;
@@ -15,12 +15,12 @@ use crate::task::Task;
 impl Task<'_> {
     /// The phase that follows, by the phase and what was heard in it.
     pub(crate) fn row(&self, phase: Phase, heard: Heard) -> Phase
-        requires { IsWithin self.now phase }
-        ensures next { (memory part : List ℕ)
-            → Keeps self.now.transfer memory phase part heard (memory_of self.now.goal)
+        requires { IsWithin self.now.goal self.now.transfer phase }
+        ensures next { (memory memory' part : List ℕ)
+            → Keeps self.now.transfer memory phase part heard memory'
             → Compares (task_of self.now) phase part heard
-            → phase_of (memory_of self.now.goal) result ≡ table.row (task_of self.now) (phase_of memory phase) (heard_of part heard) }
-        ensures within { IsWithin self.now result }
+            → phase_of memory' result ≡ table.row (task_of self.now) (phase_of memory phase) (heard_of part heard) }
+        ensures within { IsWithin self.now.goal self.now.transfer result }
     {
         match phase {
             Phase::Find => self.after_find(heard),

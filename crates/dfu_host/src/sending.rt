@@ -1,9 +1,10 @@
 //! The rows of the phases that send the blocks and close the transfer.
 
 ghost use Rattle.std.specs.Prelude.{◌≡◌, ◌*◌, ◌<◌, length, List, ℕ};
-ghost use Rattle.dfu_host.specs.inside.Goals.{goal_of, payload_of};
+ghost use Rattle.dfu_host.specs.Goals.{goal_of, payload_of};
 ghost use Rattle.dfu_host.specs.Table as table;
-ghost use Rattle.dfu_host.specs.inside.View.{IsWithin, heard_of, phase_of, task_of};
+ghost use Rattle.dfu_host.specs.InParts.{IsWithin, phase_of};
+ghost use Rattle.dfu_host.specs.inside.View.{heard_of, task_of};
 
 use crate::heard::Heard;
 use crate::phase::Phase;
@@ -16,7 +17,7 @@ impl Task<'_> {
         requires { number * self.now.transfer < length (payload_of self.now.goal) }
         ensures next { (memory part : List ℕ)
             → phase_of memory result ≡ table.row (task_of self.now) (table.Block number) (heard_of part heard) }
-        ensures within { IsWithin self.now result }
+        ensures within { IsWithin self.now.goal self.now.transfer result }
     {
         match heard {
             Heard::Acked => Phase::Poll(number),
@@ -30,7 +31,7 @@ impl Task<'_> {
         requires { number * self.now.transfer < length (payload_of self.now.goal) }
         ensures next { (memory part : List ℕ)
             → phase_of memory result ≡ table.row (task_of self.now) (table.Ask number) (heard_of part heard) }
-        ensures within { IsWithin self.now result }
+        ensures within { IsWithin self.now.goal self.now.transfer result }
     {
         match heard {
             Heard::StateIs(State::DownloadSync) => Phase::Poll(number),
@@ -46,7 +47,7 @@ impl Task<'_> {
         requires { number * self.now.transfer < length (payload_of self.now.goal) }
         ensures next { (memory part : List ℕ)
             → phase_of memory result ≡ table.row (task_of self.now) (table.Poll number) (heard_of part heard) }
-        ensures within { IsWithin self.now result }
+        ensures within { IsWithin self.now.goal self.now.transfer result }
     {
         match heard {
             Heard::Told(status) => self.polled(number, status),
@@ -62,7 +63,7 @@ impl Task<'_> {
             → phase_of memory result
             ≡ table.polled (table.start_of (goal_of self.now.goal)) (length (table.pieces (task_of self.now))) number
             status.code status.poll_ms status.state }
-        ensures within { IsWithin self.now result }
+        ensures within { IsWithin self.now.goal self.now.transfer result }
     {
         match status.state() {
             State::DownloadSync | State::DownloadBusy => {
@@ -79,7 +80,7 @@ impl Task<'_> {
         requires { number * self.now.transfer < length (payload_of self.now.goal) }
         ensures next { (memory part : List ℕ)
             → phase_of memory result ≡ table.row (task_of self.now) (table.WaitPoll number poll_ms) (heard_of part heard) }
-        ensures within { IsWithin self.now result }
+        ensures within { IsWithin self.now.goal self.now.transfer result }
     {
         match heard {
             Heard::Waited => Phase::Poll(number),
@@ -91,7 +92,7 @@ impl Task<'_> {
     pub(crate) fn after_close(&self, heard: Heard) -> Phase
         requires { 0 < length (payload_of self.now.goal) }
         ensures next { (memory part : List ℕ) → phase_of memory result ≡ table.row (task_of self.now) table.Close (heard_of part heard) }
-        ensures within { IsWithin self.now result }
+        ensures within { IsWithin self.now.goal self.now.transfer result }
     {
         match heard {
             Heard::Acked => Phase::Manifest,
@@ -104,7 +105,7 @@ impl Task<'_> {
     pub(crate) fn after_ask_last(&self, heard: Heard) -> Phase
         requires { 0 < length (payload_of self.now.goal) }
         ensures next { (memory part : List ℕ) → phase_of memory result ≡ table.row (task_of self.now) table.AskLast (heard_of part heard) }
-        ensures within { IsWithin self.now result }
+        ensures within { IsWithin self.now.goal self.now.transfer result }
     {
         match heard {
             Heard::StateIs(State::ManifestSync) => Phase::Manifest,

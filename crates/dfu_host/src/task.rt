@@ -1,7 +1,10 @@
 //! What a session is to do.
 
-ghost use Rattle.std.specs.Prelude.{◌≡◌, ℕ, suc, ◌+◌, ◌*◌, ◌<◌, ◌^◌, ◌==◌, length, IsTrue, ◌↔◌, slice_index_or, if◌then◌else◌, []};
-ghost use Rattle.dfu_host.specs.inside.Goals.{size_of};
+ghost use Rattle.std.specs.Prelude.{◌≡◌, ℕ, suc, ◌+◌, ◌*◌, ◌<◌, ◌^◌, ◌==◌, drop, length, take, IsTrue, ◌↔◌, slice_index_or, if◌then◌else◌, []};
+ghost use Rattle.dfu_host.specs.Goals.{size_of};
+ghost use Rattle.std.specs.Borrow.{Bor};
+ghost use Rattle.std.specs.Prelude.{List};
+ghost use Rattle.dfu_host.specs.Goals.{Carries};
 
 use crate::goal::Goal;
 
@@ -20,41 +23,39 @@ pub(crate) struct Task<'f> {
 }
 
 impl<'f> Task<'f> {
-    ghost use Rattle.dfu_host.specs.inside.Goals.{goal_of, memory_of, payload_of};
+    ghost use Rattle.dfu_host.specs.Goals.{goal_of, payload_of};
     ghost use Rattle.dfu_host.specs.Table.{pieces};
     ghost use Rattle.dfu_host.specs.Table as table;
     ghost use Rattle.dfu_host.specs.declared.phase.Phase.{Phase};
-    ghost use Rattle.dfu_host.specs.inside.View.{IsWithin, task_of};
+    ghost use Rattle.dfu_host.specs.InParts.{IsWithin};
+    ghost use Rattle.dfu_host.specs.inside.View.{task_of};
 
     /// The payload that is sent or compared; an upload has none.
     fn payload(&self) -> &'f [u8]
         ensures { result.now ≡ payload_of self.now.goal }
     {
-        match &self.goal {
-            Goal::Load(payload) | Goal::Verify(payload) | Goal::Compare(payload) => payload,
-            Goal::Fetch(_) => &[],
-        }
-    }
-
-    /// The bytes in memory; only an upload has some.
-    pub(crate) fn memory(&self) -> &[u8]
-        ensures { result.now ≡ memory_of self.now.goal }
-    {
-        match &self.goal {
-            Goal::Fetch(bytes) => bytes.as_slice(),
-            Goal::Load(_) | Goal::Verify(_) | Goal::Compare(_) => &[],
-        }
+        self.goal.payload()
     }
 
     /// Block `number`, as a slice of the payload; it is empty where there is none.
     pub(crate) fn block(&self, number: usize) -> &'f [u8]
         ensures bytes { result.now ≡ slice_index_or (pieces (task_of self.now)) number [] }
         ensures fits { length result.now < 2 ^ 16 }
+        ensures cut { result.now ≡ take (length result.now) (drop (number * self.now.transfer) (payload_of self.now.goal)) }
     {
         let transfer = self.transfer as usize;
         let payload = self.payload();
         let rest = &payload[number.saturating_mul(transfer).min(payload.len())..];
         &rest[..transfer.min(rest.len())]
+    }
+
+    /// Where in the payload a block begins.
+    pub(crate) fn begins(&self, number: usize) -> usize
+        requires { number * self.now.transfer < length (payload_of self.now.goal) }
+        ensures { result ≡ number * self.now.transfer }
+    {
+        let all = self.payload().len();
+        number.saturating_mul(self.transfer as usize).min(all)
     }
 
     /// Whether a block is the last one.
@@ -69,10 +70,10 @@ impl<'f> Task<'f> {
 
     /// The task goes on: where the last reset was done, what was to be verified is compared.
     pub(crate) fn go_on(&mut self, done: bool)
+        ensures payload { (payload : Bor (List ℕ)) → Carries payload self.old.goal → Carries payload self.new.goal }
         ensures task { task_of self.new
             ≡ record (task_of self.old) { goal = if done then table.checked (goal_of self.old.goal) else goal_of self.old.goal } }
-        ensures within { (next : Phase) → IsWithin self.old next → IsWithin self.new next }
-        ensures memory { memory_of self.new.goal ≡ memory_of self.old.goal }
+        ensures within { (next : Phase) → IsWithin self.old.goal self.old.transfer next → IsWithin self.new.goal self.new.transfer next }
     {
         if !done {
             return;

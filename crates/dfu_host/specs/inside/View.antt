@@ -1,78 +1,16 @@
 -- What the values of the code stand for.
-use Rattle.std.specs.Prelude.{ℕ, zero, suc, ◌*◌, ◌<◌, List, [], length}
-use Rattle.dfu_host.specs.declared.phase.Phase.{Phase}
-use Rattle.dfu_host.specs.declared.phase.Phase.TheVariants as phase
+use Rattle.std.specs.Prelude.{ℕ, List, []}
 use Rattle.dfu_host.specs.declared.heard.Heard.{Heard}
 use Rattle.dfu_host.specs.declared.heard.Heard.TheVariants as heard
 use Rattle.dfu_host.specs.declared.seen.Seen.{Seen}
 use Rattle.dfu_host.specs.declared.seen.Seen.TheVariants as seen
+use Rattle.dfu_host.specs.declared.parts.Parts.{Parts}
 use Rattle.dfu_host.specs.declared.task.Task.{Task}
 use Rattle.dfu_host.specs.declared.progress.Progress.{Progress}
-use Rattle.dfu_host.specs.inside.Goals.{goal_of, payload_of, memory_of, IsFetch}
+use Rattle.dfu_host.specs.Goals.{goal_of}
+use Rattle.dfu_host.specs.InParts.{phase_of}
 use Rattle.dfu_host.specs.Table as table
 use Rattle.dfu_host.specs.Host.{HostState}
-
--- What of the bytes in memory is kept when a part is asked for: before the first part nothing is.
-abbrev pub kept_at : ℕ → List ℕ → List ℕ
-kept_at zero memory = []
-kept_at (suc k) memory = memory
-
--- The phase that a phase of the code is, with these bytes in memory.
-abbrev pub phase_of : List ℕ → Phase → table.Phase
-phase_of memory phase.Find = table.Find
-phase_of memory phase.FindAgain = table.FindAgain
-phase_of memory phase.Detach = table.Detach
-phase_of memory phase.Enter = table.Enter
-phase_of memory phase.Clear = table.Clear
-phase_of memory phase.Quit = table.Quit
-phase_of memory (phase.WaitFind poll) = table.WaitFind poll
-phase_of memory phase.ResetFind = table.ResetFind
-phase_of memory (phase.Block n) = table.Block n
-phase_of memory (phase.Ask n) = table.Ask n
-phase_of memory (phase.Poll n) = table.Poll n
-phase_of memory (phase.WaitPoll n poll) = table.WaitPoll n poll
-phase_of memory phase.Close = table.Close
-phase_of memory phase.AskLast = table.AskLast
-phase_of memory phase.Manifest = table.Manifest
-phase_of memory (phase.WaitManifest poll) = table.WaitManifest poll
-phase_of memory (phase.WaitLast poll) = table.WaitLast poll
-phase_of memory phase.Trouble = table.Trouble
-phase_of memory (phase.Last report) = table.Last report
-phase_of memory (phase.Fetch k) = table.Fetch k (kept_at k memory)
-phase_of memory phase.LastUploaded = table.LastUploaded memory
-phase_of memory (phase.Compare k) = table.Compare k
-phase_of memory phase.GiveUp = table.GiveUp
-phase_of memory (phase.Over report) = table.Over report
-phase_of memory phase.OverUploaded = table.OverUploaded memory
-
--- What a phase needs of its task: a block that there is, a payload to close, or an image to fetch, of which the parts 0 to 65,534 are
--- asked for, as they are of one that is compared, or nothing.
-abbrev pub IsWithin : Task → Phase → Type 0
-IsWithin t phase.Find = Unit {0}
-IsWithin t phase.FindAgain = Unit {0}
-IsWithin t phase.Detach = Unit {0}
-IsWithin t phase.Enter = Unit {0}
-IsWithin t phase.Clear = Unit {0}
-IsWithin t phase.Quit = Unit {0}
-IsWithin t (phase.WaitFind poll) = Unit {0}
-IsWithin t phase.ResetFind = Unit {0}
-IsWithin t (phase.Block n) = n * t.transfer < length (payload_of t.goal)
-IsWithin t (phase.Ask n) = n * t.transfer < length (payload_of t.goal)
-IsWithin t (phase.Poll n) = n * t.transfer < length (payload_of t.goal)
-IsWithin t (phase.WaitPoll n poll) = n * t.transfer < length (payload_of t.goal)
-IsWithin t phase.Close = 0 < length (payload_of t.goal)
-IsWithin t phase.AskLast = 0 < length (payload_of t.goal)
-IsWithin t phase.Manifest = Unit {0}
-IsWithin t (phase.WaitManifest poll) = Unit {0}
-IsWithin t (phase.WaitLast poll) = Unit {0}
-IsWithin t phase.Trouble = Unit {0}
-IsWithin t (phase.Fetch k) = IsFetch t.goal × (k < 65535)
-IsWithin t phase.LastUploaded = Unit {0}
-IsWithin t (phase.Compare k) = k < 65535
-IsWithin t (phase.Last report) = Unit {0}
-IsWithin t phase.GiveUp = Unit {0}
-IsWithin t (phase.Over report) = Unit {0}
-IsWithin t phase.OverUploaded = Unit {0}
 
 -- What the code heard, where the part that came has these bytes.
 abbrev pub heard_of : (part : List ℕ) → Heard → table.Heard
@@ -117,6 +55,15 @@ state_with memory t p = record {
   restarts = p.restarts;
 }
 
--- A host, of its task and how far it has come.
-abbrev pub state_of : Task → Progress → HostState
-state_of t p = state_with (memory_of t.goal) t p
+-- The parts of a session: its task and how far it has come.
+abbrev pub parts_of : Task → Progress → Parts
+parts_of t p = record {
+  goal = t.goal;
+  transfer = t.transfer;
+  tolerant = t.tolerant;
+  will_detach = t.will_detach;
+  detach_ms = t.detach_ms;
+  phase = p.phase;
+  actions = p.actions;
+  restarts = p.restarts;
+}

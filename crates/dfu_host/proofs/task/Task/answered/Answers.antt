@@ -1,4 +1,6 @@
-use Rattle.dfu_host.proofs.Parts.{reads_part}
+use Rattle.std.proofs.Common.{subst}
+use Rattle.dfu_host.specs.InParts.{IsWithin}
+use Rattle.dfu_host.proofs.ImageParts.{reads_part}
 use Rattle.dfu_host.proofs.task.Task.answered.Goals as goal
 
 pub returns-in-Find-clause-room : goal.returns-in-Find-clause-room
@@ -8,6 +10,7 @@ pub returns-in-Ask-clause-room : goal.returns-in-Ask-clause-room
 returns-in-Ask-clause-room c = c.state_in.ensures.room c.args.self.now c.args.phase c.args.bytes.now
 
 pub returns-in-Fetch-clause-hears : goal.returns-in-Fetch-clause-hears
-returns-in-Fetch-clause-hears c =
-    rw c.in-Fetch.is (reads_part c.args.self.now c.in-Fetch.number c.args.bytes.now c.keep.result c.keep.ensures.within.1
-    c.keep.ensures.heard c.keep.ensures.room)
+returns-in-Fetch-clause-hears c = λ memory.
+    rw c.in-Fetch.is (reads_part c.args.self.now c.in-Fetch.number c.args.bytes.now c.received.result
+    (subst (IsWithin c.args.self.now.goal c.args.self.now.transfer) c.in-Fetch.is c.requires).1
+    c.received.ensures.heard c.received.ensures.room)

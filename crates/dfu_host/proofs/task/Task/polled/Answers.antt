@@ -1,5 +1,5 @@
 use Rattle.std.proofs.Common.{suc, ◌==◌, ap, sym, ◌∙◌, length}
-use Rattle.dfu_host.specs.inside.Goals.{payload_of}
+use Rattle.dfu_host.specs.Goals.{payload_of}
 use Rattle.dfu_host.proofs.Counts.{next_starts, pieces_are}
 use Rattle.dfu_host.proofs.task.Task.polled.Goals as goal
 

@@ -5,9 +5,9 @@ use Rattle.dfu_host.specs.declared.phase.Phase.TheVariants as phase
 use Rattle.dfu_host.specs.declared.heard.Heard.{Heard}
 use Rattle.dfu_host.specs.declared.heard.Heard.TheVariants as heard
 use Rattle.dfu_host.specs.declared.task.Task.{Task}
-use Rattle.dfu_host.specs.inside.Goals.{IsFetch}
+use Rattle.dfu_host.specs.Goals.{IsFetch}
 use Rattle.dfu_host.specs.Wire.{is_kept, NeedsRoom}
-use Rattle.dfu_host.specs.inside.View.{kept_at}
+use Rattle.dfu_host.specs.InParts.{kept_at}
 
 -- A part as it was heard: of its length, and where it is kept it joined what was kept by then.
 pub record Joined (t k : ℕ) (memory part : List ℕ) (heard : ℕ) (memory' : List ℕ) : Type 0 where

@@ -1,0 +1,17 @@
+use Rattle.std.proofs.Common.{List, ℕ, subst}
+use Rattle.dfu_host.specs.declared.parts.Parts.{Parts}
+use Rattle.dfu_host.specs.Goals.{payload_of}
+use Rattle.dfu_host.specs.Host.{Act}
+use Rattle.dfu_host.specs.InParts.{IsCut, begins_at, host_of}
+use Rattle.dfu_host.proofs.Budget.{act_done}
+use Rattle.dfu_host.proofs.session.Session.next.Goals as goal
+
+pub returns : goal.returns
+returns c =
+    let act : (memory : List ℕ) → Act (host_of memory c.args.self.now) c.action.result =
+    λ memory. rw (← c.self.view_is) (c.action.ensures.spells memory) in
+    record {
+      act = act;
+      done = λ memory. act_done (host_of memory c.args.self.now) c.action.result (act memory);
+      cut = subst (λ (p : Parts). IsCut (payload_of p.goal) (begins_at p.transfer p.phase) c.action.result) c.self.view_is c.action.ensures.cut;
+    }

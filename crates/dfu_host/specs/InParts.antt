@@ -1,0 +1,107 @@
+-- A session of the code as its parts, and the host that they are with what is kept of an upload.
+use Rattle.std.specs.Prelude.{◌≡◌, ℕ, zero, suc, ◌*◌, ◌<◌, List, [], length, take, drop}
+use Rattle.dfu_host.specs.declared.goal.Goal.{Goal}
+use Rattle.dfu_host.specs.declared.phase.Phase.{Phase}
+use Rattle.dfu_host.specs.declared.phase.Phase.TheVariants as phase
+use Rattle.dfu_host.specs.declared.parts.Parts.{Parts}
+use Rattle.dfu_host.specs.declared.action.Action.{Action}
+use Rattle.dfu_host.specs.declared.action.Action.TheVariants as action
+use Rattle.dfu_host.specs.Goals.{goal_of, payload_of, size_of, IsFetch}
+use Rattle.dfu_host.specs.Table as table
+use Rattle.dfu_host.specs.Host.{HostState}
+
+-- What of the bytes in memory is kept when a part is asked for: before the first part nothing is.
+abbrev pub kept_at : ℕ → List ℕ → List ℕ
+kept_at zero memory = []
+kept_at (suc k) memory = memory
+
+-- The phase that a phase of the code is, with these bytes in memory.
+abbrev pub phase_of : List ℕ → Phase → table.Phase
+phase_of memory phase.Find = table.Find
+phase_of memory phase.FindAgain = table.FindAgain
+phase_of memory phase.Detach = table.Detach
+phase_of memory phase.Enter = table.Enter
+phase_of memory phase.Clear = table.Clear
+phase_of memory phase.Quit = table.Quit
+phase_of memory (phase.WaitFind poll) = table.WaitFind poll
+phase_of memory phase.ResetFind = table.ResetFind
+phase_of memory (phase.Block n) = table.Block n
+phase_of memory (phase.Ask n) = table.Ask n
+phase_of memory (phase.Poll n) = table.Poll n
+phase_of memory (phase.WaitPoll n poll) = table.WaitPoll n poll
+phase_of memory phase.Close = table.Close
+phase_of memory phase.AskLast = table.AskLast
+phase_of memory phase.Manifest = table.Manifest
+phase_of memory (phase.WaitManifest poll) = table.WaitManifest poll
+phase_of memory (phase.WaitLast poll) = table.WaitLast poll
+phase_of memory phase.Trouble = table.Trouble
+phase_of memory (phase.Last report) = table.Last report
+phase_of memory (phase.Fetch k) = table.Fetch k (kept_at k memory)
+phase_of memory phase.LastUploaded = table.LastUploaded memory
+phase_of memory (phase.Compare k) = table.Compare k
+phase_of memory phase.GiveUp = table.GiveUp
+phase_of memory (phase.Over report) = table.Over report
+phase_of memory phase.OverUploaded = table.OverUploaded memory
+
+-- What a phase needs of a session: a block that there is, a payload to close, or an image to fetch, of which the parts 0 to 65,534 are
+-- asked for, as they are of one that is compared, or nothing.
+abbrev pub IsWithin : Goal → (transfer : ℕ) → Phase → Type 0
+IsWithin goal t phase.Find = Unit {0}
+IsWithin goal t phase.FindAgain = Unit {0}
+IsWithin goal t phase.Detach = Unit {0}
+IsWithin goal t phase.Enter = Unit {0}
+IsWithin goal t phase.Clear = Unit {0}
+IsWithin goal t phase.Quit = Unit {0}
+IsWithin goal t (phase.WaitFind poll) = Unit {0}
+IsWithin goal t phase.ResetFind = Unit {0}
+IsWithin goal t (phase.Block n) = n * t < length (payload_of goal)
+IsWithin goal t (phase.Ask n) = n * t < length (payload_of goal)
+IsWithin goal t (phase.Poll n) = n * t < length (payload_of goal)
+IsWithin goal t (phase.WaitPoll n poll) = n * t < length (payload_of goal)
+IsWithin goal t phase.Close = 0 < length (payload_of goal)
+IsWithin goal t phase.AskLast = 0 < length (payload_of goal)
+IsWithin goal t phase.Manifest = Unit {0}
+IsWithin goal t (phase.WaitManifest poll) = Unit {0}
+IsWithin goal t (phase.WaitLast poll) = Unit {0}
+IsWithin goal t phase.Trouble = Unit {0}
+IsWithin goal t (phase.Fetch k) = IsFetch goal × (k < 65535)
+IsWithin goal t phase.LastUploaded = Unit {0}
+IsWithin goal t (phase.Compare k) = k < 65535
+IsWithin goal t (phase.Last report) = Unit {0}
+IsWithin goal t phase.GiveUp = Unit {0}
+IsWithin goal t (phase.Over report) = Unit {0}
+IsWithin goal t phase.OverUploaded = Unit {0}
+
+-- Parts are those of a session where there is something to do, blocks have room for a byte, and the phase has what it needs.
+pub record IsSession (p : Parts) : Type 0 where
+  pub some : 0 < size_of p.goal
+  pub transfers : 0 < p.transfer
+  pub within : IsWithin p.goal p.transfer p.phase
+
+-- The host of a session's parts, with these bytes in memory.
+abbrev pub host_of : List ℕ → Parts → HostState
+host_of memory p = record {
+  task = record {
+    goal = goal_of p.goal;
+    transfer = p.transfer;
+    tolerant = p.tolerant;
+    will_detach = p.will_detach;
+    detach_ms = p.detach_ms;
+  };
+  phase = phase_of memory p.phase;
+  actions = p.actions;
+  restarts = p.restarts;
+}
+
+-- Where in the payload the body begins that goes with a phase's request: at the block's first byte. All other requests have no body, and
+-- it counts as 0.
+abbrev pub begins_at : (t : ℕ) → Phase → ℕ
+begins_at t (phase.Block n) = n * t
+begins_at t other = 0
+
+-- What is sent by a session goes with a body that is the payload from there on, as far as the body goes.
+abbrev pub IsCut : (payload : List ℕ) (from : ℕ) → Action → Type 0
+IsCut payload from (action.Send setup body) = body.now ≡ take (length body.now) (drop from payload)
+IsCut payload from (action.Wait ms) = Unit {0}
+IsCut payload from action.Reset = Unit {0}
+IsCut payload from (action.Done report) = Unit {0}

@@ -1,0 +1,13 @@
+-- What a call of `take` does, whoever keeps what an upload fetched.
+use Rattle.std.specs.Prelude.{◌≡◌, ◌-◌, ◌≤◌}
+use Rattle.dfu_host.specs.declared.seen.Seen.{Seen}
+use Rattle.dfu_host.specs.Host.{HostState, HostRow, IsOver}
+use Rattle.dfu_host.specs.Budget.{takes_left}
+use Rattle.dfu_host.specs.Uploading.{TakesPart}
+
+-- A host is told what was seen: a row of the table, within the budget; one that is done stays as it is, and a part is taken as that.
+pub record Takes (h : HostState) (seen : Seen) (h' : HostState) : Type 0 where
+  pub row : HostRow h seen h'
+  pub budget : takes_left h' ≤ takes_left h - 1
+  pub over : IsOver h.phase → h' ≡ h
+  pub part : TakesPart h h.phase seen h'

@@ -1,0 +1,9 @@
+-- What a host of the code has in memory.
+use Rattle.std.specs.Prelude.{ℕ, List, []}
+use Rattle.dfu_host.specs.declared.memory.Memory.{Memory}
+use Rattle.dfu_host.specs.declared.memory.Memory.TheVariants as memory
+
+-- The bytes in a host's memory.
+abbrev pub bytes_of : Memory → List ℕ
+bytes_of memory.Nothing = []
+bytes_of (memory.Bytes bytes) = bytes.items

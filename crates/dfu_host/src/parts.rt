@@ -1,0 +1,79 @@
+//! A session taken apart.
+
+ghost use Rattle.std.specs.Prelude.{◌≡◌, ◌*◌, ◌<◌, IsTrue, false, length};
+ghost use Rattle.dfu_host.specs.Goals.{payload_of, size_of};
+ghost use Rattle.dfu_host.specs.InParts.{IsSession, IsWithin};
+
+use crate::fetching::MOST_PARTS;
+use crate::goal::Goal;
+use crate::phase::Phase;
+
+/// A session taken apart: plain values, which a caller may keep between two calls.
+#[derive(Clone, Copy)]
+pub struct Parts<'f> {
+    /// What the session is for.
+    pub goal: Goal<'f>,
+    /// The most bytes of a block, 1 to 65,535.
+    pub transfer: u16,
+    /// The descriptor's bitManifestationTolerant.
+    pub tolerant: bool,
+    /// The descriptor's bitWillDetach.
+    pub will_detach: bool,
+    /// The descriptor's wDetachTimeOut, in milliseconds.
+    pub detach_ms: u16,
+    /// Where it stands.
+    pub phase: Phase,
+    /// The actions that are left.
+    pub actions: u32,
+    /// The restarts of the device that are still taken.
+    pub restarts: u16,
+}
+
+impl Parts<'_> {
+    /// Whether these are the parts of a session.
+    pub(crate) fn is_session(&self) -> bool
+        ensures yes { IsTrue result → IsSession self.now }
+        ensures no { result ≡ false → IsSession self.now → ⊥ }
+    {
+        self.transfer > 0 && self.has_some() && self.is_within()
+    }
+
+    /// Whether there is something to do.
+    fn has_some(&self) -> bool
+        ensures yes { IsTrue result → 0 < size_of self.now.goal }
+        ensures no { result ≡ false → 0 < size_of self.now.goal → ⊥ }
+    {
+        match &self.goal {
+            Goal::Load(payload) | Goal::Verify(payload) | Goal::Compare(payload) => {
+                !payload.is_empty()
+            }
+            Goal::Fetch => true,
+        }
+    }
+
+    /// Whether the phase has what it needs.
+    fn is_within(&self) -> bool
+        ensures yes { IsTrue result → IsWithin self.now.goal self.now.transfer self.now.phase }
+        ensures no { result ≡ false → IsWithin self.now.goal self.now.transfer self.now.phase → ⊥ }
+    {
+        match self.phase {
+            Phase::Block(number) => self.has_block(number),
+            Phase::Ask(number) => self.has_block(number),
+            Phase::Poll(number) => self.has_block(number),
+            Phase::WaitPoll(number, _) => self.has_block(number),
+            Phase::Close => self.has_block(0),
+            Phase::AskLast => self.has_block(0),
+            Phase::Fetch(number) => self.goal.is_fetch() && number < MOST_PARTS,
+            Phase::Compare(number) => number < MOST_PARTS,
+            _ => true,
+        }
+    }
+
+    /// Whether the payload has a block with this number.
+    fn has_block(&self, number: usize) -> bool
+        ensures yes { IsTrue result → number * self.now.transfer < length (payload_of self.now.goal) }
+        ensures no { result ≡ false → number * self.now.transfer < length (payload_of self.now.goal) → ⊥ }
+    {
+        number.saturating_mul(self.transfer as usize) < self.goal.payload().len()
+    }
+}

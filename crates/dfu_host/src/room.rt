@@ -1,0 +1,79 @@
+//! What an upload keeps, in a caller's room.
+
+ghost use Rattle.std.specs.Prelude.{◌≡◌, ◌+◌, ◌<◌, ◌≤◌, ◌++◌, IfSome, None, drop, false, length, take, true, List, ℕ};
+ghost use Rattle.dfu_host.specs.InParts.{host_of, kept_at};
+ghost use Rattle.dfu_host.specs.Keeping.{Kept};
+ghost use Rattle.dfu_host.specs.Taking.{Takes};
+ghost use Rattle.dfu_host.specs.Goals.{Carries};
+ghost use Rattle.std.specs.Borrow.{Bor};
+
+use crate::part::Part;
+use crate::seen::Seen;
+use crate::session::Session;
+
+impl Session<'_> {
+    /// Tells the session what came of its action, as [`crate::Host::take`], and says how many bytes
+    /// of the caller's room are kept then. The first `kept` bytes of it are what is kept by now; a
+    /// download keeps none, and needs no room.
+    ///
+    /// A part of an upload is kept in the room behind those. Where it finds no room there nothing is
+    /// stored, and the session ends with the report NoMemory.
+    pub fn take(&mut self, room: &mut [u8], kept: usize, seen: Seen<'_>) -> usize
+        requires { kept ≤ length room.old }
+        ensures takes { Takes (host_of (take kept room.old) self.old) seen.entry (host_of (take result room.new) self.new) }
+        ensures payload { (payload : Bor (List ℕ)) → Carries payload self.old.goal → Carries payload self.new.goal }
+        ensures within { result ≤ length room.new }
+        ensures len { length room.new ≡ length room.old }
+        ensures beyond { drop result room.new ≡ drop result room.old }
+    {
+        match keep(self, room, kept, seen) {
+            Some(kept) => {
+                self.told(seen, false);
+                kept
+            }
+            None => {
+                self.told(seen, true);
+                kept
+            }
+        }
+    }
+}
+
+/// Keeps the part of what a session sees, and says how many bytes are kept then. Where it finds no
+/// room nothing changes.
+fn keep(session: &Session<'_>, room: &mut [u8], kept: usize, seen: Seen<'_>) -> Option<usize>
+    requires { kept ≤ length room.old }
+    ensures some { IfSome result (λ n. Kept session.now.transfer session.now.phase seen.entry false (take kept room.old) (take n room.new)) }
+    ensures none { result ≡ None → Kept session.now.transfer session.now.phase seen.entry true (take kept room.old) (take kept room.old) }
+    ensures len { length room.new ≡ length room.old }
+    ensures fits { IfSome result (λ n. n ≤ length room.old) }
+    ensures beyond { IfSome result (λ n. drop n room.new ≡ drop n room.old) }
+    ensures same { result ≡ None → room.new ≡ room.old }
+{
+    match session.part(seen) {
+        Some(part) => store(room, kept, &part),
+        None => Some(kept),
+    }
+}
+
+/// Stores a part behind the bytes that are kept, of which there are `kept`, and says how many are
+/// kept then. Where it finds no room nothing changes.
+#[tactic(auto, using(std::proofs::lemmas::Slice::overwrites))]
+fn store(room: &mut [u8], kept: usize, part: &Part<'_>) -> Option<usize>
+    requires { kept ≤ length room.old }
+    ensures len { length room.new ≡ length room.old }
+    ensures fits { IfSome result (λ n. n ≤ length room.old) }
+    ensures joins { IfSome result (λ n. take n room.new ≡ kept_at part.now.number (take kept room.old) ++ part.now.bytes.now) }
+    ensures beyond { IfSome result (λ n. drop n room.new ≡ drop n room.old) }
+    ensures some { result ≡ None → 0 < length part.now.bytes.now }
+    ensures same { result ≡ None → room.new ≡ room.old }
+    ensures full { result ≡ None → length room.old < length (kept_at part.now.number (take kept room.old)) + length part.now.bytes.now }
+{
+    let from = if part.number == 0 { 0 } else { kept };
+    if room.len() - from < part.bytes.len() {
+        return None;
+    }
+    let to = from + part.bytes.len();
+    room[from..to].copy_from_slice(part.bytes);
+    Some(to)
+}

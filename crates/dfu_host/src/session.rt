@@ -1,0 +1,214 @@
+//! A host without memory of its own.
+
+ghost use Rattle.std.specs.Prelude.{◌≡◌, ◌↔◌, ◌<◌, ◌≤◌, ◌-◌, Bool, true, false, Err, IfOk, IfSome, IsTrue, List, None, Some, ℕ, length};
+ghost use Rattle.std.specs.Borrow.{Bor};
+
+use crate::action::Action;
+use crate::fault::HostFault;
+use crate::goal::Goal;
+use crate::limits::Limits;
+use crate::part::Part;
+use crate::parts::Parts;
+use crate::phase::Phase;
+use crate::progress::{Progress, beginning};
+use crate::refusing::{gives_uploads, goal_to_load, goal_to_verify};
+use crate::seen::Seen;
+use crate::task::Task;
+use dfu_suffix::File;
+use dfu_wire::{Functional, Ids};
+use std::marker::Model;
+
+/// A session of a host, for a caller that keeps what an upload fetches itself. It takes no memory
+/// at all.
+///
+/// Contracts see it as its parts. With the bytes that its caller keeps they are a `HostState`, as
+/// [`crate::Host`] is one.
+#[derive(Drop)]
+pub struct Session<'f> {
+    task: Task<'f>,
+    progress: Progress,
+}
+
+impl<'f> Model for Session<'f> {
+    ghost use Rattle.dfu_host.specs.declared.parts.Parts.{Parts};
+    ghost use Rattle.dfu_host.specs.InParts.{IsWithin};
+    ghost use Rattle.dfu_host.specs.inside.View.{parts_of};
+
+    ghost Value = { Parts };
+
+    ghost view = { λ s. parts_of s.task s.progress };
+
+    ghost invariant = { λ s. IsWithin s.task.goal s.task.transfer s.progress.phase };
+}
+
+impl<'f> Session<'f> {
+    ghost use Rattle.dfu_host.specs.Host.{Act, aborted, started};
+    ghost use Rattle.dfu_host.specs.Budget.{is_done, takes_left};
+    ghost use Rattle.dfu_host.specs.Download.{first_download_fault, first_verify_fault};
+    ghost use Rattle.dfu_host.specs.Phases.{ToFetch, ToLoad, ToVerify};
+    ghost use Rattle.dfu_host.specs.Uploading.{first_upload_fault};
+    ghost use Rattle.dfu_host.specs.Goals.{Carries, goal_of, payload_of, size_of};
+    ghost use Rattle.dfu_host.specs.InParts.{IsCut, IsSession, begins_at, host_of};
+    ghost use Rattle.dfu_host.specs.Keeping.{Kept, Stored};
+    ghost use Rattle.dfu_host.specs.Taking.{Takes};
+    ghost use Rattle.dfu_host.specs.declared.fault.HostFault.{HostFault};
+
+    /// A session that is to install a file, as [`crate::Host::download`]; its faults are the same.
+    pub fn download(
+        file: &File<'f>,
+        functional: &Functional,
+        device: Ids,
+        limits: Limits,
+    ) -> Result<Session<'f>, HostFault>
+        ensures refused { (fault : HostFault) → (result ≡ Err fault) ↔ (first_download_fault file.now functional.now device ≡ Some fault) }
+        ensures started { IfOk result (λ s. (memory : List ℕ)
+            → host_of memory s ≡ started functional.now (ToLoad file.now.payload) limits) }
+    {
+        let goal = goal_to_load(file, functional, device)?;
+        Ok(Session::begin(goal, functional, limits))
+    }
+
+    /// A session that is to install a file and to compare it, as [`crate::Host::download_verified`];
+    /// its faults are the same.
+    pub fn download_verified(
+        file: &File<'f>,
+        functional: &Functional,
+        device: Ids,
+        limits: Limits,
+    ) -> Result<Session<'f>, HostFault>
+        ensures refused { (fault : HostFault) → (result ≡ Err fault) ↔ (first_verify_fault file.now functional.now device ≡ Some fault) }
+        ensures started { IfOk result (λ s. (memory : List ℕ)
+            → host_of memory s ≡ started functional.now (ToVerify file.now.payload) limits) }
+    {
+        let goal = goal_to_verify(file, functional, device)?;
+        Ok(Session::begin(goal, functional, limits))
+    }
+
+    /// A session that is to fetch the active image, as [`crate::Host::upload`]; its faults are the
+    /// same.
+    pub fn upload(functional: &Functional, limits: Limits) -> Result<Session<'f>, HostFault>
+        ensures refused { (fault : HostFault) → (result ≡ Err fault) ↔ (first_upload_fault functional.now ≡ Some fault) }
+        ensures started { IfOk result (λ s. (memory : List ℕ) → host_of memory s ≡ started functional.now ToFetch limits) }
+    {
+        gives_uploads(functional)?;
+        Ok(Session::begin(Goal::Fetch, functional, limits))
+    }
+
+    /// A session that begins: its task is this goal, and all else goes by the descriptor and the
+    /// limits.
+    pub(crate) fn begin(goal: Goal<'f>, functional: &Functional, limits: Limits) -> Session<'f>
+        requires some { 0 < size_of goal }
+        requires transfers { 0 < functional.now.transfer }
+        ensures { (memory : List ℕ) → host_of memory result ≡ started functional.now (goal_of goal.entry) limits }
+    {
+        Session {
+            task: Task {
+                goal,
+                transfer: functional.transfer,
+                tolerant: functional.tolerant,
+                will_detach: functional.will_detach,
+                detach_ms: functional.detach_ms,
+            },
+            progress: beginning(limits),
+        }
+    }
+
+    /// The session's parts, which [`Session::from_parts`] puts together again.
+    pub fn parts(&self) -> Parts<'f>
+        ensures parts { result ≡ self.now }
+        ensures sound { IsSession result }
+    {
+        Parts {
+            goal: self.task.goal,
+            transfer: self.task.transfer,
+            tolerant: self.task.tolerant,
+            will_detach: self.task.will_detach,
+            detach_ms: self.task.detach_ms,
+            phase: self.progress.phase,
+            actions: self.progress.actions,
+            restarts: self.progress.restarts,
+        }
+    }
+
+    /// The session of these parts. It is refused exactly where they are no session's: there is
+    /// nothing to do, as with a payload of no bytes; the transfer size is 0; or the phase asks for
+    /// what there isn't, as a block behind the last one.
+    pub fn from_parts(parts: Parts<'f>) -> Option<Session<'f>>
+        ensures some { IfSome result (λ s. s ≡ parts.entry) }
+        ensures refused { (result ≡ None) ↔ (IsSession parts.entry → ⊥) }
+    {
+        if !parts.is_session() {
+            return None;
+        }
+        Some(Session {
+            task: Task {
+                goal: parts.goal,
+                transfer: parts.transfer,
+                tolerant: parts.tolerant,
+                will_detach: parts.will_detach,
+                detach_ms: parts.detach_ms,
+            },
+            progress: Progress {
+                phase: parts.phase,
+                actions: parts.actions,
+                restarts: parts.restarts,
+            },
+        })
+    }
+
+    /// What the session wants done next. It changes nothing, so it may be asked again.
+    pub fn next(&self) -> Action<'f>
+        ensures act { (memory : List ℕ) → Act (host_of memory self.now) result }
+        ensures done { (memory : List ℕ) → IsTrue (is_done result) ↔ (takes_left (host_of memory self.now) ≡ 0) }
+        ensures cut { IsCut (payload_of self.now.goal) (begins_at self.now.transfer self.now.phase) result }
+    {
+        self.task.action(self.progress.phase)
+    }
+
+    /// Where in the payload the body of what `next` sends begins. That body is the payload from
+    /// there on, as far as it goes; where there is none, it is 0.
+    pub fn sends_from(&self) -> usize
+        ensures { result ≡ begins_at self.now.transfer self.now.phase }
+    {
+        match self.progress.phase {
+            Phase::Block(number) => self.task.begins(number),
+            _ => 0,
+        }
+    }
+
+    /// The part of the image that is to be kept of what is seen, before the session is told of it.
+    pub(crate) fn part<'s>(&self, seen: Seen<'s>) -> Option<Part<'s>>
+        ensures some { IfSome result (λ part. (refused : Bool) (memory memory' : List ℕ)
+            → Stored part.number part.bytes.now refused memory memory'
+            → Kept self.now.transfer self.now.phase seen.entry refused memory memory') }
+        ensures none { result ≡ None → (memory : List ℕ) → Kept self.now.transfer self.now.phase seen.entry false memory memory }
+    {
+        match (self.progress.phase, seen) {
+            (Phase::Fetch(number), Seen::Bytes(bytes)) => self.task.part_in(number, bytes),
+            _ => None,
+        }
+    }
+
+    /// Tells the session what came of its action, and whether the part of the image in it, which is
+    /// kept by now, was refused.
+    pub(crate) fn told(&mut self, seen: Seen<'_>, refused: bool)
+        ensures payload { (payload : Bor (List ℕ)) → Carries payload self.old.goal → Carries payload self.new.goal }
+        ensures takes { (memory memory' : List ℕ) → Kept self.old.transfer self.old.phase seen.entry refused memory memory'
+            → Takes (host_of memory self.old) seen.entry (host_of memory' self.new) }
+    {
+        let phase = self.progress.phase;
+        let heard = self.task.hear(phase, seen, refused);
+        self.progress = self.progress.after(&mut self.task, heard);
+    }
+
+    /// Gives the session up, as [`crate::Host::abort`].
+    pub fn abort(&mut self)
+        ensures payload { (payload : Bor (List ℕ)) → Carries payload self.old.goal → Carries payload self.new.goal }
+        ensures given_up { (memory : List ℕ) → host_of memory self.new ≡ aborted (host_of memory self.old) }
+    {
+        match self.progress.phase {
+            Phase::Over(_) | Phase::OverUploaded => {}
+            _ => self.progress.phase = Phase::GiveUp,
+        }
+    }
+}
