@@ -6,7 +6,7 @@ ghost use Rattle.dfu_cmd.specs.AddText.{WritesAdd, wrote_line};
 
 use crate::exit::Exit;
 use crate::faults::fault_text;
-use crate::numbers::field;
+use crate::numbers::{made_field, push};
 use crate::output::write_out;
 use dfu_suffix::{SuffixFault, add};
 use dfu_wire::Ids;
@@ -18,9 +18,8 @@ fn wrote_line(alloc: Global, count: u32) -> Result<String, AllocError>
     ensures { IfOk result (λ t. string_bytes t ≡ wrote_line count) }
 {
     let mut line = String::from_str(alloc, "wrote")?;
-    let count = count.to_string(alloc)?;
-    field(&mut line, " ", &count)?;
-    line.push_str("\n")?;
+    made_field(&mut line, " ", count.to_string(alloc)?)?;
+    push(&mut line, "\n")?;
     Ok(line)
 }
 

@@ -7,7 +7,7 @@ ghost use Rattle.dfu_cmd.specs.CheckText.{WritesCheck};
 
 use crate::exit::Exit;
 use crate::faults::fault_text;
-use crate::numbers::{field, hex4, hex8};
+use crate::numbers::{hex4, hex8, made_field, push};
 use crate::output::write_out;
 use dfu_suffix::{SuffixFault, Summary, check};
 use std::alloc::{AllocError, Global};
@@ -18,21 +18,18 @@ fn ok_line(alloc: Global, summary: &Summary) -> Result<String, AllocError>
     ensures { IfOk result (λ t. string_bytes t ≡ ok_line summary.now) }
 {
     let mut line = String::from_str(alloc, "ok")?;
-    let payload = summary.payload.to_string(alloc)?;
-    let suffix = summary.suffix.to_string(alloc)?;
-    let device = hex4(alloc, summary.ids.device)?;
-    let product = hex4(alloc, summary.ids.product)?;
-    let vendor = hex4(alloc, summary.ids.vendor)?;
-    let dfu = hex4(alloc, summary.dfu)?;
-    let crc = hex8(alloc, summary.crc)?;
-    field(&mut line, " payload ", &payload)?;
-    field(&mut line, " suffix ", &suffix)?;
-    field(&mut line, " device ", &device)?;
-    field(&mut line, " product ", &product)?;
-    field(&mut line, " vendor ", &vendor)?;
-    field(&mut line, " dfu ", &dfu)?;
-    field(&mut line, " crc ", &crc)?;
-    line.push_str("\n")?;
+    made_field(&mut line, " payload ", summary.payload.to_string(alloc)?)?;
+    made_field(
+        &mut line,
+        " suffix ",
+        u32::from(summary.suffix).to_string(alloc)?,
+    )?;
+    made_field(&mut line, " device ", hex4(alloc, summary.ids.device)?)?;
+    made_field(&mut line, " product ", hex4(alloc, summary.ids.product)?)?;
+    made_field(&mut line, " vendor ", hex4(alloc, summary.ids.vendor)?)?;
+    made_field(&mut line, " dfu ", hex4(alloc, summary.dfu)?)?;
+    made_field(&mut line, " crc ", hex8(alloc, summary.crc)?)?;
+    push(&mut line, "\n")?;
     Ok(line)
 }
 

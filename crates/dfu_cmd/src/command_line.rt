@@ -1,4 +1,5 @@
-//! The command line, as clap has it.
+//! The command line, as clap has it. What is called often isn't inlined, which keeps the program
+//! small.
 
 ghost use Rattle.std.specs.Prelude.{◌≡◌, IfOk, false, true};
 ghost use Rattle.clap.specs.Words.{app_of, new_app, rule_of, with_rule, with_subcommand};
@@ -10,6 +11,7 @@ use clap::{Arg, ArgAction, Command};
 use std::alloc::{AllocError, Global};
 
 /// A positional argument that has to be there.
+#[inline(never)]
 fn needed<'a>(alloc: Global, id: &'a str, name: &'a str, help: &'a str) -> Arg<'a>
     ensures rule { rule_of result ≡ needed id.entry.now }
     ensures local { result.global ≡ false }
@@ -22,6 +24,7 @@ fn needed<'a>(alloc: Global, id: &'a str, name: &'a str, help: &'a str) -> Arg<'
 }
 
 /// An option with a value, which has a default.
+#[inline(never)]
 fn option<'a>(alloc: Global, id: &'a str, default: &'a str, help: &'a str) -> Arg<'a>
     ensures rule { rule_of result ≡ option id.entry.now default.entry.now }
     ensures local { result.global ≡ false }
@@ -34,6 +37,7 @@ fn option<'a>(alloc: Global, id: &'a str, default: &'a str, help: &'a str) -> Ar
 }
 
 /// A command with one argument more.
+#[inline(never)]
 fn with<'a>(command: Command<'a>, arg: Arg<'a>) -> Result<Command<'a>, AllocError>
     requires plain { (out-Command command).has_globals ≡ false }
     requires here { arg.global ≡ false }
@@ -44,6 +48,7 @@ fn with<'a>(command: Command<'a>, arg: Arg<'a>) -> Result<Command<'a>, AllocErro
 }
 
 /// A command with one subcommand more.
+#[inline(never)]
 fn with_sub<'a>(command: Command<'a>, sub: Command<'a>) -> Result<Command<'a>, AllocError>
     requires plain { (out-Command command).has_globals ≡ false }
     requires here { (out-Command sub).has_globals ≡ false }
@@ -54,6 +59,7 @@ fn with_sub<'a>(command: Command<'a>, sub: Command<'a>) -> Result<Command<'a>, A
 }
 
 /// A command with no arguments yet.
+#[inline(never)]
 fn described<'a>(alloc: Global, name: &'a str, about: &'a str, example: &'a str) -> Command<'a>
     ensures app { app_of result ≡ new_app name.entry.now }
     ensures local { (out-Command result).has_globals ≡ false }

@@ -5,14 +5,14 @@ use crate::buffering::run_buffered;
 use crate::checking::check_text;
 use crate::exit::Exit;
 use crate::faults::fault_text;
+use crate::given::open;
 use crate::output::write_out;
 use crate::owner::Owned;
 use crate::replacing::Replacement;
-use crate::running::run_text;
 use dfu_suffix::SuffixFault;
 use dfu_wire::Ids;
 use std::fs;
-use std::io::{self, BufWriter, IsTerminal, Read};
+use std::io::{self, BufWriter, IsTerminal, Printer, Read};
 use std::rt::Files;
 
 /// How many bytes the buffer of `run` has. Two writes after one another put out at least so many,
@@ -22,26 +22,30 @@ const BUFFER: usize = 16_384;
 /// Checks a file, or standard input where the name is `-`.
 pub(crate) fn run_check<R: Files + Input + Print + AllocGlobal>(rt: &R, file: &str) -> Exit {
     let mut out = io::writer(rt);
-    if file == "-" {
-        return check_text(rt.alloc(), rt.reader(), &mut out);
-    }
-    match fs::open(rt, file) {
+    match open(rt, file) {
         Ok(reader) => check_text(rt.alloc(), reader, &mut out),
         Err(_error) => fault_text(SuffixFault::Read, &mut out),
     }
 }
 
-/// Runs a script through a buffer, so that it makes few writes. Where the script is typed at a
-/// terminal, what a line prints is out before the next one is waited for, so it goes without one;
-/// and where there is no memory for one.
-fn run_from<R: Print + AllocGlobal, S: Read + IsTerminal + Drop>(rt: &R, script: S) -> Exit {
-    if !script.is_terminal() {
-        if let Ok(buffer) = BufWriter::with_capacity(rt.alloc(), BUFFER, io::writer(rt)) {
-            let (exit, _) = run_buffered(rt.alloc(), script, buffer);
-            return exit;
-        }
+/// A buffer in front of the output: with this room, or where there is no memory for that, with none,
+/// so that each text goes through at once.
+fn buffer_of<R: Print + AllocGlobal>(rt: &R, room: usize) -> BufWriter<Printer<'_, R>> {
+    if let Ok(buffer) = BufWriter::with_capacity(rt.alloc(), room, io::writer(rt)) {
+        return buffer;
     }
-    run_text(rt.alloc(), script, &mut io::writer(rt))
+    let Ok(buffer) = BufWriter::with_capacity(rt.alloc(), 0, io::writer(rt)) else {
+        unreachable!()
+    };
+    buffer
+}
+
+/// Runs a script through a buffer, so that it makes few writes. Where the script is typed at a
+/// terminal, what a line prints is out before the next one is waited for, so the buffer has no room.
+fn run_from<R: Print + AllocGlobal, S: Read + IsTerminal + Drop>(rt: &R, script: S) -> Exit {
+    let room = if script.is_terminal() { 0 } else { BUFFER };
+    let (exit, _) = run_buffered(rt.alloc(), script, buffer_of(rt, room));
+    exit
 }
 
 /// Runs a script, or that of standard input where the name is `-`.
@@ -50,10 +54,7 @@ where
     R::File: IsTerminal,
     R::Reader: IsTerminal,
 {
-    if script == "-" {
-        return run_from(rt, rt.reader());
-    }
-    match fs::open(rt, script) {
+    match open(rt, script) {
         Ok(reader) => run_from(rt, reader),
         Err(_error) => fault_text(SuffixFault::Read, &mut io::writer(rt)),
     }

@@ -9,6 +9,7 @@ mod command_line;
 mod exit;
 mod faults;
 mod files;
+mod given;
 mod help;
 mod identifiers;
 mod numbers;
@@ -45,13 +46,13 @@ pub use words::job;
 mod tests;
 
 /// Does a job.
-fn perform<R: Files + Input + Print + AllocGlobal>(rt: &R, job: Job) -> Exit
+fn perform<R: Files + Input + Print + AllocGlobal>(rt: &R, job: &Job) -> Exit
 where
     R::File: Owned + IsTerminal,
     R::Reader: IsTerminal,
 {
     match job {
-        Job::Check { file } => run_check(rt, &file),
+        Job::Check { file } => run_check(rt, file),
         Job::Add {
             file,
             to,
@@ -60,17 +61,17 @@ where
             did,
         } => {
             let texts = IdTexts {
-                vendor: &vid,
-                product: &pid,
-                device: &did,
+                vendor: vid,
+                product: pid,
+                device: did,
             };
             match ids_said(&texts) {
-                Some(ids) => run_add(rt, &file, &to, ids),
+                Some(ids) => run_add(rt, file, to, ids),
                 None => bad_words(&mut io::writer(rt)),
             }
         }
-        Job::Show { kind, hex } => show_text(rt.alloc(), &kind, &hex, &mut io::writer(rt)),
-        Job::Run { script } => run_script(rt, &script),
+        Job::Show { kind, hex } => show_text(rt.alloc(), kind, hex, &mut io::writer(rt)),
+        Job::Run { script } => run_script(rt, script),
     }
 }
 
@@ -89,7 +90,7 @@ where
     R::Reader: IsTerminal,
 {
     match job(rt.alloc(), words) {
-        Ok(job) => perform(rt, job).status(),
+        Ok(job) => perform(rt, &job).status(),
         Err(fault) => match fault {
             JobFault::Words(error) => explain(rt, &error),
             JobFault::NoMemory => no_memory(rt).status(),
@@ -103,7 +104,10 @@ fn no_memory<R: Print>(rt: &R) -> Exit {
 
 /// The words of the command line.
 fn words_of(rt: &HostRuntime) -> io::Result<Vec<String>> {
-    let words = std::env::args(rt)?.collect(rt.alloc())?;
+    let mut words = Vec::new(rt.alloc());
+    for word in std::env::args(rt)? {
+        words.push(word)?;
+    }
     Ok(words)
 }
 

@@ -1,4 +1,4 @@
-//! Numbers and labels of a line.
+//! Numbers and labels of a line. What is called often isn't inlined, which keeps the program small.
 
 ghost use Rattle.std.specs.Prelude.{◌≡◌, ◌++◌, IfOk, OnOk};
 ghost use Rattle.std.specs.String.{string_bytes};
@@ -20,10 +20,27 @@ pub(crate) fn hex8(alloc: Global, n: u32) -> Result<String, AllocError>
     format!(in alloc; "{n:08x}")
 }
 
+/// Adds a text to a line.
+#[inline(never)]
+pub(crate) fn push(line: &mut String, text: &str) -> Result<(), AllocError>
+    ensures { OnOk result (string_bytes line.new ≡ string_bytes line.old ++ text.now) }
+{
+    line.push_str(text)
+}
+
 /// Adds a label and a value to a line.
+#[inline(never)]
 pub(crate) fn field(line: &mut String, label: &str, value: &str) -> Result<(), AllocError>
     ensures { OnOk result (string_bytes line.new ≡ string_bytes line.old ++ (label.now ++ value.now)) }
 {
-    line.push_str(label)?;
-    line.push_str(value)
+    push(line, label)?;
+    push(line, value)
+}
+
+/// Adds a label and a value that was made for it to a line.
+#[inline(never)]
+pub(crate) fn made_field(line: &mut String, label: &str, value: String) -> Result<(), AllocError>
+    ensures { OnOk result (string_bytes line.new ≡ string_bytes line.old ++ (label.now ++ string_bytes value)) }
+{
+    field(line, label, &value)
 }

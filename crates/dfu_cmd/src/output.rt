@@ -7,6 +7,8 @@ use dfu_suffix::write_whole;
 use std::io::Write;
 
 /// Writes a text whole, and then ends as `exit` says; where the writer fails, with Fault.
+// Many commands call it: once in the program is enough.
+#[inline(never)]
 pub(crate) fn write_out<W: Write>(writer: &mut W, text: &[u8], exit: Exit) -> Exit
     ensures { Wrote (W.contents writer.old) (W.contents writer.new) text.now exit result }
 {

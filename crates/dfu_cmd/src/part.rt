@@ -1,7 +1,9 @@
 //! A new file beside the one that it is to replace.
 
+use crate::numbers::push;
 use crate::owner::Owned;
 use crate::place::{Place, beside, place_of};
+use std::alloc::{AllocError, Global};
 use std::fs::{self, Metadata, OpenFile, OpenOptions, Permissions};
 use std::io::{self, ErrorKind};
 use std::os::unix::fs::{MetadataExt, OpenOptionsExt, PermissionsExt};
@@ -27,13 +29,19 @@ fn first_rights(place: &Place) -> u32 {
     }
 }
 
+/// The name of a part for the file with this name.
+fn part_name(alloc: Global, name: &str, number: u32) -> Result<String, AllocError> {
+    let mut part = beside(alloc, name, ".dfu-part-")?;
+    push(&mut part, &number.to_string(alloc)?)?;
+    Ok(part)
+}
+
 /// Makes a file that wasn't there.
 fn new_part<R: Files + AllocGlobal>(rt: &R, place: Place) -> io::Result<Part<R::File>> {
     let mut how = OpenOptions::new();
     how.write(true).create_new(true).mode(first_rights(&place));
     for number in 0..MAX_PARTS {
-        let part = format!(in rt.alloc(); ".dfu-part-{number}")?;
-        let name = beside(rt.alloc(), &place.name, &part)?;
+        let name = part_name(rt.alloc(), &place.name, number)?;
         match how.open(rt, name.as_str()) {
             Ok(file) => return Ok(Part { name, place, file }),
             Err(error) => {

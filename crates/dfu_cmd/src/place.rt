@@ -1,5 +1,6 @@
 //! Where OUT leads: the file that is to be made or replaced.
 
+use crate::numbers::{field, push};
 use std::alloc::{AllocError, Global};
 use std::fs::{self, Metadata};
 use std::io::{self, ErrorKind};
@@ -19,10 +20,12 @@ pub(crate) struct Place {
 
 /// The name of another file in the folder of the one with this name.
 pub(crate) fn beside(alloc: Global, name: &str, other: &str) -> Result<String, AllocError> {
-    match name.rsplit_once('/') {
-        Some((folder, _)) => format!(in alloc; "{folder}/{other}"),
-        None => String::from_str(alloc, other),
+    let mut text = String::new(alloc);
+    if let Some((folder, _)) = name.rsplit_once('/') {
+        field(&mut text, folder, "/")?;
     }
+    push(&mut text, other)?;
+    Ok(text)
 }
 
 /// What a look found; nothing is no fault.

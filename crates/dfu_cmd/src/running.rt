@@ -7,6 +7,7 @@ ghost use Rattle.dfu_cmd.specs.RunText.{WritesNumber, WritesStop, WritesRun, Wri
 
 use crate::exit::Exit;
 use crate::faults::fault_text;
+use crate::numbers::field;
 use crate::output::write_out;
 use dfu_link::{ScriptFault, script};
 use dfu_suffix::SuffixFault;
@@ -19,8 +20,7 @@ fn numbered(alloc: Global, text: &str, number: u32) -> Result<String, AllocError
 {
     let mut line = String::from_str(alloc, text)?;
     let digits = number.to_string(alloc)?;
-    line.push_str(&digits)?;
-    line.push_str("\n")?;
+    field(&mut line, &digits, "\n")?;
     Ok(line)
 }
 

@@ -5,7 +5,7 @@ ghost use Rattle.std.specs.String.{string_bytes};
 ghost use Rattle.dfu_cmd.specs.ShowLines.{bad_hex_line, functional_line, status_line, wire_line, yes_no};
 
 use crate::faults::fault_line;
-use crate::numbers::{field, hex4};
+use crate::numbers::{field, hex4, made_field, push};
 use dfu_suffix::SuffixFault;
 use dfu_wire::{Functional, Status, WireFault};
 use hex::FromHexError;
@@ -23,17 +23,22 @@ pub(crate) fn functional_line(alloc: Global, f: &Functional) -> Result<String, A
     ensures { IfOk result (λ t. string_bytes t ≡ functional_line f.now) }
 {
     let mut line = String::from_str(alloc, "functional")?;
-    let detach = f.detach_ms.to_string(alloc)?;
-    let transfer = f.transfer.to_string(alloc)?;
-    let version = hex4(alloc, f.version)?;
     flag(&mut line, " download ", f.can_download)?;
     flag(&mut line, " upload ", f.can_upload)?;
     flag(&mut line, " tolerant ", f.tolerant)?;
     flag(&mut line, " will-detach ", f.will_detach)?;
-    field(&mut line, " detach ", &detach)?;
-    field(&mut line, " transfer ", &transfer)?;
-    field(&mut line, " version ", &version)?;
-    line.push_str("\n")?;
+    made_field(
+        &mut line,
+        " detach ",
+        u32::from(f.detach_ms).to_string(alloc)?,
+    )?;
+    made_field(
+        &mut line,
+        " transfer ",
+        u32::from(f.transfer).to_string(alloc)?,
+    )?;
+    made_field(&mut line, " version ", hex4(alloc, f.version)?)?;
+    push(&mut line, "\n")?;
     Ok(line)
 }
 
@@ -42,13 +47,11 @@ pub(crate) fn status_line(alloc: Global, status: &Status, string: u8) -> Result<
     ensures { IfOk result (λ t. string_bytes t ≡ status_line status.now string) }
 {
     let mut line = String::from_str(alloc, "status")?;
-    let poll = status.poll_ms().to_string(alloc)?;
-    let string = string.to_string(alloc)?;
     field(&mut line, " ", status.code().name())?;
-    field(&mut line, " poll ", &poll)?;
+    made_field(&mut line, " poll ", status.poll_ms().to_string(alloc)?)?;
     field(&mut line, " state ", status.state().name())?;
-    field(&mut line, " string ", &string)?;
-    line.push_str("\n")?;
+    made_field(&mut line, " string ", u32::from(string).to_string(alloc)?)?;
+    push(&mut line, "\n")?;
     Ok(line)
 }
 

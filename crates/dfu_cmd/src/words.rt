@@ -14,6 +14,8 @@ use clap::error::ErrorKind;
 use std::alloc::Global;
 
 /// The text of an argument.
+// Nine calls have it: once in the program is enough.
+#[inline(never)]
 fn text_of(alloc: Global, found: &ArgMatches<'_>, id: &str) -> Result<String, JobFault>
     requires there { is_some (first_of id.now (rows_of (found_of found.now))) ≡ true }
     ensures memory { IfErr result (λ f. f ≡ JobFault.NoMemory) }

@@ -1,4 +1,4 @@
-//! A whole text for a writer.
+//! A whole text for a writer, by a call that isn't inlined: the crates above make it often.
 
 ghost use Rattle.dfu_suffix.specs.Writing.{WritesWhole};
 
@@ -14,6 +14,7 @@ pub struct WriteFault;
 ///
 /// WriteFault at the first error of the writer, with no second try, and where it takes nothing of
 /// what is left.
+#[inline(never)]
 pub fn write_whole<W: Write>(writer: &mut W, text: &[u8]) -> Result<(), WriteFault>
     // At Ok the text is out, and at a fault a front of it, not all of it.
     ensures { WritesWhole (W.contents writer.old) (W.contents writer.new) text.now result }
