@@ -1,0 +1,176 @@
+//! A bootloader: it serves a USB stack until the application is to run, and hands out what to start.
+
+ghost use Rattle.std.specs.Prelude.{◌≡◌, ◌<◌, ◌↔◌, ℕ, length, take, drop, IfOk, IfErr, OnErr, IfSome, None, false};
+ghost use Rattle.dfu_wire.specs.declared.states.State.TheVariants.{AppIdle};
+ghost use Rattle.dfu_slots.specs.Image.{HasImage};
+ghost use Rattle.dfu_slots.specs.Seen.{image_of};
+ghost use Rattle.dfu_slots.specs.Changes.{IsOpenFault};
+ghost use Rattle.dfu_device.specs.Stage.{state_of};
+ghost use Rattle.dfu_device.specs.Shown.{powered_on};
+ghost use Rattle.dfu_device.specs.Rows as rows;
+ghost use Rattle.dfu_device.specs.Rows.{Row};
+
+use arrayvec::ArrayVec;
+use dfu_device::{Answer, Config, Device};
+use dfu_slots::{Medium, OpenFault};
+use dfu_wire::State;
+
+/// DETACH with a wTimeout of 0 (USB DFU 1.1, section 5.1).
+const DETACH: [u8; 8] = [0x21, 0, 0, 0, 0, 0, 0, 0];
+
+/// What a USB stack tells.
+#[derive(Clone, Copy, Debug, PartialEq, Eq)]
+pub enum Happened {
+    /// The bus was reset.
+    BusReset,
+    /// A control transfer came to the interface of this standard.
+    Transfer,
+    /// So many milliseconds passed since the last tick.
+    Tick(u32),
+}
+
+/// A control transfer: the setup, and the data stage of one to the device. A transfer from the device has no body.
+#[derive(Drop)]
+pub struct Transfer {
+    pub setup: [u8; 8],
+    pub body: ArrayVec<u8, 4096>,
+}
+
+/// A USB device stack.
+pub trait UsbDevice {
+    /// Waits until something happens. A transfer that comes is put in `transfer`, with its whole data stage; one that
+    /// is too long for that is cut short, and stalled then.
+    fn wait(&mut self, transfer: &mut Transfer) -> Happened;
+
+    /// Acknowledges the status stage of the last transfer.
+    fn acknowledge(&mut self);
+
+    /// Answers the last transfer with these bytes, which may be none.
+    fn send(&mut self, bytes: &[u8]);
+
+    /// Stalls the last transfer.
+    fn stall(&mut self);
+}
+
+/// What a bootloader hands out.
+#[derive(Drop)]
+pub struct Start<M: Medium> {
+    /// The device, whose slot store has the image to start. `load` copies it out.
+    pub device: Device<M>,
+    /// How many bytes that image has.
+    pub len: u32,
+}
+
+/// Tells a device what happened, and answers what it says to a transfer: `setup` and `body` are read for a transfer
+/// alone. For all else the answer is `Ack` and `out` is empty.
+pub fn tell<M: Medium>(
+    device: &mut Device<M>,
+    happened: Happened,
+    setup: &[u8; 8],
+    body: &[u8],
+    out: &mut ArrayVec<u8, 4096>,
+) -> Answer
+    ensures reset { happened ≡ Happened.BusReset → Row device.old rows.BusReset result out.new.items device.new }
+    ensures transfer { happened ≡ Happened.Transfer →
+        Row device.old (rows.Transfer setup.now body.now) result out.new.items device.new }
+    ensures tick { (ms : ℕ) → happened ≡ Happened.Tick ms → Row device.old (rows.Passing ms) result out.new.items device.new }
+{
+    out.clear();
+    match happened {
+        Happened::BusReset => device.usb_reset(),
+        Happened::Tick(ms) => device.elapse(ms),
+        Happened::Transfer => return device.handle(setup, body, out),
+    }
+    Answer::Ack
+}
+
+/// Takes a device into the upgrade, as a DETACH and a reset of the bus do, and serves a stack until the device says
+/// that the application runs.
+pub fn serve<M: Medium, U: UsbDevice>(device: &mut Device<M>, usb: &mut U)
+    ensures { state_of device.new.stage ≡ AppIdle }
+{
+    let mut transfer = Transfer {
+        setup: DETACH,
+        body: ArrayVec::new(),
+    };
+    let mut out = ArrayVec::new();
+    device.handle(&DETACH, &[], &mut out);
+    device.usb_reset();
+    for _ in 0..u64::MAX {
+        let happened = usb.wait(&mut transfer);
+        let answer = tell(
+            device,
+            happened,
+            &transfer.setup,
+            transfer.body.as_slice(),
+            &mut out,
+        );
+        if happened == Happened::Transfer {
+            match answer {
+                Answer::Ack => usb.acknowledge(),
+                Answer::Bytes => usb.send(out.as_slice()),
+                Answer::Stall => usb.stall(),
+            }
+        }
+        if device.state() == State::AppIdle {
+            return;
+        }
+    }
+    // No stack tells of 2^64 - 1 events; if one did, the upgrade ends as by a power cut.
+    device.restart();
+}
+
+/// Powers a device on. Where `stays` says so, as a button or a mark of the application does, it serves a stack until
+/// the application is to run.
+///
+/// # Errors
+///
+/// Those of `Device::power_on`, in its order: exactly where the medium has no active image. The medium comes back as
+/// it was, and nothing was served.
+pub fn boot<M: Medium, U: UsbDevice>(
+    config: Config,
+    medium: M,
+    usb: &mut U,
+    stays: bool,
+) -> Result<Start<M>, (OpenFault, M)>
+    ensures state { IfOk result (λ start. state_of start.device.stage ≡ AppIdle) }
+    ensures at_once { IfOk result (λ start. stays ≡ false → start.device ≡ powered_on config (M.state medium)) }
+    ensures has_image { IfOk result (λ start. HasImage start.device.slots.medium) }
+    ensures len { IfOk result (λ start. start.len ≡ length (image_of start.device.slots)) }
+    ensures err { IfErr result (λ e. (e.1 ≡ medium) × IsOpenFault e.0 (M.state medium)) }
+    ensures refused { OnErr result (¬ HasImage (M.state medium)) }
+{
+    let mut device = Device::power_on(config, medium)?;
+    if !stays {
+        return Ok(hand_out(device));
+    }
+    serve(&mut device, usb);
+    Ok(hand_out(device))
+}
+
+// What there is to start on a device.
+fn hand_out<M: Medium>(device: Device<M>) -> Start<M>
+    ensures device { result.device ≡ device }
+    ensures has_image { HasImage device.slots.medium }
+    ensures len { result.len ≡ length (image_of device.slots) }
+{
+    let len = device.slots().active_len();
+    Start { device, len }
+}
+
+/// Copies the image to start to the front of `ram`, and says how many bytes it has. None, with nothing copied, where
+/// there is no room for it.
+pub fn load<M: Medium>(device: &Device<M>, ram: &mut [u8]) -> Option<usize>
+    ensures image { IfSome result (λ len. take len ram.new ≡ image_of device.now.slots) }
+    ensures len { IfSome result (λ len. len ≡ length (image_of device.now.slots)) }
+    ensures rest { IfSome result (λ len. drop len ram.new ≡ drop len ram.old) }
+    ensures small { (result ≡ None) ↔ (length ram.old < length (image_of device.now.slots)) }
+    ensures kept { result ≡ None → ram.new ≡ ram.old }
+{
+    let len = device.slots().active_len() as usize;
+    if ram.len() < len {
+        return None;
+    }
+    device.slots().read_active(0, &mut ram[..len]);
+    Some(len)
+}

@@ -1,0 +1,42 @@
+//! A flashing tool: it carries out what a host asks for, until the session is over.
+
+ghost use Rattle.std.specs.Prelude.{◌≡◌};
+ghost use Rattle.dfu_host.specs.Host.{Act};
+ghost use Rattle.dfu_host.specs.Budget.{takes_left};
+
+use dfu_host::{Action, Host, Report, Seen};
+
+/// A USB host stack, with the interface of a device open.
+pub trait UsbHost {
+    /// Makes a control transfer to the interface, and says what came of it: `Ack`, `Stall`, or where the setup's first
+    /// byte is A1h the `Bytes` that came, at most as many as its last two bytes say; `Nothing` where the transfer
+    /// failed or took too long; `Restarted` where the device left the bus and came back in the meantime.
+    fn transfer(&mut self, setup: &[u8; 8], body: &[u8]) -> Seen<'_>;
+
+    /// Waits for so many milliseconds, and no less.
+    fn wait(&mut self, ms: u32);
+
+    /// Resets the bus, and opens the interface of the device that comes back.
+    fn reset(&mut self);
+}
+
+/// Carries out a session to its end. It makes as many calls of the stack as the host has actions, at most.
+pub fn flash<U: UsbHost>(host: &mut Host<'_>, usb: &mut U) -> Report
+    ensures report { Act host.new (Action.Done result) }
+    ensures over { takes_left host.new ≡ 0 }
+{
+    loop {
+        match host.next() {
+            Action::Done(report) => return report,
+            Action::Send { setup, body } => host.take(usb.transfer(&setup, body)),
+            Action::Wait(ms) => {
+                usb.wait(ms);
+                host.take(Seen::Waited);
+            }
+            Action::Reset => {
+                usb.reset();
+                host.take(Seen::WasReset);
+            }
+        }
+    }
+}

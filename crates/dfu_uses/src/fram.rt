@@ -1,0 +1,76 @@
+//! A medium on a chip that is written over without erase, as an FRAM on SPI.
+
+ghost use Rattle.std.specs.Prelude.{◌≡◌, ◌+◌, ◌≤◌, ℕ, List, length, slice_range};
+ghost use Rattle.dfu_slots.specs.Medium.{KeepsOutside};
+
+use dfu_slots::{Failed, Medium, Unit};
+
+/// Why a driver's write failed. The store above does the same for each.
+#[derive(Clone, Copy, Debug, PartialEq, Eq, Drop)]
+pub enum ChipFault {
+    /// The chip is protected from writes.
+    Protected,
+    /// The bytes didn't go over the bus.
+    Bus,
+}
+
+/// A driver of a chip that is written over byte by byte, without erase.
+///
+/// It owes little: what `read` answers stands in the chip, and a `write` leaves all bytes outside its range as they
+/// were, also when the power goes within it. It need not find out whether the bytes stand there, since the store
+/// reads back what it wrote.
+pub trait Chip: Drop {
+    /// The bytes that stand in the chip.
+    ghost cells: { Self → List ℕ };
+
+    /// How many bytes the chip has.
+    fn size(&self) -> u32
+        ensures { result ≡ length (cells self.now) };
+
+    /// Reads the bytes from `at` on. The range must lie within the size.
+    fn read(&self, at: u32, out: &mut [u8])
+        requires { at + length out.old ≤ length (cells self.now) }
+        ensures { out.new ≡ slice_range (cells self.now) at (at + length out.old) };
+
+    /// Writes over the bytes from `at` on. The range must lie within the size. Whatever it answers, and whatever
+    /// stands in the range then, all other bytes and the size are as they were.
+    fn write(&mut self, at: u32, bytes: &[u8]) -> Result<(), ChipFault>
+        requires { at + length bytes.now ≤ length (cells self.old) }
+        ensures { KeepsOutside at (at + length bytes.now) (cells self.old) (cells self.new) };
+}
+
+/// The medium of a chip.
+#[derive(Drop)]
+pub struct Fram<C: Chip> {
+    pub chip: C,
+}
+
+impl<C: Chip> Medium for Fram<C> {
+    ghost use Rattle.std.specs.Prelude.{◌-◌, ◌^◌};
+    ghost use Rattle.dfu_slots.specs.Medium.{MediumState};
+    ghost use Rattle.dfu_slots.specs.Medium.Fuse.{Unknown};
+    ghost use Rattle.dfu_slots.specs.declared.unit.Unit.TheVariants.{Byte};
+
+    // Any write may fail or lie. A count of failures that stands at its last value always leaves that open, so that
+    // nothing need be counted.
+    ghost state = { λ m. record { bytes = C.cells m.chip; failures = 2 ^ 64 - 1; fuse = Unknown; unit = Byte } };
+
+    fn len(&self) -> u32 {
+        self.chip.size()
+    }
+
+    fn unit(&self) -> Unit {
+        Unit::Byte
+    }
+
+    fn read(&self, at: u32, out: &mut [u8]) {
+        self.chip.read(at, out);
+    }
+
+    fn write(&mut self, at: u32, bytes: &[u8]) -> Result<(), Failed> {
+        match self.chip.write(at, bytes) {
+            Ok(()) => Ok(()),
+            Err(_) => Err(Failed),
+        }
+    }
+}

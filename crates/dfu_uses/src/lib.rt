@@ -1,0 +1,13 @@
+//! Three callers to copy, each over a trait of its driver: a medium on a chip, a bootloader, and a flashing tool.
+#![tactic(auto)]
+
+mod bootloader;
+mod flasher;
+mod fram;
+
+pub use bootloader::{Happened, Start, Transfer, UsbDevice, boot, load, serve, tell};
+pub use flasher::{UsbHost, flash};
+pub use fram::{Chip, ChipFault, Fram};
+
+#[cfg(test)]
+mod tests;

@@ -1,0 +1,160 @@
+//! The three callers together: the flashing tool's session reaches the bootloader's device, on a chip in memory.
+
+mod cable;
+mod ram;
+mod seat;
+
+use crate::{Fram, Start, UsbHost, boot, flash, load};
+use cable::Cable;
+use dfu_device::{Config, Device};
+use dfu_host::{Host, Limits, Report};
+use dfu_slots::{OpenFault, Slots};
+use dfu_suffix::read;
+use dfu_wire::{Code, Functional, Ids};
+use ram::Ram;
+use seat::Seat;
+use std::process::Abort;
+use std::test::Fail;
+
+const IDS: Ids = Ids {
+    device: 0x0100,
+    product: 0x0001,
+    vendor: 0x1209,
+};
+
+static FUNCTIONAL: Functional = Functional {
+    can_download: true,
+    can_upload: true,
+    tolerant: true,
+    will_detach: false,
+    detach_ms: 255,
+    transfer: 8,
+    version: 0x0110,
+};
+
+const LIMITS: Limits = Limits {
+    actions: 100,
+    restarts: 0,
+};
+
+/// Payload 123456789, for product 0001h of vendor 1209h, written down by dfu-suffix.
+static FILE: [u8; 25] = [
+    0x31, 0x32, 0x33, 0x34, 0x35, 0x36, 0x37, 0x38, 0x39, 0x00, 0x01, 0x01, 0x00, 0x09, 0x12, 0x00,
+    0x01, 0x55, 0x46, 0x44, 0x10, 0x62, 0x1c, 0x70, 0xfe,
+];
+
+/// A chip whose active image is the one byte 00h.
+fn shipped() -> Result<Fram<Ram>, Fail> {
+    match Slots::format(Fram { chip: Ram::new() }, &[0]) {
+        Ok(slots) => Ok(slots.into_medium()),
+        Err((fault, _medium)) => Err(fault)?,
+    }
+}
+
+/// How the device is set up.
+fn config() -> Result<Config, Fail> {
+    Ok(Config::new(IDS, FUNCTIONAL, 1, 5, 10)?)
+}
+
+/// A device that got power on a medium.
+fn device_on(medium: Fram<Ram>) -> Result<Device<Fram<Ram>>, Fail> {
+    match Device::power_on(config()?, medium) {
+        Ok(device) => Ok(device),
+        Err((fault, _medium)) => Err(fault)?,
+    }
+}
+
+/// The image to start is this one.
+fn starts(rt: &impl Abort, device: &Device<Fram<Ram>>, image: &[u8]) {
+    let mut place = [0xee; 16];
+    assert_eq!(rt; load(device, &mut place), Some(image.len()));
+    assert_eq!(rt; place.get(..image.len()), Some(image));
+    assert_eq!(rt; place.get(image.len()), Some(&0xee));
+}
+
+#[test]
+fn tool_installs(rt: HostRuntime) -> Result<(), Fail> {
+    let file = read(&FILE)?;
+    let mut cable = Cable::to(device_on(shipped()?)?);
+    let mut host = Host::download(&file, &FUNCTIONAL, IDS, LIMITS)?;
+    assert_eq!(rt; flash(&mut host, &mut cable), Report::Installed);
+    starts(&rt, cable.device(), b"123456789");
+    Ok(())
+}
+
+#[test]
+fn tool_verifies(rt: HostRuntime) -> Result<(), Fail> {
+    let file = read(&FILE)?;
+    let mut cable = Cable::to(device_on(shipped()?)?);
+    let mut host = Host::download_verified(&file, &FUNCTIONAL, IDS, LIMITS)?;
+    assert_eq!(rt; flash(&mut host, &mut cable), Report::Verified);
+    starts(&rt, cable.device(), b"123456789");
+    Ok(())
+}
+
+#[test]
+fn tool_tells_of_a_write_that_fails(rt: HostRuntime) -> Result<(), Fail> {
+    let file = read(&FILE)?;
+    let mut medium = shipped()?;
+    medium.chip.fail_after(1);
+    let mut cable = Cable::to(device_on(medium)?);
+    let mut host = Host::download(&file, &FUNCTIONAL, IDS, LIMITS)?;
+    assert_eq!(rt; flash(&mut host, &mut cable), Report::Refused(Code::Write));
+    starts(&rt, cable.device(), &[0]);
+    Ok(())
+}
+
+#[test]
+fn tool_tells_of_a_write_that_is_not_there(rt: HostRuntime) -> Result<(), Fail> {
+    let file = read(&FILE)?;
+    let mut medium = shipped()?;
+    medium.chip.lie_after(1);
+    let mut cable = Cable::to(device_on(medium)?);
+    let mut host = Host::download(&file, &FUNCTIONAL, IDS, LIMITS)?;
+    assert_eq!(rt; flash(&mut host, &mut cable), Report::Refused(Code::Verify));
+    starts(&rt, cable.device(), &[0]);
+    Ok(())
+}
+
+#[test]
+fn bootloader_serves_until_the_image_is_in_place(rt: HostRuntime) -> Result<(), Fail> {
+    let file = read(&FILE)?;
+    let mut seat = Seat::with(Host::download(&file, &FUNCTIONAL, IDS, LIMITS)?);
+    match boot(config()?, shipped()?, &mut seat, true) {
+        Ok(Start { device, len }) => {
+            assert_eq!(rt; len, 9);
+            starts(&rt, &device, b"123456789");
+        }
+        Err((fault, _medium)) => Err(fault)?,
+    }
+    assert_eq!(rt; seat.report(), Some(Report::Installed));
+    Ok(())
+}
+
+#[test]
+fn bootloader_starts_at_once(rt: HostRuntime) -> Result<(), Fail> {
+    let file = read(&FILE)?;
+    let mut seat = Seat::with(Host::download(&file, &FUNCTIONAL, IDS, LIMITS)?);
+    match boot(config()?, shipped()?, &mut seat, false) {
+        Ok(Start { device, len }) => {
+            assert_eq!(rt; len, 1);
+            starts(&rt, &device, &[0]);
+            assert_eq!(rt; load(&device, &mut []), None);
+        }
+        Err((fault, _medium)) => Err(fault)?,
+    }
+    assert_eq!(rt; seat.report(), None);
+    Ok(())
+}
+
+#[test]
+fn bootloader_refuses_a_blank_chip(rt: HostRuntime) -> Result<(), Fail> {
+    let file = read(&FILE)?;
+    let mut seat = Seat::with(Host::download(&file, &FUNCTIONAL, IDS, LIMITS)?);
+    let blank = Fram { chip: Ram::new() };
+    match boot(config()?, blank, &mut seat, true) {
+        Ok(_start) => assert!(rt; false),
+        Err((fault, _medium)) => assert_eq!(rt; fault, OpenFault::NoImage),
+    }
+    Ok(())
+}

@@ -1,0 +1,75 @@
+//! A chip in memory.
+
+ghost use Rattle.std.specs.Prelude.{◌≡◌, ◌+◌, ◌≤◌, length};
+ghost use Rattle.dfu_slots.specs.Medium.{written};
+
+use crate::{Chip, ChipFault};
+
+/// What the next writes do.
+#[derive(Clone, Copy, PartialEq, Eq)]
+enum Writes {
+    Work,
+    /// So many work, and then all fail.
+    FailAfter(u32),
+    /// So many work, and then none writes anything, and all say that they worked.
+    LieAfter(u32),
+}
+
+/// A chip in memory, of bytes FFh at first.
+#[derive(Drop)]
+pub(crate) struct Ram {
+    bytes: [u8; 192],
+    writes: Writes,
+}
+
+impl Ram {
+    pub(crate) fn new() -> Ram {
+        Ram {
+            bytes: [0xff; 192],
+            writes: Writes::Work,
+        }
+    }
+
+    /// So many more writes work, and then all fail.
+    pub(crate) fn fail_after(&mut self, writes: u32) {
+        self.writes = Writes::FailAfter(writes);
+    }
+
+    /// So many more writes work, and then none does, though each says so.
+    pub(crate) fn lie_after(&mut self, writes: u32) {
+        self.writes = Writes::LieAfter(writes);
+    }
+}
+
+// Writes these bytes there.
+fn write_over(bytes: &mut [u8; 192], at: usize, new: &[u8])
+    requires { at + length new.now ≤ 192 }
+    ensures { bytes.new ≡ written bytes.old at new.now }
+{
+    bytes[at..at + new.len()].copy_from_slice(new);
+}
+
+impl Chip for Ram {
+    ghost cells = { λ c. c.bytes };
+
+    fn size(&self) -> u32 {
+        192
+    }
+
+    fn read(&self, at: u32, out: &mut [u8]) {
+        let from = at as usize;
+        out.copy_from_slice(&self.bytes[from..from + out.len()]);
+    }
+
+    fn write(&mut self, at: u32, bytes: &[u8]) -> Result<(), ChipFault> {
+        match self.writes {
+            Writes::FailAfter(0) => return Err(ChipFault::Bus),
+            Writes::LieAfter(0) => return Ok(()),
+            Writes::FailAfter(left) => self.writes = Writes::FailAfter(left - 1),
+            Writes::LieAfter(left) => self.writes = Writes::LieAfter(left - 1),
+            Writes::Work => {}
+        }
+        write_over(&mut self.bytes, at as usize, bytes);
+        Ok(())
+    }
+}
