@@ -1,0 +1,46 @@
+-- The numbers that a program in C gets.
+use Rattle.std.specs.Prelude.{ℕ, ℤ, pos, negsuc, List, length}
+use Rattle.dfu_slots.specs.declared.fault.FormatFault.{FormatFault}
+use Rattle.dfu_slots.specs.declared.fault.FormatFault.TheVariants as fault
+use Rattle.dfu_device.specs.declared.answer.Answer.{Answer}
+use Rattle.dfu_device.specs.declared.answer.Answer.TheVariants as answer
+use Rattle.dfu_device_c.specs.declared.refusal.Refusal.{Refusal}
+use Rattle.dfu_device_c.specs.declared.refusal.Refusal.TheVariants as refusal
+
+-- DFU_NO_CONFIG.
+abbrev pub NO_CONFIG : ℤ
+NO_CONFIG = negsuc 1
+
+-- DFU_NO_MEDIUM.
+abbrev pub NO_MEDIUM : ℤ
+NO_MEDIUM = negsuc 2
+
+-- DFU_NO_DEVICE.
+abbrev pub NO_DEVICE : ℤ
+NO_DEVICE = negsuc 3
+
+-- The number of a refusal: DFU_NO_CONFIG, DFU_NO_MEDIUM and DFU_NO_DEVICE.
+abbrev pub refusal_number : Refusal → ℤ
+refusal_number refusal.NoConfig = NO_CONFIG
+refusal_number refusal.NoMedium = NO_MEDIUM
+refusal_number refusal.NoDevice = NO_DEVICE
+
+-- DFU_NO_ROOM.
+abbrev pub NO_ROOM : ℤ
+NO_ROOM = negsuc 4
+
+-- DFU_STALL.
+abbrev pub STALL : ℤ
+STALL = negsuc 0
+
+-- The number of an answer with these bytes: how many they are, or DFU_STALL.
+abbrev pub answer_number : Answer → List ℕ → ℤ
+answer_number answer.Ack bytes = pos 0
+answer_number answer.Bytes bytes = pos (length bytes)
+answer_number answer.Stall bytes = STALL
+
+-- The number of a fault of a format: DFU_WRONG_SIZE and DFU_TOO_LARGE; a medium in memory has no other.
+abbrev pub format_number : FormatFault → ℤ
+format_number fault.WrongSize = negsuc 5
+format_number fault.TooLarge = negsuc 6
+format_number fault.Failed = negsuc 7

@@ -1,0 +1,99 @@
+//! The calls for a device, as a program in C makes them: `include/dfu_device.h` says each for a reader of C.
+ghost use Rattle.std.specs.Prelude.{◌≡◌, ◌≢◌, ◌⊎◌, ◌≤◌, length};
+ghost use Rattle.dfu_device.specs.Rows.{Handles, Elapses};
+ghost use Rattle.dfu_device.specs.Table.{reset_stage};
+ghost use Rattle.dfu_device_c.specs.Numbers.{answer_number};
+ghost use Rattle.dfu_device_c.specs.Calls.{Refuses, Goes, Answered, HasNoRoom, given, room_for};
+
+use crate::calls;
+use crate::config::DfuConfig;
+use crate::record::DfuDevice;
+use arrayvec::ArrayVec;
+use dfu_device::Answer;
+
+// The number of an answer with these bytes: how many they are, or -1 for a stall.
+fn number_of(answer: Answer, sent: &ArrayVec<u8, 4096>) -> i32
+    ensures { result ≡ answer_number answer sent.now.items }
+{
+    match answer {
+        Answer::Ack => 0,
+        Answer::Bytes => sent.len() as i32,
+        Answer::Stall => -1,
+    }
+}
+
+// Puts bytes at the front of a buffer, as many as there is room for.
+fn give(out: &mut [u8], sent: &ArrayVec<u8, 4096>)
+    ensures { out.new ≡ given sent.now.items out.old }
+{
+    let len = sent.len().min(out.len());
+    out[..len].copy_from_slice(&sent.as_slice()[..len]);
+}
+
+// How many bytes of room an answer needs.
+fn room_for(config: &DfuConfig) -> usize
+    ensures { result ≡ room_for config.now }
+{
+    usize::from(config.transfer).max(6)
+}
+
+/// Answers a setup with its body, as `Device::handle`: how many bytes of the answer stand in `out`, or -1 for a stall.
+/// Refused with -5 where `out` has less room than an answer may need; then as every call.
+#[unsafe(no_mangle)]
+pub extern "C" fn dfu_device_handle(
+    config: &DfuConfig,
+    device: &mut DfuDevice,
+    medium: &mut [u8],
+    setup: &[u8; 8],
+    body: &[u8],
+    out: &mut [u8],
+) -> i32
+    ensures outcome { Answered config.now device.old medium.old out.old (λ a sent d d'. Handles setup.now body.now d a sent d') result device.new out.new
+        ⊎ (Refuses config.now device.old medium.old result device.new × (out.new ≡ out.old))
+        ⊎ HasNoRoom config.now device.old out.old result device.new out.new }
+{
+    if out.len() < room_for(config) {
+        return -5;
+    }
+    let mut sent = ArrayVec::new();
+    match calls::handle(config, device, medium, setup, body, &mut sent) {
+        Ok((answer, _)) => {
+            give(out, &sent);
+            number_of(answer, &sent)
+        }
+        Err(refusal) => refusal.number(),
+    }
+}
+
+/// So many milliseconds pass, as `Device::elapse`.
+#[unsafe(no_mangle)]
+pub extern "C" fn dfu_device_elapse(
+    config: &DfuConfig,
+    device: &mut DfuDevice,
+    medium: &mut [u8],
+    ms: u32,
+) -> i32
+    ensures outcome { Goes config.now device.old medium.old (Elapses ms) result device.new
+        ⊎ Refuses config.now device.old medium.old result device.new }
+{
+    match calls::elapse(config, device, medium, ms) {
+        Ok(_) => 0,
+        Err(refusal) => refusal.number(),
+    }
+}
+
+/// The bus is reset, as `Device::usb_reset`.
+#[unsafe(no_mangle)]
+pub extern "C" fn dfu_device_usb_reset(
+    config: &DfuConfig,
+    device: &mut DfuDevice,
+    medium: &mut [u8],
+) -> i32
+    ensures outcome { Goes config.now device.old medium.old (λ d d'. d' ≡ record d { stage = reset_stage d.stage }) result device.new
+        ⊎ Refuses config.now device.old medium.old result device.new }
+{
+    match calls::usb_reset(config, device, medium) {
+        Ok(_) => 0,
+        Err(refusal) => refusal.number(),
+    }
+}

@@ -1,0 +1,188 @@
+//! What a program in C keeps of a device between two calls.
+ghost use Rattle.std.specs.Prelude.{◌≡◌, ◌↔◌, ◌≤◌, [], length, IfSome, IsTrue, Some, not};
+ghost use Rattle.dfu_wire.specs.Code.{code_byte};
+ghost use Rattle.dfu_device_c.specs.Record.{HasMode, block_in};
+
+use arrayvec::ArrayVec;
+use dfu_device::Mode;
+use dfu_wire::Code;
+
+/// What is kept of a device between two calls: `struct dfu_device`, as the last call left it.
+///
+/// | `mode` | State | `first` | `second` | `number` |
+/// |---|---|---|---|---|
+/// | 0 | appIDLE | | | |
+/// | 1 | appDETACH | its timer | milliseconds in the state | |
+/// | 2 | dfuIDLE | | | |
+/// | 3 | dfuDNLOAD-SYNC, the block not written | bytes written | | of the next block |
+/// | 4 | dfuDNLOAD-SYNC, all written | bytes written | | of the next block |
+/// | 5 | dfuDNBUSY | bytes written | milliseconds in the state | of the next block |
+/// | 6 | dfuDNLOAD-IDLE | bytes written | | of the next block |
+/// | 7 | dfuMANIFEST-SYNC, not complete | bytes written | | |
+/// | 8 | dfuMANIFEST-SYNC, complete | | | |
+/// | 9 | dfuMANIFEST | bytes written | milliseconds in the state | |
+/// | 10 | dfuMANIFEST-WAIT-RESET | | | |
+/// | 11 | dfuUPLOAD-IDLE | bytes sent | | of the next block |
+/// | 12 | dfuERROR | | | the status code |
+#[repr(C)]
+#[derive(Drop)]
+pub struct DfuDevice {
+    /// The state and what it keeps, by its number.
+    pub mode: u32,
+    /// The bytes written or sent, or a timer.
+    pub first: u32,
+    /// The milliseconds that passed in the state.
+    pub second: u32,
+    /// Where the puts end in the spare slot.
+    pub put_end: u32,
+    /// The number of the next block, or the status code.
+    pub number: u16,
+    /// How many bytes the block has, 0 to 4,096.
+    pub length: u16,
+    /// The block that is not written.
+    pub block: [u8; 4096],
+}
+
+// The code of this number.
+fn code_of(number: u16) -> Option<Code>
+    ensures some { IfSome result (λ c. code_byte c ≡ number) }
+    ensures only { (c : Code) → code_byte c ≡ number → result ≡ Some c }
+{
+    if number > 15 {
+        return None;
+    }
+    match Code::from_byte(number as u8) {
+        Ok(code) => Some(code),
+        Err(_) => None,
+    }
+}
+
+// The mode of a record, where it has one.
+pub(crate) fn mode_of(kept: &DfuDevice) -> Option<Mode>
+    ensures some { IfSome result (λ m. HasMode kept.now m) }
+    ensures only { (m : Mode) → HasMode kept.now m → result ≡ Some m }
+{
+    let (first, second, number) = (kept.first, kept.second, kept.number);
+    let mode = match kept.mode {
+        0 => Mode::AppIdle,
+        1 => Mode::AppDetach {
+            timer: first,
+            passed: second,
+        },
+        2 => Mode::DfuIdle,
+        3 => Mode::DownloadSync {
+            written: first,
+            number,
+        },
+        4 => Mode::DownloadSyncWritten {
+            written: first,
+            number,
+        },
+        5 => Mode::DownloadBusy {
+            written: first,
+            number,
+            passed: second,
+        },
+        6 => Mode::DownloadIdle {
+            written: first,
+            number,
+        },
+        7 => Mode::ManifestSync { written: first },
+        8 => Mode::ManifestSyncComplete,
+        9 => Mode::Manifest {
+            written: first,
+            passed: second,
+        },
+        10 => Mode::ManifestWaitReset,
+        11 => Mode::UploadIdle {
+            place: first,
+            number,
+        },
+        12 => match code_of(number) {
+            Some(code) => Mode::Error { code },
+            None => return None,
+        },
+        _ => return None,
+    };
+    Some(mode)
+}
+
+/// Whether a record has a mode.
+pub(crate) fn has_mode(kept: &DfuDevice) -> bool
+    ensures one { IsTrue result → (m : Mode) × HasMode kept.now m }
+    ensures none { IsTrue (not result) → (m : Mode) → ¬ HasMode kept.now m }
+{
+    match mode_of(kept) {
+        Some(_) => true,
+        None => false,
+    }
+}
+
+// The numbers of a mode: its own, `first`, `second` and `number`.
+fn numbers_of(mode: Mode) -> (u32, u32, u32, u16)
+    ensures { (r : DfuDevice) → r.mode ≡ result.0 → r.first ≡ result.1 → r.second ≡ result.2 → r.number ≡ result.3 → HasMode r mode }
+{
+    match mode {
+        Mode::AppIdle => (0, 0, 0, 0),
+        Mode::AppDetach { timer, passed } => (1, timer, passed, 0),
+        Mode::DfuIdle => (2, 0, 0, 0),
+        Mode::DownloadSync { written, number } => (3, written, 0, number),
+        Mode::DownloadSyncWritten { written, number } => (4, written, 0, number),
+        Mode::DownloadBusy {
+            written,
+            number,
+            passed,
+        } => (5, written, passed, number),
+        Mode::DownloadIdle { written, number } => (6, written, 0, number),
+        Mode::ManifestSync { written } => (7, written, 0, 0),
+        Mode::ManifestSyncComplete => (8, 0, 0, 0),
+        Mode::Manifest { written, passed } => (9, written, passed, 0),
+        Mode::ManifestWaitReset => (10, 0, 0, 0),
+        Mode::UploadIdle { place, number } => (11, place, 0, number),
+        Mode::Error { code } => (12, 0, 0, u16::from(code.byte())),
+    }
+}
+
+/// Writes a mode into a record.
+pub(crate) fn set_mode(kept: &mut DfuDevice, mode: Mode)
+    ensures mode { HasMode kept.new mode }
+    ensures others { kept.new ≡ record kept.old {
+      mode = kept.new.mode;
+      first = kept.new.first;
+      second = kept.new.second;
+      number = kept.new.number;
+    } }
+{
+    let (own, first, second, number) = numbers_of(mode);
+    kept.mode = own;
+    kept.first = first;
+    kept.second = second;
+    kept.number = number;
+}
+
+/// Copies the block of a record that is not written; false where it says that it has over 4,096 bytes.
+pub(crate) fn copy_block(kept: &DfuDevice, block: &mut ArrayVec<u8, 4096>) -> bool
+    requires { block.old.items ≡ [] }
+    ensures copied { IsTrue result → block.new.items ≡ block_in kept.now }
+    ensures length { IsTrue result → length block.new.items ≡ kept.now.length }
+    ensures fits { IsTrue result ↔ kept.now.length ≤ 4096 }
+{
+    let len = usize::from(kept.length);
+    if len > 4096 {
+        return false;
+    }
+    let _ = block.try_extend_from_slice(&kept.block[..len]);
+    true
+}
+
+/// Writes a block into a record.
+pub(crate) fn set_block(kept: &mut DfuDevice, block: &ArrayVec<u8, 4096>)
+    ensures block { block_in kept.new ≡ block.now.items }
+    ensures length { kept.new.length ≡ length block.now.items }
+    ensures fits { kept.new.length ≤ 4096 }
+    ensures others { kept.new ≡ record kept.old { length = kept.new.length; block = kept.new.block } }
+{
+    let len = block.len();
+    kept.length = len as u16;
+    kept.block[..len].copy_from_slice(block.as_slice());
+}

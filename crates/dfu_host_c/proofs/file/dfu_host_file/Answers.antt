@@ -1,0 +1,25 @@
+use Rattle.std.proofs.Common.{rules, ◌≡◌, ◌∙◌, sym, ap, subst, refl, ℤ, pos, Result, Ok, Err}
+use Rattle.dfu_suffix.specs.declared.fault.SuffixFault.{SuffixFault}
+use Rattle.dfu_host_c.specs.Refusals.{file_refusal}
+use Rattle.dfu_host_c.proofs.file.dfu_host_file.Goals as goal
+
+-- The answer of a reading.
+abbrev answer : {T : Type 0} → Result T SuffixFault → ℤ
+answer (Ok read) = pos 0
+answer (Err fault) = file_refusal fault
+
+pub returns-in-Err-clause-fault : goal.returns-in-Err-clause-fault
+returns-in-Err-clause-fault c = λ fault first.
+    let same : file_refusal c.in-Err.fault ≡ file_refusal fault =
+    ap answer (sym c.in-Err.is ∙ (c.file_in.ensures.fault fault).1 first) in
+    (rw (← same) (search rules), refl)
+
+-- The reading found a file.
+abbrev Found : {T : Type 0} → Result T SuffixFault → Type 0
+Found (Ok read) = Unit {0}
+Found (Err fault) = ⊥
+
+pub returns-in-Ok-clause-fault : goal.returns-in-Ok-clause-fault
+returns-in-Ok-clause-fault c = λ fault first.
+    let never : ⊥ = subst Found (sym c.in-Ok.is ∙ (c.file_in.ensures.fault fault).1 first) tt in
+    elim never [ ]

@@ -1,0 +1,45 @@
+-- What came of a call.
+use Rattle.std.specs.Prelude.{◌≡◌, ℕ, List, Some, None}
+use Rattle.std.specs.Borrow.{Bor}
+use Rattle.dfu_host.specs.declared.parts.Parts.{Parts}
+use Rattle.dfu_host.specs.declared.seen.Seen.{Seen}
+use Rattle.dfu_host.specs.Host.{HostRow, aborted}
+use Rattle.dfu_host.specs.InParts.{host_of}
+use Rattle.dfu_host.specs.Table.{deed}
+use Rattle.dfu_host_c.specs.Actions.{Tells}
+use Rattle.dfu_host_c.specs.Sessions.{IsRecord, IsHeld, host_in}
+use Rattle.dfu_host_c.specs.Told.{seen_at}
+use Rattle.dfu_host_c.specs.declared.action.DfuAction.{DfuAction}
+use Rattle.dfu_host_c.specs.declared.session.DfuSession.{DfuSession}
+
+-- The session of a record took what was seen, as a row of the host's table.
+pub record Took (r r' : DfuSession) (payload : Bor (List ℕ)) (buffer buffer' : List ℕ) (seen : ℕ) (bytes : Bor (List ℕ)) : Type 0 where
+  pub parts : Parts
+  pub word : Seen
+  pub next : Parts
+  pub before : IsHeld r payload buffer parts
+  pub seen_is : seen_at seen bytes ≡ Some word
+  pub later : IsHeld r' payload buffer' next
+  pub row : HostRow (host_in r buffer parts) word (host_in r' buffer' next)
+
+-- The record and the buffer are none of a session over this payload.
+abbrev pub NotHeld : DfuSession → Bor (List ℕ) → (buffer : List ℕ) → Type 0
+NotHeld r payload buffer = (parts : Parts) → IsHeld r payload buffer parts → ⊥
+
+-- The record is none of a session over this payload.
+abbrev pub NoRecord : DfuSession → Bor (List ℕ) → Type 0
+NoRecord r payload = (parts : Parts) → IsRecord r payload parts → ⊥
+
+-- The session of a record was given up, whatever its buffer has.
+pub record GivenUp (r r' : DfuSession) (payload : Bor (List ℕ)) : Type 0 where
+  pub parts : Parts
+  pub next : Parts
+  pub before : IsRecord r payload parts
+  pub later : IsRecord r' payload next
+  pub same : (memory : List ℕ) → host_of memory next ≡ aborted (host_of memory parts)
+
+-- The record of an action says what the session of a record does next.
+pub record IsNext (r : DfuSession) (payload : Bor (List ℕ)) (a : DfuAction) : Type 0 where
+  pub parts : Parts
+  pub stands : IsRecord r payload parts
+  pub tells : (memory : List ℕ) → Tells (deed (host_of memory parts).task (host_of memory parts).phase) a

@@ -1,0 +1,63 @@
+-- What the record of a session stands for.
+use Rattle.std.specs.Prelude.{◌≡◌, ℕ, ◌==◌, ◌≤◌, not, if◌then◌else◌, Bool, List, length, take, Option, Some, None, option_and_then, option_map}
+use Rattle.std.specs.Borrow.{Bor}
+use Rattle.dfu_wire.specs.declared.ids.Ids.{Ids}
+use Rattle.dfu_host.specs.declared.goal.Goal.{Goal}
+use Rattle.dfu_host.specs.declared.goal.Goal.TheVariants as goal
+use Rattle.dfu_host.specs.declared.limits.Limits.{Limits}
+use Rattle.dfu_host.specs.declared.phase.Phase.{Phase}
+use Rattle.dfu_host.specs.declared.parts.Parts.{Parts}
+use Rattle.dfu_host.specs.Host.{HostState}
+use Rattle.dfu_host.specs.InParts.{IsSession, host_of}
+use Rattle.dfu_host_c.specs.PhaseNumbers.{phase_at}
+use Rattle.dfu_host_c.specs.declared.ids.DfuIds.{DfuIds}
+use Rattle.dfu_host_c.specs.declared.session.DfuSession.{DfuSession}
+
+-- The identifiers of a device.
+abbrev pub ids_of : DfuIds → Ids
+ids_of r = record { device = r.device; product = r.product; vendor = r.vendor }
+
+-- The limits of a session, by its two numbers.
+abbrev pub limits_of : (actions restarts : ℕ) → Limits
+limits_of actions restarts = record { actions = actions; restarts = restarts }
+
+-- What a session of this number is for: 1 to install the payload, 2 to fetch the image, 3 to install the payload and then to compare it,
+-- 4 to compare it.
+abbrev pub goal_at : ℕ → (payload : Bor (List ℕ)) → Option Goal
+goal_at number payload =
+    if number == 1 then Some (goal.Load payload)
+    else if number == 2 then Some goal.Fetch
+    else if number == 3 then Some (goal.Verify payload)
+    else if number == 4 then Some (goal.Compare payload)
+    else None
+
+-- The parts that a record has beside its goal and its phase.
+abbrev pub parts_in : DfuSession → Goal → Phase → Parts
+parts_in r goal phase = record {
+  goal = goal;
+  transfer = r.transfer;
+  tolerant = not (r.tolerant == 0);
+  will_detach = not (r.will_detach == 0);
+  detach_ms = r.detach_ms;
+  phase = phase;
+  actions = r.actions;
+  restarts = r.restarts;
+}
+
+-- The parts that a record says over a payload; none where its goal or its phase is the number of none.
+abbrev pub parts_of : DfuSession → (payload : Bor (List ℕ)) → Option Parts
+parts_of r payload = option_and_then (λ goal. option_map (parts_in r goal) (phase_at r.phase r.number r.more)) (goal_at r.goal payload)
+
+-- The record is that of a session over this payload, with these parts.
+pub record IsRecord (r : DfuSession) (payload : Bor (List ℕ)) (parts : Parts) : Type 0 where
+  pub says : parts_of r payload ≡ Some parts
+  pub sound : IsSession parts
+
+-- The record is that of a session over this payload, with these parts, and the buffer has the bytes that it keeps.
+pub record IsHeld (r : DfuSession) (payload : Bor (List ℕ)) (buffer : List ℕ) (parts : Parts) : Type 0 where
+  pub stands : IsRecord r payload parts
+  pub room : r.kept ≤ length buffer
+
+-- The host of a session whose record is this: it keeps the first bytes of the buffer.
+abbrev pub host_in : DfuSession → (buffer : List ℕ) → Parts → HostState
+host_in r buffer parts = host_of (take r.kept buffer) parts

@@ -1,0 +1,87 @@
+//! What is to be done next, as a record for C.
+
+ghost use Rattle.std.specs.Prelude.{◌≡◌, ◌⊎◌, pos};
+ghost use Rattle.dfu_host.specs.Phases.{Deed};
+ghost use Rattle.dfu_host.specs.Wire.{Spells};
+ghost use Rattle.dfu_host_c.specs.Actions.{Tells};
+ghost use Rattle.dfu_host_c.specs.Refusals.{no_session};
+ghost use Rattle.dfu_host_c.specs.Calls.{IsNext, NoRecord};
+
+use crate::holding::session_of;
+use crate::refusals::NO_SESSION;
+use crate::reports::report_numbers;
+use crate::session::DfuSession;
+use dfu_host::{Action, Phase};
+
+/// `struct dfu_action`: what is to be done next. The header says what each number means.
+#[repr(C)]
+#[derive(Drop)]
+pub struct DfuAction {
+    /// 0 to send, 1 to wait, 2 to reset, 3 where the session is over.
+    pub what: u32,
+    /// The milliseconds of a wait, or the number of a report.
+    pub value: u32,
+    /// Where the body begins in the payload.
+    pub from: u64,
+    /// How many bytes the body has.
+    pub length: u32,
+    /// The code of the report Refused.
+    pub code: u32,
+    /// The setup that is sent.
+    pub setup: [u8; 8],
+}
+
+/// The record of an action whose body, if any, begins there.
+fn record_of(action: Action<'_>, from: usize) -> DfuAction
+    ensures { (deed : Deed) → Spells deed action.entry → Tells deed result }
+{
+    let none = DfuAction {
+        what: 2,
+        value: 0,
+        from: 0,
+        length: 0,
+        code: 0,
+        setup: [0; 8],
+    };
+    match action {
+        Action::Send { setup, body } => DfuAction {
+            what: 0,
+            from: from as u64,
+            length: body.len().min(0xffff) as u32,
+            setup,
+            ..none
+        },
+        Action::Wait(ms) => DfuAction {
+            what: 1,
+            value: ms,
+            ..none
+        },
+        Action::Reset => none,
+        Action::Done(report) => {
+            let (value, code) = report_numbers(report);
+            DfuAction {
+                what: 3,
+                value,
+                code,
+                ..none
+            }
+        }
+    }
+}
+
+/// What a session wants done next: 0 or `DFU_NO_SESSION`.
+#[unsafe(no_mangle)]
+pub extern "C" fn dfu_host_next(session: &DfuSession, payload: &[u8], action: &mut DfuAction) -> i32
+    ensures outcome { ((result ≡ pos 0) × IsNext session.now payload.entry action.new)
+        ⊎ ((result ≡ no_session) × NoRecord session.now payload.entry × (action.new ≡ action.old)) }
+{
+    let Some(host) = session_of(session, payload) else {
+        return NO_SESSION;
+    };
+    let from = match host.parts().phase {
+        Phase::Block(number) => number.saturating_mul(session.transfer as usize),
+        _ => 0,
+    };
+    *action = record_of(host.next(), from);
+    0
+}

@@ -1,0 +1,87 @@
+//! What a file says, as a record for C.
+
+ghost use Rattle.std.specs.Prelude.{◌≡◌, ℕ, ◌+◌, ◌-◌, ◌≤◌, List, length, drop, pos, ◌↔◌, IfOk, Ok, Err};
+ghost use Rattle.byteorder.specs.Endian.{little_number};
+ghost use Rattle.dfu_suffix.specs.Grammar.{First, IsFile};
+ghost use Rattle.dfu_suffix.specs.declared.fault.SuffixFault.{SuffixFault};
+ghost use Rattle.dfu_wire.specs.declared.ids.Ids.{Ids};
+ghost use Rattle.dfu_host_c.specs.FileRecords.{record_of};
+ghost use Rattle.dfu_host_c.specs.Refusals.{file_refusal};
+
+use crate::refusals;
+use byteorder::{ByteOrder, LittleEndian};
+use dfu_suffix::{File, SuffixFault, read};
+
+/// `struct dfu_file`: what a file says. The header says what each number means.
+#[repr(C)]
+#[derive(Drop)]
+pub struct DfuFile {
+    /// How many bytes the payload has, at most 16,777,200.
+    pub payload: u64,
+    /// bLength: how many bytes the suffix has, 16 to 255.
+    pub suffix: u32,
+    /// dwCRC.
+    pub crc: u32,
+    /// bcdDevice.
+    pub device: u16,
+    /// idProduct.
+    pub product: u16,
+    /// idVendor.
+    pub vendor: u16,
+    /// bcdDFU.
+    pub dfu: u16,
+}
+
+/// The last four bytes as a number, the low one first.
+fn crc_in(bytes: &[u8]) -> u32
+    requires { 16 ≤ length bytes.now }
+    ensures { result ≡ little_number 4 (drop (length bytes.now - 4) bytes.now) }
+{
+    let (_, last) = bytes.split_at(bytes.len() - 4);
+    LittleEndian::read_u32(last)
+}
+
+/// What a file says that was read of these bytes.
+fn record_of(file: &File<'_>, bytes: &[u8]) -> DfuFile
+    requires { 16 ≤ length bytes.now }
+    ensures { result ≡ record_of file.now.payload file.now.ids file.now.dfu file.now.suffix bytes.now }
+{
+    let ids = file.ids();
+    DfuFile {
+        payload: file.payload().len() as u64,
+        suffix: u32::from(file.suffix()),
+        crc: crc_in(bytes),
+        device: ids.device,
+        product: ids.product,
+        vendor: ids.vendor,
+        dfu: file.dfu(),
+    }
+}
+
+/// The file of these bytes, or its first fault. It stands once in the library, with its tables.
+#[inline(never)]
+pub(crate) fn file_in(bytes: &[u8]) -> Result<File<'_>, SuffixFault>
+    ensures found { IfOk result (λ f. (extra : List ℕ) × IsFile f.payload f.ids f.dfu extra bytes.now × (f.suffix ≡ 16 + length extra)) }
+    ensures only { (payload : List ℕ) (ids : Ids) (dfu : ℕ) (extra : List ℕ) → IsFile payload ids dfu extra bytes.now
+        → result ≡ Ok (record { payload = payload; ids = ids; dfu = dfu; suffix = 16 + length extra }) }
+    ensures fault { (fault : SuffixFault) → (result ≡ Err fault) ↔ First fault bytes.now }
+{
+    read(bytes)
+}
+
+/// Reads a file: 0, or its first fault.
+#[unsafe(no_mangle)]
+pub extern "C" fn dfu_host_file(file: &[u8], out: &mut DfuFile) -> i32
+    ensures found { result ≡ pos 0 → (payload : List ℕ) × (ids : Ids) × (dfu : ℕ) × (extra : List ℕ) × IsFile payload ids dfu extra file.now
+        × (out.new ≡ record_of payload ids dfu (16 + length extra) file.now) }
+    ensures only { (payload : List ℕ) (ids : Ids) (dfu : ℕ) (extra : List ℕ) → IsFile payload ids dfu extra file.now → result ≡ pos 0 }
+    ensures fault { (fault : SuffixFault) → First fault file.now → (result ≡ file_refusal fault) × (out.new ≡ out.old) }
+{
+    match file_in(file) {
+        Ok(read) => {
+            *out = record_of(&read, file);
+            0
+        }
+        Err(fault) => refusals::of_file(fault),
+    }
+}

@@ -1,0 +1,31 @@
+//! The identifiers of a device, for C.
+
+ghost use Rattle.std.specs.Prelude.{◌≡◌};
+ghost use Rattle.dfu_host_c.specs.Sessions.{ids_of};
+
+use dfu_wire::Ids;
+
+/// `struct dfu_ids`: the identifiers of a device.
+#[repr(C)]
+#[derive(Drop)]
+pub struct DfuIds {
+    /// bcdDevice.
+    pub device: u16,
+    /// idProduct.
+    pub product: u16,
+    /// idVendor.
+    pub vendor: u16,
+}
+
+impl DfuIds {
+    /// The identifiers.
+    pub(crate) fn ids(&self) -> Ids
+        ensures { result ≡ ids_of self.now }
+    {
+        Ids {
+            device: self.device,
+            product: self.product,
+            vendor: self.vendor,
+        }
+    }
+}

@@ -1,0 +1,134 @@
+//! Phases as numbers, both ways.
+
+ghost use Rattle.std.specs.Prelude.{◌≡◌, Some, None, nat_lt, if◌then◌else◌};
+ghost use Rattle.dfu_host_c.specs.PhaseNumbers.{phase_at};
+ghost use Rattle.dfu_host_c.specs.ReportNumbers.{report_at};
+
+use crate::reports::{report_at, report_numbers};
+use dfu_host::{Phase, Report};
+
+/// A phase as numbers.
+#[derive(Clone, Copy)]
+pub(crate) struct Numbers {
+    /// Which phase.
+    pub(crate) which: u32,
+    /// The block, the part or the report.
+    pub(crate) number: u64,
+    /// The poll time in milliseconds, or the code of a report.
+    pub(crate) more: u32,
+}
+
+/// The phase of these numbers; none where there is none.
+pub(crate) fn phase_at(which: u32, number: u64, more: u32) -> Option<Phase>
+    ensures { result ≡ phase_at which number more }
+{
+    let block = number as usize;
+    match which {
+        0 => Some(Phase::Find),
+        1 => Some(Phase::FindAgain),
+        2 => Some(Phase::Detach),
+        3 => Some(Phase::Enter),
+        4 => Some(Phase::Clear),
+        5 => Some(Phase::Quit),
+        6 => Some(Phase::WaitFind(more)),
+        7 => Some(Phase::ResetFind),
+        8 => Some(Phase::Block(block)),
+        9 => Some(Phase::Ask(block)),
+        10 => Some(Phase::Poll(block)),
+        11 => Some(Phase::WaitPoll(block, more)),
+        12 => Some(Phase::Close),
+        13 => Some(Phase::AskLast),
+        14 => Some(Phase::Manifest),
+        15 => Some(Phase::WaitManifest(more)),
+        16 => Some(Phase::WaitLast(more)),
+        17 => Some(Phase::Trouble),
+        18 => match part_at(number) {
+            Some(part) => Some(Phase::Fetch(part)),
+            None => None,
+        },
+        19 => match part_at(number) {
+            Some(part) => Some(Phase::Compare(part)),
+            None => None,
+        },
+        20 => match report_at(number, more) {
+            Some(report) => Some(Phase::Last(report)),
+            None => None,
+        },
+        21 => Some(Phase::LastUploaded),
+        22 => Some(Phase::GiveUp),
+        23 => match report_at(number, more) {
+            Some(report) => Some(Phase::Over(report)),
+            None => None,
+        },
+        24 => Some(Phase::OverUploaded),
+        _ => None,
+    }
+}
+
+/// The part of a number; none over 65,535.
+fn part_at(number: u64) -> Option<u16>
+    ensures { result ≡ (if nat_lt number 65536 then Some number else None) }
+{
+    if number < 65_536 {
+        Some(number as u16)
+    } else {
+        None
+    }
+}
+
+/// The numbers of a phase.
+pub(crate) fn numbers_of(phase: Phase) -> Numbers
+    ensures { phase_at result.which result.number result.more ≡ Some phase }
+{
+    match phase {
+        Phase::Find => plain(0),
+        Phase::FindAgain => plain(1),
+        Phase::Detach => plain(2),
+        Phase::Enter => plain(3),
+        Phase::Clear => plain(4),
+        Phase::Quit => plain(5),
+        Phase::WaitFind(poll_ms) => of(6, 0, poll_ms),
+        Phase::ResetFind => plain(7),
+        Phase::Block(block) => of(8, block as u64, 0),
+        Phase::Ask(block) => of(9, block as u64, 0),
+        Phase::Poll(block) => of(10, block as u64, 0),
+        Phase::WaitPoll(block, poll_ms) => of(11, block as u64, poll_ms),
+        Phase::Close => plain(12),
+        Phase::AskLast => plain(13),
+        Phase::Manifest => plain(14),
+        Phase::WaitManifest(poll_ms) => of(15, 0, poll_ms),
+        Phase::WaitLast(poll_ms) => of(16, 0, poll_ms),
+        Phase::Trouble => plain(17),
+        Phase::Fetch(part) => of(18, u64::from(part), 0),
+        Phase::Compare(part) => of(19, u64::from(part), 0),
+        Phase::Last(report) => reported(20, report),
+        Phase::LastUploaded => plain(21),
+        Phase::GiveUp => plain(22),
+        Phase::Over(report) => reported(23, report),
+        Phase::OverUploaded => plain(24),
+    }
+}
+
+fn of(which: u32, number: u64, more: u32) -> Numbers
+    ensures { result ≡ record { which = which; number = number; more = more } }
+{
+    Numbers {
+        which,
+        number,
+        more,
+    }
+}
+
+fn plain(which: u32) -> Numbers
+    ensures { result ≡ record { which = which; number = 0; more = 0 } }
+{
+    of(which, 0, 0)
+}
+
+fn reported(which: u32, report: Report) -> Numbers
+    ensures which { result.which ≡ which }
+    ensures report { report_at result.number result.more ≡ Some report }
+{
+    let (number, code) = report_numbers(report);
+    of(which, u64::from(number), code)
+}

@@ -1,0 +1,66 @@
+//! The calls that step a session.
+
+ghost use Rattle.std.specs.Prelude.{◌≡◌, ◌⊎◌, ◌≤◌, List, ℕ, None, pos, length};
+ghost use Rattle.std.specs.Borrow.{Bor};
+ghost use Rattle.dfu_host.specs.Goals.{Carries};
+ghost use Rattle.dfu_host.specs.Host.{HostRow};
+ghost use Rattle.dfu_host_c.specs.Calls.{GivenUp, NoRecord, NotHeld, Took};
+ghost use Rattle.dfu_host_c.specs.Sessions.{IsHeld, host_in};
+ghost use Rattle.dfu_host_c.specs.Refusals.{no_session, no_seen};
+ghost use Rattle.dfu_host_c.specs.Told.{seen_at};
+
+use crate::holding::{record_of, session_of};
+use crate::refusals::{NO_SEEN, NO_SESSION};
+use crate::seen::seen_at;
+use crate::session::DfuSession;
+use dfu_host::{Seen, Session};
+
+/// One step of a session whose record is this: the record that follows.
+fn step(given: &DfuSession, host: &mut Session<'_>, kept: &mut [u8], seen: Seen<'_>) -> DfuSession
+    requires { given.now.kept ≤ length kept.old }
+    ensures row { HostRow (host_in given.now kept.old host.old) seen.entry (host_in result kept.new host.new) }
+    ensures held { (payload : Bor (List ℕ)) → Carries payload host.old.goal → IsHeld result payload kept.new host.new }
+{
+    let count = host.take(kept, given.kept as usize, seen);
+    record_of(host, count as u64)
+}
+
+/// Tells a session what came of its action: 0, `DFU_NO_SESSION` or `DFU_NO_SEEN`.
+#[unsafe(no_mangle)]
+pub extern "C" fn dfu_host_take(
+    session: &mut DfuSession,
+    payload: &[u8],
+    kept: &mut [u8],
+    seen: u32,
+    bytes: &[u8],
+) -> i32
+    ensures outcome { ((result ≡ pos 0) × Took session.old session.new payload.entry kept.old kept.new seen bytes.entry)
+        ⊎ ((result ≡ no_session) × NotHeld session.old payload.entry kept.old × (session.new ≡ session.old) × (kept.new ≡ kept.old))
+        ⊎ ((result ≡ no_seen) × (seen_at seen bytes.entry ≡ None) × (session.new ≡ session.old) × (kept.new ≡ kept.old)) }
+{
+    let Some(mut host) = session_of(session, payload) else {
+        return NO_SESSION;
+    };
+    if session.kept > kept.len() as u64 {
+        return NO_SESSION;
+    }
+    let Some(seen) = seen_at(seen, bytes) else {
+        return NO_SEEN;
+    };
+    *session = step(session, &mut host, kept, seen);
+    0
+}
+
+/// Gives a session up: 0 or `DFU_NO_SESSION`.
+#[unsafe(no_mangle)]
+pub extern "C" fn dfu_host_abort(session: &mut DfuSession, payload: &[u8]) -> i32
+    ensures outcome { ((result ≡ pos 0) × GivenUp session.old session.new payload.entry)
+        ⊎ ((result ≡ no_session) × NoRecord session.old payload.entry × (session.new ≡ session.old)) }
+{
+    let Some(mut host) = session_of(session, payload) else {
+        return NO_SESSION;
+    };
+    host.abort();
+    *session = record_of(&host, session.kept);
+    0
+}

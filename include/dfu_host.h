@@ -1,0 +1,161 @@
+/* The host of USB device firmware upgrade (USB DFU 1.1): which request, wait or reset comes next.
+
+   The library sends nothing, takes no memory and keeps nothing between two calls. The program keeps the record
+   of the session, does what dfu_host_next says, and tells dfu_host_take what came of it. It links with
+   crates/dfu_host_c/out/libdfu_host_c.a, which wants memcpy, memmove, memset and memcmp of the program's C library.
+
+       struct dfu_session s; struct dfu_action a; struct dfu_file f; uint8_t answer[65535];
+       if (dfu_host_file(file, length, &f) < 0) ..
+       if (dfu_host_download(&s, file, length, descriptor, size, &device, 100000, 3) < 0) ..
+       for (;;) {
+           dfu_host_next(&s, file, f.payload, &a);
+           if (a.what == DFU_DONE) break;
+           if (a.what == DFU_WAIT) { sleep for a.value ms; seen = DFU_WAITED; }
+           else if (a.what == DFU_RESET) { reset the bus; seen = DFU_WAS_RESET; }
+           else { a control transfer with a.setup; seen = what came of it; }
+           dfu_host_take(&s, file, f.payload, buffer, room, seen, answer, count);
+       }
+
+   What came of a transfer, by its outcome:
+     acknowledged, where a.setup[0] is 21h (the host sends)        DFU_ACK
+     answered, where a.setup[0] is A1h (the device answers)        DFU_BYTES, with the bytes, of any count from 0 on
+     stalled                                                       DFU_STALLED
+     not finished for any other reason, as a time that ran out     DFU_NOTHING
+     the device left, or somebody else reset it                    DFU_RESTARTED, once it is back, before all else
+
+   What the program owes:
+     - pointers to as many bytes as their lengths say, which do not overlap, and none of which is NULL, also where
+       its length is 0; `answer` has room for the count in a.setup[6], a.setup[7] (the low byte first);
+     - the record as the last call left it, from the beginning to the end of a session;
+     - the same payload for the whole session: the first `dfu_file.payload` bytes of the file that it began with,
+       and for an upload any pointer with length 0;
+     - the same buffer for the whole upload, of which it changes nothing;
+     - calls of one session come from one thread at a time.
+
+   What is proved of programs that do:
+     - each dfu_host_take is a row of the host's table (docs/PROFILE.md), each action is the one of its phase, and
+       a session is over after as many calls of it as it had actions (where a body stands in the
+       payload, and how a session begins, is tested and not proved);
+     - DFU_INSTALLED, DFU_VERIFIED and DFU_UPLOADED come only as the laws of dfu_host say.
+   What is proved also where the record, the payload or the buffer are others: a call is answered or refused, it
+   ends, and it touches nothing but what its pointers say. A refusal changes nothing. */
+
+#ifndef DFU_HOST_H
+#define DFU_HOST_H
+
+#include <stddef.h>
+#include <stdint.h>
+
+/* A device, by its device descriptor: bcdDevice, idProduct, idVendor. */
+struct dfu_ids {
+    uint16_t device, product, vendor;
+};
+
+/* What a file says. */
+struct dfu_file {
+    uint64_t payload;                      /* how many bytes the payload has, which stands first in the file */
+    uint32_t suffix, crc;                  /* bLength, 16 to 255; dwCRC */
+    uint16_t device, product, vendor, dfu; /* bcdDevice, idProduct, idVendor (FFFFh: of any), bcdDFU */
+};
+
+/* A session between two calls. Only `kept` is for the program's eyes. */
+struct dfu_session {
+    uint64_t number;                        /* the block, the part or the report of the phase */
+    uint64_t kept;                          /* how many bytes of the buffer count; all that came, once DFU_UPLOADED */
+    uint32_t goal, phase, more, actions;    /* goal 1 to 4; phase 0 to 24; a poll time or a code; actions left */
+    uint16_t restarts, transfer, detach_ms; /* restarts left; wTransferSize; wDetachTimeOut */
+    uint8_t tolerant, will_detach;          /* bitManifestationTolerant and bitWillDetach: 0 or else */
+};
+
+/* What is to be done. */
+struct dfu_action {
+    uint32_t what;    /* DFU_SEND, DFU_WAIT, DFU_RESET or DFU_DONE */
+    uint32_t value;   /* DFU_WAIT: how many milliseconds; DFU_DONE: the report */
+    uint64_t from;    /* DFU_SEND: where in the payload the body begins */
+    uint32_t length;  /* DFU_SEND: how many bytes the body has, 0 to 65,535; 0 where the device answers */
+    uint32_t code;    /* DFU_DONE with DFU_REFUSED: the device's bStatus, 0 to 15 */
+    uint8_t setup[8]; /* DFU_SEND: the setup of a control transfer */
+};
+
+enum { DFU_SEND, DFU_WAIT, DFU_RESET, DFU_DONE };
+
+/* What was seen of an action. */
+enum { DFU_ACK, DFU_BYTES, DFU_STALLED, DFU_NOTHING, DFU_WAITED, DFU_WAS_RESET, DFU_RESTARTED };
+
+/* Reports. Only DFU_INSTALLED and DFU_VERIFIED say that the payload is in place. */
+enum {
+    DFU_INSTALLED = 1,       /* a tolerant device took all of it, said so, and was reset */
+    DFU_UNCONFIRMED = 2,     /* a device that can't tell took all of it, and was reset */
+    DFU_ABORTED = 3,         /* the program gave up */
+    DFU_GAVE_UP = 4,         /* the actions are spent */
+    DFU_REFUSED = 5,         /* the device stood in dfuERROR with a code */
+    DFU_RESTARTS_SPENT = 6,  /* the device was restarted too often */
+    DFU_UPLOADED = 7,        /* the whole image came: the first `kept` bytes of the buffer */
+    DFU_TOO_MANY_BLOCKS = 8, /* 65,535 full parts came */
+    DFU_NO_MEMORY = 9,       /* a part found no room in the buffer */
+    DFU_VERIFIED = 10,       /* after its reset the device gave the whole payload back */
+    DFU_DIFFERENT = 11       /* after its reset the device gave other bytes back */
+};
+
+/* Refusals. */
+enum {
+    DFU_FILE_TOO_SHORT = -1,       /* the file has under 16 bytes */
+    DFU_FILE_NO_SIGNATURE = -2,    /* .. no 'UFD' in its suffix */
+    DFU_FILE_BAD_LENGTH = -3,      /* .. a bLength under 16 or over the file's length */
+    DFU_FILE_DFUSE = -4,           /* .. bcdDFU 011Ah */
+    DFU_FILE_BAD_CRC = -5,         /* .. a dwCRC that is not that of its bytes */
+    DFU_FILE_TOO_LARGE = -7,       /* .. over 16,777,216 bytes */
+    DFU_EMPTY_PAYLOAD = -21,  /* nothing to install */
+    DFU_WRONG_TARGET = -22,   /* the file is for another device */
+    DFU_CANNOT_DOWNLOAD = -23,
+    DFU_CANNOT_UPLOAD = -24,
+    DFU_BAD_DESCRIPTOR = -25, /* wTransferSize is 0 */
+    DFU_SHORT = -31,          /* the descriptor has fewer bytes than its first says */
+    DFU_LONG = -32,           /* .. more */
+    DFU_WRONG_LENGTH = -33,   /* .. neither 7 nor 9 as its first */
+    DFU_WRONG_TYPE = -34,     /* .. not 21h as its second */
+    DFU_NO_SESSION = -41,     /* the record is none of a session over that payload and buffer */
+    DFU_NO_SEEN = -42         /* `seen` is over 6 */
+};
+
+/* Reads a file, with its CRC: 0, or the first that holds of DFU_FILE_TOO_LARGE, DFU_FILE_TOO_SHORT,
+   DFU_FILE_NO_SIGNATURE, DFU_FILE_BAD_LENGTH, DFU_FILE_DFUSE, DFU_FILE_BAD_CRC. */
+int32_t dfu_host_file(const uint8_t *file, size_t length, struct dfu_file *out);
+
+/* Begins a session that installs a file: 0, or the file's refusal, or the descriptor's, or the first of
+   DFU_EMPTY_PAYLOAD, DFU_WRONG_TARGET, DFU_CANNOT_DOWNLOAD, DFU_BAD_DESCRIPTOR. `descriptor` is the functional
+   descriptor, of 9 bytes, or 7 in DFU 1.0. The session takes `actions` calls of dfu_host_take (0 counts as 1) and
+   `restarts` of the device. It reads the file once. */
+int32_t dfu_host_download(struct dfu_session *session, const uint8_t *file, size_t length,
+                          const uint8_t *descriptor, size_t size, const struct dfu_ids *device,
+                          uint32_t actions, uint16_t restarts);
+
+/* The same, and after the last reset the image is asked for and compared. A device without bitCanUpload is refused
+   with DFU_CANNOT_UPLOAD, looked for before DFU_BAD_DESCRIPTOR. */
+int32_t dfu_host_verified(struct dfu_session *session, const uint8_t *file, size_t length,
+                          const uint8_t *descriptor, size_t size, const struct dfu_ids *device,
+                          uint32_t actions, uint16_t restarts);
+
+/* Begins a session that fetches the image: 0, or the descriptor's refusal, or the first of DFU_CANNOT_UPLOAD,
+   DFU_BAD_DESCRIPTOR. */
+int32_t dfu_host_upload(struct dfu_session *session, const uint8_t *descriptor, size_t size,
+                        uint32_t actions, uint16_t restarts);
+
+/* What the session wants done next: 0 or DFU_NO_SESSION. It changes nothing but `action`. */
+int32_t dfu_host_next(const struct dfu_session *session, const uint8_t *payload, size_t length,
+                      struct dfu_action *action);
+
+/* Tells the session what came of its action: 0, DFU_NO_SESSION or DFU_NO_SEEN. `kept` with `room` is the buffer of
+   an upload, and any pointer with 0 for a download; `bytes` with `count` is what came with DFU_BYTES. */
+int32_t dfu_host_take(struct dfu_session *session, const uint8_t *payload, size_t length, uint8_t *kept, size_t room,
+                      uint32_t seen, const uint8_t *bytes, size_t count);
+
+/* Gives the session up: 0 or DFU_NO_SESSION. What it wants next is ABORT, and its report is DFU_ABORTED. One that
+   is over stays as it is. */
+int32_t dfu_host_abort(struct dfu_session *session, const uint8_t *payload, size_t length);
+
+/* Writes a report's name, as `gave-up`, with no end mark: how many bytes it has, at most 15, or 0 where there is no
+   such report or `out` has no room for it. */
+int32_t dfu_host_name(uint32_t report, uint8_t *out, size_t room);
+
+#endif

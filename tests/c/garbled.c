@@ -1,0 +1,60 @@
+/* Calls with a record or a medium that were garbled: each is answered or refused, and writes nothing outside what it was
+ * given. It takes how many calls to make. */
+#include <stdio.h>
+#include <stdlib.h>
+#include <string.h>
+
+#include "dfu_device.h"
+
+static const struct dfu_config config = {0x0100, 1, 0x1209, 255, 8, 7, 5, 10, 1};
+static uint32_t dice = 1;
+
+static uint32_t roll(uint32_t sides) {
+    dice = dice * 1664525u + 1013904223u;
+    return (dice >> 8) % sides;
+}
+
+int main(int count, char **words) {
+    /* A guard on both sides of each. */
+    static uint8_t field[64 + 192 + 64], given[64 + 8 + 64], start[192];
+    static struct dfu_device records[3];
+    struct dfu_device *record = &records[1];
+    uint8_t *medium = field + 64, *out = given + 64;
+    long answered = 0, refused = 0, all = count > 1 ? atol(words[1]) : 1000;
+    if (dfu_device_format(start, sizeof start, (const uint8_t *)"\x11\x22", 2) != 0)
+        return 1;
+    for (long call = 0; call < all; call++) {
+        uint8_t body[8] = {1, 2, 3, 4, 5, 6, 7, 8};
+        uint8_t setup[8] = {roll(2) ? 0x21 : 0xa1, (uint8_t)roll(8), (uint8_t)roll(3), 0, 0, 0, (uint8_t)roll(9), 0};
+        memset(field, 0x5a, sizeof field);
+        memset(given, 0x5a, sizeof given);
+        memset(records, 0x5a, sizeof records);
+        memcpy(medium, start, sizeof start);
+        if (roll(2))
+            medium[roll(192)] = (uint8_t)roll(256);
+        /* The spare's gate is closed in one of two, so that bytes may stand there. */
+        if (roll(2))
+            medium[96] = 0;
+        *record = (struct dfu_device){roll(14), roll(12), roll(20), roll(12), (uint16_t)roll(18), (uint16_t)roll(10), {0}};
+        if (roll(4) == 0)
+            ((uint8_t *)record)[roll(20)] = (uint8_t)roll(256);
+        int32_t result, what = (int32_t)roll(4);
+        if (what == 0)
+            result = dfu_device_elapse(&config, record, medium, 192, roll(12));
+        else if (what == 1 && roll(4) == 0)
+            result = dfu_device_usb_reset(&config, record, medium, 192);
+        else
+            result = dfu_device_handle(&config, record, medium, 192, setup, body, setup[0] == 0x21 ? setup[6] : 0, out, 8);
+        *(result >= -1 ? &answered : &refused) += 1;
+        if (result < DFU_NO_ROOM || result > 8)
+            return printf("garbled: call %ld answered %d\n", call, (int)result), 1;
+        for (size_t i = 0; i < 64; i++)
+            if (field[i] != 0x5a || field[256 + i] != 0x5a || given[i] != 0x5a || given[72 + i] != 0x5a)
+                return printf("garbled: call %ld wrote outside\n", call), 1;
+        for (size_t i = 0; i < sizeof *record; i++)
+            if (((uint8_t *)&records[0])[i] != 0x5a || ((uint8_t *)&records[2])[i] != 0x5a)
+                return printf("garbled: call %ld wrote outside the record\n", call), 1;
+    }
+    printf("garbled: %ld calls, %ld answered, %ld refused\n", all, answered, refused);
+    return answered == 0 || refused == 0;
+}

@@ -1,0 +1,87 @@
+/* An image of 20 bytes in blocks of 8 is installed, with the power off after each call in turn: the record is thrown away,
+ * the device gets power anew, and its image is the old one or the new one whole; then it is installed after all. */
+#include <stdio.h>
+#include <string.h>
+
+#include "dfu_device.h"
+
+static struct dfu_config config = {0x0100, 1, 0x1209, 255, 8, 7, 5, 10, 1};
+static struct dfu_device device;
+static uint8_t medium[2 * (32 + 64)], image[20];
+static const uint8_t old[3] = {1, 2, 3};
+/* How many calls are made before the power goes, and how many were made. */
+static int last, made;
+
+static int is_off(void) {
+    return made++ >= last;
+}
+
+static void ask(uint8_t kind, uint8_t request, uint16_t value, const uint8_t *body, uint16_t length) {
+    uint8_t setup[8] = {kind, request, (uint8_t)value, 0, 0, 0, (uint8_t)length, 0}, out[8];
+    if (!is_off())
+        dfu_device_handle(&config, &device, medium, sizeof medium, setup, body, kind == 0x21 ? length : 0, out, sizeof out);
+}
+
+static void pass(uint32_t ms) {
+    if (!is_off())
+        dfu_device_elapse(&config, &device, medium, sizeof medium, ms);
+}
+
+static void power_on(void) {
+    if (!is_off())
+        dfu_device_power_on(&config, &device, medium, sizeof medium);
+}
+
+static void reset(void) {
+    if (!is_off())
+        dfu_device_usb_reset(&config, &device, medium, sizeof medium);
+}
+
+static void install(void) {
+    power_on();
+    ask(0x21, 0, 100, image, 0);
+    reset();
+    for (uint16_t block = 0; block < 3; block++) {
+        ask(0x21, 1, block, image + 8 * block, block == 2 ? 4 : 8);
+        ask(0xa1, 3, 0, image, 6);
+        pass(5);
+        ask(0xa1, 3, 0, image, 6);
+    }
+    ask(0x21, 1, 3, image, 0);
+    ask(0xa1, 3, 0, image, 6);
+    pass(10);
+    ask(0xa1, 3, 0, image, 6);
+}
+
+static int has(const uint8_t *bytes, uint32_t length) {
+    struct dfu_place place;
+    return dfu_device_image(medium, sizeof medium, &place) == 0 && place.length == length && memcmp(medium + place.at, bytes, length) == 0;
+}
+
+int main(void) {
+    int olds = 0, news = 0, calls;
+    for (size_t i = 0; i < sizeof image; i++)
+        image[i] = (uint8_t)(0x40 + i);
+    for (int tolerant = 0; tolerant < 2; tolerant++)
+        for (calls = 0, last = 0; last == 0 || calls >= last; last++) {
+            config.attributes = (uint8_t)(3 + 4 * tolerant);
+            if (dfu_device_format(medium, sizeof medium, old, sizeof old) != 0)
+                return 1;
+            made = 0;
+            install();
+            calls = made;
+            olds += has(old, sizeof old);
+            news += has(image, sizeof image);
+            if (has(old, sizeof old) + has(image, sizeof image) != 1 || dfu_device_power_on(&config, &device, medium, sizeof medium) != 0)
+                return printf("power: off after %d calls\n", last), 1;
+            int kept = last;
+            last = 1000;
+            memset(&device, 0xa5, sizeof device);
+            install();
+            last = kept;
+            if (!has(image, sizeof image))
+                return printf("power: not installed after a loss at %d\n", last), 1;
+        }
+    printf("power off at each of %d calls: %d times the old image, %d times the new one\n", calls, olds, news);
+    return olds == 0 || news == 0;
+}

@@ -1,0 +1,92 @@
+/* Rows of the device table, from C: what a host asks, what the device answers, and where it stands then. */
+#include <stdio.h>
+#include <string.h>
+
+#include "dfu_device.h"
+
+static struct dfu_config config = {0x0100, 1, 0x1209, 255, 8, 7, 5, 10, 1};
+static struct dfu_device device;
+static uint8_t medium[2 * (32 + 64)], out[16];
+static int wrong;
+
+static void expect(const char *what, int is) {
+    if (!is) {
+        printf("rows: %s\n", what);
+        wrong = 1;
+    }
+}
+
+/* One transfer: the answer's number, its bytes, and the state then. */
+static void ask(const char *what, const char *setup, const void *body, size_t length, int32_t number, const char *bytes, int32_t state) {
+    int32_t n = dfu_device_handle(&config, &device, medium, sizeof medium, (const uint8_t *)setup, body, length, out, sizeof out);
+    expect(what, n == number && (n <= 0 || memcmp(out, bytes, (size_t)n) == 0) && dfu_device_state(&device) == state);
+}
+
+static void image_is(const char *what, const char *bytes, uint32_t length) {
+    struct dfu_place place = {0, 0};
+    expect(what, dfu_device_image(medium, sizeof medium, &place) == 0 && place.length == length && memcmp(medium + place.at, bytes, length) == 0);
+}
+
+#define STATUS "\xa1\x03\0\0\0\0\x06\0"
+
+static void download(uint8_t attributes) {
+    int tolerant = attributes & 4;
+    config.attributes = attributes;
+    expect("format", dfu_device_format(medium, sizeof medium, (const uint8_t *)"\x11\x22", 2) == 0);
+    expect("power on", dfu_device_power_on(&config, &device, medium, sizeof medium) == 0 && dfu_device_state(&device) == 0);
+    image_is("old image", "\x11\x22", 2);
+    ask("DETACH", "\x21\0\xe8\x03\0\0\0\0", "", 0, 0, "", 1);
+    expect("bus reset", dfu_device_usb_reset(&config, &device, medium, sizeof medium) == 0 && dfu_device_state(&device) == 2);
+    ask("GETSTATUS", STATUS, "", 0, 6, "\0\0\0\0\x02\0", 2);
+    ask("a body that is cut short", "\x21\x01\0\0\0\0\x04\0", "\xff\xff", 2, DFU_STALL, "", 2);
+    ask("DNLOAD", "\x21\x01\0\0\0\0\x04\0", "\xaa\xbb\xcc\xdd", 4, 0, "", 3);
+    ask("poll", STATUS, "", 0, 6, "\0\x05\0\0\x04\0", 4);
+    expect("busy", dfu_device_elapse(&config, &device, medium, sizeof medium, 5) == 0 && dfu_device_state(&device) == 3);
+    ask("written", STATUS, "", 0, 6, "\0\0\0\0\x05\0", 5);
+    ask("close", "\x21\x01\x01\0\0\0\0\0", "", 0, 0, "", 6);
+    ask("manifest", STATUS, "", 0, 6, "\0\x0a\0\0\x07\0", 7);
+    image_is("not yet", "\x11\x22", 2);
+    expect("manifested", dfu_device_elapse(&config, &device, medium, sizeof medium, 10) == 0);
+    image_is("new image", "\xaa\xbb\xcc\xdd", 4);
+    if (tolerant) {
+        ask("complete", STATUS, "", 0, 6, "\0\0\0\0\x02\0", 2);
+        ask("UPLOAD", "\xa1\x02\0\0\0\0\x08\0", "", 0, 4, "\xaa\xbb\xcc\xdd", 2);
+        ask("an unknown request", "\x21\x07\0\0\0\0\0\0", "", 0, DFU_STALL, "", 10);
+        expect("code", dfu_device_code(&device) == 15);
+        ask("CLRSTATUS", "\x21\x04\0\0\0\0\0\0", "", 0, 0, "", 2);
+    } else {
+        ask("waits for a reset", STATUS, "", 0, DFU_STALL, "", 8);
+    }
+    expect("second reset", dfu_device_usb_reset(&config, &device, medium, sizeof medium) == 0 && dfu_device_state(&device) == 0);
+}
+
+static void refusals(void) {
+    static uint8_t before[sizeof medium];
+    struct dfu_device kept = device;
+    struct dfu_place place = {7, 7};
+    uint8_t none[100] = {0};
+    config.transfer = 0;
+    ask("NO_CONFIG", STATUS, "", 0, DFU_NO_CONFIG, "", 0);
+    config.transfer = 17;
+    ask("NO_ROOM", STATUS, "", 0, DFU_NO_ROOM, "", 0);
+    config.transfer = 8;
+    expect("NO_MEDIUM", dfu_device_elapse(&config, &device, none, sizeof none, 1) == DFU_NO_MEDIUM
+        && dfu_device_power_on(&config, &device, none, sizeof none) == DFU_NO_MEDIUM
+        && dfu_device_image(none, sizeof none, &place) == DFU_NO_MEDIUM && place.at == 7 && place.length == 7);
+    memcpy(before, medium, sizeof medium);
+    kept.mode = 6;
+    kept.first = 9;
+    expect("NO_DEVICE", dfu_device_usb_reset(&config, &kept, medium, sizeof medium) == DFU_NO_DEVICE && kept.mode == 6 && kept.first == 9);
+    kept.mode = 13;
+    expect("no mode", dfu_device_state(&kept) == DFU_NO_DEVICE && dfu_device_code(&kept) == DFU_NO_DEVICE);
+    expect("medium unchanged", memcmp(before, medium, sizeof medium) == 0);
+    expect("WRONG_SIZE", dfu_device_format(medium, 65, none, 1) == DFU_WRONG_SIZE);
+    expect("TOO_LARGE", dfu_device_format(medium, sizeof medium, none, 65) == DFU_TOO_LARGE && memcmp(before, medium, sizeof medium) == 0);
+}
+
+int main(void) {
+    download(7);
+    refusals();
+    download(3);
+    return wrong;
+}

@@ -1,0 +1,123 @@
+/* Sessions of the host library against the device library: downloads, with and without losses, uploads into buffers of
+ * several sizes, refusals, and what is given up. */
+#include <stdio.h>
+#include <stdlib.h>
+#include <string.h>
+
+#include "dfu_device.h"
+#include "dfu_host.h"
+
+static const struct dfu_config config = {
+    .device = 0x0100, .product = 1, .vendor = 0x1209, .detach_ms = 255, .transfer = 8,
+    .attributes = 7, .busy_ms = 5, .manifest_ms = 10, .least = 1,
+};
+static const uint8_t descriptor[9] = {9, 0x21, 7, 255, 0, 8, 0, 0x10, 1};
+static const struct dfu_ids ids = {0x0100, 1, 0x1209};
+static const uint8_t ones[20] = {255, 255, 255, 255, 255, 255, 255, 255, 255, 255, 0, 1, 'U', 'F', 'D', 16, 113, 200, 81, 12};
+static uint8_t medium[2 * (32 + 1024)], buffer[64], answer[64];
+static struct dfu_device device;
+static int failed;
+
+static void is(const char *what, long got, long wanted) {
+    if (got != wanted) {
+        printf("%s: %ld, not %ld\n", what, got, wanted);
+        failed++;
+    }
+}
+
+static void start(const char *image, size_t length) {
+    is("format", dfu_device_format(medium, sizeof medium, (const uint8_t *)image, length), 0);
+    is("power on", dfu_device_power_on(&config, &device, medium, sizeof medium), 0);
+}
+
+/* Goes on until the session is over, with one answer lost and the rest given up at an action: the report. */
+static uint32_t run(struct dfu_session *s, size_t payload, size_t room, int lost, int given_up) {
+    struct dfu_action a;
+    for (int step = 0; dfu_host_next(s, ones, payload, &a) == 0 && a.what != DFU_DONE; step++) {
+        int32_t sent = 0;
+        uint32_t seen = DFU_WAITED;
+        if (step == given_up) {
+            is("abort", dfu_host_abort(s, ones, payload), 0);
+            continue;
+        }
+        if (a.what == DFU_RESET) {
+            dfu_device_usb_reset(&config, &device, medium, sizeof medium);
+            seen = DFU_WAS_RESET;
+        } else if (a.what == DFU_WAIT)
+            dfu_device_elapse(&config, &device, medium, sizeof medium, a.value);
+        else {
+            sent = dfu_device_handle(&config, &device, medium, sizeof medium, a.setup, ones + a.from, a.length, answer, sizeof answer);
+            seen = step == lost ? DFU_NOTHING : sent < 0 ? DFU_STALLED : a.setup[0] & 0x80 ? DFU_BYTES : DFU_ACK;
+        }
+        is("take", dfu_host_take(s, ones, payload, buffer, room, seen, answer, sent > 0 ? (size_t)sent : 0), 0);
+    }
+    return a.value;
+}
+
+static int has(const uint8_t *image, size_t length) {
+    struct dfu_place place;
+    return dfu_device_image(medium, sizeof medium, &place) == 0 && place.length == length && !memcmp(medium + place.at, image, length);
+}
+
+static uint32_t upload(size_t room) {
+    struct dfu_session s;
+    start("0123456789abcdef!", 17);
+    is("upload", dfu_host_upload(&s, descriptor, 9, 1000, 0), 0);
+    memset(buffer, 0, sizeof buffer);
+    uint32_t report = run(&s, 0, room, -1, -1);
+    if (report == DFU_UPLOADED)
+        is("kept", s.kept == 17 && !memcmp(buffer, "0123456789abcdef!", 17), 1);
+    for (size_t at = room; at < sizeof buffer; at++)
+        is("beyond", buffer[at], 0);
+    return report;
+}
+
+int main(void) {
+    struct dfu_session s, old;
+    struct dfu_action a;
+    struct dfu_file f;
+    is("file", dfu_host_file(ones, 20, &f), 0);
+    is("payload", (long)f.payload, 4);
+    is("crc", f.crc, 0x0c51c871);
+    is("suffix", f.suffix, 16);
+    is("vendor", f.vendor, 0xffff);
+    is("too short", dfu_host_file(ones, 15, &f), DFU_FILE_TOO_SHORT);
+    is("no signature", dfu_host_file(ones, 19, &f), DFU_FILE_NO_SIGNATURE);
+    is("bad crc", dfu_host_file(ones + 1, 19, &f), DFU_FILE_BAD_CRC);
+    for (int lost = -1; lost < 22; lost++) {
+        start("\x11", 1);
+        is("download", dfu_host_download(&s, ones, 20, descriptor, 9, &ids, 1000, 0), 0);
+        is("installed", run(&s, 4, 0, lost, -1), DFU_INSTALLED);
+        is("image", has(ones, 4), 1);
+        start("\x11", 1);
+        is("verified", dfu_host_verified(&s, ones, 20, descriptor, 9, &ids, 1000, 0), 0);
+        is("is verified", run(&s, 4, 0, lost, -1), DFU_VERIFIED);
+        is("image", has(ones, 4), 1);
+    }
+    for (int step = 0; step < 12; step++) {
+        start("\x11", 1);
+        dfu_host_download(&s, ones, 20, descriptor, 9, &ids, 1000, 0);
+        is("aborted", run(&s, 4, 0, -1, step), DFU_ABORTED);
+    }
+    is("whole", upload(64), DFU_UPLOADED);
+    is("exactly full", upload(17), DFU_UPLOADED);
+    is("one byte short", upload(16), DFU_NO_MEMORY);
+    is("no room", upload(0), DFU_NO_MEMORY);
+    is("descriptor", dfu_host_download(&s, ones, 20, descriptor, 8, &ids, 1, 0), DFU_SHORT);
+    is("no bytes", dfu_host_upload(&s, descriptor, 0, 1, 0), DFU_SHORT);
+    const uint8_t mute[7] = {7, 0x21, 4, 255, 0, 8, 0}, narrow[7] = {7, 0x21, 3, 255, 0, 0, 0};
+    is("no download", dfu_host_download(&s, ones, 20, mute, 7, &ids, 1, 0), DFU_CANNOT_DOWNLOAD);
+    is("no upload", dfu_host_upload(&s, mute, 7, 1, 0), DFU_CANNOT_UPLOAD);
+    is("narrow", dfu_host_upload(&s, narrow, 7, 1, 0), DFU_BAD_DESCRIPTOR);
+    dfu_host_download(&s, ones, 20, descriptor, 9, &ids, 1000, 0);
+    old = s;
+    is("no seen", dfu_host_take(&s, ones, 4, buffer, 0, 7, answer, 0), DFU_NO_SEEN);
+    is("no payload", dfu_host_take(&s, ones, 0, buffer, 0, DFU_ACK, answer, 0), DFU_NO_SESSION);
+    is("as it was", memcmp(&s, &old, sizeof s), 0);
+    s.goal = 9;
+    is("no goal", dfu_host_next(&s, ones, 4, &a), DFU_NO_SESSION);
+    uint8_t name[16];
+    is("name", dfu_host_name(DFU_GAVE_UP, name, 16) == 7 && !memcmp(name, "gave-up", 7), 1);
+    is("no name", dfu_host_name(12, name, 16), 0);
+    return failed != 0;
+}
