@@ -1,0 +1,16 @@
+# Completion of dfu-flash for fish: put this file into a folder of fish_complete_path.
+complete -c dfu-flash -F
+complete -c dfu-flash -x -l device -d 'Take this device, four hexadecimal digits each'
+complete -c dfu-flash -x -l path -d 'Take the device at this path, as 1-2.3'
+complete -c dfu-flash -x -l serial -d 'Take the device with this serial number'
+complete -c dfu-flash -x -l interface -d 'Take the interface of this number'
+complete -c dfu-flash -x -l alt -d 'Take the alternate setting of this number'
+complete -c dfu-flash -l no-verify -d 'Don\'t upload the image after the download to compare it'
+complete -c dfu-flash -r -F -l upload -d 'Fetch the active image into a new file'
+complete -c dfu-flash -l force -d 'Let an upload replace a file that is there'
+complete -c dfu-flash -x -l limits -d 'Give up after A actions, or after R restarts of the device'
+complete -c dfu-flash -l dry-run -d 'Look for file and device, and send nothing'
+complete -c dfu-flash -l quiet -d 'Print no progress'
+complete -c dfu-flash -l json -d 'Print one record in JSON at the end'
+complete -c dfu-flash -l list -d 'List the devices that are there'
+complete -c dfu-flash -s h -l help -d 'Print help'

@@ -1,0 +1,133 @@
+/* Which answer of libusb is told the host as what. The proof of what Installed and Verified mean stands on this file:
+   a transfer that is told as acknowledged or answered was really made, and a restart is told where the device lost its
+   state, before anything that it answers later.
+
+   Of a transfer:
+     as many bytes out as the body has  Ack         it was made, and acknowledged
+     bytes in, also fewer or none       Bytes       what came, as it came
+     LIBUSB_ERROR_PIPE                  Stall       the device refused the request
+     LIBUSB_ERROR_NO_DEVICE             Restarted   the device left: told once it is back and open again
+     any other                          Nothing     as TIMEOUT, IO, OVERFLOW: it may have been handled or not, and the host asks
+
+   Of a reset:
+     0                                  WasReset
+     LIBUSB_ERROR_NOT_FOUND             WasReset    once it is back: libusb says this where the device has other descriptors
+                                                    after the reset, and comes as a new one, whose enumeration is a reset
+     LIBUSB_ERROR_NO_DEVICE             Restarted   it left before: told once it is back
+     any other                          Nothing     the host asks for it again
+   NOT_FOUND is also what Linux says of a device that left before the reset. It comes back reset then too; and behind a reset
+   the host is done, or begins anew with asking for the device's state, as it does behind a restart.
+
+   Of a wait: Waited, once the time has passed.
+
+   A device that leaves behind an acknowledged DETACH does what it was asked to, up to the next request: that is no restart.
+   Until it is found again, nothing is sent. A reset that another program makes in between isn't seen here: the interface is
+   claimed, so that no other program has it for transfers. */
+#include "answer.h"
+#include "clock.h"
+
+#include <string.h>
+
+#define TRANSFER_MS 5000 /* until a transfer counts as lost; what other programs for DFU take */
+
+static struct answer told(struct wire *wire, uint32_t seen)
+{
+    return (struct answer){seen, wire->bytes, 0, false};
+}
+
+/* The device left: its restart is told once it can be asked again. */
+static struct answer restarted(struct wire *wire)
+{
+    struct answer answer = told(wire, DFU_RESTARTED);
+    answer.is_gone = !device_reopen(wire->device);
+    return answer;
+}
+
+/* The host's setups have wIndex 0 (bytes 4 and 5); USB wants the number of the interface there. Nothing else is changed. */
+static int transfer(struct wire *wire, const uint8_t setup[8], uint16_t length)
+{
+    uint16_t value = (uint16_t)(setup[2] | setup[3] << 8);
+    wire->transfers++;
+    return libusb_control_transfer(wire->device->handle, setup[0], setup[1], value, wire->device->is.interface, wire->bytes,
+                                   length, TRANSFER_MS);
+}
+
+static struct answer answer_of(struct wire *wire, bool is_in, uint16_t length, int result)
+{
+    struct answer answer = told(wire, DFU_NOTHING);
+    if (result == LIBUSB_ERROR_NO_DEVICE)
+        return restarted(wire);
+    if (result == LIBUSB_ERROR_PIPE)
+        answer.seen = DFU_STALLED;
+    else if (is_in && result >= 0 && result <= length) {
+        answer.seen = DFU_BYTES;
+        answer.count = (size_t)result;
+    } else if (!is_in && result == length)
+        answer.seen = DFU_ACK;
+    return answer;
+}
+
+struct answer answer_send(struct wire *wire, const struct dfu_action *action, const uint8_t *body)
+{
+    bool is_in = (action->setup[0] & 0x80) != 0;
+    uint16_t length = (uint16_t)(action->setup[6] | action->setup[7] << 8);
+    struct answer answer;
+    if (wire->device->handle == NULL && !device_reopen(wire->device)) {
+        answer = told(wire, DFU_NOTHING);
+        answer.is_gone = true;
+        return answer;
+    }
+    if (!is_in)
+        memcpy(wire->bytes, body, length);
+    wire->is_leaving = false;
+    answer = answer_of(wire, is_in, length, transfer(wire, action->setup, length));
+    wire->is_leaving = answer.seen == DFU_ACK && action->setup[0] == 0x21 && action->setup[1] == 0;
+    return answer;
+}
+
+/* Whether the device that was opened is still there: one that comes back has another address. */
+static bool is_there(const struct wire *wire)
+{
+    libusb_device *opened = wire->device->is.device, **devices;
+    bool is = false;
+    ssize_t count = libusb_get_device_list(wire->device->usb, &devices);
+    if (count < 0)
+        return true;
+    for (ssize_t at = 0; at < count; at++)
+        is = is || (libusb_get_bus_number(devices[at]) == libusb_get_bus_number(opened)
+                    && libusb_get_device_address(devices[at]) == libusb_get_device_address(opened));
+    libusb_free_device_list(devices, 1);
+    return is;
+}
+
+struct answer answer_wait(struct wire *wire, uint32_t ms)
+{
+    clock_wait(ms);
+    /* With bitWillDetach it leaves by itself, and is opened again before the next request. */
+    if (wire->is_leaving && !is_there(wire))
+        device_close(wire->device);
+    return told(wire, DFU_WAITED);
+}
+
+struct answer answer_reset(struct wire *wire)
+{
+    struct answer answer = told(wire, DFU_WAS_RESET);
+    int error;
+    if (wire->device->handle == NULL) {
+        /* It left before this reset. */
+        answer.seen = wire->is_leaving ? DFU_WAS_RESET : DFU_RESTARTED;
+        answer.is_gone = !device_reopen(wire->device);
+        return answer;
+    }
+    error = libusb_reset_device(wire->device->handle);
+    if (error == 0)
+        return answer;
+    if (error == LIBUSB_ERROR_NOT_FOUND || (error == LIBUSB_ERROR_NO_DEVICE && wire->is_leaving)) {
+        device_close(wire->device);
+        answer.is_gone = !device_await(wire->device);
+    } else if (error == LIBUSB_ERROR_NO_DEVICE)
+        return restarted(wire);
+    else
+        answer.seen = DFU_NOTHING;
+    return answer;
+}

@@ -1,0 +1,36 @@
+/* What the host is told of an action: libusb's answers, as the host's words. */
+#ifndef DFU_FLASH_ANSWER_H
+#define DFU_FLASH_ANSWER_H
+
+#include "device.h"
+
+#include <dfu_host.h>
+#include <stdbool.h>
+#include <stddef.h>
+#include <stdint.h>
+
+struct answer {
+    uint32_t seen;        /* DFU_ACK to DFU_RESTARTED */
+    const uint8_t *bytes; /* of DFU_BYTES, as many as `count`; never NULL */
+    size_t count;
+    bool is_gone;         /* it left and did not come back: there is nothing to tell */
+};
+
+/* What comes between two actions. */
+struct wire {
+    struct device *device;
+    bool is_leaving;       /* a DETACH was acknowledged, and nothing was sent since: the device is to leave */
+    uint8_t bytes[65536];  /* of one transfer: wLength is under 65,536 */
+    uint64_t transfers;    /* how many were tried */
+};
+
+/* Sends a request of the host with its body, `length` bytes. */
+struct answer answer_send(struct wire *wire, const struct dfu_action *action, const uint8_t *body);
+
+/* Waits as the host asks for. */
+struct answer answer_wait(struct wire *wire, uint32_t ms);
+
+/* Resets the bus of the device. */
+struct answer answer_reset(struct wire *wire);
+
+#endif

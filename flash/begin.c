@@ -1,0 +1,59 @@
+/* How a session begins: with the device's functional descriptor, and with limits. */
+#include "session.h"
+
+#include <string.h>
+
+/* Linux carries at most 4,096 bytes in a control transfer, and libusb refuses more. A host may send smaller blocks than a device
+   takes (USB DFU 1.1, section 4.1.3: wTransferSize is the most that it takes). */
+#define MOST_BYTES 4096
+
+/* A descriptor as the host gets it. */
+static void cut(uint8_t descriptor[9], size_t size)
+{
+    if (size < 7 || (descriptor[5] | descriptor[6] << 8) <= MOST_BYTES)
+        return;
+    descriptor[5] = MOST_BYTES & 0xff;
+    descriptor[6] = MOST_BYTES >> 8;
+}
+
+/* A clean session takes up to 4 actions a block, one more where it is compared, and some 20 around them. Twice that for losses
+   and for a device that asks to be polled often, the same again for each restart that is taken, and 300 for a device that was
+   left in the midst of something. An upload ends by itself behind 65,535 parts. */
+static void take_limits(struct session *session, const uint8_t descriptor[9])
+{
+    uint64_t transfer = (uint64_t)(descriptor[5] | descriptor[6] << 8);
+    uint64_t blocks = session->goal == GOAL_UPLOAD || transfer == 0 ? 65536 : session->payload_length / transfer + 1;
+    uint64_t actions;
+    if (session->has_limits)
+        return;
+    session->restarts = 3;
+    actions = 10 * blocks * (session->restarts + 1u) + 300;
+    session->actions = actions > UINT32_MAX ? UINT32_MAX : (uint32_t)actions;
+}
+
+/* A device of DfuSe would take the blocks for commands. Its functional descriptor has version 011Ah. */
+static bool is_dfuse(const struct found *is)
+{
+    return is->descriptor_size == 9 && is->descriptor[7] == 0x1a && is->descriptor[8] == 0x01;
+}
+
+int32_t session_begin(struct session *session)
+{
+    const struct found *is = &session->wire.device->is;
+    uint8_t descriptor[9];
+    if (is_dfuse(is))
+        return REFUSED_DFUSE;
+    memcpy(session->known, is->descriptor, sizeof session->known);
+    memcpy(descriptor, is->descriptor, sizeof descriptor);
+    session->known_size = is->descriptor_size;
+    session->has_sent = false;
+    cut(descriptor, is->descriptor_size);
+    take_limits(session, descriptor);
+    if (session->goal == GOAL_UPLOAD)
+        return dfu_host_upload(&session->host, descriptor, session->known_size, session->actions, session->restarts);
+    if (session->goal == GOAL_VERIFIED)
+        return dfu_host_verified(&session->host, session->file, session->file_length, descriptor, session->known_size,
+                                 &session->ids, session->actions, session->restarts);
+    return dfu_host_download(&session->host, session->file, session->file_length, descriptor, session->known_size,
+                             &session->ids, session->actions, session->restarts);
+}

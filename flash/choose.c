@@ -1,0 +1,64 @@
+/* Which device is taken. More than one is a refusal: to write to the wrong one is harm. */
+#include "device.h"
+#include "say.h"
+#include "status.h"
+
+#include <stdio.h>
+#include <string.h>
+
+#define ROOM 64
+
+/* One DFU interface may be there in several alternate settings, each for another part of the memory. */
+static void ask_for_one(const struct found *list, int count)
+{
+    fprintf(stderr, "dfu-flash: more than one device, interface or setting; choose by --device, --path, --serial, --interface or --alt:\n");
+    for (int at = 0; at < count; at++)
+        say_found(stderr, &list[at]);
+}
+
+static int say_none(libusb_context *usb, const struct wanted *wanted)
+{
+    const struct wanted any = {.interface = -1, .alternate = -1};
+    struct found list[ROOM];
+    int count = find_all(usb, &any, list, ROOM);
+    if (count <= 0) {
+        fprintf(stderr, "dfu-flash: no device with DFU is there\n");
+        return STATUS_NO_DEVICE;
+    }
+    fprintf(stderr, "dfu-flash: no device is the one that is asked for");
+    if (wanted->has_ids)
+        fprintf(stderr, " (vendor %04x, product %04x; ffff is any)", wanted->vendor, wanted->product);
+    fprintf(stderr, "; there is:\n");
+    for (int at = 0; at < count; at++)
+        say_found(stderr, &list[at]);
+    found_drop(list, count);
+    return STATUS_NO_DEVICE;
+}
+
+int device_choose(struct device *device, const struct wanted *wanted)
+{
+    struct found list[ROOM];
+    int count = find_all(device->usb, wanted, list, ROOM);
+    if (count < 0) {
+        fprintf(stderr, "dfu-flash: the list of devices can't be had: %s\n", libusb_error_name(count));
+        return STATUS_NO_DEVICE;
+    }
+    if (count == 0)
+        return say_none(device->usb, wanted);
+    if (count > 1) {
+        ask_for_one(list, count);
+        found_drop(list, count);
+        return STATUS_NO_DEVICE;
+    }
+    device->is = list[0];
+    device->serial = wanted->serial;
+    device->interface = wanted->interface;
+    device->alternate = wanted->alternate;
+    memcpy(device->path, list[0].path, sizeof device->path);
+    if (list[0].access != 0) {
+        say_no_access(&list[0]);
+        device_drop(device);
+        return STATUS_NO_ACCESS;
+    }
+    return STATUS_DONE;
+}

@@ -1,0 +1,54 @@
+/* What is read of a device beside its transfers: the functional descriptor (USB DFU 1.1, section 4.1.3) and strings.
+   These are requests of USB itself, and are made before a session and where a device has come back. */
+#include "find.h"
+
+#include <string.h>
+
+#define DFU_FUNCTIONAL 0x21
+
+/* Descriptors stand one behind the other, each with its length first. False where none of the type is there, whole. */
+static bool is_in(const unsigned char *bytes, int length, struct found *found)
+{
+    int at = 0;
+    while (at + 2 <= length && bytes[at] >= 2) {
+        int size = bytes[at];
+        if (bytes[at + 1] == DFU_FUNCTIONAL && at + size <= length && (size == 7 || size == 9)) {
+            memcpy(found->descriptor, bytes + at, (size_t)size);
+            found->descriptor_size = (size_t)size;
+            return true;
+        }
+        at += size;
+    }
+    return false;
+}
+
+void descriptor_find(struct found *found, libusb_device_handle *handle, const struct libusb_config_descriptor *configuration,
+                     const struct libusb_interface_descriptor *setting)
+{
+    unsigned char bytes[9];
+    if (is_in(setting->extra, setting->extra_length, found) || is_in(configuration->extra, configuration->extra_length, found))
+        return;
+    if (handle != NULL) {
+        int length = libusb_get_descriptor(handle, DFU_FUNCTIONAL, 0, bytes, (int)sizeof bytes);
+        is_in(bytes, length, found);
+    }
+}
+
+void string_find(libusb_device_handle *handle, uint8_t index, char text[TEXT_ROOM])
+{
+    unsigned char bytes[255];
+    int length, count = 0;
+    text[0] = '\0';
+    if (index == 0)
+        return;
+    /* String 0 has the languages that there are; the first of them is asked for. */
+    length = libusb_get_string_descriptor(handle, 0, 0, bytes, (int)sizeof bytes);
+    if (length < 4)
+        return;
+    length = libusb_get_string_descriptor(handle, index, (uint16_t)(bytes[2] | bytes[3] << 8), bytes, (int)sizeof bytes);
+    if (length > bytes[0])
+        length = bytes[0];
+    for (int at = 2; at + 1 < length; at += 2)
+        text[count++] = bytes[at + 1] == 0 && bytes[at] >= 0x20 && bytes[at] < 0x7f ? (char)bytes[at] : '?';
+    text[count] = '\0';
+}

@@ -1,0 +1,41 @@
+/* The device of a session: opened, let go, and found again where it left. */
+#ifndef DFU_FLASH_DEVICE_H
+#define DFU_FLASH_DEVICE_H
+
+#include "find.h"
+
+#include <libusb.h>
+#include <signal.h>
+#include <stdbool.h>
+
+struct device {
+    libusb_context *usb;
+    libusb_device_handle *handle;         /* NULL while it is away */
+    struct found is;                      /* as it was found last */
+    char path[PATH_ROOM];                 /* by this it is found again, */
+    const char *serial;                   /* or by the serial number that was asked for; NULL where none was */
+    int interface, alternate;             /* those that were asked for, -1 where none was */
+    bool is_many;                         /* it came back with more than one setting */
+    const volatile sig_atomic_t *is_stop; /* a wait for the device ends where this is set */
+};
+
+/* Which of the devices that are wanted is opened, or why none is, in a status; the reason is said on standard error. */
+int device_choose(struct device *device, const struct wanted *wanted);
+
+/* Opens it and claims its interface. 0, or an error of libusb. */
+int device_open(struct device *device);
+
+void device_close(struct device *device);
+
+/* Gives back what device_choose took. */
+void device_drop(struct device *device);
+
+/* Waits until any device stands at its path, or one with its serial number is there. False after 10 seconds, or where `is_stop`
+   is set. */
+bool device_await(struct device *device);
+
+/* Waits until it is back with DFU, and opens it. False after 10 seconds, where `is_stop` is set, or where it has more than one
+   setting that may be meant. */
+bool device_reopen(struct device *device);
+
+#endif

@@ -1,0 +1,19 @@
+/* The files that are read and made. */
+#ifndef DFU_FLASH_FILES_H
+#define DFU_FLASH_FILES_H
+
+#include <stdbool.h>
+#include <stddef.h>
+#include <stdint.h>
+
+/* Reads a file, up to one byte over what a DFU file has at most. False where it can't be read, which is then said on standard
+   error. `bytes` is to be freed, and is never NULL after true. */
+bool file_read(const char *name, uint8_t **bytes, size_t *length);
+
+/* Whether OUT may be made, looked for before anything is sent. False where not, which is then said on standard error. */
+bool file_may_make(const char *name, bool is_forced);
+
+/* Makes OUT with these bytes, whole or not at all. False where that failed, which is then said on standard error. */
+bool file_make(const char *name, bool is_forced, const uint8_t *bytes, size_t length);
+
+#endif

@@ -1,0 +1,150 @@
+/* Looks for devices with DFU: an interface of class FEh, subclass 01h (USB DFU 1.1, sections 4.1.2 and 4.2.3).
+   Protocol 02h is DFU mode, any other one is taken as run-time mode. */
+#include "find.h"
+
+#include <stdio.h>
+#include <string.h>
+
+void path_of(libusb_device *device, char path[PATH_ROOM])
+{
+    uint8_t ports[7];
+    int depth = libusb_get_port_numbers(device, ports, (int)sizeof ports);
+    int at = snprintf(path, PATH_ROOM, "%d", libusb_get_bus_number(device));
+    for (int port = 0; port < depth; port++)
+        at += snprintf(path + at, (size_t)(PATH_ROOM - at), "%c%d", port == 0 ? '-' : '.', ports[port]);
+}
+
+bool is_at(libusb_context *usb, const char *path)
+{
+    libusb_device **devices;
+    char here[PATH_ROOM];
+    bool is = false;
+    ssize_t count = libusb_get_device_list(usb, &devices);
+    if (count < 0)
+        return false;
+    for (ssize_t at = 0; at < count; at++) {
+        path_of(devices[at], here);
+        is = is || strcmp(here, path) == 0;
+    }
+    libusb_free_device_list(devices, 1);
+    return is;
+}
+
+/* What is known of a device before it is opened. Another one isn't touched: somebody may be at work with it. */
+static bool may_be(const struct wanted *wanted, const struct found *found)
+{
+    bool is_vendor = !wanted->has_ids || wanted->vendor == 0xffff || wanted->vendor == found->vendor;
+    bool is_product = !wanted->has_ids || wanted->product == 0xffff || wanted->product == found->product;
+    return is_vendor && is_product && (wanted->path == NULL || strcmp(wanted->path, found->path) == 0);
+}
+
+static bool is_wanted(const struct wanted *wanted, const struct found *found)
+{
+    /* A serial number that may not be read may be the one: who chooses sees that it can't be opened. */
+    bool is_serial = wanted->serial == NULL || found->access != 0 || strcmp(wanted->serial, found->serial) == 0;
+    bool is_interface = wanted->interface < 0 || wanted->interface == found->interface;
+    bool is_alternate = wanted->alternate < 0 || wanted->alternate == found->alternate;
+    return is_serial && is_interface && is_alternate;
+}
+
+/* What is going on in one look at the bus. */
+struct look {
+    const struct wanted *wanted;
+    struct found *list;
+    int room, count;
+};
+
+static void add_setting(struct look *look, const struct found *base, libusb_device_handle *handle,
+                        const struct libusb_config_descriptor *configuration, const struct libusb_interface_descriptor *setting)
+{
+    struct found found = *base;
+    if (setting->bInterfaceClass != 0xfe || setting->bInterfaceSubClass != 1)
+        return;
+    found.interface = setting->bInterfaceNumber;
+    found.alternate = setting->bAlternateSetting;
+    found.is_upgrade = setting->bInterfaceProtocol == 2;
+    if (look->count == look->room || !is_wanted(look->wanted, &found))
+        return;
+    descriptor_find(&found, handle, configuration, setting);
+    libusb_ref_device(found.device);
+    look->list[look->count++] = found;
+}
+
+static bool has_dfu(const struct libusb_config_descriptor *configuration)
+{
+    for (int at = 0; at < configuration->bNumInterfaces; at++) {
+        const struct libusb_interface *interface = &configuration->interface[at];
+        if (interface->num_altsetting > 0 && interface->altsetting[0].bInterfaceClass == 0xfe
+            && interface->altsetting[0].bInterfaceSubClass == 1)
+            return true;
+    }
+    return false;
+}
+
+static void add_interface(struct look *look, const struct found *base, libusb_device_handle *handle,
+                          const struct libusb_config_descriptor *configuration, const struct libusb_interface *interface)
+{
+    for (int at = 0; at < interface->num_altsetting; at++)
+        add_setting(look, base, handle, configuration, &interface->altsetting[at]);
+}
+
+/* A device is opened, for its serial number, only where it has DFU. */
+static void add_configuration(struct look *look, struct found *base, uint8_t serial,
+                              const struct libusb_config_descriptor *configuration)
+{
+    libusb_device_handle *handle = NULL;
+    if (!has_dfu(configuration))
+        return;
+    base->access = libusb_open(base->device, &handle);
+    if (base->access == 0)
+        string_find(handle, serial, base->serial);
+    else
+        handle = NULL;
+    for (int at = 0; at < configuration->bNumInterfaces; at++)
+        add_interface(look, base, handle, configuration, &configuration->interface[at]);
+    if (handle != NULL)
+        libusb_close(handle);
+}
+
+static void add_device(struct look *look, libusb_device *device)
+{
+    struct libusb_device_descriptor fields;
+    struct libusb_config_descriptor *configuration;
+    struct found base;
+    memset(&base, 0, sizeof base);
+    if (libusb_get_device_descriptor(device, &fields) != 0)
+        return;
+    base.device = device;
+    base.vendor = fields.idVendor;
+    base.product = fields.idProduct;
+    base.release = fields.bcdDevice;
+    path_of(device, base.path);
+    if (!may_be(look->wanted, &base))
+        return;
+    for (uint8_t at = 0; at < fields.bNumConfigurations; at++) {
+        base.configuration = at;
+        if (libusb_get_config_descriptor(device, at, &configuration) != 0)
+            continue;
+        add_configuration(look, &base, fields.iSerialNumber, configuration);
+        libusb_free_config_descriptor(configuration);
+    }
+}
+
+int find_all(libusb_context *usb, const struct wanted *wanted, struct found *list, int room)
+{
+    struct look look = {wanted, list, room, 0};
+    libusb_device **devices;
+    ssize_t count = libusb_get_device_list(usb, &devices);
+    if (count < 0)
+        return (int)count;
+    for (ssize_t at = 0; at < count; at++)
+        add_device(&look, devices[at]);
+    libusb_free_device_list(devices, 1);
+    return look.count;
+}
+
+void found_drop(struct found *list, int count)
+{
+    for (int at = 0; at < count; at++)
+        libusb_unref_device(list[at].device);
+}

@@ -1,0 +1,54 @@
+/* The devices with DFU that are on the bus. */
+#ifndef DFU_FLASH_FIND_H
+#define DFU_FLASH_FIND_H
+
+#include <libusb.h>
+#include <stdbool.h>
+#include <stddef.h>
+#include <stdint.h>
+
+#define PATH_ROOM 64   /* a bus and up to 7 ports */
+#define TEXT_ROOM 128  /* a string descriptor has up to 126 characters */
+
+/* One alternate setting of a DFU interface (USB DFU 1.1, sections 4.1.2 and 4.2.3). */
+struct found {
+    libusb_device *device;             /* a reference that found_drop gives back */
+    uint16_t vendor, product, release; /* idVendor, idProduct, bcdDevice */
+    char path[PATH_ROOM];              /* bus and ports, as 1-2.3 */
+    char serial[TEXT_ROOM];            /* empty where there is none, or where it may not be read */
+    uint8_t configuration;             /* its index, from 0 */
+    uint8_t interface, alternate;
+    bool is_upgrade;                   /* in DFU mode, protocol 2; else in run-time mode */
+    int access;                        /* what libusb said to opening it: 0, or an error */
+    uint8_t descriptor[9];             /* the functional descriptor */
+    size_t descriptor_size;            /* 9, or 7 of DFU 1.0; 0 where there is none */
+};
+
+/* What a device has to be. */
+struct wanted {
+    bool has_ids;
+    uint16_t vendor, product;          /* FFFFh is any */
+    const char *path, *serial;         /* NULL is any */
+    int interface, alternate;          /* -1 is any */
+};
+
+/* Writes those that are on the bus and are wanted to `list`, up to `room`. How many they are, or an error of libusb. */
+int find_all(libusb_context *usb, const struct wanted *wanted, struct found *list, int room);
+
+/* Gives the references of `count` entries back. */
+void found_drop(struct found *list, int count);
+
+/* The path of a device, as 1-2.3. */
+void path_of(libusb_device *device, char path[PATH_ROOM]);
+
+/* Whether any device stands at the path, with DFU or without. */
+bool is_at(libusb_context *usb, const char *path);
+
+/* The functional descriptor of an alternate setting: from its extra bytes, from those of the configuration, or asked for. */
+void descriptor_find(struct found *found, libusb_device_handle *handle, const struct libusb_config_descriptor *configuration,
+                     const struct libusb_interface_descriptor *setting);
+
+/* The string descriptor of that index, in ASCII; empty where it can't be read. */
+void string_find(libusb_device_handle *handle, uint8_t index, char text[TEXT_ROOM]);
+
+#endif

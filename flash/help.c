@@ -1,0 +1,30 @@
+/* The text of --help. The man page and the completions say the same of each option; tests/flash compares them. */
+#include "words.h"
+
+#include <stdio.h>
+
+void words_help(void)
+{
+    fputs("Brings a DFU file to a device over USB (DFU 1.1), or fetches the image that it has\n"
+          "\n"
+          "Usage: dfu-flash [OPTIONS] FILE\n"
+          "       dfu-flash [OPTIONS] --upload OUT\n"
+          "       dfu-flash --list\n"
+          "\n"
+          "Options:\n"
+          "  --device <VID:PID>   Take this device, four hexadecimal digits each\n"
+          "  --path <PATH>        Take the device at this path, as 1-2.3\n"
+          "  --serial <SERIAL>    Take the device with this serial number\n"
+          "  --interface <N>      Take the interface of this number\n"
+          "  --alt <N>            Take the alternate setting of this number\n"
+          "  --no-verify          Don't upload the image after the download to compare it\n"
+          "  --upload <OUT>       Fetch the active image into a new file\n"
+          "  --force              Let an upload replace a file that is there\n"
+          "  --limits <A R>       Give up after A actions, or after R restarts of the device\n"
+          "  --dry-run            Look for file and device, and send nothing\n"
+          "  --quiet              Print no progress\n"
+          "  --json               Print one record in JSON at the end\n"
+          "  --list               List the devices that are there\n"
+          "  -h, --help           Print help\n",
+          stdout);
+}

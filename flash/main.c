@@ -1,0 +1,191 @@
+/* dfu-flash: brings a DFU file to a device over USB, or fetches the image that it has. What is sent, and what a report says, is
+   decided by the proved host (dfu_host.h); this program finds the device, carries out what the host asks for and tells it what
+   came of it. docs/dfu-flash.1 says how it is used. */
+#define _POSIX_C_SOURCE 200809L
+#include "device.h"
+#include "files.h"
+#include "record.h"
+#include "say.h"
+#include "session.h"
+#include "status.h"
+#include "words.h"
+#include "clock.h"
+
+#include <signal.h>
+#include <stdio.h>
+#include <stdlib.h>
+
+static volatile sig_atomic_t is_stop;
+static struct device device;
+static struct session session;
+static uint8_t no_file[1], no_room[1]; /* the host's library wants pointers also where there are no bytes */
+
+/* The first Ctrl-C ends the session well; the second one ends the program, since the handler stands for one alone. */
+static void on_interrupt(int number)
+{
+    (void)number;
+    is_stop = 1;
+}
+
+static void catch_interrupt(void)
+{
+    struct sigaction action = {.sa_handler = on_interrupt, .sa_flags = (int)SA_RESETHAND};
+    sigemptyset(&action.sa_mask);
+    sigaction(SIGINT, &action, NULL);
+}
+
+static int list_devices(libusb_context *usb, const struct wanted *wanted)
+{
+    struct found list[64];
+    int count = find_all(usb, wanted, list, 64);
+    if (count < 0) {
+        fprintf(stderr, "dfu-flash: the list of devices can't be had: %s\n", libusb_error_name(count));
+        return STATUS_NO_DEVICE;
+    }
+    for (int at = 0; at < count; at++)
+        say_found(stdout, &list[at]);
+    found_drop(list, count);
+    return fflush(stdout) == 0 ? STATUS_DONE : STATUS_FILE;
+}
+
+static int say_refused(const struct words *words, int32_t refusal)
+{
+    return record_refused(refusal, words->json) ? STATUS_REFUSED : STATUS_FILE;
+}
+
+/* There is no session, for a reason that was said. */
+static int say_none(const struct words *words, int status)
+{
+    return record_none(status, words->json) ? status : STATUS_FILE;
+}
+
+/* The file is read, and what its suffix names is the device, unless one is named in words. */
+static int take_file(const struct words *words, struct wanted *wanted)
+{
+    struct dfu_file file;
+    uint8_t *bytes;
+    int32_t refusal;
+    if (!file_read(words->file, &bytes, &session.file_length))
+        return say_none(words, STATUS_FILE);
+    session.file = bytes;
+    refusal = dfu_host_file(bytes, session.file_length, &file);
+    if (refusal < 0)
+        return say_refused(words, refusal);
+    session.payload_length = (size_t)file.payload;
+    if (!words->has_ids && words->path == NULL && words->serial == NULL) {
+        wanted->has_ids = true;
+        wanted->vendor = file.vendor;
+        wanted->product = file.product;
+    }
+    return STATUS_DONE;
+}
+
+static void print_plan(void)
+{
+    const struct found *is = &device.is;
+    static const char *const goals[] = {"download", "download and compare", "upload"};
+    printf("dry-run: %s", goals[session.goal]);
+    if (session.goal != GOAL_UPLOAD)
+        printf(" %zu bytes", session.payload_length);
+    printf(" in blocks of %u, within %lu actions and %u restarts: ", session.host.transfer, (unsigned long)session.actions,
+           session.restarts);
+    say_found(stdout, is);
+}
+
+/* A download is verified where the device can upload: that is bit 1 of bmAttributes. */
+static void choose_goal(const struct words *words)
+{
+    bool can_upload = device.is.descriptor_size >= 7 && (device.is.descriptor[2] & 2) != 0;
+    session.goal = words->job == JOB_UPLOAD ? GOAL_UPLOAD : words->verify && can_upload ? GOAL_VERIFIED : GOAL_DOWNLOAD;
+    session.ids = (struct dfu_ids){device.is.release, device.is.product, device.is.vendor};
+    session.has_limits = words->has_limits;
+    session.actions = words->actions;
+    session.restarts = words->restarts;
+    session.wire.device = &device;
+}
+
+static int say_closed(int error)
+{
+    device.is.access = error;
+    if (error == LIBUSB_ERROR_BUSY)
+        fprintf(stderr, "dfu-flash: another program or a driver has the interface: LIBUSB_ERROR_BUSY\n");
+    else
+        say_no_access(&device.is);
+    return STATUS_NO_ACCESS;
+}
+
+static int run_session(const struct words *words)
+{
+    struct verdict verdict;
+    int error = device_open(&device);
+    if (error != 0)
+        return say_none(words, say_closed(error));
+    catch_interrupt();
+    session.began_ms = clock_ms();
+    progress_begin(&session.progress, words->quiet, session.payload_length);
+    session_run(&session);
+    progress_end(&session.progress);
+    verdict = verdict_of(&session);
+    if (session.goal == GOAL_UPLOAD && verdict.status == STATUS_DONE
+        && !file_make(words->file, words->force, session.kept, (size_t)session.host.kept))
+        return say_none(words, STATUS_FILE);
+    return record_print(&session, &verdict, words->json) ? verdict.status : STATUS_FILE;
+}
+
+/* Sends nothing: file and device are looked for, and the session begins, or is refused. */
+static int prepare(const struct words *words, struct wanted *wanted)
+{
+    int32_t refusal;
+    int status = words->job == JOB_UPLOAD ? STATUS_DONE : take_file(words, wanted);
+    if (status != STATUS_DONE)
+        return status;
+    if (words->job == JOB_UPLOAD && !file_may_make(words->file, words->force))
+        return say_none(words, STATUS_FILE);
+    status = device_choose(&device, wanted);
+    if (status != STATUS_DONE)
+        return say_none(words, status);
+    choose_goal(words);
+    refusal = session_begin(&session);
+    return refusal < 0 ? say_refused(words, refusal) : STATUS_DONE;
+}
+
+static int flash(const struct words *words, struct wanted *wanted)
+{
+    int status = prepare(words, wanted);
+    if (status != STATUS_DONE)
+        return status;
+    if (!words->dry_run)
+        return run_session(words);
+    print_plan();
+    return fflush(stdout) == 0 ? STATUS_DONE : STATUS_FILE;
+}
+
+static int over_usb(const struct words *words)
+{
+    struct wanted wanted = {words->has_ids, words->vendor, words->product, words->path, words->serial, words->interface,
+                            words->alternate};
+    int error = libusb_init(&device.usb);
+    int status;
+    if (error != 0) {
+        fprintf(stderr, "dfu-flash: USB can't be had: %s\n", libusb_error_name(error));
+        return say_none(words, STATUS_NO_DEVICE);
+    }
+    session.file = no_file;
+    session.kept = no_room;
+    device.is_stop = &is_stop;
+    status = words->job == JOB_LIST ? list_devices(device.usb, &wanted) : flash(words, &wanted);
+    device_drop(&device);
+    libusb_exit(device.usb);
+    return status;
+}
+
+int main(int count, char **texts)
+{
+    struct words words;
+    if (!words_read(&words, count, texts))
+        return STATUS_WORDS;
+    if (words.job != JOB_HELP)
+        return over_usb(&words);
+    words_help();
+    return fflush(stdout) == 0 ? STATUS_DONE : STATUS_FILE;
+}

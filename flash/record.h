@@ -1,0 +1,20 @@
+/* What is printed at the end, on standard output. */
+#ifndef DFU_FLASH_RECORD_H
+#define DFU_FLASH_RECORD_H
+
+#include "say.h"
+#include "session.h"
+
+#include <stdbool.h>
+
+/* The report's name and what it means, in one line; or, with `is_json`, one record. False where standard output failed. */
+bool record_print(const struct session *session, const struct verdict *verdict, bool is_json);
+
+/* The same of a session that the host refused. */
+bool record_refused(int32_t refusal, bool is_json);
+
+/* With `is_json`, the same where there was no session: a file failed, there is no device, or no access to it. Why stands on
+   standard error. */
+bool record_none(int status, bool is_json);
+
+#endif

@@ -1,0 +1,35 @@
+/* The texts: what was found, what is refused, and what a session came to. */
+#ifndef DFU_FLASH_SAY_H
+#define DFU_FLASH_SAY_H
+
+#include "find.h"
+
+#include <stdint.h>
+#include <stdio.h>
+
+/* A line for a device, as --list prints it. */
+void say_found(FILE *out, const struct found *found);
+
+/* That a device may not be opened, and the rule that allows it. */
+void say_no_access(const struct found *found);
+
+/* The name of a refusal of the host, and what it means in words. */
+const char *refusal_name(int32_t refusal);
+const char *refusal_words(int32_t refusal);
+
+struct session;
+
+/* What a session came to. */
+struct verdict {
+    int status;        /* with which the program ends */
+    char name[24];     /* the report's name; `gone`, `silent`, `many`, `other` or `broken` where there is none */
+    const char *words; /* what it means */
+    uint8_t code;      /* of `refused`: the device's bStatus, else 0 */
+};
+
+struct verdict verdict_of(const struct session *session);
+
+/* The name of a bStatus (USB DFU 1.1, section 6.1.2). */
+const char *code_name(uint32_t code);
+
+#endif

@@ -1,0 +1,128 @@
+/* The loop: what the host asks for is carried out, and it is told what came of that. Nothing else is sent. */
+#include "session.h"
+
+#include <stdlib.h>
+#include <string.h>
+
+/* So many transfers in a row without any answer, 5 seconds each where a device is there and dead, and it is given up. */
+#define MOST_SILENT 24
+
+static void grow(struct session *session)
+{
+    size_t wanted = (size_t)session->host.kept + sizeof session->wire.bytes;
+    uint8_t *more;
+    if (session->goal != GOAL_UPLOAD || wanted <= session->room)
+        return;
+    /* Where there is no memory the host is handed the room that there is, and reports NoMemory once a part finds none in it. */
+    more = realloc(session->room == 0 ? NULL : session->kept, 2 * wanted);
+    if (more == NULL)
+        return;
+    session->kept = more;
+    session->room = 2 * wanted;
+}
+
+/* How far it is, by what was sent or came. */
+static void show(struct session *session, const struct dfu_action *action, const struct answer *answer)
+{
+    uint64_t number = (uint64_t)(action->setup[2] | action->setup[3] << 8);
+    uint64_t length = (uint64_t)(action->setup[6] | action->setup[7] << 8);
+    if (answer->seen == DFU_ACK && action->setup[0] == 0x21 && action->setup[1] == 1 && action->length > 0)
+        progress_at(&session->progress, PROGRESS_SENDING, action->from + action->length);
+    if (answer->seen == DFU_BYTES && action->setup[0] == 0xa1 && action->setup[1] == 2)
+        progress_at(&session->progress, session->goal == GOAL_UPLOAD ? PROGRESS_FETCHING : PROGRESS_COMPARING,
+                    number * length + answer->count);
+}
+
+static struct answer send_request(struct session *session, const struct dfu_action *action)
+{
+    struct answer answer;
+    /* An aborted session asks a device that is away no more. */
+    if (session->is_aborted && session->wire.device->handle == NULL)
+        return (struct answer){DFU_NOTHING, session->wire.bytes, 0, false};
+    session->has_sent = session->has_sent || (action->setup[0] == 0x21 && action->setup[1] == 1);
+    answer = answer_send(&session->wire, action, session->file + action->from);
+    show(session, action, &answer);
+    return answer;
+}
+
+static struct answer perform(struct session *session, const struct dfu_action *action)
+{
+    struct answer answer;
+    if (action->what == DFU_WAIT)
+        return answer_wait(&session->wire, action->value);
+    answer = action->what == DFU_RESET ? answer_reset(&session->wire) : send_request(session, action);
+    session->silent = answer.seen == DFU_NOTHING ? session->silent + 1 : 0;
+    return answer;
+}
+
+/* Whether the device that is open is the one that the session was begun with; one in run-time mode may say what it likes. */
+static bool is_as_begun(const struct session *session)
+{
+    const struct found *is = &session->wire.device->is;
+    if (session->wire.device->handle == NULL || !is->is_upgrade)
+        return true;
+    return is->descriptor_size == session->known_size && memcmp(is->descriptor, session->known, sizeof is->descriptor) == 0;
+}
+
+static bool end(struct session *session, enum end end)
+{
+    session->end = end;
+    return false;
+}
+
+static bool tell(struct session *session, const struct answer *answer)
+{
+    grow(session);
+    session->taken++;
+    session->restarted += answer->seen == DFU_RESTARTED;
+    if (dfu_host_take(&session->host, session->file, session->payload_length, session->kept, session->room, answer->seen,
+                      answer->bytes, answer->count) != 0)
+        return end(session, END_BROKEN);
+    return true;
+}
+
+/* One action. In DFU mode a device may have another functional descriptor than in run-time mode: then the session that brought it
+   there, which has sent no block, is dropped, and another one begins, once. */
+static bool step(struct session *session, const struct dfu_action *action)
+{
+    struct device *device = session->wire.device;
+    struct answer answer = perform(session, action);
+    if (answer.is_gone && !*device->is_stop)
+        return end(session, device->is_many ? END_MANY : END_GONE);
+    if (answer.is_gone)
+        answer.seen = DFU_NOTHING;
+    if (session->silent >= MOST_SILENT)
+        return end(session, END_SILENT);
+    if (is_as_begun(session))
+        return tell(session, &answer);
+    if (session->has_sent || session->has_begun_anew || session_begin(session) != 0)
+        return end(session, END_OTHER);
+    session->has_begun_anew = true;
+    return true;
+}
+
+/* The first Ctrl-C: the host has the device leave what it is in. */
+static int32_t stop(struct session *session)
+{
+    if (!*session->wire.device->is_stop || session->is_aborted)
+        return 0;
+    session->is_aborted = true;
+    return dfu_host_abort(&session->host, session->file, session->payload_length);
+}
+
+void session_run(struct session *session)
+{
+    struct dfu_action action;
+    do {
+        memset(&action, 0, sizeof action);
+        if (stop(session) != 0 || dfu_host_next(&session->host, session->file, session->payload_length, &action) != 0) {
+            end(session, END_BROKEN);
+            return;
+        }
+        if (action.what == DFU_DONE) {
+            session->done = action;
+            end(session, END_REPORT);
+            return;
+        }
+    } while (step(session, &action));
+}

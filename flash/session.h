@@ -1,0 +1,57 @@
+/* A session: the proved host decides, this carries out. */
+#ifndef DFU_FLASH_SESSION_H
+#define DFU_FLASH_SESSION_H
+
+#include "answer.h"
+#include "progress.h"
+
+#include <dfu_host.h>
+#include <stdbool.h>
+#include <stdint.h>
+
+enum goal { GOAL_DOWNLOAD, GOAL_VERIFIED, GOAL_UPLOAD };
+
+/* How it ended: with the host's report, or without one. */
+enum end {
+    END_REPORT,
+    END_GONE,   /* the device left and did not come back */
+    END_SILENT, /* it answers no more */
+    END_MANY,   /* it came back with more than one setting */
+    END_OTHER,  /* it came back as another device: its descriptor differs */
+    END_BROKEN  /* the host's library refused its own record */
+};
+
+struct session {
+    enum goal goal;
+    const uint8_t *file;          /* of a download, never NULL: */
+    size_t file_length;           /* the file with its suffix, */
+    size_t payload_length;        /* and how many of its bytes, from the first on, are the payload; 0 of an upload */
+    uint8_t *kept;                /* of an upload: what came, */
+    size_t room;                  /* and how much may come before it grows */
+    struct dfu_ids ids;           /* of the device as it was found first */
+    bool has_limits;
+    uint32_t actions;             /* the limits: those that were asked for, or by the file's size */
+    uint16_t restarts;
+    struct dfu_session host;      /* the host's record */
+    uint8_t known[9];             /* the device's functional descriptor when it was begun */
+    size_t known_size;
+    bool has_sent, has_begun_anew, is_aborted;
+    uint32_t silent;              /* transfers in a row of which nothing was heard */
+    struct wire wire;
+    struct progress progress;
+    uint64_t taken, restarted;    /* actions done, and restarts told */
+    int64_t began_ms;
+    enum end end;
+    struct dfu_action done;       /* the report, where `end` is END_REPORT */
+};
+
+/* The program's own refusal, beside the host's: the device speaks DfuSe. */
+#define REFUSED_DFUSE (-101)
+
+/* Begins the session of the device that was found. 0, REFUSED_DFUSE, or the host's refusal. Nothing is sent. */
+int32_t session_begin(struct session *session);
+
+/* Carries out what the host asks for, up to its report or to another end. */
+void session_run(struct session *session);
+
+#endif

@@ -1,0 +1,20 @@
+/* With what the program ends. docs/dfu-flash.1 and say.c have the same list; tests/flash compares them. */
+#ifndef DFU_FLASH_STATUS_H
+#define DFU_FLASH_STATUS_H
+
+enum status {
+    STATUS_DONE = 0,        /* Installed, Verified or Uploaded; or a list, a dry run or help was printed */
+    STATUS_REFUSED = 1,     /* refused before anything was sent */
+    STATUS_WORDS = 2,       /* the words aren't understood */
+    STATUS_FILE = 3,        /* a file or a stream failed, or there was no memory */
+    STATUS_NO_DEVICE = 4,   /* no device, or more than one */
+    STATUS_NO_ACCESS = 5,   /* the device may not be opened */
+    STATUS_DEVICE = 6,      /* the device refused the image */
+    STATUS_GIVEN_UP = 7,    /* the limits are spent, or what came was too much */
+    STATUS_UNCONFIRMED = 8, /* the device can't tell whether the image is in place */
+    STATUS_DIFFERENT = 9,   /* the device gave back another image */
+    STATUS_GONE = 10,       /* the device left and did not come back, or answers no more */
+    STATUS_ABORTED = 11     /* given up by Ctrl-C */
+};
+
+#endif

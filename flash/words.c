@@ -1,0 +1,138 @@
+/* The command line: what each word means, and which words go together. */
+#include "words.h"
+
+#include <ctype.h>
+#include <errno.h>
+#include <getopt.h>
+#include <stdio.h>
+#include <stdlib.h>
+#include <string.h>
+
+enum option_code { DEVICE = 256, PATH, SERIAL, INTERFACE, ALTERNATE, NO_VERIFY, UPLOAD, FORCE, LIMITS, DRY_RUN, QUIET, JSON, LIST, HELP };
+
+static const struct option options[] = {
+    {"device", required_argument, NULL, DEVICE},   {"path", required_argument, NULL, PATH},
+    {"serial", required_argument, NULL, SERIAL},   {"interface", required_argument, NULL, INTERFACE},
+    {"alt", required_argument, NULL, ALTERNATE},   {"no-verify", no_argument, NULL, NO_VERIFY},
+    {"upload", required_argument, NULL, UPLOAD},   {"force", no_argument, NULL, FORCE},
+    {"limits", required_argument, NULL, LIMITS},   {"dry-run", no_argument, NULL, DRY_RUN},
+    {"quiet", no_argument, NULL, QUIET},           {"json", no_argument, NULL, JSON},
+    {"list", no_argument, NULL, LIST},             {"help", no_argument, NULL, HELP},
+    {NULL, 0, NULL, 0},
+};
+
+/* A decimal number up to `most`, with no sign and no other character. */
+static bool is_number(const char *text, unsigned long most, unsigned long *number)
+{
+    char *end;
+    if (text == NULL || !isdigit((unsigned char)text[0]))
+        return false;
+    errno = 0;
+    *number = strtoul(text, &end, 10);
+    return errno == 0 && *end == '\0' && *number <= most;
+}
+
+/* Four hexadecimal digits. */
+static bool is_identifier(const char *text, uint16_t *identifier)
+{
+    for (int at = 0; at < 4; at++)
+        if (!isxdigit((unsigned char)text[at]))
+            return false;
+    *identifier = (uint16_t)strtoul(text, NULL, 16);
+    return true;
+}
+
+/* VID:PID, four hexadecimal digits each. */
+static bool is_pair(const char *text, struct words *words)
+{
+    char vendor[5] = {0};
+    words->has_ids = true;
+    if (strlen(text) != 9 || text[4] != ':')
+        return false;
+    memcpy(vendor, text, 4);
+    return is_identifier(vendor, &words->vendor) && is_identifier(text + 5, &words->product);
+}
+
+static bool refuse(const char *what, const char *word)
+{
+    fprintf(stderr, "dfu-flash: %s%s%s\nSee dfu-flash --help.\n", what, *word ? ": " : "", word);
+    return false;
+}
+
+/* A number of an interface or of an alternate setting. */
+static bool is_setting(const char *text, int *setting)
+{
+    unsigned long number;
+    if (!is_number(text, 255, &number))
+        return refuse("a number from 0 to 255 is wanted", text);
+    *setting = (int)number;
+    return true;
+}
+
+/* ACTIONS RESTARTS: the option takes two words. */
+static bool is_limits(const char *first, const char *second, struct words *words)
+{
+    unsigned long actions, restarts;
+    if (!is_number(first, UINT32_MAX, &actions) || !is_number(second, UINT16_MAX, &restarts))
+        return refuse("--limits takes two numbers, ACTIONS and RESTARTS", "");
+    words->actions = (uint32_t)actions;
+    words->restarts = (uint16_t)restarts;
+    words->has_limits = true;
+    return true;
+}
+
+static bool take_option(struct words *words, int code, int count, char **texts)
+{
+    switch (code) {
+    case DEVICE: return is_pair(optarg, words) || refuse("--device takes VID:PID, four hexadecimal digits each", optarg);
+    case PATH: words->path = optarg; return true;
+    case SERIAL: words->serial = optarg; return true;
+    case INTERFACE: return is_setting(optarg, &words->interface);
+    case ALTERNATE: return is_setting(optarg, &words->alternate);
+    case NO_VERIFY: words->verify = false; return true;
+    case UPLOAD: words->job = JOB_UPLOAD; words->file = optarg; return true;
+    case FORCE: words->force = true; return true;
+    case LIMITS: return is_limits(optarg, optind < count ? texts[optind++] : NULL, words);
+    case DRY_RUN: words->dry_run = true; return true;
+    case QUIET: words->quiet = true; return true;
+    case JSON: words->json = true; return true;
+    case LIST: words->job = JOB_LIST; return true;
+    case 'h':
+    case HELP: words->job = JOB_HELP; return true;
+    default: fputs("See dfu-flash --help.\n", stderr); return false;
+    }
+}
+
+/* Whether the words go together. */
+static bool is_whole(struct words *words, int count, char **texts)
+{
+    if (words->job == JOB_HELP)
+        return true;
+    if (words->job == JOB_DOWNLOAD && optind < count)
+        words->file = texts[optind++];
+    if (optind < count)
+        return refuse("a word too many", texts[optind]);
+    if (words->job == JOB_DOWNLOAD && words->file == NULL)
+        return refuse("no FILE was given", "");
+    if (words->job != JOB_LIST && words->file[0] == '\0')
+        return refuse("the name of a file is empty", "");
+    if (words->force && words->job != JOB_UPLOAD)
+        return refuse("--force goes with --upload alone", "");
+    if (!words->verify && words->job != JOB_DOWNLOAD)
+        return refuse("--no-verify goes with a download alone", "");
+    if (words->json && (words->job == JOB_LIST || words->dry_run))
+        return refuse("--json goes with neither --list nor --dry-run", "");
+    return true;
+}
+
+bool words_read(struct words *words, int count, char **texts)
+{
+    int code;
+    memset(words, 0, sizeof *words);
+    words->verify = true;
+    words->interface = words->alternate = -1;
+    while ((code = getopt_long(count, texts, "h", options, NULL)) != -1)
+        if (!take_option(words, code, count, texts))
+            return false;
+    return is_whole(words, count, texts);
+}

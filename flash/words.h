@@ -1,0 +1,29 @@
+/* What the command line asks for. */
+#ifndef DFU_FLASH_WORDS_H
+#define DFU_FLASH_WORDS_H
+
+#include <stdbool.h>
+#include <stdint.h>
+
+enum job { JOB_DOWNLOAD, JOB_UPLOAD, JOB_LIST, JOB_HELP };
+
+struct words {
+    enum job job;
+    const char *file;                /* FILE, or OUT of an upload */
+    bool verify, force, dry_run, quiet, json;
+    bool has_ids;                    /* --device was given */
+    uint16_t vendor, product;
+    const char *path, *serial;       /* NULL where they weren't given */
+    int interface, alternate;        /* -1 where they weren't given */
+    bool has_limits;                 /* --limits was given */
+    uint32_t actions;
+    uint16_t restarts;
+};
+
+/* Reads the words into `words`. False where they aren't understood, which is then said on standard error. */
+bool words_read(struct words *words, int count, char **texts);
+
+/* Prints the help on standard output. */
+void words_help(void);
+
+#endif
