@@ -1,0 +1,199 @@
+/* The bus of the stand-in: the device's clock, its enumerations, and the fates of transfers. */
+#include "bus.h"
+#include "abi.h"
+#include "keep.h"
+#include "log.h"
+#include "model.h"
+#include "settings.h"
+
+#include <stdlib.h>
+#include <string.h>
+#include <time.h>
+#include <unistd.h>
+
+#define BOUND 100000 /* transfers of a run: a program that sends more goes round in a circle */
+#define REST_MS 10000 /* pass on the device once the program has ended */
+
+static const struct model *model;
+static struct {
+    unsigned generation, away;
+    bool is_app, is_there;
+} seen;
+static unsigned transfers;
+static uint64_t told_ns;
+
+static uint64_t now_ns(void)
+{
+    struct timespec now;
+    clock_gettime(CLOCK_MONOTONIC, &now);
+    return (uint64_t)now.tv_sec * 1000000000u + (uint64_t)now.tv_nsec;
+}
+
+/* Who holds the device of before gets no answer any more, and it is away for as many lists as was set. */
+static void enumerate(void)
+{
+    seen.generation++;
+    seen.away = settings.away;
+}
+
+static void look(void)
+{
+    bool is_app = model->is_app(), is_there = model->is_there();
+    if (is_app != seen.is_app || is_there != seen.is_there)
+        enumerate();
+    seen.is_app = is_app;
+    seen.is_there = is_there;
+}
+
+static void at_end(void)
+{
+    model->elapse(REST_MS);
+    log_end(transfers, model->state(), model->code());
+    keep_image(model);
+    keep_write(model);
+}
+
+void bus_start(void)
+{
+    if (model != NULL)
+        return;
+    settings_read();
+    model = strcmp(settings.device, "proved") == 0 ? &proved_model : &uboot_model;
+    model->make();
+    keep_read(model);
+    seen.is_app = model->is_app();
+    seen.is_there = model->is_there();
+    seen.generation = 1;
+    told_ns = now_ns();
+    atexit(at_end);
+}
+
+static void elapse(uint64_t ms)
+{
+    model->elapse((uint32_t)ms);
+    look();
+}
+
+void bus_pass_time(void)
+{
+    uint64_t now = now_ns(), ms = (now - told_ns) / 1000000;
+    if (ms == 0)
+        return;
+    told_ns = now;
+    elapse(ms);
+}
+
+static const struct fate *fate_of(unsigned number)
+{
+    static const struct fate pass;
+    for (unsigned i = 0; i < settings.fate_count; i++)
+        if (settings.fates[i].number == number)
+            return &settings.fates[i];
+    return &pass;
+}
+
+/* The program heard nothing for as long as it wanted to wait. */
+static int wait_in_vain(unsigned timeout)
+{
+    if (timeout == 0)
+        fail_loudly("a transfer that is lost would be waited for without end");
+    elapse(timeout);
+    return USB_ERROR_TIMEOUT;
+}
+
+static int leave(void)
+{
+    model->power();
+    seen.is_app = model->is_app();
+    seen.is_there = model->is_there();
+    enumerate();
+    return USB_ERROR_NO_DEVICE;
+}
+
+/* The device handles it, once or twice: bytes of the last answer, or an error. */
+static int handled(const uint8_t setup[8], uint8_t *data, uint16_t length, const struct fate *fate)
+{
+    bool is_in = (setup[0] & 0x80) != 0;
+    uint8_t none[8] = { 0 };
+    uint8_t *out = is_in ? data : none;
+    const uint8_t *body = is_in ? none : data;
+    int count = 0;
+    for (int times = fate->kind == FATE_TWICE ? 2 : 1; times > 0; times--)
+        count = model->handle(setup, body, is_in ? 0 : length, out, is_in ? length : 0);
+    if (count < 0)
+        return USB_ERROR_PIPE;
+    if (!is_in)
+        return length;
+    return fate->kind == FATE_SHORT && (unsigned)count > fate->bytes ? (int)fate->bytes : count;
+}
+
+static int meets(const struct fate *fate, const uint8_t setup[8], uint8_t *data, uint16_t length, unsigned timeout)
+{
+    switch (fate->kind) {
+    case FATE_LEAVE:
+        return leave();
+    case FATE_LOST_OUT:
+        return wait_in_vain(timeout);
+    case FATE_LOST_BACK: {
+        uint8_t unheard[65536];
+        memcpy(unheard, data, length);
+        handled(setup, unheard, length, fate);
+        return wait_in_vain(timeout);
+    }
+    default:
+        return handled(setup, data, length, fate);
+    }
+}
+
+int bus_transfer(const uint8_t setup[8], uint8_t *data, uint16_t length, unsigned timeout)
+{
+    uint8_t none[8] = { 0 };
+    if (transfers == BOUND)
+        fail_loudly("%d transfers were made, and the program is not done", BOUND);
+    const struct fate *fate = fate_of(transfers);
+    if (fate->kind == FATE_KILL) {
+        at_end();
+        _exit(137);
+    }
+    uint8_t *at = data != NULL && length > 0 ? data : none;
+    int answer = meets(fate, setup, at, length, timeout);
+    log_transfer(transfers++, setup, at, answer, fate->kind, model->state());
+    look();
+    told_ns = now_ns();
+    return answer;
+}
+
+bool bus_reset(void)
+{
+    unsigned before = seen.generation;
+    model->usb_reset();
+    look();
+    log_reset(model->state());
+    told_ns = now_ns();
+    return seen.generation == before;
+}
+
+void bus_set_interface(void)
+{
+    model->set_interface();
+}
+
+bool bus_lists(void)
+{
+    if (!seen.is_there)
+        return false;
+    if (seen.away == 0)
+        return true;
+    seen.away--;
+    return false;
+}
+
+unsigned bus_generation(void)
+{
+    return seen.generation;
+}
+
+bool bus_is_app(void)
+{
+    return seen.is_app;
+}

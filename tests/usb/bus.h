@@ -1,0 +1,30 @@
+/* The bus: which devices are listed, what becomes of each transfer, and the time that passes. */
+#ifndef USB_BUS_H
+#define USB_BUS_H
+
+#include <stdbool.h>
+#include <stdint.h>
+
+/* Makes the device, once, by the settings; later calls do nothing. */
+void bus_start(void);
+
+/* Tells the device the time that has passed since it was told last. */
+void bus_pass_time(void);
+
+/* One control transfer of the class on the device: bytes, or an error of libusb. `timeout` is in ms. */
+int bus_transfer(const uint8_t setup[8], uint8_t *data, uint16_t length, unsigned timeout);
+
+/* A reset of the bus: whether the device's descriptors are the same behind it. */
+bool bus_reset(void);
+
+void bus_set_interface(void);
+
+/* One more list of devices is made: whether the device is in it. */
+bool bus_lists(void);
+
+/* Its place in the order of enumerations, from 1: another number is another device to who holds the old one. */
+unsigned bus_generation(void);
+
+bool bus_is_app(void);
+
+#endif

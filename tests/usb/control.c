@@ -1,0 +1,119 @@
+/* libusb-1.0's calls over an open device: control transfers, resets, claims and settings of its interface. */
+#include "abi.h"
+#include "bus.h"
+#include "descriptors.h"
+#include "device.h"
+#include "settings.h"
+
+#include <stdlib.h>
+#include <string.h>
+
+#define GET_DESCRIPTOR 6
+#define STRING 3
+#define FUNCTIONAL 0x21
+
+libusb_device *libusb_ref_device(libusb_device *device);
+void libusb_unref_device(libusb_device *device);
+
+int libusb_open(libusb_device *device, libusb_device_handle **out)
+{
+    *out = NULL;
+    bus_pass_time();
+    if (settings.is_denied)
+        return USB_ERROR_ACCESS;
+    if (!device->is_other && device->generation != bus_generation())
+        return USB_ERROR_NO_DEVICE;
+    *out = malloc(sizeof **out);
+    if (*out == NULL)
+        fail_loudly("no memory for a handle");
+    (*out)->device = libusb_ref_device(device);
+    return 0;
+}
+
+void libusb_close(libusb_device_handle *handle)
+{
+    if (handle == NULL)
+        return;
+    libusb_unref_device(handle->device);
+    free(handle);
+}
+
+libusb_device *libusb_get_device(libusb_device_handle *handle)
+{
+    return handle->device;
+}
+
+/* 0 where the handle is of the device as it is enumerated now. */
+static int held(const libusb_device_handle *handle)
+{
+    bus_pass_time();
+    return handle->device->is_other || handle->device->generation == bus_generation() ? 0 : USB_ERROR_NO_DEVICE;
+}
+
+int libusb_claim_interface(libusb_device_handle *handle, int interface)
+{
+    return interface == 0 ? held(handle) : USB_ERROR_NOT_FOUND;
+}
+
+int libusb_release_interface(libusb_device_handle *handle, int interface)
+{
+    return libusb_claim_interface(handle, interface);
+}
+
+int libusb_set_interface_alt_setting(libusb_device_handle *handle, int interface, int setting)
+{
+    int error = held(handle);
+    if (error != 0 || interface != 0 || setting != 0)
+        return error != 0 ? error : USB_ERROR_NOT_FOUND;
+    bus_set_interface();
+    return 0;
+}
+
+int libusb_set_auto_detach_kernel_driver(libusb_device_handle *handle, int enable)
+{
+    (void)handle;
+    (void)enable;
+    return USB_ERROR_NOT_SUPPORTED;
+}
+
+int libusb_reset_device(libusb_device_handle *handle)
+{
+    int error = held(handle);
+    if (error != 0)
+        return error;
+    if (handle->device->is_other)
+        fail_loudly("the other device is reset");
+    return bus_reset() ? 0 : USB_ERROR_NOT_FOUND;
+}
+
+/* What every device answers in its control endpoint: GET_DESCRIPTOR, for strings and for the functional descriptor. */
+static int standard(const libusb_device *device, uint8_t kind, uint8_t request, uint16_t value, uint8_t *data, uint16_t length)
+{
+    uint8_t function[9];
+    if ((kind & 0x80) == 0 || request != GET_DESCRIPTOR)
+        fail_loudly("request %u of type %02x is not in this stand-in", request, kind);
+    if (value >> 8 == STRING)
+        return describe_string(value & 0xff, device->is_other, data, length);
+    if (value >> 8 != FUNCTIONAL)
+        return USB_ERROR_PIPE;
+    describe_function(function);
+    memcpy(data, function, length < sizeof function ? length : sizeof function);
+    return length < sizeof function ? length : (int)sizeof function;
+}
+
+int libusb_control_transfer(libusb_device_handle *handle, uint8_t kind, uint8_t request, uint16_t value, uint16_t index,
+                            unsigned char *data, uint16_t length, unsigned int timeout)
+{
+    const uint8_t setup[8] = { kind, request, (uint8_t)value, (uint8_t)(value >> 8), (uint8_t)index, (uint8_t)(index >> 8),
+                               (uint8_t)length, (uint8_t)(length >> 8) };
+    int error = held(handle);
+    if (error != 0)
+        return error;
+    if ((kind & 0x60) == 0)
+        return standard(handle->device, kind, request, value, data, length);
+    if ((kind & 0x7f) != 0x21)
+        fail_loudly("a request of type %02x is not one of the class to an interface", kind);
+    if (handle->device->is_other)
+        fail_loudly("a request of the class goes to the other device");
+    return bus_transfer(setup, data, length, timeout);
+}

@@ -1,0 +1,157 @@
+/* The settings of the stand-in are environment variables. Numbers are decimal, but for ATTRIBUTES and the ids.
+ *
+ * USB_DEVICE      proved (the proved device of crates/dfu_device_c) or uboot (the rules of U-Boot 2023.01)
+ * USB_ATTRIBUTES  bmAttributes, hexadecimal: 01 download, 02 upload, 04 tolerant, 08 will detach (07)
+ * USB_TRANSFER    wTransferSize (8; for uboot 4096)     USB_DETACH    wDetachTimeOut in ms (1000)
+ * USB_BUSY        poll time of a block in ms (1)        USB_MANIFEST  poll time of the manifestation in ms (1)
+ * USB_LEAST       fewest bytes of an image (1)          USB_CAPACITY  most bytes of an image (100000)
+ * USB_IMAGE       a file with the old image (one byte, 00h)
+ * USB_IDS         vendor:product:release in run-time mode (1209:0001:0100); USB_DFU_IDS in DFU mode (the same)
+ * USB_SERIAL      serial number (F1)                    USB_PATH      bus and ports, as 1-2.3 (1-1)
+ * USB_START       app or dfu: the mode at the start (dfu)
+ * USB_DEVICES     1, or 2: another device, whose serial number is OTHER, stands on the bus (1)
+ * USB_DENIED      1: no device may be opened (0)
+ * USB_AWAY        for how many lists of devices it is away when its mode changes, or when it leaves (0)
+ * USB_FATE        fates of transfers, with commas between: `lost-out N`, `lost-back N`, `twice N`, `short N BYTES`,
+ *                 `leave N` (its power goes and comes back), `kill N` (the program is killed before it)
+ * USB_LOG         a file that gets a line for each transfer
+ * USB_SAVE        a file that gets the active image at the end
+ * USB_STATE       a file that keeps the device between runs: read at the start where it is there, written at the end
+ * USB_BUFFER      uboot: bytes gathered before they are written (8388608)
+ * USB_STORE       uboot: file (replaced when it is flushed) or raw (written in place) (file)
+ * USB_FAILS       uboot: the number of the write to its medium that fails, from 0 (none)
+ * USB_FLUSH       uboot: `fails` (none)
+ *
+ * Transfers of the class are numbered from 0; others (descriptors) are not counted. A transfer that is lost, either
+ * way, takes as long as the program waits for it: so much time has passed on the device. Once the program has ended,
+ * ten seconds more pass there, and then the device is looked at. */
+#include "settings.h"
+
+#include <stdarg.h>
+#include <stdio.h>
+#include <stdlib.h>
+#include <string.h>
+
+struct settings settings;
+
+void fail_loudly(const char *format, ...)
+{
+    va_list rest;
+    va_start(rest, format);
+    fputs("stand-in for libusb: ", stderr);
+    vfprintf(stderr, format, rest);
+    fputc('\n', stderr);
+    va_end(rest);
+    abort();
+}
+
+static uint32_t number(const char *name, uint32_t otherwise, int base)
+{
+    const char *text = getenv(name);
+    if (text == NULL)
+        return otherwise;
+    char *end;
+    unsigned long found = strtoul(text, &end, base);
+    if (*text == '\0' || *end != '\0' || found > UINT32_MAX)
+        fail_loudly("%s is no number: %s", name, text);
+    return (uint32_t)found;
+}
+
+static const char *text(const char *name, const char *otherwise)
+{
+    const char *found = getenv(name);
+    return found != NULL ? found : otherwise;
+}
+
+/* Whether the variable is the first of two words; it has to be one of them. */
+static bool is_first(const char *name, const char *first, const char *second, const char *otherwise)
+{
+    const char *found = text(name, otherwise);
+    if (strcmp(found, first) != 0 && strcmp(found, second) != 0)
+        fail_loudly("%s is %s or %s, not %s", name, first, second, found);
+    return strcmp(found, first) == 0;
+}
+
+static struct ids ids(const char *name, const char *otherwise)
+{
+    unsigned vendor, product, release;
+    if (sscanf(text(name, otherwise), "%4x:%4x:%4x", &vendor, &product, &release) != 3)
+        fail_loudly("%s is vendor:product:release", name);
+    return (struct ids){ (uint16_t)vendor, (uint16_t)product, (uint16_t)release };
+}
+
+static void read_path(const char *path)
+{
+    unsigned bus = 0, port = 0;
+    int used = 0;
+    if (sscanf(path, "%u-%n", &bus, &used) != 1 || used == 0)
+        fail_loudly("USB_PATH is bus-port.port: %s", path);
+    settings.bus = (uint8_t)bus;
+    for (path += used; settings.port_count < PORTS && sscanf(path, "%u%n", &port, &used) == 1; path += used + (path[used] == '.'))
+        settings.ports[settings.port_count++] = (uint8_t)port;
+    if (settings.port_count == 0 || *path != '\0')
+        fail_loudly("USB_PATH has no port, or over %d", PORTS);
+}
+
+static enum fate_kind kind_of(const char *word)
+{
+    static const char *const words[] = { "pass", "lost-out", "lost-back", "twice", "short", "leave", "kill" };
+    for (unsigned kind = 0; kind < sizeof words / sizeof *words; kind++)
+        if (strcmp(word, words[kind]) == 0)
+            return (enum fate_kind)kind;
+    fail_loudly("USB_FATE: no such fate: %s", word);
+}
+
+static void read_fates(const char *line)
+{
+    char word[16];
+    int used = 0;
+    for (struct fate fate = { 0 }; sscanf(line, " %15[a-z-] %u%n", word, &fate.number, &used) == 2; fate.bytes = 0) {
+        int more = 0;
+        fate.kind = kind_of(word);
+        line += used;
+        if (fate.kind == FATE_SHORT && (sscanf(line, "%u%n", &fate.bytes, &more) != 1))
+            fail_loudly("USB_FATE: short N BYTES");
+        line += more + (line[more] == ',');
+        if (settings.fate_count == FATES)
+            fail_loudly("USB_FATE: at most %d fates", FATES);
+        settings.fates[settings.fate_count++] = fate;
+    }
+    if (*line != '\0')
+        fail_loudly("USB_FATE is not understood: %s", line);
+}
+
+static void read_device(void)
+{
+    bool is_proved = is_first("USB_DEVICE", "proved", "uboot", "proved");
+    settings.device = is_proved ? "proved" : "uboot";
+    settings.attributes = (uint8_t)number("USB_ATTRIBUTES", is_proved ? 0x07 : 0x0f, 16);
+    settings.transfer = (uint16_t)number("USB_TRANSFER", is_proved ? 8 : 4096, 10);
+    settings.detach_ms = (uint16_t)number("USB_DETACH", is_proved ? 1000 : 0, 10);
+    settings.busy_ms = number("USB_BUSY", is_proved ? 1 : 0, 10);
+    settings.manifest_ms = number("USB_MANIFEST", is_proved ? 1 : 0, 10);
+    settings.least = number("USB_LEAST", 1, 10);
+    settings.capacity = number("USB_CAPACITY", 100000, 10);
+    settings.image = getenv("USB_IMAGE");
+    settings.buffer = number("USB_BUFFER", 8388608, 10);
+    settings.is_raw = is_first("USB_STORE", "raw", "file", "file");
+    settings.fails = (int)number("USB_FAILS", (uint32_t)-1, 10);
+    settings.flush_fails = is_first("USB_FLUSH", "fails", "works", "works");
+}
+
+void settings_read(void)
+{
+    read_device();
+    settings.app = ids("USB_IDS", "1209:0001:0100");
+    settings.dfu = ids("USB_DFU_IDS", text("USB_IDS", "1209:0001:0100"));
+    settings.serial = text("USB_SERIAL", "F1");
+    read_path(text("USB_PATH", "1-1"));
+    settings.starts_in_app = is_first("USB_START", "app", "dfu", "dfu");
+    settings.devices = number("USB_DEVICES", 1, 10);
+    settings.is_denied = number("USB_DENIED", 0, 10) != 0;
+    settings.away = number("USB_AWAY", 0, 10);
+    read_fates(text("USB_FATE", ""));
+    settings.log = getenv("USB_LOG");
+    settings.save = getenv("USB_SAVE");
+    settings.state = getenv("USB_STATE");
+}

@@ -1,0 +1,51 @@
+/* What a run of the stand-in is set up with; settings.c says which variable sets what. */
+#ifndef USB_SETTINGS_H
+#define USB_SETTINGS_H
+
+#include <stdbool.h>
+#include <stdint.h>
+
+enum fate_kind { FATE_PASS, FATE_LOST_OUT, FATE_LOST_BACK, FATE_TWICE, FATE_SHORT, FATE_LEAVE, FATE_KILL };
+
+/* What becomes of the transfer of one number; `bytes` is for FATE_SHORT. */
+struct fate {
+    enum fate_kind kind;
+    unsigned number, bytes;
+};
+
+struct ids {
+    uint16_t vendor, product, release;
+};
+
+#define FATES 8
+#define PORTS 7
+
+struct settings {
+    const char *device;                /* "proved" or "uboot" */
+    uint8_t attributes;                /* bmAttributes */
+    uint16_t transfer, detach_ms;      /* wTransferSize, wDetachTimeOut */
+    uint32_t busy_ms, manifest_ms, least, capacity;
+    const char *image;                 /* a file with the old image, or NULL: one byte, 00h */
+    struct ids app, dfu;               /* in run-time mode, and in DFU mode */
+    const char *serial;
+    uint8_t bus, ports[PORTS];
+    unsigned port_count;
+    bool starts_in_app, is_denied;
+    unsigned devices, away;
+    struct fate fates[FATES];
+    unsigned fate_count;
+    const char *log, *save, *state;    /* files, or NULL */
+    uint32_t buffer;                   /* U-Boot: bytes that are gathered before they are written */
+    bool is_raw, flush_fails;          /* U-Boot */
+    int fails;                         /* U-Boot: the number of the write that fails, or -1 */
+};
+
+extern struct settings settings;
+
+/* Reads the environment once; a value that is not understood ends the program. */
+void settings_read(void);
+
+/* Ends the program with a message: what was asked for is not to be had, or not to be believed. */
+void fail_loudly(const char *format, ...) __attribute__((noreturn, format(printf, 1, 2)));
+
+#endif
