@@ -33,9 +33,9 @@
      - calls of one session come from one thread at a time.
 
    What is proved of programs that do:
-     - each dfu_host_take is a row of the host's table (docs/PROFILE.md), each action is the one of its phase, and
-       a session is over after as many calls of it as it had actions (where a body stands in the
-       payload, and how a session begins, is tested and not proved);
+     - a session begins as its file, its descriptor and its limits say, each dfu_host_take is a row of the host's table
+       (docs/PROFILE.md), each action is the one of its phase, with its body cut from the payload, and a session is
+       over after as many calls of dfu_host_take as it had actions;
      - DFU_INSTALLED, DFU_VERIFIED and DFU_UPLOADED come only as the laws of dfu_host say.
    What is proved also where the record, the payload or the buffer are others: a call is answered or refused, it
    ends, and it touches nothing but what its pointers say. A refusal changes nothing. */
@@ -72,7 +72,7 @@ struct dfu_action {
     uint32_t what;    /* DFU_SEND, DFU_WAIT, DFU_RESET or DFU_DONE */
     uint32_t value;   /* DFU_WAIT: how many milliseconds; DFU_DONE: the report */
     uint64_t from;    /* DFU_SEND: where in the payload the body begins */
-    uint32_t length;  /* DFU_SEND: how many bytes the body has, 0 to 65,535; 0 where the device answers */
+    uint64_t length;  /* DFU_SEND: how many bytes the body has, 0 to 65,535; 0 where the device answers */
     uint32_t code;    /* DFU_DONE with DFU_REFUSED: the device's bStatus, 0 to 15 */
     uint8_t setup[8]; /* DFU_SEND: the setup of a control transfer */
 };

@@ -4,6 +4,7 @@ use Rattle.std.specs.Borrow.{Bor}
 use Rattle.dfu_host.specs.declared.parts.Parts.{Parts}
 use Rattle.dfu_host.specs.declared.seen.Seen.{Seen}
 use Rattle.dfu_host.specs.Host.{HostRow, aborted}
+use Rattle.dfu_host.specs.Goals.{payload_of}
 use Rattle.dfu_host.specs.InParts.{host_of}
 use Rattle.dfu_host.specs.Table.{deed}
 use Rattle.dfu_host_c.specs.Actions.{Tells}
@@ -38,8 +39,8 @@ pub record GivenUp (r r' : DfuSession) (payload : Bor (List ℕ)) : Type 0 where
   pub later : IsRecord r' payload next
   pub same : (memory : List ℕ) → host_of memory next ≡ aborted (host_of memory parts)
 
--- The record of an action says what the session of a record does next.
+-- The record of an action says what the session of a record does next: the body of what it sends is cut from its payload.
 pub record IsNext (r : DfuSession) (payload : Bor (List ℕ)) (a : DfuAction) : Type 0 where
   pub parts : Parts
   pub stands : IsRecord r payload parts
-  pub tells : (memory : List ℕ) → Tells (deed (host_of memory parts).task (host_of memory parts).phase) a
+  pub tells : (memory : List ℕ) → Tells (payload_of parts.goal) (deed (host_of memory parts).task (host_of memory parts).phase) a

@@ -6,3 +6,4 @@ pub mod Refusals
 pub mod Told
 pub mod Actions
 pub mod Calls
+pub mod Beginning

@@ -1,7 +1,8 @@
 //! What is to be done next, as a record for C.
 
-ghost use Rattle.std.specs.Prelude.{◌≡◌, ◌⊎◌, pos};
+ghost use Rattle.std.specs.Prelude.{◌≡◌, ◌⊎◌, List, pos, ℕ};
 ghost use Rattle.dfu_host.specs.Phases.{Deed};
+ghost use Rattle.dfu_host.specs.InParts.{IsCut};
 ghost use Rattle.dfu_host.specs.Wire.{Spells};
 ghost use Rattle.dfu_host_c.specs.Actions.{Tells};
 ghost use Rattle.dfu_host_c.specs.Refusals.{no_session};
@@ -11,7 +12,7 @@ use crate::holding::session_of;
 use crate::refusals::NO_SESSION;
 use crate::reports::report_numbers;
 use crate::session::DfuSession;
-use dfu_host::{Action, Phase};
+use dfu_host::Action;
 
 /// `struct dfu_action`: what is to be done next. The header says what each number means.
 #[repr(C)]
@@ -24,7 +25,7 @@ pub struct DfuAction {
     /// Where the body begins in the payload.
     pub from: u64,
     /// How many bytes the body has.
-    pub length: u32,
+    pub length: u64,
     /// The code of the report Refused.
     pub code: u32,
     /// The setup that is sent.
@@ -33,7 +34,7 @@ pub struct DfuAction {
 
 /// The record of an action whose body, if any, begins there.
 fn record_of(action: Action<'_>, from: usize) -> DfuAction
-    ensures { (deed : Deed) → Spells deed action.entry → Tells deed result }
+    ensures { (deed : Deed) (payload : List ℕ) → Spells deed action.entry → IsCut payload from action.entry → Tells payload deed result }
 {
     let none = DfuAction {
         what: 2,
@@ -47,7 +48,7 @@ fn record_of(action: Action<'_>, from: usize) -> DfuAction
         Action::Send { setup, body } => DfuAction {
             what: 0,
             from: from as u64,
-            length: body.len().min(0xffff) as u32,
+            length: body.len() as u64,
             setup,
             ..none
         },
@@ -78,10 +79,6 @@ pub extern "C" fn dfu_host_next(session: &DfuSession, payload: &[u8], action: &m
     let Some(host) = session_of(session, payload) else {
         return NO_SESSION;
     };
-    let from = match host.parts().phase {
-        Phase::Block(number) => number.saturating_mul(session.transfer as usize),
-        _ => 0,
-    };
-    *action = record_of(host.next(), from);
+    *action = record_of(host.next(), host.sends_from());
     0
 }

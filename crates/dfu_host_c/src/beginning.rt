@@ -1,76 +1,54 @@
 //! The calls that begin a session.
 
+ghost use Rattle.std.specs.Prelude.{◌≡◌, ◌⊎◌, IfErr, IfOk, List, pos, ℕ};
+ghost use Rattle.dfu_wire.specs.Functional.{IsFunctional};
+ghost use Rattle.dfu_host.specs.Download.{first_download_fault, first_verify_fault};
+ghost use Rattle.dfu_host.specs.Host.{HostState};
+ghost use Rattle.dfu_host.specs.InParts.{host_of};
+ghost use Rattle.dfu_host.specs.Phases.{ToFetch, ToLoad, ToVerify};
+ghost use Rattle.dfu_host.specs.Uploading.{first_upload_fault};
+ghost use Rattle.dfu_host_c.specs.Beginning.{Begins, BeginsUpload, HasBegun, HostRefuses, IsContent, IsNoDescriptor, IsUnread, RefusesUpload};
+ghost use Rattle.dfu_host_c.specs.Sessions.{ids_of, limits_of};
+
 use crate::file::file_in;
 use crate::holding::record_of;
 use crate::ids::DfuIds;
 use crate::refusals;
 use crate::session::DfuSession;
-use dfu_host::{HostFault, Limits, Session};
+use dfu_host::{Limits, Session};
 use dfu_suffix::File;
 use dfu_wire::Functional;
 
-/// Begins an upload: 0 or a refusal.
-#[unsafe(no_mangle)]
-pub extern "C" fn dfu_host_upload(
-    session: &mut DfuSession,
-    descriptor: &[u8],
-    actions: u32,
-    restarts: u16,
-) -> i32 {
-    let functional = match Functional::decode(descriptor) {
-        Ok(functional) => functional,
-        Err(fault) => return refusals::of_wire(fault),
-    };
-    let limits = Limits { actions, restarts };
-    match Session::upload(&functional, limits) {
-        Ok(host) => {
-            *session = record_of(&host, 0);
-            0
-        }
-        Err(fault) => refusals::of_host(fault),
-    }
-}
-
-/// What a session begins with that installs a file: the file, the descriptor, and the limits.
+/// A file and a descriptor that were read.
 #[derive(Drop)]
 struct Wanted<'f> {
     file: File<'f>,
     functional: Functional,
-    limits: Limits,
 }
 
-/// What a session begins with, or the refusal of its file or its descriptor.
-#[inline(never)]
-fn read_both<'f>(
-    file: &'f [u8],
-    descriptor: &[u8],
-    actions: u32,
-    restarts: u16,
-) -> Result<Wanted<'f>, i32> {
+/// Reads a file and a descriptor; else the refusal of the first that is none.
+fn read_both<'f>(file: &'f [u8], descriptor: &[u8]) -> Result<Wanted<'f>, i32>
+    ensures file { IfOk result (λ w. IsContent w.file file.now) }
+    ensures functional { IfOk result (λ w. IsFunctional w.functional descriptor.now) }
+    ensures err { IfErr result (λ n. IsUnread file.now descriptor.now n) }
+{
     let file = match file_in(file) {
         Ok(file) => file,
         Err(fault) => return Err(refusals::of_file(fault)),
     };
     match Functional::decode(descriptor) {
-        Ok(functional) => Ok(Wanted {
-            file,
-            functional,
-            limits: Limits { actions, restarts },
-        }),
+        Ok(functional) => Ok(Wanted { file, functional }),
         Err(fault) => Err(refusals::of_wire(fault)),
     }
 }
 
-/// Writes the record of a session that begins, or says why there is none.
-#[inline(never)]
-fn begin(session: &mut DfuSession, host: Result<Session<'_>, HostFault>) -> i32 {
-    match host {
-        Ok(host) => {
-            *session = record_of(&host, 0);
-            0
-        }
-        Err(fault) => refusals::of_host(fault),
-    }
+/// Writes the record of a session that begins.
+fn start(session: &mut DfuSession, host: &Session<'_>) -> i32
+    ensures number { result ≡ pos 0 }
+    ensures begun { (start : HostState) → ((memory : List ℕ) → host_of memory host.now ≡ start) → HasBegun session.new start }
+{
+    *session = record_of(host, 0);
+    0
 }
 
 /// Begins a download: 0 or a refusal.
@@ -82,20 +60,19 @@ pub extern "C" fn dfu_host_download(
     device: &DfuIds,
     actions: u32,
     restarts: u16,
-) -> i32 {
-    match read_both(file, descriptor, actions, restarts) {
-        Ok(wanted) => {
-            let Wanted {
-                file,
-                functional,
-                limits,
-            } = wanted;
-            begin(
-                session,
-                Session::download(&file, &functional, device.ids(), limits),
-            )
-        }
-        Err(refusal) => refusal,
+) -> i32
+    ensures outcome { Begins ToLoad file.now descriptor.now (limits_of actions restarts) result session.new
+        ⊎ (IsUnread file.now descriptor.now result × (session.new ≡ session.old))
+        ⊎ (HostRefuses first_download_fault file.now descriptor.now (ids_of device.now) result × (session.new ≡ session.old)) }
+{
+    let limits = Limits { actions, restarts };
+    let Wanted { file, functional } = match read_both(file, descriptor) {
+        Ok(wanted) => wanted,
+        Err(refusal) => return refusal,
+    };
+    match Session::download(&file, &functional, device.ids(), limits) {
+        Ok(host) => start(session, &host),
+        Err(fault) => refusals::of_host(fault),
     }
 }
 
@@ -108,19 +85,41 @@ pub extern "C" fn dfu_host_verified(
     device: &DfuIds,
     actions: u32,
     restarts: u16,
-) -> i32 {
-    match read_both(file, descriptor, actions, restarts) {
-        Ok(wanted) => {
-            let Wanted {
-                file,
-                functional,
-                limits,
-            } = wanted;
-            begin(
-                session,
-                Session::download_verified(&file, &functional, device.ids(), limits),
-            )
-        }
-        Err(refusal) => refusal,
+) -> i32
+    ensures outcome { Begins ToVerify file.now descriptor.now (limits_of actions restarts) result session.new
+        ⊎ (IsUnread file.now descriptor.now result × (session.new ≡ session.old))
+        ⊎ (HostRefuses first_verify_fault file.now descriptor.now (ids_of device.now) result × (session.new ≡ session.old)) }
+{
+    let limits = Limits { actions, restarts };
+    let Wanted { file, functional } = match read_both(file, descriptor) {
+        Ok(wanted) => wanted,
+        Err(refusal) => return refusal,
+    };
+    match Session::download_verified(&file, &functional, device.ids(), limits) {
+        Ok(host) => start(session, &host),
+        Err(fault) => refusals::of_host(fault),
+    }
+}
+
+/// Begins an upload: 0 or a refusal.
+#[unsafe(no_mangle)]
+pub extern "C" fn dfu_host_upload(
+    session: &mut DfuSession,
+    descriptor: &[u8],
+    actions: u32,
+    restarts: u16,
+) -> i32
+    ensures outcome { BeginsUpload ToFetch descriptor.now (limits_of actions restarts) result session.new
+        ⊎ (IsNoDescriptor descriptor.now result × (session.new ≡ session.old))
+        ⊎ (RefusesUpload first_upload_fault descriptor.now result × (session.new ≡ session.old)) }
+{
+    let functional = match Functional::decode(descriptor) {
+        Ok(functional) => functional,
+        Err(fault) => return refusals::of_wire(fault),
+    };
+    let limits = Limits { actions, restarts };
+    match Session::upload(&functional, limits) {
+        Ok(host) => start(session, &host),
+        Err(fault) => refusals::of_host(fault),
     }
 }

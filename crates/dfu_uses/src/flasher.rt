@@ -20,7 +20,7 @@ pub trait UsbHost {
     fn reset(&mut self);
 }
 
-/// Carries out a session to its end. It makes as many calls of the stack as the host has actions, at most.
+/// Carries out a session to its end, and answers the host's report.
 pub fn flash<U: UsbHost>(host: &mut Host<'_>, usb: &mut U) -> Report
     ensures report { Act host.new (Action.Done result) }
     ensures over { takes_left host.new ≡ 0 }

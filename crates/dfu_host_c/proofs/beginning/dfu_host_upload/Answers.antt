@@ -1,0 +1,16 @@
+use Rattle.std.proofs.Common.{rules, inr, refl}
+use Rattle.dfu_host_c.proofs.beginning.dfu_host_upload.Goals as goal
+
+pub returns-in-Err-upload : goal.returns-in-Err-upload
+returns-in-Err-upload c = record {
+  outcome = inr (inr (
+    record {
+      functional = c.in-Ok.functional;
+      fault = c.in-Err-upload.fault;
+      is_functional = c.in-Ok.ensures.ok;
+      refused = (c.upload.ensures.refused c.in-Err-upload.fault).0 c.in-Err-upload.is;
+      number_is = search rules;
+    },
+    refl,
+  ));
+}
