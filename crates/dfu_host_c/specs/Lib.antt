@@ -1,4 +1,5 @@
 pub mod ReportNumbers
+pub mod ReportNames
 pub mod PhaseNumbers
 pub mod Sessions
 pub mod FileRecords

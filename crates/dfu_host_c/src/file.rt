@@ -10,7 +10,7 @@ ghost use Rattle.dfu_host_c.specs.Refusals.{file_refusal};
 
 use crate::refusals;
 use byteorder::{ByteOrder, LittleEndian};
-use dfu_suffix::{File, SuffixFault, read};
+use dfu_suffix::{File, SuffixFault, read_small};
 
 /// `struct dfu_file`: what a file says. The header says what each number means.
 #[repr(C)]
@@ -58,7 +58,7 @@ fn record_of(file: &File<'_>, bytes: &[u8]) -> DfuFile
     }
 }
 
-/// The file of these bytes, or its first fault. It stands once in the library, with its tables.
+/// The file of these bytes, or its first fault: by the small table, since what reads a file once can wait. It stands once in the library.
 #[inline(never)]
 pub(crate) fn file_in(bytes: &[u8]) -> Result<File<'_>, SuffixFault>
     ensures found { IfOk result (λ f. (extra : List ℕ) × IsFile f.payload f.ids f.dfu extra bytes.now × (f.suffix ≡ 16 + length extra)) }
@@ -66,7 +66,7 @@ pub(crate) fn file_in(bytes: &[u8]) -> Result<File<'_>, SuffixFault>
         → result ≡ Ok (record { payload = payload; ids = ids; dfu = dfu; suffix = 16 + length extra }) }
     ensures fault { (fault : SuffixFault) → (result ≡ Err fault) ↔ First fault bytes.now }
 {
-    read(bytes)
+    read_small(bytes)
 }
 
 /// Reads a file: 0, or its first fault.

@@ -1,10 +1,15 @@
 //! The names of reports.
 
+ghost use Rattle.std.specs.Prelude.{◌≡◌, ◌≤◌, ◌<◌, ◌++◌, drop, length, pos};
+ghost use Rattle.dfu_host_c.specs.ReportNames.{report_name, name_at};
+
 use crate::reports::report_at;
 use dfu_host::Report;
 
 /// The name of a report; that of Refused is without its code. One text for all takes no pointers.
-fn name_of(report: Report) -> &'static [u8] {
+fn name_of(report: Report) -> &'static [u8]
+    ensures name { result.now ≡ report_name report }
+{
     let (from, to) = match report {
         Report::Installed => (0, 9),
         Report::Unconfirmed => (10, 21),
@@ -23,15 +28,27 @@ fn name_of(report: Report) -> &'static [u8] {
     &names[from..to]
 }
 
+/// The name of the report of this number; no bytes where there is none.
+fn name_at(number: u32) -> &'static [u8]
+    ensures name { result.now ≡ name_at number }
+    ensures len { length result.now ≤ 15 }
+{
+    match report_at(u64::from(number), 0) {
+        Some(report) => name_of(report),
+        None => b"",
+    }
+}
+
 /// Writes the name of a report: how many bytes it has, or 0 where there is no such report or it does
 /// not find room; then nothing is written.
 #[unsafe(no_mangle)]
-pub extern "C" fn dfu_host_name(report: u32, out: &mut [u8]) -> i32 {
-    let Some(report) = report_at(u64::from(report), 0) else {
-        return 0;
-    };
-    let name = name_of(report);
-    if name.len() > out.len() || name.len() > 100 {
+pub extern "C" fn dfu_host_name(report: u32, out: &mut [u8]) -> i32
+    ensures named { length (name_at report) ≤ length out.old → (result ≡ pos (length (name_at report)))
+        × (out.new ≡ name_at report ++ drop (length (name_at report)) out.old) }
+    ensures no_room { length out.old < length (name_at report) → (result ≡ pos 0) × (out.new ≡ out.old) }
+{
+    let name = name_at(report);
+    if name.len() > out.len() {
         return 0;
     }
     out[..name.len()].copy_from_slice(name);

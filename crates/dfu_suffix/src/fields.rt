@@ -59,14 +59,19 @@ pub(crate) fn ids_of(tail: &[u8]) -> Ids
     }
 }
 
-/// The dwCRC that the file is to have: the register over all but its last four bytes.
-pub(crate) fn crc_due(bytes: &[u8]) -> u32
+/// The dwCRC that the file is to have: the register over all but its last four bytes. It is the same by either table.
+#[inline(always)]
+pub(crate) fn crc_due(bytes: &[u8], by_small_table: bool) -> u32
     requires { 4 ≤ length bytes.now }
     ensures { result ≡ register (take (length bytes.now - 4) bytes.now) }
 {
     let (front, _) = bytes.split_at(bytes.len() - 4);
     let mut crc = Crc::new();
-    crc.update(front);
+    if by_small_table {
+        crc.update_small(front);
+    } else {
+        crc.update(front);
+    }
     crc.value()
 }
 

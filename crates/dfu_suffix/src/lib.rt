@@ -1,6 +1,6 @@
 //! The DFU file: a payload and its suffix (USB DFU 1.1, appendix B).
 //!
-//! `read` takes a whole file apart, `check` does it for all that a reader gives, `add` writes a
+//! `read` and `read_small` take a whole file apart, `check` does it for all that a reader gives, `add` writes a
 //! file of a payload, and `Crc` is the register behind the suffix's dwCRC. `gather` and `write_whole`
 //! are the loops over streams that the crates above share. The crate opens no file and prints
 //! nothing.
@@ -30,7 +30,7 @@ pub use crc::Crc;
 pub use fault::SuffixFault;
 pub use file::File;
 pub use gathering::{GatherFault, gather};
-pub use parse::read;
+pub use parse::{read, read_small};
 pub use summary::Summary;
 pub use writing::{WriteFault, write_whole};
 

@@ -1,8 +1,8 @@
-//! What `read` and `check` answer of files, and of what is nearly one, however a reader cuts them.
+//! What `read`, `read_small` and `check` answer of files, and of what is nearly one, however a reader cuts them.
 
 use super::files::{COMPLEMENT, DFUSE, DFUSE_DAMAGED, EMPTY, FOUR_ONES, GOOD, UNSET};
 use super::readers::{Pieces, in_pieces};
-use crate::{SuffixFault, Summary, add, check, read};
+use crate::{File, SuffixFault, Summary, add, check, read, read_small};
 use dfu_wire::Ids;
 use std::process::Abort;
 use std::test::Fail;
@@ -37,7 +37,11 @@ fn checks_in_pieces(rt: &impl Abort, bytes: &[u8], answer: Result<Summary, Suffi
 
 /// What is no file, whole and in pieces.
 fn refused(rt: &impl Abort, bytes: &[u8], fault: SuffixFault) {
-    assert_eq!(rt; read(bytes).err(), Some(fault), "of {bytes:?}");
+    assert_eq!(rt;
+        (read(bytes).err(), read_small(bytes).err()),
+        (Some(fault), Some(fault)),
+        "of {bytes:?}"
+    );
     checks_in_pieces(rt, bytes, Err(fault));
 }
 
@@ -51,9 +55,9 @@ fn summary(payload: u32, suffix: u8, ids: Ids, crc: u32) -> Summary {
     }
 }
 
-/// What `read` says of a file.
-fn reads(rt: &impl Abort, bytes: &[u8], known: Summary) {
-    let Ok(file) = read(bytes) else {
+/// What is read of a file.
+fn reads(rt: &impl Abort, bytes: &[u8], read: Result<File<'_>, SuffixFault>, known: Summary) {
+    let Ok(file) = read else {
         assert!(rt; false, "refused {bytes:?}");
         return;
     };
@@ -71,7 +75,8 @@ fn reads(rt: &impl Abort, bytes: &[u8], known: Summary) {
 fn what_known_files_say(rt: HostRuntime) {
     for (bytes, payload, suffix, ids, crc) in &GOOD {
         let known = summary(*payload, *suffix, *ids, *crc);
-        reads(&rt, bytes, known);
+        reads(&rt, bytes, read(bytes), known);
+        reads(&rt, bytes, read_small(bytes), known);
         checks_in_pieces(&rt, bytes, Ok(known));
     }
 }

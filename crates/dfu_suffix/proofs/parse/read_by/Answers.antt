@@ -1,7 +1,7 @@
 use Rattle.std.proofs.Common.{arith, ◌∙◌, sym}
 use Rattle.dfu_suffix.proofs.OneReading.{reading_fault, reading_only}
 use Rattle.dfu_suffix.proofs.FileLaws.{if_ok, reading_found}
-use Rattle.dfu_suffix.proofs.parse.read.Goals as goal
+use Rattle.dfu_suffix.proofs.parse.read_by.Goals as goal
 
 pub returns-clause-found : goal.returns-clause-found
 returns-clause-found c = if_ok c.parse.result _ (λ f e. reading_found c.args.bytes.now f
