@@ -1,1 +1,2 @@
 pub mod SameConfig
+pub mod AnswersFit

@@ -1,5 +1,5 @@
 -- What a call answers to a program in C.
-use Rattle.std.specs.Prelude.{◌≡◌, ℕ, ℤ, pos, ◌<◌, max, List, ◌++◌, length, take, drop}
+use Rattle.std.specs.Prelude.{◌≡◌, ℕ, ℤ, pos, ◌<◌, ◌≤◌, max, List, ◌++◌, length, drop}
 use Rattle.dfu_device.specs.declared.answer.Answer.{Answer}
 use Rattle.dfu_device.specs.Shown.{Shown}
 use Rattle.dfu_device_c.specs.declared.config.DfuConfig.{DfuConfig}
@@ -21,17 +21,14 @@ pub record Goes (c : DfuConfig) (r : DfuDevice) (bytes : List ℕ) (Step : Shown
   pub now : List ℕ
   pub takes : Takes c r bytes Step r' now
 
--- These bytes stand at the front of a buffer, as many as there is room for.
-abbrev pub given : List ℕ → List ℕ → List ℕ
-given bytes out = take (length out) bytes ++ drop (length bytes) out
-
--- A setup was answered by the device, by this row for each answer with its bytes.
+-- A setup was answered by the device, by this row for each answer with its bytes, all of which stand in the buffer.
 pub record Answered (c : DfuConfig) (r : DfuDevice) (bytes out : List ℕ) (Row : Answer → List ℕ → Shown → Shown → Type 0)
     (result : ℤ) (r' : DfuDevice) (out' : List ℕ) : Type 0 where
   pub answer : Answer
   pub sent : List ℕ
   pub number_is : result ≡ answer_number answer sent
-  pub out_is : out' ≡ given sent out
+  pub whole : length sent ≤ length out
+  pub out_is : out' ≡ sent ++ drop (length sent) out
   pub now : List ℕ
   pub takes : Takes c r bytes (Row answer sent) r' now
 

@@ -1,9 +1,9 @@
 //! The calls for a device, as a program in C makes them: `include/dfu_device.h` says each for a reader of C.
-ghost use Rattle.std.specs.Prelude.{◌≡◌, ◌≢◌, ◌⊎◌, ◌≤◌, length};
+ghost use Rattle.std.specs.Prelude.{◌≡◌, ◌≢◌, ◌⊎◌, ◌≤◌, ◌++◌, length, drop};
 ghost use Rattle.dfu_device.specs.Rows.{Handles, Elapses};
 ghost use Rattle.dfu_device.specs.Table.{reset_stage};
 ghost use Rattle.dfu_device_c.specs.Numbers.{answer_number};
-ghost use Rattle.dfu_device_c.specs.Calls.{Refuses, Goes, Answered, HasNoRoom, given, room_for};
+ghost use Rattle.dfu_device_c.specs.Calls.{Refuses, Goes, Answered, HasNoRoom, room_for};
 
 use crate::calls;
 use crate::config::DfuConfig;
@@ -22,11 +22,12 @@ fn number_of(answer: Answer, sent: &ArrayVec<u8, 4096>) -> i32
     }
 }
 
-// Puts bytes at the front of a buffer, as many as there is room for.
+// Puts bytes at the front of a buffer.
 fn give(out: &mut [u8], sent: &ArrayVec<u8, 4096>)
-    ensures { out.new ≡ given sent.now.items out.old }
+    requires { length sent.now.items ≤ length out.old }
+    ensures { out.new ≡ sent.now.items ++ drop (length sent.now.items) out.old }
 {
-    let len = sent.len().min(out.len());
+    let len = sent.len();
     out[..len].copy_from_slice(&sent.as_slice()[..len]);
 }
 
