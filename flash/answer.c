@@ -10,7 +10,7 @@
      any other                          Nothing     as TIMEOUT, IO, OVERFLOW: it may have been handled or not, and the host asks
 
    Of a reset:
-     0                                  WasReset
+     0                                  WasReset    once its interface is in its setting again, where that is another than 0
      LIBUSB_ERROR_NOT_FOUND             WasReset    once it is back: libusb says this where the device has other descriptors
                                                     after the reset, and comes as a new one, whose enumeration is a reset
      LIBUSB_ERROR_NO_DEVICE             Restarted   it left before: told once it is back
@@ -109,6 +109,14 @@ struct answer answer_wait(struct wire *wire, uint32_t ms)
     return told(wire, DFU_WAITED);
 }
 
+/* A reset puts an interface into setting 0. libusb says that the system tries to put it back; that it stands there isn't left to
+   that, since a block that goes to another setting is harm. */
+static int reset(struct device *device)
+{
+    int error = libusb_reset_device(device->handle);
+    return error == 0 && device->is.alternate != 0 ? device_set(device) : error;
+}
+
 struct answer answer_reset(struct wire *wire)
 {
     struct answer answer = told(wire, DFU_WAS_RESET);
@@ -119,7 +127,7 @@ struct answer answer_reset(struct wire *wire)
         answer.is_gone = !device_reopen(wire->device);
         return answer;
     }
-    error = libusb_reset_device(wire->device->handle);
+    error = reset(wire->device);
     if (error == 0)
         return answer;
     if (error == LIBUSB_ERROR_NOT_FOUND || (error == LIBUSB_ERROR_NO_DEVICE && wire->is_leaving)) {

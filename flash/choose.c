@@ -55,10 +55,8 @@ int device_choose(struct device *device, const struct wanted *wanted)
     device->interface = wanted->interface;
     device->alternate = wanted->alternate;
     memcpy(device->path, list[0].path, sizeof device->path);
-    if (list[0].access != 0) {
-        say_no_access(&list[0]);
-        device_drop(device);
-        return STATUS_NO_ACCESS;
-    }
-    return STATUS_DONE;
+    if (list[0].access == 0)
+        return STATUS_DONE;
+    device_drop(device);
+    return say_no_access(&device->is);
 }

@@ -23,10 +23,16 @@ static bool is_in(const unsigned char *bytes, int length, struct found *found)
 }
 
 void descriptor_find(struct found *found, libusb_device_handle *handle, const struct libusb_config_descriptor *configuration,
-                     const struct libusb_interface_descriptor *setting)
+                     const struct libusb_interface *interface, int at)
 {
+    const struct libusb_interface_descriptor *settings = interface->altsetting;
     unsigned char bytes[9];
-    if (is_in(setting->extra, setting->extra_length, found) || is_in(configuration->extra, configuration->extra_length, found))
+    if (is_in(settings[at].extra, settings[at].extra_length, found))
+        return;
+    for (int other = 0; other < interface->num_altsetting; other++)
+        if (is_in(settings[other].extra, settings[other].extra_length, found))
+            return;
+    if (is_in(configuration->extra, configuration->extra_length, found))
         return;
     if (handle != NULL) {
         int length = libusb_get_descriptor(handle, DFU_FUNCTIONAL, 0, bytes, (int)sizeof bytes);

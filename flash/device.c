@@ -3,12 +3,20 @@
    its serial number only where that was asked for, since two devices may have the same one. */
 #include "device.h"
 #include "clock.h"
+#include "say.h"
 
 #include <string.h>
 
 #define AWAY_MS 10000 /* how long it may be away: an operating system takes a second or two to see a device */
 #define LOOK_MS 50
 #define ROOM 64
+
+int device_set(struct device *device)
+{
+    int error = libusb_set_interface_alt_setting(device->handle, device->is.interface, device->is.alternate);
+    /* Where there is one setting a device may stall the request, and stands in it all the same. */
+    return error == LIBUSB_ERROR_PIPE && device->is.alternate == 0 ? 0 : error;
+}
 
 int device_open(struct device *device)
 {
@@ -19,10 +27,7 @@ int device_open(struct device *device)
     }
     error = libusb_claim_interface(device->handle, device->is.interface);
     if (error == 0)
-        error = libusb_set_interface_alt_setting(device->handle, device->is.interface, device->is.alternate);
-    /* Where there is one setting a device may stall the request, and stands in it all the same. */
-    if (error == LIBUSB_ERROR_PIPE && device->is.alternate == 0)
-        error = 0;
+        error = device_set(device);
     if (error != 0)
         device_close(device);
     return error;
@@ -45,8 +50,7 @@ void device_drop(struct device *device)
     device->is.device = NULL;
 }
 
-/* The interface and the setting that were asked for count in DFU mode alone: in run-time mode there is one of each (USB DFU 1.1,
-   section 4.1.2), and its number may be another. */
+/* The interface and the setting that were asked for count in DFU mode alone, as in `struct wanted`. */
 static bool is_same(const struct device *device, const struct found *found)
 {
     bool is_path = strcmp(found->path, device->path) == 0;
@@ -74,22 +78,39 @@ static int look_for(struct device *device)
     return same;
 }
 
+/* One that is back, and that nobody may open, or that another program took: what it is now may have other rules than before. */
+static void say_why(struct device *device, int error)
+{
+    const struct wanted any = {.path = device->path, .interface = -1, .alternate = -1};
+    struct found one = {0};
+    int count = find_all(device->usb, &any, &one, 1);
+    if (count > 0 && one.access == 0)
+        one.access = error;
+    if (count > 0 && one.access != 0)
+        say_no_access(&one);
+    found_drop(&one, count);
+}
+
 /* A device whose name is in the list still, though it left, can't be opened; and its rights may come a moment after it does. */
 bool device_reopen(struct device *device)
 {
     int64_t end = clock_ms() + AWAY_MS;
+    int error;
     device_close(device);
     for (;;) {
         int same = look_for(device);
         device->is_many = same > 1;
         if (device->is_many)
             return false;
-        if (same == 1 && device_open(device) == 0)
+        error = same == 1 ? device_open(device) : 0;
+        if (same == 1 && error == 0)
             return true;
         if (*device->is_stop || clock_ms() >= end)
-            return false;
+            break;
         clock_wait(LOOK_MS);
     }
+    say_why(device, error);
+    return false;
 }
 
 /* Whether one with the serial number that was asked for is there. */

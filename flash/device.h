@@ -25,6 +25,9 @@ int device_choose(struct device *device, const struct wanted *wanted);
 /* Opens it and claims its interface. 0, or an error of libusb. */
 int device_open(struct device *device);
 
+/* Puts its interface into its alternate setting. 0, or an error of libusb. */
+int device_set(struct device *device);
+
 void device_close(struct device *device);
 
 /* Gives back what device_choose took. */
@@ -35,7 +38,7 @@ void device_drop(struct device *device);
 bool device_await(struct device *device);
 
 /* Waits until it is back with DFU, and opens it. False after 10 seconds, where `is_stop` is set, or where it has more than one
-   setting that may be meant. */
+   setting that may be meant. Where it is back and can't be had, why is said on standard error. */
 bool device_reopen(struct device *device);
 
 #endif

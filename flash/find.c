@@ -44,7 +44,7 @@ static bool is_wanted(const struct wanted *wanted, const struct found *found)
     bool is_serial = wanted->serial == NULL || found->access != 0 || strcmp(wanted->serial, found->serial) == 0;
     bool is_interface = wanted->interface < 0 || wanted->interface == found->interface;
     bool is_alternate = wanted->alternate < 0 || wanted->alternate == found->alternate;
-    return is_serial && is_interface && is_alternate;
+    return is_serial && (!found->is_upgrade || (is_interface && is_alternate));
 }
 
 /* What is going on in one look at the bus. */
@@ -55,8 +55,9 @@ struct look {
 };
 
 static void add_setting(struct look *look, const struct found *base, libusb_device_handle *handle,
-                        const struct libusb_config_descriptor *configuration, const struct libusb_interface_descriptor *setting)
+                        const struct libusb_config_descriptor *configuration, const struct libusb_interface *interface, int at)
 {
+    const struct libusb_interface_descriptor *setting = &interface->altsetting[at];
     struct found found = *base;
     if (setting->bInterfaceClass != 0xfe || setting->bInterfaceSubClass != 1)
         return;
@@ -65,7 +66,9 @@ static void add_setting(struct look *look, const struct found *base, libusb_devi
     found.is_upgrade = setting->bInterfaceProtocol == 2;
     if (look->count == look->room || !is_wanted(look->wanted, &found))
         return;
-    descriptor_find(&found, handle, configuration, setting);
+    descriptor_find(&found, handle, configuration, interface, at);
+    if (handle != NULL)
+        string_find(handle, setting->iInterface, found.name);
     libusb_ref_device(found.device);
     look->list[look->count++] = found;
 }
@@ -85,7 +88,7 @@ static void add_interface(struct look *look, const struct found *base, libusb_de
                           const struct libusb_config_descriptor *configuration, const struct libusb_interface *interface)
 {
     for (int at = 0; at < interface->num_altsetting; at++)
-        add_setting(look, base, handle, configuration, &interface->altsetting[at]);
+        add_setting(look, base, handle, configuration, interface, at);
 }
 
 /* A device is opened, for its serial number, only where it has DFU. */

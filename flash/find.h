@@ -18,13 +18,15 @@ struct found {
     char serial[TEXT_ROOM];            /* empty where there is none, or where it may not be read */
     uint8_t configuration;             /* its index, from 0 */
     uint8_t interface, alternate;
+    char name[TEXT_ROOM];              /* of the setting, by its iInterface; empty where there is none */
     bool is_upgrade;                   /* in DFU mode, protocol 2; else in run-time mode */
     int access;                        /* what libusb said to opening it: 0, or an error */
     uint8_t descriptor[9];             /* the functional descriptor */
     size_t descriptor_size;            /* 9, or 7 of DFU 1.0; 0 where there is none */
 };
 
-/* What a device has to be. */
+/* What a device has to be. The interface and the setting count in DFU mode alone: in run-time mode there is one of each (USB DFU
+   1.1, section 4.1.2), and its number may be another. */
 struct wanted {
     bool has_ids;
     uint16_t vendor, product;          /* FFFFh is any */
@@ -44,9 +46,10 @@ void path_of(libusb_device *device, char path[PATH_ROOM]);
 /* Whether any device stands at the path, with DFU or without. */
 bool is_at(libusb_context *usb, const char *path);
 
-/* The functional descriptor of an alternate setting: from its extra bytes, from those of the configuration, or asked for. */
+/* The functional descriptor of the setting number `at` of an interface: from its extra bytes, from those of the other settings,
+   behind the last of which it often stands once for all, from those of the configuration, or asked for. */
 void descriptor_find(struct found *found, libusb_device_handle *handle, const struct libusb_config_descriptor *configuration,
-                     const struct libusb_interface_descriptor *setting);
+                     const struct libusb_interface *interface, int at);
 
 /* The string descriptor of that index, in ASCII; empty where it can't be read. */
 void string_find(libusb_device_handle *handle, uint8_t index, char text[TEXT_ROOM]);

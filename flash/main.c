@@ -104,22 +104,14 @@ static void choose_goal(const struct words *words)
     session.wire.device = &device;
 }
 
-static int say_closed(int error)
-{
-    device.is.access = error;
-    if (error == LIBUSB_ERROR_BUSY)
-        fprintf(stderr, "dfu-flash: another program or a driver has the interface: LIBUSB_ERROR_BUSY\n");
-    else
-        say_no_access(&device.is);
-    return STATUS_NO_ACCESS;
-}
-
 static int run_session(const struct words *words)
 {
     struct verdict verdict;
     int error = device_open(&device);
-    if (error != 0)
-        return say_none(words, say_closed(error));
+    if (error != 0) {
+        device.is.access = error;
+        return say_none(words, say_no_access(&device.is));
+    }
     catch_interrupt();
     session.began_ms = clock_ms();
     progress_begin(&session.progress, words->quiet, session.payload_length);

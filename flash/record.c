@@ -35,6 +35,10 @@ static void print_record(const struct session *session, const struct verdict *ve
     print_text("path", session->wire.device->path);
     if (is->serial[0] != '\0')
         print_text("serial", is->serial);
+    print_number("interface", is->interface);
+    print_number("alt", is->alternate);
+    if (is->name[0] != '\0')
+        print_text("name", is->name);
     print_number("bytes", session->goal == GOAL_UPLOAD ? session->host.kept : session->payload_length);
     print_number("actions", session->taken);
     print_number("transfers", session->wire.transfers);
@@ -86,7 +90,7 @@ bool record_none(int status, bool is_json)
     if (status == STATUS_FILE)
         print_short(status, "file", "a file or a stream failed, or there was no memory");
     else if (status == STATUS_NO_ACCESS)
-        print_short(status, "no-access", "the device may not be opened");
+        print_short(status, "no-access", "the device may not be opened, or another program or a driver has it");
     else
         print_short(status, "no-device", "there is no such device, or more than one");
     return is_out();

@@ -1,5 +1,6 @@
 /* Lines about devices. */
 #include "say.h"
+#include "status.h"
 
 #include <string.h>
 
@@ -14,25 +15,49 @@ static void say_descriptor(FILE *out, const struct found *found)
             bytes[2] & 2 ? ", upload" : "", bytes[2] & 4 ? ", tolerant" : "");
 }
 
+static const char *access_words(int access)
+{
+    switch (access) {
+    case 0: return "";
+    case LIBUSB_ERROR_BUSY: return ", in use";
+    case LIBUSB_ERROR_NO_DEVICE: return ", gone";
+    default: return ", no access";
+    }
+}
+
 void say_found(FILE *out, const struct found *found)
 {
     fprintf(out, "%04x:%04x path %s", found->vendor, found->product, found->path);
     if (found->serial[0] != '\0')
         fprintf(out, " serial %s", found->serial);
-    fprintf(out, " interface %u alt %u %s", found->interface, found->alternate, found->is_upgrade ? "DFU mode" : "run-time mode");
+    fprintf(out, " interface %u alt %u", found->interface, found->alternate);
+    if (found->name[0] != '\0')
+        fprintf(out, " \"%s\"", found->name);
+    fputs(found->is_upgrade ? " DFU mode" : " run-time mode", out);
     say_descriptor(out, found);
-    fputs(found->access == 0 ? "\n" : ", no access\n", out);
+    fprintf(out, "%s\n", access_words(found->access));
 }
 
-void say_no_access(const struct found *found)
+static void say_rule(const struct found *found)
 {
-    fprintf(stderr, "dfu-flash: %04x:%04x at %s may not be opened: %s\n", found->vendor, found->product, found->path,
-            libusb_error_name(found->access));
-    if (found->access != LIBUSB_ERROR_ACCESS)
-        return;
     fprintf(stderr,
             "To allow it to who sits at this computer, write this line to /etc/udev/rules.d/60-dfu-%04x.rules,\n"
             "run `udevadm control --reload`, and plug the device in again:\n"
             "SUBSYSTEM==\"usb\", ATTR{idVendor}==\"%04x\", ATTR{idProduct}==\"%04x\", MODE=\"0660\", TAG+=\"uaccess\"\n",
             found->vendor, found->vendor, found->product);
+}
+
+int say_no_access(const struct found *found)
+{
+    fprintf(stderr, "dfu-flash: %04x:%04x at %s ", found->vendor, found->product, found->path);
+    if (found->access == LIBUSB_ERROR_BUSY)
+        fprintf(stderr, "is in use: another program or a driver has its interface %u", found->interface);
+    else if (found->access == LIBUSB_ERROR_NO_DEVICE)
+        fputs("is gone: it left, or there is no file for it below /dev/bus/usb, as in a container", stderr);
+    else
+        fputs("may not be opened", stderr);
+    fprintf(stderr, ": %s\n", libusb_error_name(found->access));
+    if (found->access == LIBUSB_ERROR_ACCESS)
+        say_rule(found);
+    return found->access == LIBUSB_ERROR_NO_DEVICE ? STATUS_NO_DEVICE : STATUS_NO_ACCESS;
 }

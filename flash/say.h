@@ -10,8 +10,8 @@
 /* A line for a device, as --list prints it. */
 void say_found(FILE *out, const struct found *found);
 
-/* That a device may not be opened, and the rule that allows it. */
-void say_no_access(const struct found *found);
+/* Why a device isn't opened, or its interface isn't claimed, by `access`; and what helps. The status that this is. */
+int say_no_access(const struct found *found);
 
 /* The name of a refusal of the host, and what it means in words. */
 const char *refusal_name(int32_t refusal);

@@ -1,4 +1,4 @@
-/* With what the program ends. docs/dfu-flash.1 and say.c have the same list; tests/flash compares them. */
+/* With what the program ends. docs/dfu-flash.1 has the same list; tests/flash compares them. */
 #ifndef DFU_FLASH_STATUS_H
 #define DFU_FLASH_STATUS_H
 
@@ -8,7 +8,7 @@ enum status {
     STATUS_WORDS = 2,       /* the words aren't understood */
     STATUS_FILE = 3,        /* a file or a stream failed, or there was no memory */
     STATUS_NO_DEVICE = 4,   /* no device, or more than one */
-    STATUS_NO_ACCESS = 5,   /* the device may not be opened */
+    STATUS_NO_ACCESS = 5,   /* the device may not be opened, or another program or a driver has it */
     STATUS_DEVICE = 6,      /* the device refused the image */
     STATUS_GIVEN_UP = 7,    /* the limits are spent, or what came was too much */
     STATUS_UNCONFIRMED = 8, /* the device can't tell whether the image is in place */

@@ -64,7 +64,7 @@ static bool is_setting(const char *text, int *setting)
 {
     unsigned long number;
     if (!is_number(text, 255, &number))
-        return refuse("a number from 0 to 255 is wanted", text);
+        return refuse("--interface and --alt take a number from 0 to 255, as --list shows it", text);
     *setting = (int)number;
     return true;
 }

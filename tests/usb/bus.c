@@ -18,6 +18,7 @@ static const struct model *model;
 static struct {
     unsigned generation, away;
     bool is_app, is_there;
+    int setting; /* the alternate setting that it stands in */
 } seen;
 static unsigned transfers;
 static uint64_t told_ns;
@@ -33,6 +34,7 @@ static uint64_t now_ns(void)
 static void enumerate(void)
 {
     seen.generation++;
+    seen.setting = 0;
     seen.away = settings.away;
 }
 
@@ -83,11 +85,16 @@ void bus_pass_time(void)
     elapse(ms);
 }
 
+static bool is_lasting(const struct fate *fate)
+{
+    return fate->kind == FATE_DEAF || fate->kind == FATE_MUTE;
+}
+
 static const struct fate *fate_of(unsigned number)
 {
     static const struct fate pass;
     for (unsigned i = 0; i < settings.fate_count; i++)
-        if (settings.fates[i].number == number)
+        if (settings.fates[i].number == number || (is_lasting(&settings.fates[i]) && settings.fates[i].number < number))
             return &settings.fates[i];
     return &pass;
 }
@@ -133,8 +140,10 @@ static int meets(const struct fate *fate, const uint8_t setup[8], uint8_t *data,
     case FATE_LEAVE:
         return leave();
     case FATE_LOST_OUT:
+    case FATE_DEAF:
         return wait_in_vain(timeout);
-    case FATE_LOST_BACK: {
+    case FATE_LOST_BACK:
+    case FATE_MUTE: {
         uint8_t unheard[65536];
         memcpy(unheard, data, length);
         handled(setup, unheard, length, fate);
@@ -150,6 +159,8 @@ int bus_transfer(const uint8_t setup[8], uint8_t *data, uint16_t length, unsigne
     uint8_t none[8] = { 0 };
     if (transfers == BOUND)
         fail_loudly("%d transfers were made, and the program is not done", BOUND);
+    if (!seen.is_app && settings.setting >= 0 && seen.setting != settings.setting)
+        fail_loudly("a request is made in the setting %d", seen.setting);
     const struct fate *fate = fate_of(transfers);
     if (fate->kind == FATE_KILL) {
         at_end();
@@ -163,18 +174,28 @@ int bus_transfer(const uint8_t setup[8], uint8_t *data, uint16_t length, unsigne
     return answer;
 }
 
+/* A device that is the same behind the reset stands in setting 0: by libusb's manual the system does no more than try to put
+ * it back into the one that it was in. */
 bool bus_reset(void)
 {
     unsigned before = seen.generation;
     model->usb_reset();
+    seen.setting = 0;
     look();
     log_reset(model->state());
     told_ns = now_ns();
     return seen.generation == before;
 }
 
-void bus_set_interface(void)
+bool bus_is_deaf(void)
 {
+    return fate_of(transfers)->kind == FATE_DEAF;
+}
+
+void bus_set_interface(int setting)
+{
+    seen.setting = setting;
+    log_setting(setting);
     model->set_interface();
 }
 

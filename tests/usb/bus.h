@@ -17,7 +17,11 @@ int bus_transfer(const uint8_t setup[8], uint8_t *data, uint16_t length, unsigne
 /* A reset of the bus: whether the device's descriptors are the same behind it. */
 bool bus_reset(void);
 
-void bus_set_interface(void);
+/* Whether nothing that is sent comes to the device any more. */
+bool bus_is_deaf(void);
+
+/* The interface is put into that alternate setting. */
+void bus_set_interface(int setting);
 
 /* One more list of devices is made: whether the device is in it. */
 bool bus_lists(void);

@@ -17,10 +17,11 @@ void libusb_unref_device(libusb_device *device);
 
 int libusb_open(libusb_device *device, libusb_device_handle **out)
 {
+    static unsigned opens;
     *out = NULL;
     bus_pass_time();
-    if (settings.is_denied)
-        return USB_ERROR_ACCESS;
+    if (settings.denied != 0 && opens++ >= settings.opens)
+        return settings.denied;
     if (!device->is_other && device->generation != bus_generation())
         return USB_ERROR_NO_DEVICE;
     *out = malloc(sizeof **out);
@@ -52,20 +53,24 @@ static int held(const libusb_device_handle *handle)
 
 int libusb_claim_interface(libusb_device_handle *handle, int interface)
 {
-    return interface == 0 ? held(handle) : USB_ERROR_NOT_FOUND;
+    int error = held(handle);
+    if (error != 0 || interface != 0)
+        return error != 0 ? error : USB_ERROR_NOT_FOUND;
+    return settings.claimed;
 }
 
 int libusb_release_interface(libusb_device_handle *handle, int interface)
 {
-    return libusb_claim_interface(handle, interface);
+    return interface == 0 ? held(handle) : USB_ERROR_NOT_FOUND;
 }
 
 int libusb_set_interface_alt_setting(libusb_device_handle *handle, int interface, int setting)
 {
     int error = held(handle);
-    if (error != 0 || interface != 0 || setting != 0)
+    int most = handle->device->is_app ? 1 : (int)settings.alternates;
+    if (error != 0 || interface != 0 || setting < 0 || setting >= most)
         return error != 0 ? error : USB_ERROR_NOT_FOUND;
-    bus_set_interface();
+    bus_set_interface(setting);
     return 0;
 }
 
@@ -83,10 +88,13 @@ int libusb_reset_device(libusb_device_handle *handle)
         return error;
     if (handle->device->is_other)
         fail_loudly("the other device is reset");
+    if (bus_is_deaf())
+        return USB_ERROR_IO;
     return bus_reset() ? 0 : USB_ERROR_NOT_FOUND;
 }
 
-/* What every device answers in its control endpoint: GET_DESCRIPTOR, for strings and for the functional descriptor. */
+/* What every device answers in its control endpoint: GET_DESCRIPTOR, for strings. U-Boot's answers it for the functional
+ * descriptor too; no device has to. */
 static int standard(const libusb_device *device, uint8_t kind, uint8_t request, uint16_t value, uint8_t *data, uint16_t length)
 {
     uint8_t function[9];
@@ -94,7 +102,7 @@ static int standard(const libusb_device *device, uint8_t kind, uint8_t request, 
         fail_loudly("request %u of type %02x is not in this stand-in", request, kind);
     if (value >> 8 == STRING)
         return describe_string(value & 0xff, device->is_other, data, length);
-    if (value >> 8 != FUNCTIONAL)
+    if (value >> 8 != FUNCTIONAL || strcmp(settings.device, "uboot") != 0)
         return USB_ERROR_PIPE;
     describe_function(function);
     memcpy(data, function, length < sizeof function ? length : sizeof function);

@@ -1,12 +1,13 @@
 /* The descriptors of the devices on the bus: one configuration of one interface of class FEh, subclass 01h, protocol 1 in
- * run-time mode and 2 in DFU mode (USB DFU 1.1, sections 4.1 and 4.2), and the functional descriptor. */
+ * run-time mode and 2 in DFU mode (USB DFU 1.1, sections 4.1 and 4.2), in DFU mode with one alternate setting or more, and
+ * the functional descriptor behind the last. */
 #include "descriptors.h"
 #include "settings.h"
 
 #include <stdlib.h>
 #include <string.h>
 
-enum { NO_STRING, SERIAL_STRING, INTERFACE_STRING };
+enum { NO_STRING, SERIAL_STRING, INTERFACE_STRING }; /* behind the last those of the settings, where there are several */
 
 void describe_device(bool is_app, struct libusb_device_descriptor *out)
 {
@@ -35,31 +36,34 @@ void describe_function(uint8_t out[9])
 struct whole {
     struct libusb_config_descriptor configuration;
     struct libusb_interface interface;
-    struct libusb_interface_descriptor setting;
+    struct libusb_interface_descriptor alternates[MOST_ALTERNATES];
     uint8_t function[9];
 };
 
 struct libusb_config_descriptor *describe_configuration(bool is_app)
 {
     struct whole *whole = calloc(1, sizeof *whole);
+    int count = is_app ? 1 : (int)settings.alternates;
     if (whole == NULL)
         fail_loudly("no memory for a descriptor");
     describe_function(whole->function);
-    whole->setting = (struct libusb_interface_descriptor){
-        .bLength = 9,
-        .bDescriptorType = 4,
-        .bInterfaceClass = 0xfe,
-        .bInterfaceSubClass = 1,
-        .bInterfaceProtocol = is_app ? 1 : 2,
-        .iInterface = INTERFACE_STRING,
-        .extra = whole->function,
-        .extra_length = sizeof whole->function,
-    };
-    whole->interface = (struct libusb_interface){ &whole->setting, 1 };
+    for (int at = 0; at < count; at++)
+        whole->alternates[at] = (struct libusb_interface_descriptor){
+            .bLength = 9,
+            .bDescriptorType = 4,
+            .bAlternateSetting = (uint8_t)at,
+            .bInterfaceClass = 0xfe,
+            .bInterfaceSubClass = 1,
+            .bInterfaceProtocol = is_app ? 1 : 2,
+            .iInterface = (uint8_t)(INTERFACE_STRING + (count > 1 ? 1 + at : 0)),
+        };
+    whole->alternates[count - 1].extra = whole->function;
+    whole->alternates[count - 1].extra_length = sizeof whole->function;
+    whole->interface = (struct libusb_interface){ whole->alternates, count };
     whole->configuration = (struct libusb_config_descriptor){
         .bLength = 9,
         .bDescriptorType = 2,
-        .wTotalLength = 27,
+        .wTotalLength = (uint16_t)(18 + 9 * count),
         .bNumInterfaces = 1,
         .bConfigurationValue = 1,
         .bmAttributes = 0x80,
@@ -76,10 +80,13 @@ void forget_configuration(struct libusb_config_descriptor *found)
 
 int describe_string(unsigned number, bool is_other, uint8_t *out, uint16_t room)
 {
-    const char *text = number == SERIAL_STRING ? (is_other ? "OTHER" : settings.serial) : "stand-in";
+    static const char *const names[] = { "stand-in", "boot", "kernel", "data" };
+    const char *text = number < INTERFACE_STRING ? is_other ? "OTHER" : settings.serial : "";
     uint8_t bytes[2 + 2 * 126] = { 4, 3, 0x09, 0x04 };
-    if (number > INTERFACE_STRING)
+    if (number > INTERFACE_STRING + MOST_ALTERNATES)
         return USB_ERROR_PIPE;
+    if (number >= INTERFACE_STRING)
+        text = names[number - INTERFACE_STRING];
     if (strlen(text) > 126)
         fail_loudly("USB_SERIAL is too long");
     if (number != NO_STRING)

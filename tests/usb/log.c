@@ -3,6 +3,7 @@
  *     0 GETSTATUS 0 6 -> 000000000200, dfuIDLE
  *     1 DNLOAD 0 8 lost-back -> timeout, dfuDNLOAD-SYNC
  *     reset -> appIDLE
+ *     setting 1
  *     end 2 appIDLE OK
  *
  * After the number come the request, its wValue and its wLength, the fate where it is one, what the program heard, and
@@ -19,7 +20,7 @@ static const char *const codes[] = { "OK", "errTARGET", "errFILE", "errWRITE", "
                                      "errADDRESS", "errNOTDONE", "errFIRMWARE", "errVENDOR", "errUSBR", "errPOR", "errUNKNOWN",
                                      "errSTALLEDPKT" };
 static const char *const requests[] = { "DETACH", "DNLOAD", "UPLOAD", "GETSTATUS", "CLRSTATUS", "GETSTATE", "ABORT" };
-static const char *const fates[] = { "", " lost-out", " lost-back", " twice", " short", " leave", " kill" };
+static const char *const fates[] = { "", " lost-out", " lost-back", " twice", " short", " leave", " kill", " deaf", " mute" };
 
 #define NAME(table, number) ((unsigned)(number) < sizeof(table) / sizeof *(table) ? (table)[number] : "?")
 
@@ -63,6 +64,13 @@ void log_reset(int state)
     FILE *file = sink();
     if (file != NULL)
         fprintf(file, "reset -> %s\n", NAME(states, state));
+}
+
+void log_setting(int setting)
+{
+    FILE *file = sink();
+    if (file != NULL)
+        fprintf(file, "setting %d\n", setting);
 }
 
 void log_end(unsigned transfers, int state, int code)

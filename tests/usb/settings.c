@@ -10,10 +10,15 @@
  * USB_SERIAL      serial number (F1)                    USB_PATH      bus and ports, as 1-2.3 (1-1)
  * USB_START       app or dfu: the mode at the start (dfu)
  * USB_DEVICES     1, or 2: another device, whose serial number is OTHER, stands on the bus (1)
- * USB_DENIED      1: no device may be opened (0)
+ * USB_DENIED      the number of the error that opening a device answers, as 3 for LIBUSB_ERROR_ACCESS (0: it is opened)
+ * USB_OPENS       so many opens go well before USB_DENIED holds (0)
+ * USB_CLAIMED     the number of the error that claiming the interface answers, as 6 for LIBUSB_ERROR_BUSY (0: it is claimed)
+ * USB_ALTERNATES  alternate settings of the interface in DFU mode, up to 3, with the names boot, kernel and data (1)
+ * USB_SETTING     the setting that each request of DFU mode has to be made in: one in another ends the program (any)
  * USB_AWAY        for how many lists of devices it is away when its mode changes, or when it leaves (0)
  * USB_FATE        fates of transfers, with commas between: `lost-out N`, `lost-back N`, `twice N`, `short N BYTES`,
- *                 `leave N` (its power goes and comes back), `kill N` (the program is killed before it)
+ *                 `leave N` (its power goes and comes back), `kill N` (the program is killed before it), `deaf N` (from N on
+ *                 each is lost on its way out, and resets fail), `mute N` (from N on each answer is lost; resets work)
  * USB_LOG         a file that gets a line for each transfer
  * USB_SAVE        a file that gets the active image at the end
  * USB_STATE       a file that keeps the device between runs: read at the start where it is there, written at the end
@@ -95,7 +100,7 @@ static void read_path(const char *path)
 
 static enum fate_kind kind_of(const char *word)
 {
-    static const char *const words[] = { "pass", "lost-out", "lost-back", "twice", "short", "leave", "kill" };
+    static const char *const words[] = { "pass", "lost-out", "lost-back", "twice", "short", "leave", "kill", "deaf", "mute" };
     for (unsigned kind = 0; kind < sizeof words / sizeof *words; kind++)
         if (strcmp(word, words[kind]) == 0)
             return (enum fate_kind)kind;
@@ -148,7 +153,13 @@ void settings_read(void)
     read_path(text("USB_PATH", "1-1"));
     settings.starts_in_app = is_first("USB_START", "app", "dfu", "dfu");
     settings.devices = number("USB_DEVICES", 1, 10);
-    settings.is_denied = number("USB_DENIED", 0, 10) != 0;
+    settings.denied = -(int)number("USB_DENIED", 0, 10);
+    settings.opens = number("USB_OPENS", 0, 10);
+    settings.claimed = -(int)number("USB_CLAIMED", 0, 10);
+    settings.alternates = number("USB_ALTERNATES", 1, 10);
+    settings.setting = (int)number("USB_SETTING", (uint32_t)-1, 10);
+    if (settings.alternates < 1 || settings.alternates > MOST_ALTERNATES)
+        fail_loudly("USB_ALTERNATES is 1 to %d", MOST_ALTERNATES);
     settings.away = number("USB_AWAY", 0, 10);
     read_fates(text("USB_FATE", ""));
     settings.log = getenv("USB_LOG");

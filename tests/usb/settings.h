@@ -5,9 +5,9 @@
 #include <stdbool.h>
 #include <stdint.h>
 
-enum fate_kind { FATE_PASS, FATE_LOST_OUT, FATE_LOST_BACK, FATE_TWICE, FATE_SHORT, FATE_LEAVE, FATE_KILL };
+enum fate_kind { FATE_PASS, FATE_LOST_OUT, FATE_LOST_BACK, FATE_TWICE, FATE_SHORT, FATE_LEAVE, FATE_KILL, FATE_DEAF, FATE_MUTE };
 
-/* What becomes of the transfer of one number; `bytes` is for FATE_SHORT. */
+/* What becomes of the transfer of one number, and, of FATE_DEAF and FATE_MUTE, of each behind it; `bytes` is for FATE_SHORT. */
 struct fate {
     enum fate_kind kind;
     unsigned number, bytes;
@@ -19,6 +19,7 @@ struct ids {
 
 #define FATES 8
 #define PORTS 7
+#define MOST_ALTERNATES 3
 
 struct settings {
     const char *device;                /* "proved" or "uboot" */
@@ -30,7 +31,11 @@ struct settings {
     const char *serial;
     uint8_t bus, ports[PORTS];
     unsigned port_count;
-    bool starts_in_app, is_denied;
+    bool starts_in_app;
+    unsigned alternates;               /* settings of the interface in DFU mode */
+    int setting;                       /* the one that requests are to be made in, or -1: any */
+    int denied, claimed;               /* the error of an open and of a claim, or 0 */
+    unsigned opens;                    /* so many opens go well before */
     unsigned devices, away;
     struct fate fates[FATES];
     unsigned fate_count;

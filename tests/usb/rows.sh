@@ -1,0 +1,75 @@
+# What tests/flash runs dfu-flash over the stand-in with: both are built in a folder of their own, $work, and run there. `top` is
+# the folder of the repository.
+
+# shellcheck disable=SC2154
+if ! pkg-config --exists libusb-1.0; then
+    echo "libusb-1.0 and its headers (Debian: libusb-1.0-0-dev) aren't installed: dfu-flash is left out"
+    echo "0 passed, 0 failed"
+    exit
+fi
+"$top/dfu" --help > /dev/null
+work=$(mktemp -d)
+trap 'rm -rf "$work"' EXIT
+chmod 755 "$work"
+"$top/flash/build" "$work" > /dev/null
+"$top/tests/usb/build" "$work"
+cd "$work" || exit
+passed=0
+failed=0
+printf 'the old image' > old
+printf 'a new image of 26 bytes ..' > new
+"$top/dfu" add new new.dfu --vid 1209 --pid 0001 > /dev/null
+"$top/dfu" add new any.dfu > /dev/null
+"$top/dfu" add new other.dfu --vid 1209 --pid 0002 > /dev/null
+
+right() {
+    passed=$((passed + 1))
+}
+wrong() {
+    echo "$*"
+    failed=$((failed + 1))
+}
+# flash SETTINGS WORDS..: runs it over a device that is set up so, as the user $as, with the fate of a transfer in $fate.
+# Its status is in $code, its texts in out and err, what was sent in log, and the image that the device has then in saved.
+flash() {
+    settings=$1
+    shift
+    code=0
+    rm -f saved log
+    # shellcheck disable=SC2086
+    env LD_LIBRARY_PATH="$work" USB_IMAGE="$work/old" USB_SAVE="$work/saved" USB_LOG="$work/log" USB_FATE="$fate" $settings \
+        timeout 60 $as ./dfu-flash "$@" > out 2> err || code=$?
+}
+fate=
+as=
+# row STATUS IMAGE TEXT SETTINGS WORDS..: the status, the image (old, new, or - for any), and how the last line of
+# standard output begins.
+row() {
+    status=$1 image=$2 text=$3
+    shift 3
+    flash "$@"
+    if [ "$code" -ne "$status" ]; then
+        wrong "$*: wanted $status, found $code: $(cat out err)"
+    elif [ "$image" != - ] && ! cmp -s saved "$image"; then
+        wrong "$*: the image isn't the $image one"
+    else
+        case $(tail -n 1 out) in
+        "$text"*) right ;;
+        *) wrong "$*: wanted '$text', found: $(cat out)" ;;
+        esac
+    fi
+}
+# says TEXT: it stands in what the last run printed on standard error.
+says() {
+    if grep -qF -- "$1" err; then right; else wrong "'$1' isn't in: $(cat err)"; fi
+}
+# expect WHAT COMMAND..
+expect() {
+    what=$1
+    shift
+    if "$@" > said 2>&1; then right; else wrong "$what: $(cat said)"; fi
+}
+# Whether nothing was sent in the last run.
+is_silent() {
+    [ ! -e log ] || [ "$(grep -c -v '^end' log)" -eq 0 ]
+}
