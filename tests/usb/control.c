@@ -104,9 +104,10 @@ static int standard(const libusb_device *device, uint8_t kind, uint8_t request, 
         return describe_string(value & 0xff, device->is_other, data, length);
     if (value >> 8 != FUNCTIONAL || strcmp(settings.device, "uboot") != 0)
         return USB_ERROR_PIPE;
-    describe_function(function);
-    memcpy(data, function, length < sizeof function ? length : sizeof function);
-    return length < sizeof function ? length : (int)sizeof function;
+    int count = describe_function(function);
+    count = length < count ? length : count;
+    memcpy(data, function, (size_t)count);
+    return count;
 }
 
 int libusb_control_transfer(libusb_device_handle *handle, uint8_t kind, uint8_t request, uint16_t value, uint16_t index,

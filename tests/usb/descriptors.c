@@ -25,11 +25,14 @@ void describe_device(bool is_app, struct libusb_device_descriptor *out)
     };
 }
 
-void describe_function(uint8_t out[9])
+int describe_function(uint8_t out[9])
 {
-    const uint8_t bytes[9] = { 9, 0x21, settings.attributes, (uint8_t)settings.detach_ms, (uint8_t)(settings.detach_ms >> 8),
-                               (uint8_t)settings.transfer, (uint8_t)(settings.transfer >> 8), 0x10, 0x01 };
-    memcpy(out, bytes, sizeof bytes);
+    const uint8_t bytes[9] = { settings.descriptor, 0x21, settings.attributes,
+                               (uint8_t)settings.detach_ms, (uint8_t)(settings.detach_ms >> 8),
+                               (uint8_t)settings.transfer, (uint8_t)(settings.transfer >> 8),
+                               (uint8_t)settings.version, (uint8_t)(settings.version >> 8) };
+    memcpy(out, bytes, settings.descriptor);
+    return settings.descriptor;
 }
 
 /* What one configuration takes, in one piece of memory. */
@@ -46,7 +49,6 @@ struct libusb_config_descriptor *describe_configuration(bool is_app)
     int count = is_app ? 1 : (int)settings.alternates;
     if (whole == NULL)
         fail_loudly("no memory for a descriptor");
-    describe_function(whole->function);
     for (int at = 0; at < count; at++)
         whole->alternates[at] = (struct libusb_interface_descriptor){
             .bLength = 9,
@@ -58,7 +60,7 @@ struct libusb_config_descriptor *describe_configuration(bool is_app)
             .iInterface = (uint8_t)(INTERFACE_STRING + (count > 1 ? 1 + at : 0)),
         };
     whole->alternates[count - 1].extra = whole->function;
-    whole->alternates[count - 1].extra_length = sizeof whole->function;
+    whole->alternates[count - 1].extra_length = describe_function(whole->function);
     whole->interface = (struct libusb_interface){ whole->alternates, count };
     whole->configuration = (struct libusb_config_descriptor){
         .bLength = 9,

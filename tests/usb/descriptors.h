@@ -15,7 +15,7 @@ void forget_configuration(struct libusb_config_descriptor *found);
 /* GET_DESCRIPTOR for a string: bytes, or an error of libusb. */
 int describe_string(unsigned number, bool is_other, uint8_t *out, uint16_t room);
 
-/* The functional descriptor, 9 bytes. */
-void describe_function(uint8_t out[9]);
+/* The functional descriptor: how many bytes it has. */
+int describe_function(uint8_t out[9]);
 
 #endif

@@ -15,6 +15,8 @@
  * USB_CLAIMED     the number of the error that claiming the interface answers, as 6 for LIBUSB_ERROR_BUSY (0: it is claimed)
  * USB_ALTERNATES  alternate settings of the interface in DFU mode, up to 3, with the names boot, kernel and data (1)
  * USB_SETTING     the setting that each request of DFU mode has to be made in: one in another ends the program (any)
+ * USB_DESCRIPTOR  bytes of the functional descriptor, 7 as in DFU 1.0, or 0 for none (9)
+ * USB_VERSION     its bcdDFUVersion, hexadecimal (0110)
  * USB_AWAY        for how many lists of devices it is away when its mode changes, or when it leaves (0)
  * USB_FATE        fates of transfers, with commas between: `lost-out N`, `lost-back N`, `twice N`, `short N BYTES`,
  *                 `leave N` (its power goes and comes back), `kill N` (the program is killed before it), `deaf N` (from N on
@@ -157,6 +159,10 @@ void settings_read(void)
     settings.opens = number("USB_OPENS", 0, 10);
     settings.claimed = -(int)number("USB_CLAIMED", 0, 10);
     settings.alternates = number("USB_ALTERNATES", 1, 10);
+    settings.descriptor = (uint8_t)number("USB_DESCRIPTOR", 9, 10);
+    settings.version = (uint16_t)number("USB_VERSION", 0x0110, 16);
+    if (settings.descriptor > 9)
+        fail_loudly("USB_DESCRIPTOR is at most 9");
     settings.setting = (int)number("USB_SETTING", (uint32_t)-1, 10);
     if (settings.alternates < 1 || settings.alternates > MOST_ALTERNATES)
         fail_loudly("USB_ALTERNATES is 1 to %d", MOST_ALTERNATES);

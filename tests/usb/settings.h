@@ -33,6 +33,8 @@ struct settings {
     unsigned port_count;
     bool starts_in_app;
     unsigned alternates;               /* settings of the interface in DFU mode */
+    uint8_t descriptor;                /* bytes of the functional descriptor */
+    uint16_t version;                  /* bcdDFUVersion */
     int setting;                       /* the one that requests are to be made in, or -1: any */
     int denied, claimed;               /* the error of an open and of a claim, or 0 */
     unsigned opens;                    /* so many opens go well before */
