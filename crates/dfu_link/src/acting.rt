@@ -125,15 +125,19 @@ fn tell(host: &mut Host<'_>, back: Back, out: &[u8])
 }
 
 /// The next action of a host that is not done, by its course. Who harms a write has armed the
-/// medium for it.
-pub(crate) fn act<M: Faulty>(device: &mut Device<M>, host: &mut Host<'_>, course: Course<'_>)
+/// medium for it. `out` is room for an answer; what it holds at first isn't read.
+pub(crate) fn act<M: Faulty>(
+    device: &mut Device<M>,
+    host: &mut Host<'_>,
+    course: Course<'_>,
+    out: &mut ArrayVec<u8, 4096>,
+)
     requires { IsOn host.old.phase }
     ensures { HasActed host.old (course_in course.entry) device.old device.new host.new }
 {
     match host.next() {
         Action::Send { setup, body } => {
-            let mut out = ArrayVec::new();
-            let back = send(device, &setup, body, course, &mut out);
+            let back = send(device, &setup, body, course, out);
             tell(host, back, out.as_slice());
         }
         Action::Wait(ms) => {

@@ -12,6 +12,7 @@ use crate::acting::act;
 use crate::course::{Course, Harming, course_by};
 use crate::fate::Fate;
 use crate::power::power_cycle;
+use arrayvec::ArrayVec;
 use dfu_device::Device;
 use dfu_host::Host;
 use dfu_slots::Faulty;
@@ -40,14 +41,19 @@ fn settle<M: Faulty>(device: &mut Device<M>, harming: Harming)
     }
 }
 
-/// Carries out the next action of a host that is not done, by its fate.
-pub(crate) fn carry_out<M: Faulty>(device: &mut Device<M>, host: &mut Host<'_>, fate: Fate<'_>)
+/// Carries out the next action of a host that is not done, by its fate. `out` is room for an answer.
+pub(crate) fn carry_out<M: Faulty>(
+    device: &mut Device<M>,
+    host: &mut Host<'_>,
+    fate: Fate<'_>,
+    out: &mut ArrayVec<u8, 4096>,
+)
     requires on { IsOn host.old.phase }
     requires unarmed { device.old.slots.medium.fuse ≡ Whole }
     ensures { HasGone host.old (course_of (fate_of fate.entry)) (harm_in fate.entry) device.old device.new host.new }
 {
     let course = course_by(fate);
     arm(device, course);
-    act(device, host, course);
+    act(device, host, course, out);
     settle(device, course.harming);
 }

@@ -15,6 +15,7 @@ use crate::going::carry_out;
 use crate::offering::begin;
 use crate::power::power_cycle;
 use crate::uploading::upload;
+use arrayvec::ArrayVec;
 use dfu_device::Device;
 use dfu_host::{Action, Host, Limits, Report, Seen};
 use dfu_slots::{Faulty, Medium};
@@ -101,12 +102,13 @@ fn abort(host: &mut Option<Host<'_>>) -> Result<Option<Report>, LinkFault>
     }
 }
 
-/// The host takes its next action.
+/// The host takes its next action. `out` is room for an answer.
 fn go<'f, M: Faulty>(
     device: &mut Device<M>,
     host: &mut Option<Host<'f>>,
     gave: &mut Option<Host<'f>>,
     fate: Fate<'_>,
+    out: &mut ArrayVec<u8, 4096>,
 ) -> Result<Option<Report>, LinkFault>
     requires { IsSteady (bench_of device.old host.old) }
     ensures { HasCome (link_state device.old host.old gave.old) (Goes (fate_of fate.entry) (harm_in fate.entry))
@@ -114,18 +116,19 @@ fn go<'f, M: Faulty>(
 {
     match host {
         None => return Err(LinkFault::NoHost),
-        Some(live) => carry_out(device, live, fate),
+        Some(live) => carry_out(device, live, fate, out),
     }
     Ok(end(host, gave))
 }
 
-/// An event comes. A refused one changes nothing.
+/// An event comes. A refused one changes nothing. `out` is room for an answer.
 pub(crate) fn play<'f, M: Faulty>(
     alloc: Global,
     device: &mut Device<M>,
     host: &mut Option<Host<'f>>,
     gave: &mut Option<Host<'f>>,
     event: Event<'f, '_>,
+    out: &mut ArrayVec<u8, 4096>,
 ) -> Result<Option<Report>, LinkFault>
     requires { IsSteady (bench_of device.old host.old) }
     ensures { HasCome (link_state device.old host.old gave.old) (happening event.entry) (link_state device.new host.new gave.new) result }
@@ -135,7 +138,7 @@ pub(crate) fn play<'f, M: Faulty>(
         Event::OfferVerified { file, limits } => offer(device, host, Aim::Verify, file, limits),
         Event::Upload { limits } => upload(alloc, device, host, limits),
         Event::Abort => abort(host),
-        Event::Go(fate) => go(device, host, gave, fate),
+        Event::Go(fate) => go(device, host, gave, fate, out),
         Event::Time(ms) => {
             device.elapse(ms);
             Ok(None)

@@ -16,6 +16,7 @@ use crate::event::Event;
 use crate::fault::LinkFault;
 use crate::laws::image_shown;
 use crate::play::play;
+use arrayvec::ArrayVec;
 use dfu_device::Device;
 use dfu_host::{Host, Report};
 use dfu_slots::Faulty;
@@ -32,6 +33,8 @@ pub struct World<'f, M: Faulty> {
     host: Option<Host<'f>>,
     // The host of the last session that reported Uploaded, if one did.
     gave: Option<Host<'f>>,
+    // Room for an answer. It is kept since to make one clears 4,096 bytes, which cost more than a pass.
+    out: ArrayVec<u8, 4096>,
 }
 
 impl<'f, M: Faulty> Model for World<'f, M> {
@@ -61,6 +64,7 @@ impl<'f, M: Faulty> World<'f, M> {
             device,
             host: None,
             gave: None,
+            out: ArrayVec::new(),
         }
     }
 
@@ -89,6 +93,7 @@ impl<'f, M: Faulty> World<'f, M> {
             &mut self.host,
             &mut self.gave,
             event,
+            &mut self.out,
         );
         // Called for its law, which `legal` needs: no image but the one that is shown is active.
         image_shown();
