@@ -1,25 +1,25 @@
 -- The rules before the table.
-use Rattle.std.proofs.Common.{◌≡◌, ◌≢◌, ◌==◌, true, false, ℕ, List, [], length, refl, ◌∙◌}
+use Rattle.std.proofs.Common.{◌≡◌, ◌≢◌, ◌==◌, true, false, ℕ, List, length, refl, ◌∙◌}
 use Rattle.dfu_wire.specs.declared.setups.Setup.{Setup}
 use Rattle.dfu_wire.specs.declared.requests.Request.{Request as Asked}
 use Rattle.dfu_wire.specs.declared.requests.Request.TheVariants as asked
 use Rattle.dfu_device.specs.declared.answer.Answer.{Answer}
-use Rattle.dfu_device.specs.declared.answer.Answer.TheVariants as answer
+use Rattle.dfu_device.specs.Stage.{Stall}
 use Rattle.dfu_device.specs.Shown.{Shown}
-use Rattle.dfu_device.specs.Rows.{Done, Serves, is_served, body_length, setup_plan, asked_length}
+use Rattle.dfu_device.specs.Rows.{Answers, Done, Serves, is_served, body_length, setup_plan, asked_length}
 
 served_is : (p : Setup) (q : Asked) (body : List ℕ) → q ≢ asked.NotDfu → is_served p q body ≡ (length body == body_length p)
 served_is p asked.NotDfu body other = absurd (other refl)
 served_is p q body other = refl
 
-refused : (p : Setup) (q : Asked) (body : List ℕ) (n : ℕ) (w : Shown) (out : List ℕ) → is_served p q body ≡ false → out ≡ []
-    → Done (setup_plan w p q body) n w answer.Stall out w
-refused p q body n w out off none = rw off ((refl, none), refl)
+refused : (p : Setup) (q : Asked) (body : List ℕ) (n : ℕ) (w : Shown) (a : Answer) (out : List ℕ) → is_served p q body ≡ false
+    → Answers n Stall a out → Done (setup_plan w p q body) n w a out w
+refused p q body n w a out off says = rw off (says, refl)
 
 -- A request of the class whose body does not fit is stalled and changes nothing.
-pub refused_class : (p : Setup) (q : Asked) (body : List ℕ) (n : ℕ) (w : Shown) (out : List ℕ) → q ≢ asked.NotDfu
-    → (length body == body_length p) ≡ false → out ≡ [] → Done (setup_plan w p q body) n w answer.Stall out w
-refused_class p q body n w out other off none = refused p q body n w out (served_is p q body other ∙ off) none
+pub refused_class : (p : Setup) (q : Asked) (body : List ℕ) (n : ℕ) (w : Shown) (a : Answer) (out : List ℕ) → q ≢ asked.NotDfu
+    → (length body == body_length p) ≡ false → Answers n Stall a out → Done (setup_plan w p q body) n w a out w
+refused_class p q body n w a out other off says = refused p q body n w a out (served_is p q body other ∙ off) says
 
 -- A request of the class whose body fits goes by the table.
 pub served_class : (p : Setup) (q : Asked) (body : List ℕ) (w w' : Shown) (a : Answer) (out : List ℕ) → q ≢ asked.NotDfu

@@ -5,6 +5,7 @@ pub mod Setting
 pub mod Shown
 pub mod Parts
 pub mod Rows
+pub mod Lent
 pub mod Cases
 pub mod Came
 pub mod History

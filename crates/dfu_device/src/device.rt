@@ -1,6 +1,6 @@
 //! A device, as a bootloader would run it.
 
-ghost use Rattle.std.specs.Prelude.{◌≡◌, take, OnOk, OnErr, IfOk, IfErr};
+ghost use Rattle.std.specs.Prelude.{◌≡◌, ◌<◌, ◌≤◌, length, take, OnOk, OnErr, IfOk, IfErr, IfSome, IfNone};
 ghost use Rattle.dfu_slots.specs.Seen.{fused};
 ghost use Rattle.dfu_slots.specs.Medium.Fuse.{Whole, Armed, Lying};
 ghost use Rattle.dfu_slots.specs.Image.{HasImage};
@@ -9,6 +9,7 @@ ghost use Rattle.dfu_device.specs.Stage.{InAppIdle, state_of, code_of};
 ghost use Rattle.dfu_device.specs.Table.{reset_stage};
 ghost use Rattle.dfu_device.specs.Shown.{IsStored, powered_on};
 ghost use Rattle.dfu_device.specs.Rows.{Handles, Elapses};
+ghost use Rattle.dfu_device.specs.Lent.{HandlesInto, answer_room};
 
 use crate::machine::Machine;
 use crate::{Answer, Config};
@@ -115,6 +116,25 @@ impl<M: Medium> Device<M> {
         ensures row { Handles setup.now body.now self.old result out.new.items self.new }
     {
         self.machine.handle(setup, body, out)
+    }
+
+    /// Answers a setup with its body, as `handle`, with the bytes of the answer at the front of a buffer of the caller's
+    /// own, and says how many they are. The rest of the buffer stays as it was.
+    ///
+    /// None where the buffer has less room than an answer may need, which is 6 bytes or the transfer size, whichever is
+    /// more. Then nothing happened.
+    pub fn handle_into(
+        &mut self,
+        setup: &[u8; 8],
+        body: &[u8],
+        out: &mut [u8],
+    ) -> Option<(Answer, usize)>
+        ensures row { IfSome result (λ r. HandlesInto setup.now body.now self.old r.0 r.1 out.old out.new self.new) }
+        ensures room { IfSome result (λ r. answer_room self.old.config ≤ length out.old) }
+        ensures short { IfNone result (length out.old < answer_room self.old.config) }
+        ensures unchanged { IfNone result ((self.new ≡ self.old) × (out.new ≡ out.old)) }
+    {
+        self.machine.handle_into(setup, body, out)
     }
 
     /// So many milliseconds pass; 0 change nothing. They count in appDETACH, dfuDNBUSY and dfuMANIFEST,

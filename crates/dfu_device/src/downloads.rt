@@ -4,32 +4,24 @@
 ghost use Rattle.std.specs.Prelude.{◌≡◌, ℕ, List, [], length, take};
 ghost use Rattle.dfu_slots.specs.Seen.{spare_of};
 ghost use Rattle.dfu_device.specs.Stage.{InDownloadSync, InDownloadSyncWritten, InDownloadIdle, InManifestSync, InManifestSyncComplete, InError};
-ghost use Rattle.dfu_device.specs.Rows.{Serves};
+ghost use Rattle.dfu_device.specs.inside.Draft.{DraftServed};
 ghost use Rattle.dfu_device.specs.inside.View.{shown};
 
-use crate::Answer;
+use crate::draft::Draft;
 use crate::machine::Machine;
 use crate::mode::Mode;
-use arrayvec::ArrayVec;
 use dfu_slots::Medium;
 use dfu_wire::{Code, Request};
 
 impl<M: Medium> Machine<M> {
     /// dfuDNLOAD-SYNC, block not written
-    pub(crate) fn in_download_sync(
-        &mut self,
-        written: u32,
-        number: u16,
-        request: Request,
-        out: &mut ArrayVec<u8, 4096>,
-    ) -> Answer
+    pub(crate) fn in_download_sync(&mut self, written: u32, number: u16, request: Request) -> Draft
         requires mode { self.old.mode ≡ Mode.DownloadSync written number }
-        requires out { out.old.items ≡ [] }
         ensures row { (body : List ℕ) →
-            Serves request body (record (shown self.old) {
+            DraftServed request body (record (shown self.old) {
               stage = InDownloadSync
                   (take written (spare_of self.old.slots)) self.old.block.items number;
-            }) result out.new.items (shown self.new) }
+            }) result (shown self.new) }
     {
         match request {
             Request::GetStatus { length } => {
@@ -39,12 +31,12 @@ impl<M: Medium> Machine<M> {
                         number,
                         passed: 0,
                     };
-                    return self.report(length, out);
+                    return Draft::Status { asked: length };
                 }
                 let _ = self.write_block(written, number, false);
-                self.report(length, out)
+                Draft::Status { asked: length }
             }
-            Request::GetState { length } => self.tell(length, out),
+            Request::GetState { length } => Draft::State { asked: length },
             _ => self.error(Code::StalledPkt),
         }
     }
@@ -55,27 +47,26 @@ impl<M: Medium> Machine<M> {
         written: u32,
         number: u16,
         request: Request,
-        out: &mut ArrayVec<u8, 4096>,
-    ) -> Answer
+    ) -> Draft
         requires mode { self.old.mode ≡ Mode.DownloadSyncWritten written number }
-        requires out { out.old.items ≡ [] }
         ensures row { (body : List ℕ) →
-            Serves request body (record (shown self.old) { stage = InDownloadSyncWritten (take written (spare_of self.old.slots)) number })
-            result out.new.items (shown self.new) }
+            DraftServed request body
+            (record (shown self.old) { stage = InDownloadSyncWritten (take written (spare_of self.old.slots)) number })
+            result (shown self.new) }
     {
         match request {
             Request::GetStatus { length } => {
                 self.mode = Mode::DownloadIdle { written, number };
-                self.report(length, out)
+                Draft::Status { asked: length }
             }
-            Request::GetState { length } => self.tell(length, out),
+            Request::GetState { length } => Draft::State { asked: length },
             _ => self.error(Code::StalledPkt),
         }
     }
 
     /// dfuDNBUSY
-    pub(crate) fn in_download_busy(&mut self) -> Answer
-        ensures answer { result ≡ Answer.Stall }
+    pub(crate) fn in_download_busy(&mut self) -> Draft
+        ensures answer { result ≡ Draft.Stall }
         ensures now { shown self.new ≡ record (shown self.old) { stage = InError Code.StalledPkt } }
     {
         self.error(Code::StalledPkt)
@@ -88,14 +79,11 @@ impl<M: Medium> Machine<M> {
         number: u16,
         request: Request,
         body: &[u8],
-        out: &mut ArrayVec<u8, 4096>,
-    ) -> Answer
+    ) -> Draft
         requires mode { self.old.mode ≡ Mode.DownloadIdle written number }
         requires fits { (block len : ℕ) → request ≡ Request.Dnload block len → length body.now ≡ len }
-        requires out { out.old.items ≡ [] }
-        ensures row { Serves request body.now (record
-            (shown self.old) { stage = InDownloadIdle (take written (spare_of self.old.slots)) number }) result out.new.items
-            (shown self.new) }
+        ensures row { DraftServed request body.now (record
+            (shown self.old) { stage = InDownloadIdle (take written (spare_of self.old.slots)) number }) result (shown self.new) }
     {
         match request {
             Request::Dnload { length: 0, .. } => {
@@ -103,79 +91,68 @@ impl<M: Medium> Machine<M> {
                     return self.error(Code::NotDone);
                 }
                 self.mode = Mode::ManifestSync { written };
-                Answer::Ack
+                Draft::Ack
             }
             Request::Dnload { block, .. } => self.take_block(written, number, block, body),
             Request::Abort => {
                 self.mode = Mode::DfuIdle;
-                Answer::Ack
+                Draft::Ack
             }
-            Request::GetStatus { length } => self.report(length, out),
-            Request::GetState { length } => self.tell(length, out),
+            Request::GetStatus { length } => Draft::Status { asked: length },
+            Request::GetState { length } => Draft::State { asked: length },
             _ => self.error(Code::StalledPkt),
         }
     }
 
     /// dfuMANIFEST-SYNC, not complete
-    pub(crate) fn in_manifest_sync(
-        &mut self,
-        written: u32,
-        request: Request,
-        out: &mut ArrayVec<u8, 4096>,
-    ) -> Answer
+    pub(crate) fn in_manifest_sync(&mut self, written: u32, request: Request) -> Draft
         requires mode { self.old.mode ≡ Mode.ManifestSync written }
-        requires out { out.old.items ≡ [] }
         ensures row { (body : List ℕ) →
-            Serves request body (record (shown self.old) { stage = InManifestSync (take written (spare_of self.old.slots)) }) result
-            out.new.items (shown self.new) }
+            DraftServed request body (record (shown self.old) { stage = InManifestSync (take written (spare_of self.old.slots)) })
+            result (shown self.new) }
     {
         match request {
             Request::GetStatus { length } => {
                 if self.config.manifest_ms() > 0 {
                     self.mode = Mode::Manifest { written, passed: 0 };
-                    return self.report(length, out);
+                    return Draft::Status { asked: length };
                 }
                 let _ = self.commit_taken(written, Mode::DfuIdle);
-                self.report(length, out)
+                Draft::Status { asked: length }
             }
-            Request::GetState { length } => self.tell(length, out),
+            Request::GetState { length } => Draft::State { asked: length },
             _ => self.error(Code::StalledPkt),
         }
     }
 
     /// dfuMANIFEST-SYNC, complete
-    pub(crate) fn in_manifest_sync_complete(
-        &mut self,
-        request: Request,
-        out: &mut ArrayVec<u8, 4096>,
-    ) -> Answer
+    pub(crate) fn in_manifest_sync_complete(&mut self, request: Request) -> Draft
         requires mode { self.old.mode ≡ Mode.ManifestSyncComplete }
-        requires out { out.old.items ≡ [] }
         ensures row { (body : List ℕ) →
-            Serves request body (record (shown self.old) { stage = InManifestSyncComplete }) result out.new.items (shown self.new) }
+            DraftServed request body (record (shown self.old) { stage = InManifestSyncComplete }) result (shown self.new) }
     {
         match request {
             Request::GetStatus { length } => {
                 self.mode = Mode::DfuIdle;
-                self.report(length, out)
+                Draft::Status { asked: length }
             }
-            Request::GetState { length } => self.tell(length, out),
+            Request::GetState { length } => Draft::State { asked: length },
             _ => self.error(Code::StalledPkt),
         }
     }
 
     /// dfuMANIFEST
-    pub(crate) fn in_manifest(&mut self) -> Answer
-        ensures answer { result ≡ Answer.Stall }
+    pub(crate) fn in_manifest(&mut self) -> Draft
+        ensures answer { result ≡ Draft.Stall }
         ensures now { shown self.new ≡ record (shown self.old) { stage = InError Code.StalledPkt } }
     {
         self.error(Code::StalledPkt)
     }
 
     /// dfuMANIFEST-WAIT-RESET
-    pub(crate) fn in_manifest_wait_reset(&self) -> Answer
-        ensures { result ≡ Answer.Stall }
+    pub(crate) fn in_manifest_wait_reset(&self) -> Draft
+        ensures { result ≡ Draft.Stall }
     {
-        Answer::Stall
+        Draft::Stall
     }
 }

@@ -4,17 +4,18 @@ ghost use Rattle.std.specs.Prelude.{◌≡◌, ◌<◌, ◌≤◌, ◌+◌, ◌+
 ghost use Rattle.dfu_slots.specs.Medium.{Rose};
 ghost use Rattle.dfu_slots.specs.Seen.{image_of, spare_of, room_of, is_shaped, Called};
 ghost use Rattle.dfu_slots.specs.Changes.{fault_of, ending_of};
-ghost use Rattle.dfu_device.specs.Stage.{StateOf, InDownloadSyncWritten, InDownloadIdle, InError, state_of, poll_of, status_of};
+ghost use Rattle.dfu_device.specs.Stage.{InDownloadSyncWritten, InDownloadIdle, InError, poll_of, status_of};
 ghost use Rattle.dfu_device.specs.Table.{write_code, commit_code, block_plan};
 ghost use Rattle.dfu_device.specs.Shown.{profile};
 ghost use Rattle.dfu_device.specs.Parts.{is_put, stage_of};
-ghost use Rattle.dfu_device.specs.Rows.{Answers, Done, WroteBlock, FailedBlock, Committed, FailedCommit, block_calls};
+ghost use Rattle.dfu_device.specs.Rows.{Answers, WroteBlock, FailedBlock, Committed, FailedCommit, block_calls};
+ghost use Rattle.dfu_device.specs.inside.Draft.{DraftDone};
 ghost use Rattle.dfu_device.specs.inside.View.{shown};
 
 use crate::Answer;
+use crate::draft::Draft;
 use crate::machine::Machine;
 use crate::mode::Mode;
-use arrayvec::ArrayVec;
 use dfu_slots::{Medium, PutFault, Slots, WriteFault};
 use dfu_wire::{Code, Status};
 
@@ -31,38 +32,25 @@ impl<M: Medium> Machine<M> {
         }
     }
 
-    /// Answers with the first `len` bytes of the status, at most six.
-    pub(crate) fn report(&self, len: u16, out: &mut ArrayVec<u8, 4096>) -> Answer
-        requires { out.old.items ≡ [] }
-        ensures { Answers len (status_of (profile (shown self.now)) (shown self.now).stage) result out.new.items }
+    /// The six bytes of the status.
+    pub(crate) fn status(&self) -> [u8; 6]
+        ensures answers { (len : ℕ) →
+            Answers len (status_of (profile (shown self.now)) (shown self.now).stage) Answer.Bytes (take len result) }
+        ensures size { length result ≡ 6 }
     {
         let Ok(status) = Status::new(self.code(), self.poll_ms(), self.state()) else {
             unreachable!()
         };
-        let bytes = status.encode();
-        let len = (len as usize).min(6);
-        let _ = out.try_extend_from_slice(&bytes[..len]);
-        Answer::Bytes
-    }
-
-    /// Answers with the state, where at least one byte is asked for.
-    pub(crate) fn tell(&self, len: u16, out: &mut ArrayVec<u8, 4096>) -> Answer
-        requires { out.old.items ≡ [] }
-        ensures { Answers len (StateOf (state_of (shown self.now).stage)) result out.new.items }
-    {
-        if len > 0 {
-            out.push(self.state().byte());
-        }
-        Answer::Bytes
+        status.encode()
     }
 
     /// Stalls, and goes to dfuERROR with a code.
-    pub(crate) fn error(&mut self, code: Code) -> Answer
-        ensures answer { result ≡ Answer.Stall }
+    pub(crate) fn error(&mut self, code: Code) -> Draft
+        ensures answer { result ≡ Draft.Stall }
         ensures now { shown self.new ≡ record (shown self.old) { stage = InError code } }
     {
         self.mode = Mode::Error { code };
-        Answer::Stall
+        Draft::Stall
     }
 
     /// Takes a block of a download behind the bytes written, if its length and its number are right.
@@ -72,11 +60,11 @@ impl<M: Medium> Machine<M> {
         expected: u16,
         number: u16,
         body: &[u8],
-    ) -> Answer
+    ) -> Draft
         requires fits { (written ≡ 0) ⊎ ((0 < written) × (written ≤ room_of self.old.slots) × (is_put written self.old.slots ≡ true)) }
         requires some { 0 < length body.now }
-        ensures row { Done (block_plan (profile (shown self.old)) (take written (spare_of self.old.slots)) expected number body.now) 0
-            (shown self.old) result [] (shown self.new) }
+        ensures row { DraftDone (block_plan (profile (shown self.old)) (take written (spare_of self.old.slots)) expected number body.now) 0
+            (shown self.old) result (shown self.new) }
     {
         if body.len() > self.config.transfer() as usize {
             return self.error(Code::StalledPkt);
@@ -93,7 +81,7 @@ impl<M: Medium> Machine<M> {
             written,
             number: expected.wrapping_add(1),
         };
-        Answer::Ack
+        Draft::Ack
     }
 
     /// Writes the block. It answers the fault of a write that had one; `late` is said where time passed, so

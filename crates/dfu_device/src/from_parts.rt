@@ -1,8 +1,9 @@
 //! A device is taken apart, and put together again: for a caller who keeps its parts between two calls.
 
-ghost use Rattle.std.specs.Prelude.{◌≡◌, ◌<◌, ◌^◌, ◌+◌, ◌==◌, ◌&&◌, ◌||◌, ◌↔◌, nat_le, nat_lt, length, IsOk, IfOk, IfErr, IsTrue};
+ghost use Rattle.std.specs.Prelude.{◌≡◌, ◌<◌, ◌≤◌, ◌^◌, ◌+◌, ◌==◌, ◌&&◌, ◌||◌, ◌↔◌, nat_le, nat_lt, length, IsOk, IfOk, IfErr, IsTrue, not};
 ghost use Rattle.dfu_slots.specs.Seen.{room_of};
 ghost use Rattle.dfu_device.specs.Parts.{shows, is_put, is_sound};
+ghost use Rattle.dfu_device.specs.inside.View.{shown};
 
 use crate::machine::Machine;
 use crate::mode::Mode;
@@ -59,6 +60,42 @@ impl<M: Medium> Device<M> {
                 block,
             },
         })
+    }
+
+    /// Where the device stands, and the block that is not written, as `into_parts` gives them.
+    pub fn parts(&self) -> (Mode, &[u8])
+        ensures parts { shows self.now.config self.now.slots result.0 result.1.now ≡ self.now }
+        ensures sound { IsTrue (is_sound result.0 (length result.1.now) self.now.slots) }
+        ensures fits { length result.1.now ≤ 4096 }
+    {
+        (self.machine.mode, self.machine.block.as_slice())
+    }
+
+    /// Puts the device where these parts say, on its slot store as it is; false, with nothing changed, where the block has
+    /// over 4,096 bytes or the parts are none of a device, as `from_parts` has it.
+    pub fn set_parts(&mut self, mode: Mode, block: &[u8]) -> bool
+        ensures parts { IsTrue result ↔ ((length block.now ≤ 4096) × IsTrue (is_sound mode (length block.now) self.old.slots)) }
+        ensures device { IsTrue result → self.new ≡ shows self.old.config self.old.slots mode block.now }
+        ensures unchanged { IsTrue (not result) → self.new ≡ self.old }
+    {
+        self.machine.set_parts(mode, block)
+    }
+}
+
+impl<M: Medium> Machine<M> {
+    // Puts the machine where these parts say, if they are a device's.
+    fn set_parts(&mut self, mode: Mode, block: &[u8]) -> bool
+        ensures parts { IsTrue result ↔ ((length block.now ≤ 4096) × IsTrue (is_sound mode (length block.now) self.old.slots)) }
+        ensures device { IsTrue result → shown self.new ≡ shows self.old.config self.old.slots mode block.now }
+        ensures unchanged { IsTrue (not result) → shown self.new ≡ shown self.old }
+    {
+        if block.len() > 4096 || !is_sound(&self.slots, mode, block.len()) {
+            return false;
+        }
+        self.block.clear();
+        let _ = self.block.try_extend_from_slice(block);
+        self.mode = mode;
+        true
     }
 }
 

@@ -1,13 +1,16 @@
 //! The machine inside a device.
 
-ghost use Rattle.std.specs.Prelude.{◌≡◌, ◌≢◌, ◌<◌, ◌==◌, ◌^◌, length, ℕ, List, IsTrue, []};
-ghost use Rattle.dfu_slots.specs.Seen.{image_of, spare_of};
+ghost use Rattle.std.specs.Prelude.{◌≡◌, ◌≢◌, ◌<◌, ◌≤◌, ◌==◌, ◌^◌, length, ℕ, List, IsTrue, []};
+ghost use Rattle.dfu_slots.specs.Seen.{image_of};
 ghost use Rattle.dfu_device.specs.Stage.{InAppIdle, state_of, code_of};
 ghost use Rattle.dfu_device.specs.Table.{reset_stage};
 ghost use Rattle.dfu_device.specs.Shown.{Shown, powered_on};
 ghost use Rattle.dfu_device.specs.Parts.{is_sound};
-ghost use Rattle.dfu_device.specs.Rows.{Serves, Handles, body_length};
+ghost use Rattle.dfu_device.specs.Rows.{Handles, body_length};
+ghost use Rattle.dfu_device.specs.Lent.{answer_room};
+ghost use Rattle.dfu_device.specs.inside.Draft.{Drafted, DraftServed, DraftHandled};
 
+use crate::draft::Draft;
 use crate::mode::Mode;
 use crate::{Answer, Config};
 use arrayvec::ArrayVec;
@@ -79,50 +82,44 @@ impl<M: Medium> Machine<M> {
         }
     }
 
-    /// Answers a setup with its body: the three rules before the table, then the table.
-    pub(crate) fn handle(
-        &mut self,
-        setup: &[u8; 8],
-        body: &[u8],
-        out: &mut ArrayVec<u8, 4096>,
-    ) -> Answer
-        ensures row { Handles setup.now body.now (shown self.old) result out.new.items (shown self.new) }
+    /// What a setup with its body comes to: the three rules before the table, then the table.
+    pub(crate) fn decide(&mut self, setup: &[u8; 8], body: &[u8]) -> Draft
+        ensures row { DraftHandled setup.now body.now (shown self.old) result (shown self.new) }
+        ensures fits { (a : Answer) (sent : List ℕ) → Drafted result (shown self.new) a sent → length sent ≤ answer_room self.old.config }
     {
-        out.clear();
         let setup = Setup::decode(setup);
         let request = setup.request();
         match request {
-            Request::NotDfu => Answer::Stall,
+            Request::NotDfu => Draft::Stall,
             request => {
                 if !goes_with(&setup, body) {
-                    return Answer::Stall;
+                    return Draft::Stall;
                 }
-                self.serve(request, body, out)
+                self.serve(request, body)
             }
         }
     }
 
-    /// Answers a request of the class whose body fits, by the state.
+    /// Decides on a request of the class whose body fits, by the state.
     #[rattlefmt::skip]
-    fn serve(&mut self, request: Request, body: &[u8], out: &mut ArrayVec<u8, 4096>) -> Answer
+    fn serve(&mut self, request: Request, body: &[u8]) -> Draft
         requires fits { (block len : ℕ) → request ≡ Request.Dnload block len → length body.now ≡ len }
-        requires out { out.old.items ≡ [] }
-        ensures row { Serves request body.now (shown self.old) result out.new.items (shown self.new) }
+        ensures row { DraftServed request body.now (shown self.old) result (shown self.new) }
     {
         match self.mode {
-            Mode::AppIdle => self.in_app_idle(request, out),
-            Mode::AppDetach { timer, passed } => self.in_app_detach(timer, passed, request, out),
-            Mode::DfuIdle => self.in_dfu_idle(request, body, out),
-            Mode::DownloadSync { written, number } => self.in_download_sync(written, number, request, out),
-            Mode::DownloadSyncWritten { written, number } => self.in_download_sync_written(written, number, request, out),
+            Mode::AppIdle => self.in_app_idle(request),
+            Mode::AppDetach { timer, passed } => self.in_app_detach(timer, passed, request),
+            Mode::DfuIdle => self.in_dfu_idle(request, body),
+            Mode::DownloadSync { written, number } => self.in_download_sync(written, number, request),
+            Mode::DownloadSyncWritten { written, number } => self.in_download_sync_written(written, number, request),
             Mode::DownloadBusy { .. } => self.in_download_busy(),
-            Mode::DownloadIdle { written, number } => self.in_download_idle(written, number, request, body, out),
-            Mode::ManifestSync { written } => self.in_manifest_sync(written, request, out),
-            Mode::ManifestSyncComplete => self.in_manifest_sync_complete(request, out),
+            Mode::DownloadIdle { written, number } => self.in_download_idle(written, number, request, body),
+            Mode::ManifestSync { written } => self.in_manifest_sync(written, request),
+            Mode::ManifestSyncComplete => self.in_manifest_sync_complete(request),
             Mode::Manifest { .. } => self.in_manifest(),
             Mode::ManifestWaitReset => self.in_manifest_wait_reset(),
-            Mode::UploadIdle { place, number } => self.in_upload_idle(place, number, request, out),
-            Mode::Error { code } => self.in_error(code, request, out),
+            Mode::UploadIdle { place, number } => self.in_upload_idle(place, number, request),
+            Mode::Error { code } => self.in_error(code, request),
         }
     }
 

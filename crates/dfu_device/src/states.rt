@@ -3,70 +3,55 @@
 
 ghost use Rattle.std.specs.Prelude.{◌≡◌, ℕ, List, [], length};
 ghost use Rattle.dfu_device.specs.Stage.{InAppIdle, InAppDetach, InDfuIdle, InError};
-ghost use Rattle.dfu_device.specs.Rows.{Serves};
+ghost use Rattle.dfu_device.specs.inside.Draft.{DraftServed};
 ghost use Rattle.dfu_device.specs.inside.View.{shown};
 
-use crate::Answer;
+use crate::draft::Draft;
 use crate::machine::Machine;
 use crate::mode::Mode;
-use arrayvec::ArrayVec;
 use dfu_slots::Medium;
 use dfu_wire::{Code, Request};
 
 impl<M: Medium> Machine<M> {
     /// appIDLE
-    pub(crate) fn in_app_idle(&mut self, request: Request, out: &mut ArrayVec<u8, 4096>) -> Answer
+    pub(crate) fn in_app_idle(&mut self, request: Request) -> Draft
         requires mode { self.old.mode ≡ Mode.AppIdle }
-        requires out { out.old.items ≡ [] }
         ensures row { (body : List ℕ) →
-            Serves request body (record (shown self.old) { stage = InAppIdle }) result out.new.items (shown self.new) }
+            DraftServed request body (record (shown self.old) { stage = InAppIdle }) result (shown self.new) }
     {
         match request {
             Request::Detach { timeout } => {
                 let timer = self.config.functional().detach_ms.min(timeout) as u32;
                 self.mode = Mode::AppDetach { timer, passed: 0 };
-                Answer::Ack
+                Draft::Ack
             }
-            Request::GetStatus { length } => self.report(length, out),
-            Request::GetState { length } => self.tell(length, out),
-            _ => Answer::Stall,
+            Request::GetStatus { length } => Draft::Status { asked: length },
+            Request::GetState { length } => Draft::State { asked: length },
+            _ => Draft::Stall,
         }
     }
 
     /// appDETACH
-    pub(crate) fn in_app_detach(
-        &mut self,
-        timer: u32,
-        passed: u32,
-        request: Request,
-        out: &mut ArrayVec<u8, 4096>,
-    ) -> Answer
+    pub(crate) fn in_app_detach(&mut self, timer: u32, passed: u32, request: Request) -> Draft
         requires mode { self.old.mode ≡ Mode.AppDetach timer passed }
-        requires out { out.old.items ≡ [] }
         ensures row { (body : List ℕ) →
-            Serves request body (record (shown self.old) { stage = InAppDetach timer passed }) result out.new.items (shown self.new) }
+            DraftServed request body (record (shown self.old) { stage = InAppDetach timer passed }) result (shown self.new) }
     {
         match request {
-            Request::GetStatus { length } => self.report(length, out),
-            Request::GetState { length } => self.tell(length, out),
+            Request::GetStatus { length } => Draft::Status { asked: length },
+            Request::GetState { length } => Draft::State { asked: length },
             _ => {
                 self.mode = Mode::AppIdle;
-                Answer::Stall
+                Draft::Stall
             }
         }
     }
 
     /// dfuIDLE
-    pub(crate) fn in_dfu_idle(
-        &mut self,
-        request: Request,
-        body: &[u8],
-        out: &mut ArrayVec<u8, 4096>,
-    ) -> Answer
+    pub(crate) fn in_dfu_idle(&mut self, request: Request, body: &[u8]) -> Draft
         requires mode { self.old.mode ≡ Mode.DfuIdle }
         requires fits { (block len : ℕ) → request ≡ Request.Dnload block len → length body.now ≡ len }
-        requires out { out.old.items ≡ [] }
-        ensures row { Serves request body.now (record (shown self.old) { stage = InDfuIdle }) result out.new.items (shown self.new) }
+        ensures row { DraftServed request body.now (record (shown self.old) { stage = InDfuIdle }) result (shown self.new) }
     {
         match request {
             Request::Dnload { block, length }
@@ -74,35 +59,29 @@ impl<M: Medium> Machine<M> {
                 self.take_block(0, 0, block, body)
             }
             Request::Upload { block, length } if self.config.functional().can_upload => {
-                self.send(0, 0, block, length, out)
+                self.send(0, 0, block, length)
             }
-            Request::Abort => Answer::Ack,
-            Request::GetStatus { length } => self.report(length, out),
-            Request::GetState { length } => self.tell(length, out),
+            Request::Abort => Draft::Ack,
+            Request::GetStatus { length } => Draft::Status { asked: length },
+            Request::GetState { length } => Draft::State { asked: length },
             _ => self.error(Code::StalledPkt),
         }
     }
 
     /// dfuERROR
-    pub(crate) fn in_error(
-        &mut self,
-        code: Code,
-        request: Request,
-        out: &mut ArrayVec<u8, 4096>,
-    ) -> Answer
+    pub(crate) fn in_error(&mut self, code: Code, request: Request) -> Draft
         requires mode { self.old.mode ≡ Mode.Error code }
-        requires out { out.old.items ≡ [] }
         ensures row { (body : List ℕ) →
-            Serves request body (record (shown self.old) { stage = InError code }) result out.new.items (shown self.new) }
+            DraftServed request body (record (shown self.old) { stage = InError code }) result (shown self.new) }
     {
         match request {
             Request::ClrStatus => {
                 self.mode = Mode::DfuIdle;
-                Answer::Ack
+                Draft::Ack
             }
-            Request::GetStatus { length } => self.report(length, out),
-            Request::GetState { length } => self.tell(length, out),
-            _ => Answer::Stall,
+            Request::GetStatus { length } => Draft::Status { asked: length },
+            Request::GetState { length } => Draft::State { asked: length },
+            _ => Draft::Stall,
         }
     }
 }

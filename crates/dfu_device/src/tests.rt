@@ -12,6 +12,7 @@ mod all_setups;
 mod apart;
 mod blocks;
 mod cells;
+mod lent;
 mod lies;
 mod many_pieces;
 mod restart;

@@ -33,6 +33,15 @@ impl<M: Medium> Slots<M> {
         (medium, held, end)
     }
 
+    /// The bytes held back. With the medium and where the puts end (`put_end`) they are the store's parts, as
+    /// `into_parts` gives them.
+    pub fn held(&self) -> &[u8]
+        ensures held { result.now ≡ self.now.held }
+        ensures store { IsStore self.now }
+    {
+        self.puts.held.as_slice()
+    }
+
     /// Puts a store together of a medium, the bytes held back, and where the puts end. They are a store's exactly where
     /// the medium has an active image, the end is at most the capacity, and as many bytes are held back as the end is
     /// over a multiple of the unit. Of each open slot of version 2 it reads the whole image. It writes nothing.

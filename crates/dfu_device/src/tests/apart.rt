@@ -24,8 +24,20 @@ fn together<M: Medium>(device: Device<M>) -> Device<M>
     }
 }
 
+/// The same device, started anew on its slot store and put where it stood.
+fn again<M: Medium>(device: Device<M>) -> Device<M> {
+    let (mode, block) = device.parts();
+    let mut kept: ArrayVec<u8, 4096> = ArrayVec::new();
+    let _ = kept.try_extend_from_slice(block);
+    let config = device.config();
+    let (slots, _, _) = device.into_parts();
+    let mut device = Device::start(config, slots);
+    let _ = device.set_parts(mode, kept.as_slice());
+    device
+}
+
 /// What a station is set up with.
-fn config_of(station: &Station) -> Result<Config, Fail> {
+pub(super) fn config_of(station: &Station) -> Result<Config, Fail> {
     let (attributes, least, busy_ms, manifest_ms) = station.set_up;
     Ok(Config::new(IDS, functional(attributes), least, busy_ms, manifest_ms)?)
 }
@@ -36,7 +48,7 @@ fn go(rt: &impl Abort, alloc: Global, station: &Station) -> Result<(), Fail> {
     let mut device = device_on(SimMedium::new(alloc, 192)?, config, &IMAGE)?;
     for row in station.way.rows() {
         play(rt, &mut device, &[*row]);
-        device = together(device);
+        device = again(together(device));
     }
     Ok(())
 }
@@ -85,6 +97,14 @@ fn said(config: Config, slots: Slots<SimMedium>, mode: Mode, len: usize) -> (Slo
     }
 }
 
+/// Whether a device of this store can be put there in place, and the store.
+#[rattlefmt::skip]
+fn set(config: Config, slots: Slots<SimMedium>, mode: Mode, len: usize) -> (Slots<SimMedium>, bool) {
+    let mut device = Device::start(config, slots);
+    let done = device.set_parts(mode, &[7; 64][..len.min(64)]);
+    (device.into_parts().0, done)
+}
+
 #[test]
 fn parts_that_are_no_devices_are_refused(rt: HostRuntime) -> Result<(), Fail> {
     let config = Config::new(IDS, functional(0x07), 1, 5, 10)?;
@@ -106,7 +126,22 @@ fn parts_that_are_no_devices_are_refused(rt: HostRuntime) -> Result<(), Fail> {
             (wanted, 4, true),
             "row {number}"
         );
+        let (same, done) = set(config, same, mode, len);
+        assert_eq!(rt; (done, same.put_end()), (wanted, 4), "row {number}");
         slots = same;
     }
+    Ok(())
+}
+
+#[test]
+fn a_block_of_over_4096_bytes_is_none(rt: HostRuntime) -> Result<(), Fail> {
+    let config = Config::new(IDS, functional(0x07), 1, 5, 10)?;
+    let mut device = device_on(SimMedium::new(rt.alloc(), 16448)?, config, &IMAGE)?;
+    let sync = Mode::DownloadSync {
+        written: 0,
+        number: 1,
+    };
+    assert!(rt; !device.set_parts(sync, &[7; 4097]) && device.parts().0 == Mode::AppIdle);
+    assert!(rt; device.set_parts(sync, &[7; 4096]) && device.parts().0 == sync);
     Ok(())
 }

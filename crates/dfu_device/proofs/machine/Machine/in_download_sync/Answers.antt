@@ -8,19 +8,18 @@ pub returns-else-busy_ms-gt0 : goal.returns-else-busy_ms-gt0
 returns-else-busy_ms-gt0 g c =
     let d = c.args.self.now in
     let done = c.write_block in
-    let told = c.report-in-GetStatus in
     record {
-      row = λ body. rw c.in-GetStatus.is (write_now d.config d.slots
-          (take c.args.written (spare_of d.slots)) d.block.items body c.args.number c.in-GetStatus.length told.result
-          told.new.out.items (shown done.new.self) done.result
-          (omega (arith, c.if-busy_ms-gt0.false, c.busy_ms.ensures.value)) done.ensures.done done.ensures.failed told.ensures);
+      row = λ body a out says. rw c.in-GetStatus.is (write_now d.config d.slots
+          (take c.args.written (spare_of d.slots)) d.block.items body c.args.number c.in-GetStatus.length a out
+          (shown done.new.self) done.result
+          (omega (arith, c.if-busy_ms-gt0.false, c.busy_ms.ensures.value)) done.ensures.done done.ensures.failed says);
     }
 
 pub returns-then-busy_ms-gt0 : goal.returns-then-busy_ms-gt0
 returns-then-busy_ms-gt0 g c =
     let d = c.args.self.now in
     record {
-      row = λ body. rw c.in-GetStatus.is (write_later d.config d.slots
-          (take c.args.written (spare_of d.slots)) d.block.items body c.args.number c.in-GetStatus.length c.report.result
-          c.report.new.out.items (omega (arith, c.if-busy_ms-gt0.true, c.busy_ms.ensures.value)) c.report.ensures);
+      row = λ body a out says. rw c.in-GetStatus.is (write_later d.config d.slots
+          (take c.args.written (spare_of d.slots)) d.block.items body c.args.number c.in-GetStatus.length a out
+          (omega (arith, c.if-busy_ms-gt0.true, c.busy_ms.ensures.value)) says);
     }

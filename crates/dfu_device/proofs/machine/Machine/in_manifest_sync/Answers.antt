@@ -8,19 +8,18 @@ pub returns-else-manifest_ms-gt0 : goal.returns-else-manifest_ms-gt0
 returns-else-manifest_ms-gt0 g c =
     let d = c.args.self.now in
     let done = c.commit_taken in
-    let told = c.report-in-GetStatus in
     record {
-      row = λ body. rw c.in-GetStatus.is (commit_now d.config d.slots
-          (take c.args.written (spare_of d.slots)) body c.in-GetStatus.length told.result told.new.out.items
+      row = λ body a out says. rw c.in-GetStatus.is (commit_now d.config d.slots
+          (take c.args.written (spare_of d.slots)) body c.in-GetStatus.length a out
           (shown done.new.self) done.result (omega (arith, c.if-manifest_ms-gt0.false, c.manifest_ms.ensures.value)) done.ensures.done
-          done.ensures.failed told.ensures);
+          done.ensures.failed says);
     }
 
 pub returns-then-manifest_ms-gt0 : goal.returns-then-manifest_ms-gt0
 returns-then-manifest_ms-gt0 g c =
     let d = c.args.self.now in
     record {
-      row = λ body. rw c.in-GetStatus.is (commit_later d.config d.slots
-          (take c.args.written (spare_of d.slots)) body c.in-GetStatus.length c.report.result c.report.new.out.items
-          (omega (arith, c.if-manifest_ms-gt0.true, c.manifest_ms.ensures.value)) c.report.ensures);
+      row = λ body a out says. rw c.in-GetStatus.is (commit_later d.config d.slots
+          (take c.args.written (spare_of d.slots)) body c.in-GetStatus.length a out
+          (omega (arith, c.if-manifest_ms-gt0.true, c.manifest_ms.ensures.value)) says);
     }

@@ -1,0 +1,13 @@
+use Rattle.std.proofs.Common.{arith}
+use Rattle.dfu_device.proofs.machine.Machine.handle_into.Goals as goal
+
+pub returns-clause-row : goal.returns-clause-row
+returns-clause-row g c =
+    let gave = c.give_into.ensures in
+    record {
+      sent = gave.sent;
+      count_is = gave.count_is;
+      fits = omega (arith, gave.count_is, c.decide-draft.ensures.fits _ gave.sent gave.says);
+      out_is = gave.out_is;
+      row = c.decide-draft.ensures.row _ gave.sent gave.says;
+    }

@@ -1,0 +1,18 @@
+-- The answer of a device in a buffer that its caller lends.
+use Rattle.std.specs.Prelude.{◌≡◌, ℕ, ◌≤◌, max, List, ◌++◌, length, drop}
+use Rattle.dfu_device.specs.declared.answer.Answer.{Answer}
+use Rattle.dfu_device.specs.Setting.{Setting}
+use Rattle.dfu_device.specs.Shown.{Shown}
+use Rattle.dfu_device.specs.Rows.{Handles}
+
+-- The room that holds any answer of a device: a status has six bytes, and a block at most the transfer size.
+abbrev pub answer_room : Setting → ℕ
+answer_room s = max 6 s.functional.transfer
+
+-- The row of a setup with its body, the bytes of whose answer stand at the front of a buffer.
+pub record HandlesInto (setup body : List ℕ) (w : Shown) (a : Answer) (count : ℕ) (out out' : List ℕ) (w' : Shown) : Type 0 where
+  pub sent : List ℕ
+  pub count_is : count ≡ length sent
+  pub fits : count ≤ answer_room w.config
+  pub out_is : out' ≡ sent ++ drop count out
+  pub row : Handles setup body w a sent w'

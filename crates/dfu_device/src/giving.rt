@@ -1,0 +1,141 @@
+//! The bytes of an answer go into the buffer of the caller.
+
+ghost use Rattle.std.specs.Prelude.{◌≡◌, ◌≤◌, ◌<◌, ◌+◌, ◌++◌, ◌∷◌, max, ℕ, List, [], length, take, drop, slice_range, IfSome, IfNone};
+ghost use Rattle.dfu_wire.specs.State.{state_byte};
+ghost use Rattle.dfu_slots.specs.Seen.{image_of};
+ghost use Rattle.dfu_device.specs.Stage.{state_of};
+ghost use Rattle.dfu_device.specs.Rows.{Handles};
+ghost use Rattle.dfu_device.specs.Lent.{answer_room, HandlesInto};
+ghost use Rattle.dfu_device.specs.inside.Draft.{Drafted, Gave};
+ghost use Rattle.dfu_device.specs.inside.View.{shown};
+
+use crate::Answer;
+use crate::draft::Draft;
+use crate::machine::Machine;
+use arrayvec::ArrayVec;
+use dfu_slots::{Medium, Slots};
+
+impl<M: Medium> Machine<M> {
+    /// Answers a setup with its body.
+    pub(crate) fn handle(
+        &mut self,
+        setup: &[u8; 8],
+        body: &[u8],
+        out: &mut ArrayVec<u8, 4096>,
+    ) -> Answer
+        ensures row { Handles setup.now body.now (shown self.old) result out.new.items (shown self.new) }
+    {
+        // Called for its clause `fits`, which `give` needs; what it answers isn't used.
+        let _ = self.config.transfer();
+        let draft = self.decide(setup, body);
+        out.clear();
+        self.give(draft, out)
+    }
+
+    /// Answers a setup with its body into a buffer, where that has room for any answer.
+    pub(crate) fn handle_into(
+        &mut self,
+        setup: &[u8; 8],
+        body: &[u8],
+        out: &mut [u8],
+    ) -> Option<(Answer, usize)>
+        ensures row { IfSome result (λ r. HandlesInto setup.now body.now (shown self.old) r.0 r.1 out.old out.new (shown self.new)) }
+        ensures short { IfNone result (length out.old < answer_room self.old.config) }
+        ensures room { IfSome result (λ r. answer_room self.old.config ≤ length out.old) }
+        ensures unchanged { IfNone result ((shown self.new ≡ shown self.old) × (out.new ≡ out.old)) }
+    {
+        if out.len() < usize::from(self.config.transfer()).max(6) {
+            return None;
+        }
+        let draft = self.decide(setup, body);
+        Some(self.give_into(draft, out))
+    }
+
+    /// Puts the bytes of an answer into an empty buffer.
+    fn give(&self, draft: Draft, out: &mut ArrayVec<u8, 4096>) -> Answer
+        requires out { out.old.items ≡ [] }
+        requires fits { (a : Answer) (sent : List ℕ) → Drafted draft (shown self.now) a sent → length sent ≤ 4096 }
+        ensures { Drafted draft (shown self.now) result out.new.items }
+    {
+        match draft {
+            Draft::Ack => Answer::Ack,
+            Draft::Status { asked } => {
+                let bytes = self.status();
+                let _ = out.try_extend_from_slice(&bytes[..usize::from(asked).min(6)]);
+                Answer::Bytes
+            }
+            Draft::State { asked } => {
+                if asked > 0 {
+                    out.push(self.state().byte());
+                }
+                Answer::Bytes
+            }
+            Draft::Piece { place, asked } => {
+                let count = self.piece_len(place, asked);
+                if count > 0 {
+                    copy_image(&self.slots, place, count, out);
+                }
+                Answer::Bytes
+            }
+            Draft::Stall => Answer::Stall,
+        }
+    }
+
+    /// Puts the bytes of an answer at the front of a buffer, and answers how many they are.
+    fn give_into(&self, draft: Draft, out: &mut [u8]) -> (Answer, usize)
+        requires fits { (a : Answer) (sent : List ℕ) → Drafted draft (shown self.now) a sent → length sent ≤ length out.old }
+        ensures { Gave draft (shown self.now) result.0 result.1 out.old out.new }
+    {
+        match draft {
+            Draft::Ack => (Answer::Ack, 0),
+            Draft::Status { asked } => {
+                let bytes = self.status();
+                (Answer::Bytes, put_front(&bytes, asked, out))
+            }
+            Draft::State { asked } => {
+                let bytes = [self.state().byte()];
+                (Answer::Bytes, put_front(&bytes, asked, out))
+            }
+            Draft::Piece { place, asked } => (Answer::Bytes, self.put_piece(place, asked, out)),
+            Draft::Stall => (Answer::Stall, 0),
+        }
+    }
+
+    /// Puts bytes of the image at the front of a buffer, from `place` on, at most `asked`; and answers how many they are.
+    fn put_piece(&self, place: u32, asked: u16, out: &mut [u8]) -> usize
+        requires { length (take asked (drop place (image_of self.now.slots))) ≤ length out.old }
+        ensures count { result ≡ length (take asked (drop place (image_of self.now.slots))) }
+        ensures bytes { out.new ≡ take asked (drop place (image_of self.now.slots)) ++ drop result out.old }
+    {
+        let count = self.piece_len(place, asked);
+        if count > 0 {
+            self.slots
+                .read_active(place, &mut out[..usize::from(count)]);
+        }
+        usize::from(count)
+    }
+}
+
+/// Puts the first of some bytes at the front of a buffer, at most `asked`, and answers how many they are.
+fn put_front(bytes: &[u8], asked: u16, out: &mut [u8]) -> usize
+    requires { length (take asked bytes.now) ≤ length out.old }
+    ensures count { result ≡ length (take asked bytes.now) }
+    ensures bytes { out.new ≡ take asked bytes.now ++ drop result out.old }
+{
+    let count = usize::from(asked).min(bytes.len());
+    out[..count].copy_from_slice(&bytes[..count]);
+    count
+}
+
+/// Copies so many bytes of the active image, from `place` on.
+fn copy_image<M: Medium>(slots: &Slots<M>, place: u32, count: u16, out: &mut ArrayVec<u8, 4096>)
+    requires within { place + count ≤ length (image_of slots.now) }
+    requires most { count ≤ 4096 }
+    requires out { out.old.items ≡ [] }
+    ensures { out.new.items ≡ slice_range (image_of slots.now) place (place + count) }
+{
+    let mut buffer = [0; 4096];
+    let piece = &mut buffer[..count as usize];
+    slots.read_active(place, piece);
+    let _ = out.try_extend_from_slice(piece);
+}
