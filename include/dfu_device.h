@@ -10,7 +10,7 @@
  * What the program owes, always:
  * - No pointer is NULL, also where its length is 0, and each points to as much as its length or its type says.
  * - Nothing that is handed in overlaps anything else that is.
- * - One call at a time for a record or a medium; and enough stack: up to 22 kB below a call (tests/c-device).
+ * - One call at a time for a record or a medium; and enough stack: up to 8 kB below a call (tests/c-device).
  * What it owes so that the device goes on as it stood:
  * - The configuration is the same in every call, and the record and the medium are as the last call left them. A record
  *   is begun by dfu_device_power_on.

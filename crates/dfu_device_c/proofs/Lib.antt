@@ -1,2 +1,2 @@
 pub mod SameConfig
-pub mod AnswersFit
+pub mod Standing

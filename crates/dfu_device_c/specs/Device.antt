@@ -4,7 +4,7 @@ use Rattle.dfu_slots.specs.Image.{HasImage}
 use Rattle.dfu_slots.specs.Seen.{SlotsState, store_of}
 use Rattle.dfu_slots.specs.Store.{IsStore}
 use Rattle.dfu_device.specs.declared.mode.Mode.{Mode}
-use Rattle.dfu_device.specs.Setting.{IsAllowed}
+use Rattle.dfu_device.specs.Setting.{Setting, IsAllowed}
 use Rattle.dfu_device.specs.Shown.{Shown}
 use Rattle.dfu_device.specs.Parts.{shows, is_sound}
 use Rattle.dfu_device_c.specs.declared.config.DfuConfig.{DfuConfig}
@@ -29,6 +29,25 @@ pub record IsDevice (c : DfuConfig) (r : DfuDevice) (bytes : List ℕ) (d : Show
   pub sound : IsTrue (is_sound mode r.length (store_in r bytes))
   pub device_is : d ≡ shows (setting_of c) (store_in r bytes) mode (block_in r)
 
+-- With this configuration, this record and these bytes of a medium are this setting and this slot store.
+pub record IsOpened (c : DfuConfig) (r : DfuDevice) (bytes : List ℕ) (setting : Setting) (slots : SlotsState) : Type 0 where
+  pub allowed : IsAllowed (setting_of c)
+  pub store : IsStore (store_in r bytes)
+  pub setting_is : setting ≡ setting_of c
+  pub slots_are : slots ≡ store_in r bytes
+
+-- A device was put where a record says.
+pub record StandsAs (r : DfuDevice) (d d' : Shown) : Type 0 where
+  pub mode : Mode
+  pub has_mode : HasMode r mode
+  pub fits : r.length ≤ 4096
+  pub sound : IsTrue (is_sound mode r.length d.slots)
+  pub device_is : d' ≡ shows d.config d.slots mode (block_in r)
+
+-- A record says of no device on this slot store where it stands.
+abbrev pub StandsNowhere : DfuDevice → SlotsState → Type 0
+StandsNowhere r slots = (m : Mode) → HasMode r m → r.length ≤ 4096 → ¬ IsTrue (is_sound m r.length slots)
+
 -- They are refused like this: the configuration is not allowed; or else the medium has no active image, or 2^32 bytes or more;
 -- or else they are no device.
 abbrev pub IsRefused : Refusal → DfuConfig → DfuDevice → List ℕ → Type 0
@@ -37,7 +56,8 @@ IsRefused refusal.NoMedium c r bytes = IsAllowed (setting_of c) × (¬ HasImage 
 IsRefused refusal.NoDevice c r bytes = IsAllowed (setting_of c) × HasImage (memory_of bytes) × ((d : Shown) → ¬ IsDevice c r bytes d)
 
 -- A call took the device that these were to the device that they are now, by this step; the bytes of its medium are `now` then.
-pub record Takes (c : DfuConfig) (r : DfuDevice) (bytes : List ℕ) (Step : Shown → Shown → Type 0) (r' : DfuDevice) (now : List ℕ) : Type 0 where
+pub record Takes (c : DfuConfig) (r : DfuDevice) (bytes : List ℕ) (Step : Shown → Shown → Type 0) (r' : DfuDevice)
+    (now : List ℕ) : Type 0 where
   pub before : Shown
   pub after : Shown
   pub was : IsDevice c r bytes before

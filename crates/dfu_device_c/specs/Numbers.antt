@@ -1,5 +1,5 @@
 -- The numbers that a program in C gets.
-use Rattle.std.specs.Prelude.{ℕ, ℤ, pos, negsuc, List, length}
+use Rattle.std.specs.Prelude.{ℕ, ℤ, pos, negsuc}
 use Rattle.dfu_slots.specs.declared.fault.FormatFault.{FormatFault}
 use Rattle.dfu_slots.specs.declared.fault.FormatFault.TheVariants as fault
 use Rattle.dfu_device.specs.declared.answer.Answer.{Answer}
@@ -33,11 +33,11 @@ NO_ROOM = negsuc 4
 abbrev pub STALL : ℤ
 STALL = negsuc 0
 
--- The number of an answer with these bytes: how many they are, or DFU_STALL.
-abbrev pub answer_number : Answer → List ℕ → ℤ
-answer_number answer.Ack bytes = pos 0
-answer_number answer.Bytes bytes = pos (length bytes)
-answer_number answer.Stall bytes = STALL
+-- The number of an answer with so many bytes: how many they are, or DFU_STALL.
+abbrev pub answer_number : Answer → ℕ → ℤ
+answer_number answer.Ack count = pos 0
+answer_number answer.Bytes count = pos count
+answer_number answer.Stall count = STALL
 
 -- The number of a fault of a format: DFU_WRONG_SIZE and DFU_TOO_LARGE; a medium in memory has no other.
 abbrev pub format_number : FormatFault → ℤ

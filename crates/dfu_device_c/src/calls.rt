@@ -1,76 +1,81 @@
 //! The calls for a device, over what is kept of it.
-ghost use Rattle.std.specs.Prelude.{◌≡◌, List, IfOk, IfErr, OnErr};
+ghost use Rattle.std.specs.Prelude.{◌≡◌, ◌≤◌, List, ℕ, length, IfOk, IfErr, OnErr, OnOk};
 ghost use Rattle.dfu_device.specs.Rows.{Handles, Elapses};
 ghost use Rattle.dfu_device.specs.Table.{reset_stage};
-ghost use Rattle.dfu_device_c.specs.Device.{IsDevice, IsRefused, Takes};
+ghost use Rattle.dfu_device_c.specs.Device.{IsRefused, Takes};
+ghost use Rattle.dfu_device_c.specs.Calls.{Handled, room_for};
 
 use crate::config::DfuConfig;
-use crate::keeping::{keep, resume};
-use crate::memory::Memory;
+use crate::keeping::{keep, open, stand, started};
 use crate::record::DfuDevice;
 use crate::refusal::Refusal;
-use arrayvec::ArrayVec;
 use dfu_device::Answer;
 
-/// `Device::handle`.
-pub(crate) fn handle<'m>(
+/// `Device::handle_into`, with room for any answer: the answer, and how many bytes it has.
+pub(crate) fn handle(
     config: &DfuConfig,
     kept: &mut DfuDevice,
-    bytes: &'m mut [u8],
+    bytes: &mut [u8],
     setup: &[u8; 8],
     body: &[u8],
-    out: &mut ArrayVec<u8, 4096>,
-) -> Result<(Answer, Memory<'m>), Refusal>
-    ensures row { IfOk result (λ r. Takes config.now kept.old bytes.old
-        (λ d d'. Handles setup.now body.now d r.0 out.new.items d') kept.new r.1) }
+    out: &mut [u8],
+) -> Result<(Answer, usize), Refusal>
+    requires room { room_for config.now ≤ length out.old }
+    ensures row { IfOk result (λ r. Handled config.now kept.old bytes.old out.old (λ a sent d d'. Handles setup.now body.now d a sent d')
+        r.0 r.1 kept.new out.new) }
     ensures err { IfErr result (λ e. IsRefused e config.now kept.old bytes.old) }
-    ensures unchanged { OnErr result (kept.new ≡ kept.old) }
+    ensures unchanged { OnErr result ((kept.new ≡ kept.old) × (out.new ≡ out.old)) }
 {
-    match resume(config, kept, bytes) {
-        Ok(mut device) => {
-            let answer = device.handle(setup, body, out);
-            Ok((answer, keep(device, kept)))
-        }
-        Err(refusal) => Err(refusal),
+    let (setting, slots) = open(config, kept, bytes)?;
+    let mut device = started(setting, slots);
+    if !stand(&mut device, kept) {
+        return Err(Refusal::NoDevice);
     }
+    let Some((answer, count)) = device.handle_into(setup, body, out) else {
+        unreachable!()
+    };
+    keep(&device, kept);
+    Ok((answer, count))
 }
 
 /// `Device::elapse`.
-pub(crate) fn elapse<'m>(
+pub(crate) fn elapse(
     config: &DfuConfig,
     kept: &mut DfuDevice,
-    bytes: &'m mut [u8],
+    bytes: &mut [u8],
     ms: u32,
-) -> Result<Memory<'m>, Refusal>
-    ensures row { IfOk result (λ m. Takes config.now kept.old bytes.old (Elapses ms) kept.new m) }
+) -> Result<(), Refusal>
+    ensures row { OnOk result ((now : List ℕ) × Takes config.now kept.old bytes.old (Elapses ms) kept.new now) }
     ensures err { IfErr result (λ e. IsRefused e config.now kept.old bytes.old) }
     ensures unchanged { OnErr result (kept.new ≡ kept.old) }
 {
-    match resume(config, kept, bytes) {
-        Ok(mut device) => {
-            device.elapse(ms);
-            Ok(keep(device, kept))
-        }
-        Err(refusal) => Err(refusal),
+    let (setting, slots) = open(config, kept, bytes)?;
+    let mut device = started(setting, slots);
+    if !stand(&mut device, kept) {
+        return Err(Refusal::NoDevice);
     }
+    device.elapse(ms);
+    keep(&device, kept);
+    Ok(())
 }
 
 /// `Device::usb_reset`.
-pub(crate) fn usb_reset<'m>(
+pub(crate) fn usb_reset(
     config: &DfuConfig,
     kept: &mut DfuDevice,
-    bytes: &'m mut [u8],
-) -> Result<Memory<'m>, Refusal>
-    ensures row { IfOk result (λ m. Takes config.now kept.old bytes.old
-        (λ d d'. d' ≡ record d { stage = reset_stage d.stage }) kept.new m) }
+    bytes: &mut [u8],
+) -> Result<(), Refusal>
+    ensures row { OnOk result ((now : List ℕ) × Takes config.now kept.old bytes.old
+        (λ d d'. d' ≡ record d { stage = reset_stage d.stage }) kept.new now) }
     ensures err { IfErr result (λ e. IsRefused e config.now kept.old bytes.old) }
     ensures unchanged { OnErr result (kept.new ≡ kept.old) }
 {
-    match resume(config, kept, bytes) {
-        Ok(mut device) => {
-            device.usb_reset();
-            Ok(keep(device, kept))
-        }
-        Err(refusal) => Err(refusal),
+    let (setting, slots) = open(config, kept, bytes)?;
+    let mut device = started(setting, slots);
+    if !stand(&mut device, kept) {
+        return Err(Refusal::NoDevice);
     }
+    device.usb_reset();
+    keep(&device, kept);
+    Ok(())
 }

@@ -1,5 +1,5 @@
 //! The calls for a device, as a program in C makes them: `include/dfu_device.h` says each for a reader of C.
-ghost use Rattle.std.specs.Prelude.{◌≡◌, ◌≢◌, ◌⊎◌, ◌≤◌, ◌++◌, length, drop};
+ghost use Rattle.std.specs.Prelude.{◌≡◌, ◌⊎◌, ◌≤◌};
 ghost use Rattle.dfu_device.specs.Rows.{Handles, Elapses};
 ghost use Rattle.dfu_device.specs.Table.{reset_stage};
 ghost use Rattle.dfu_device_c.specs.Numbers.{answer_number};
@@ -8,27 +8,18 @@ ghost use Rattle.dfu_device_c.specs.Calls.{Refuses, Goes, Answered, HasNoRoom, r
 use crate::calls;
 use crate::config::DfuConfig;
 use crate::record::DfuDevice;
-use arrayvec::ArrayVec;
 use dfu_device::Answer;
 
-// The number of an answer with these bytes: how many they are, or -1 for a stall.
-fn number_of(answer: Answer, sent: &ArrayVec<u8, 4096>) -> i32
-    ensures { result ≡ answer_number answer sent.now.items }
+// The number of an answer with so many bytes: how many they are, or -1 for a stall.
+fn number_of(answer: Answer, count: usize) -> i32
+    requires { count ≤ 65535 }
+    ensures { result ≡ answer_number answer count }
 {
     match answer {
         Answer::Ack => 0,
-        Answer::Bytes => sent.len() as i32,
+        Answer::Bytes => count as i32,
         Answer::Stall => -1,
     }
-}
-
-// Puts bytes at the front of a buffer.
-fn give(out: &mut [u8], sent: &ArrayVec<u8, 4096>)
-    requires { length sent.now.items ≤ length out.old }
-    ensures { out.new ≡ sent.now.items ++ drop (length sent.now.items) out.old }
-{
-    let len = sent.len();
-    out[..len].copy_from_slice(&sent.as_slice()[..len]);
 }
 
 // How many bytes of room an answer needs.
@@ -38,7 +29,7 @@ fn room_for(config: &DfuConfig) -> usize
     usize::from(config.transfer).max(6)
 }
 
-/// Answers a setup with its body, as `Device::handle`: how many bytes of the answer stand in `out`, or -1 for a stall.
+/// Answers a setup with its body, as `Device::handle_into`: how many bytes of the answer stand in `out`, or -1 for a stall.
 /// Refused with -5 where `out` has less room than an answer may need; then as every call.
 #[unsafe(no_mangle)]
 pub extern "C" fn dfu_device_handle(
@@ -49,19 +40,16 @@ pub extern "C" fn dfu_device_handle(
     body: &[u8],
     out: &mut [u8],
 ) -> i32
-    ensures outcome { Answered config.now device.old medium.old out.old (λ a sent d d'. Handles setup.now body.now d a sent d') result device.new out.new
+    ensures outcome { Answered config.now device.old medium.old out.old (λ a sent d d'. Handles setup.now body.now d a sent d')
+        result device.new out.new
         ⊎ (Refuses config.now device.old medium.old result device.new × (out.new ≡ out.old))
         ⊎ HasNoRoom config.now device.old out.old result device.new out.new }
 {
     if out.len() < room_for(config) {
         return -5;
     }
-    let mut sent = ArrayVec::new();
-    match calls::handle(config, device, medium, setup, body, &mut sent) {
-        Ok((answer, _)) => {
-            give(out, &sent);
-            number_of(answer, &sent)
-        }
+    match calls::handle(config, device, medium, setup, body, out) {
+        Ok((answer, count)) => number_of(answer, count),
         Err(refusal) => refusal.number(),
     }
 }

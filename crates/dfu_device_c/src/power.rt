@@ -5,11 +5,10 @@ ghost use Rattle.dfu_device_c.specs.Numbers.{format_number};
 ghost use Rattle.dfu_device_c.specs.Power.{Formats, Powers, Stands, RefusesFormat, RefusesPower, RefusesPlace};
 
 use crate::config::{DfuConfig, config_of};
-use crate::keeping::keep;
+use crate::keeping::{keep, started};
 use crate::memory::Memory;
 use crate::place::DfuPlace;
 use crate::record::DfuDevice;
-use dfu_device::Device;
 use dfu_slots::{FormatFault, Slots};
 
 // The number of a fault of `Slots::format`.
@@ -57,9 +56,10 @@ pub extern "C" fn dfu_device_power_on(
     let Some(memory) = Memory::over(medium) else {
         return -3;
     };
-    match Device::power_on(setting, memory) {
-        Ok(on) => {
-            keep(on, device);
+    match Slots::open(memory) {
+        Ok(slots) => {
+            let on = started(setting, slots);
+            keep(&on, device);
             0
         }
         Err(_) => -3,

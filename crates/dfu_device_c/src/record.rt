@@ -1,9 +1,8 @@
 //! What a program in C keeps of a device between two calls.
-ghost use Rattle.std.specs.Prelude.{◌≡◌, ◌↔◌, ◌≤◌, [], length, IfSome, IsTrue, Some, not};
+ghost use Rattle.std.specs.Prelude.{◌≡◌, ◌≤◌, length, IfSome, IsTrue, Some, not};
 ghost use Rattle.dfu_wire.specs.Code.{code_byte};
 ghost use Rattle.dfu_device_c.specs.Record.{HasMode, block_in};
 
-use arrayvec::ArrayVec;
 use dfu_device::Mode;
 use dfu_wire::Code;
 
@@ -160,29 +159,23 @@ pub(crate) fn set_mode(kept: &mut DfuDevice, mode: Mode)
     kept.number = number;
 }
 
-/// Copies the block of a record that is not written; false where it says that it has over 4,096 bytes.
-pub(crate) fn copy_block(kept: &DfuDevice, block: &mut ArrayVec<u8, 4096>) -> bool
-    requires { block.old.items ≡ [] }
-    ensures copied { IsTrue result → block.new.items ≡ block_in kept.now }
-    ensures length { IsTrue result → length block.new.items ≡ kept.now.length }
-    ensures fits { IsTrue result ↔ kept.now.length ≤ 4096 }
+// Copies bytes: a function of its own, in which the compiler knows that they don't overlap.
+#[inline(never)]
+fn copy(to: &mut [u8], from: &[u8])
+    requires { length to.old ≡ length from.now }
+    ensures { to.new ≡ from.now }
 {
-    let len = usize::from(kept.length);
-    if len > 4096 {
-        return false;
-    }
-    let _ = block.try_extend_from_slice(&kept.block[..len]);
-    true
+    to.copy_from_slice(from);
 }
 
 /// Writes a block into a record.
-pub(crate) fn set_block(kept: &mut DfuDevice, block: &ArrayVec<u8, 4096>)
-    ensures block { block_in kept.new ≡ block.now.items }
-    ensures length { kept.new.length ≡ length block.now.items }
-    ensures fits { kept.new.length ≤ 4096 }
+pub(crate) fn set_block(kept: &mut DfuDevice, block: &[u8])
+    requires { length block.now ≤ 4096 }
+    ensures block { block_in kept.new ≡ block.now }
+    ensures length { kept.new.length ≡ length block.now }
     ensures others { kept.new ≡ record kept.old { length = kept.new.length; block = kept.new.block } }
 {
     let len = block.len();
     kept.length = len as u16;
-    kept.block[..len].copy_from_slice(block.as_slice());
+    copy(&mut kept.block[..len], block);
 }

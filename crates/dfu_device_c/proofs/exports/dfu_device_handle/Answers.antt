@@ -1,25 +1,13 @@
-use Rattle.std.proofs.Common.{inl, arith}
-use Rattle.std.proofs.lemmas.Grind.{common_steps}
-use Rattle.dfu_device_c.proofs.AnswersFit.{answer_fits_room}
+use Rattle.std.proofs.Common.{◌∙◌, inl, w32, arith}
+use Rattle.std.proofs.lemmas.Int.{to_z-of_z}
 use Rattle.dfu_device_c.proofs.exports.dfu_device_handle.Goals as goal
-
-pub give-requires : goal.give-requires
-give-requires c = omega (
-  arith,
-  c.if-out-room_for.false,
-  c.room_for.ensures,
-  answer_fits_room _ _ _ _ _ _ _ _ _ c.in-Ok.ensures.row,
-)
 
 pub returns-in-Ok : goal.returns-in-Ok
 returns-in-Ok c = record {
   outcome = inl (record {
     answer = c.in-Ok.answer;
-    sent = c.handle.new.out.items;
-    number_is = grind (arith, common_steps);
-    whole = omega (arith, c.if-out-room_for.false, c.room_for.ensures, answer_fits_room _ _ _ _ _ _ _ _ _ c.in-Ok.ensures.row);
-    out_is = c.give.ensures;
-    now = c.in-Ok.field-0-1;
-    takes = c.in-Ok.ensures.row;
+    count = c.in-Ok.count;
+    number_is = to_z-of_z w32 c.number_of.result (omega (arith, c.number_of.type_inv)) ∙ c.number_of.ensures;
+    handled = c.in-Ok.ensures.row;
   });
 }
