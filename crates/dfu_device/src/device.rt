@@ -53,7 +53,8 @@ use std::marker::Model;
 ///   device with bitWillDetach goes from appDETACH to dfuIDLE by a tick, and there its maker detaches it
 ///   from the bus. In dfuMANIFEST-WAIT-RESET it waits for its maker or the host to reset it.
 /// - A program that keeps its state elsewhere between two calls takes the device apart by `into_parts`, and
-///   puts it together by `from_parts`.
+///   puts it together by `from_parts`; or it looks at the parts by `parts`, and puts a device of the same
+///   medium where it stood by `set_parts`, in place.
 #[derive(Drop)]
 pub struct Device<M: Medium> {
     // A layer of its own: its functions read its fields, which keep an invariant, and a caller of
