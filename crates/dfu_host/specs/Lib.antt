@@ -22,4 +22,5 @@ pub mod RowLaws
 pub mod Counting
 pub mod CountingLaws
 pub mod FaultName
+pub mod ReportName
 pub mod inside

@@ -1,5 +1,8 @@
 //! How a session ends.
 
+ghost use Rattle.std.specs.Prelude.{◌≡◌};
+ghost use Rattle.dfu_host.specs.ReportName.{report_name};
+
 use dfu_wire::Code;
 
 /// How a session ended.
@@ -36,4 +39,25 @@ pub enum Report {
     /// After the last reset the device gave other bytes than the payload's. Of downloads that are
     /// verified alone.
     Different,
+}
+
+impl Report {
+    /// The name of the report, as `installed` and `restarts-spent`; that of Refused is `refused`, without its code.
+    pub fn name(self) -> &'static str
+        ensures { result.now ≡ report_name self }
+    {
+        match self {
+            Report::Installed => "installed",
+            Report::Unconfirmed => "unconfirmed",
+            Report::Aborted => "aborted",
+            Report::GaveUp => "gave-up",
+            Report::Refused(_) => "refused",
+            Report::RestartsSpent => "restarts-spent",
+            Report::Uploaded => "uploaded",
+            Report::TooManyBlocks => "too-many-blocks",
+            Report::NoMemory => "no-memory",
+            Report::Verified => "verified",
+            Report::Different => "different",
+        }
+    }
 }

@@ -1,5 +1,5 @@
 -- What came of a call.
-use Rattle.std.specs.Prelude.{◌≡◌, ℕ, List, Some, None}
+use Rattle.std.specs.Prelude.{◌≡◌, ℕ, List, Some}
 use Rattle.std.specs.Borrow.{Bor}
 use Rattle.dfu_host.specs.declared.parts.Parts.{Parts}
 use Rattle.dfu_host.specs.declared.seen.Seen.{Seen}

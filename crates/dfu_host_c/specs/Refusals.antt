@@ -1,5 +1,5 @@
 -- What C is answered where a call is refused.
-use Rattle.std.specs.Prelude.{ℕ, ℤ, pos, negsuc}
+use Rattle.std.specs.Prelude.{ℤ, negsuc}
 use Rattle.dfu_wire.specs.declared.fault.WireFault.{WireFault}
 use Rattle.dfu_wire.specs.declared.fault.WireFault.TheVariants as wire
 use Rattle.dfu_suffix.specs.declared.fault.SuffixFault.{SuffixFault}

@@ -1,12 +1,13 @@
 //! The names of reports.
 
 ghost use Rattle.std.specs.Prelude.{◌≡◌, ◌≤◌, ◌<◌, ◌++◌, drop, length, pos};
-ghost use Rattle.dfu_host_c.specs.ReportNames.{report_name, name_at};
+ghost use Rattle.dfu_host.specs.ReportName.{report_name};
+ghost use Rattle.dfu_host_c.specs.ReportNames.{name_at};
 
 use crate::reports::report_at;
 use dfu_host::Report;
 
-/// The name of a report; that of Refused is without its code. One text for all takes no pointers.
+/// The name of a report, as `Report::name`. One text for all takes no pointers, so that the library has no data.
 fn name_of(report: Report) -> &'static [u8]
     ensures name { result.now ≡ report_name report }
 {

@@ -5,6 +5,7 @@ use Rattle.dfu_wire.specs.State.{state_name}
 use Rattle.dfu_wire.specs.Code.{code_name}
 use Rattle.dfu_suffix.specs.FaultName.{suffix_fault_name}
 use Rattle.dfu_host.specs.FaultName.{host_fault_name}
+use Rattle.dfu_host.specs.ReportName.{report_name}
 use Rattle.dfu_host.specs.declared.report.Report.{Report}
 use Rattle.dfu_host.specs.declared.report.Report.TheVariants as report
 use Rattle.dfu_slots.specs.Seen.{image_of}
@@ -31,19 +32,23 @@ offer_fault_name (offer.Host fault) = host_fault_name fault
 abbrev pub uploaded_line : List ℕ → List ℕ
 uploaded_line bytes = codes "report uploaded " ++ (hex_text bytes ++ 10 ∷ [])
 
+-- The line of a report that says its name and no more.
+abbrev pub named_line : Report → List ℕ
+named_line r = codes "report " ++ report_name r ++ 10 ∷ []
+
 -- The line of a report; of an upload it shows the bytes that were uploaded.
 abbrev pub report_line : Report → (uploaded : List ℕ) → List ℕ
-report_line report.Installed uploaded = codes "report installed\n"
-report_line report.Unconfirmed uploaded = codes "report unconfirmed\n"
-report_line report.Aborted uploaded = codes "report aborted\n"
-report_line report.GaveUp uploaded = codes "report gave-up\n"
+report_line report.Installed uploaded = named_line report.Installed
+report_line report.Unconfirmed uploaded = named_line report.Unconfirmed
+report_line report.Aborted uploaded = named_line report.Aborted
+report_line report.GaveUp uploaded = named_line report.GaveUp
 report_line (report.Refused code) uploaded = codes "report refused " ++ code_name code ++ 10 ∷ []
-report_line report.RestartsSpent uploaded = codes "report restarts-spent\n"
+report_line report.RestartsSpent uploaded = named_line report.RestartsSpent
 report_line report.Uploaded uploaded = uploaded_line uploaded
-report_line report.TooManyBlocks uploaded = codes "report too-many-blocks\n"
-report_line report.NoMemory uploaded = codes "report no-memory\n"
-report_line report.Verified uploaded = codes "report verified\n"
-report_line report.Different uploaded = codes "report different\n"
+report_line report.TooManyBlocks uploaded = named_line report.TooManyBlocks
+report_line report.NoMemory uploaded = named_line report.NoMemory
+report_line report.Verified uploaded = named_line report.Verified
+report_line report.Different uploaded = named_line report.Different
 
 -- The line of a refused event.
 abbrev pub refusal_line : LinkFault → List ℕ

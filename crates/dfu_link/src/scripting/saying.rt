@@ -37,17 +37,17 @@ fn say_report<W: Write>(writer: &mut W, report: Report, uploaded: &[u8]) -> Resu
     ensures fault { IfErr result (λ f. f ≡ ScriptFault.Write) }
 {
     match report {
-        Report::Installed => write_out(writer, b"report installed\n"),
-        Report::Unconfirmed => write_out(writer, b"report unconfirmed\n"),
-        Report::Aborted => write_out(writer, b"report aborted\n"),
-        Report::GaveUp => write_out(writer, b"report gave-up\n"),
         Report::Refused(code) => write_three(writer, "report refused ", code.name(), "\n"),
-        Report::RestartsSpent => write_out(writer, b"report restarts-spent\n"),
         Report::Uploaded => say_uploaded(writer, uploaded),
-        Report::TooManyBlocks => write_out(writer, b"report too-many-blocks\n"),
-        Report::NoMemory => write_out(writer, b"report no-memory\n"),
-        Report::Verified => write_out(writer, b"report verified\n"),
-        Report::Different => write_out(writer, b"report different\n"),
+        Report::Installed
+        | Report::Unconfirmed
+        | Report::Aborted
+        | Report::GaveUp
+        | Report::RestartsSpent
+        | Report::TooManyBlocks
+        | Report::NoMemory
+        | Report::Verified
+        | Report::Different => write_three(writer, "report ", report.name(), "\n"),
     }
 }
 

@@ -1,4 +1,3 @@
-use Rattle.std.proofs.Common.{rules}
 use Rattle.dfu_host_c.proofs.beginning.start.Goals as goal
 
 pub returns-clause-begun : goal.returns-clause-begun

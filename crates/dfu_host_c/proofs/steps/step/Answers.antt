@@ -1,5 +1,4 @@
 use Rattle.std.proofs.Common.{ℕ, ◌≤◌, length, sym, subst}
-use Rattle.dfu_host_c.specs.Sessions.{IsHeld}
 use Rattle.dfu_host_c.proofs.steps.step.Goals as goal
 
 pub returns-clause-held : goal.returns-clause-held
