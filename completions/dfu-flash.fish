@@ -4,7 +4,7 @@ complete -c dfu-flash -x -l device -d 'Take this device, four hexadecimal digits
 complete -c dfu-flash -x -l path -d 'Take the device at this path, as 1-2.3'
 complete -c dfu-flash -x -l serial -d 'Take the device with this serial number'
 complete -c dfu-flash -x -l interface -d 'Take the interface of this number'
-complete -c dfu-flash -x -l alt -d 'Take the alternate setting of this number'
+complete -c dfu-flash -x -l alt -d 'Take the alternate setting of this number or name'
 complete -c dfu-flash -l no-verify -d 'Don\'t upload the image after the download to compare it'
 complete -c dfu-flash -r -F -l upload -d 'Fetch the active image into a new file'
 complete -c dfu-flash -l force -d 'Let an upload replace a file that is there'

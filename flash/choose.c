@@ -18,7 +18,7 @@ static void ask_for_one(const struct found *list, int count)
 
 static int say_none(libusb_context *usb, const struct wanted *wanted)
 {
-    const struct wanted any = {.interface = -1, .alternate = -1};
+    const struct wanted any = {.place = ANYWHERE};
     struct found list[ROOM];
     int count = find_all(usb, &any, list, ROOM);
     if (count <= 0) {
@@ -35,6 +35,15 @@ static int say_none(libusb_context *usb, const struct wanted *wanted)
     return STATUS_NO_DEVICE;
 }
 
+/* Whether it is one device that can't be opened, so that the name of none of its settings could be read. */
+static bool is_unread(const struct wanted *wanted, const struct found *list, int count)
+{
+    for (int at = 0; at < count; at++)
+        if (list[at].access == 0 || strcmp(list[at].path, list[0].path) != 0)
+            return false;
+    return wanted->place.name != NULL;
+}
+
 int device_choose(struct device *device, const struct wanted *wanted)
 {
     struct found list[ROOM];
@@ -45,15 +54,15 @@ int device_choose(struct device *device, const struct wanted *wanted)
     }
     if (count == 0)
         return say_none(device->usb, wanted);
-    if (count > 1) {
+    if (count > 1 && !is_unread(wanted, list, count)) {
         ask_for_one(list, count);
         found_drop(list, count);
         return STATUS_NO_DEVICE;
     }
     device->is = list[0];
+    found_drop(list + 1, count - 1);
     device->serial = wanted->serial;
-    device->interface = wanted->interface;
-    device->alternate = wanted->alternate;
+    device->place = wanted->place;
     memcpy(device->path, list[0].path, sizeof device->path);
     if (list[0].access == 0)
         return STATUS_DONE;

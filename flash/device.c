@@ -50,20 +50,17 @@ void device_drop(struct device *device)
     device->is.device = NULL;
 }
 
-/* The interface and the setting that were asked for count in DFU mode alone, as in `struct wanted`. */
 static bool is_same(const struct device *device, const struct found *found)
 {
     bool is_path = strcmp(found->path, device->path) == 0;
     bool is_serial = device->serial != NULL && strcmp(found->serial, device->serial) == 0;
-    bool is_interface = device->interface < 0 || found->interface == device->interface;
-    bool is_alternate = device->alternate < 0 || found->alternate == device->alternate;
-    return found->access == 0 && (is_path || is_serial) && (!found->is_upgrade || (is_interface && is_alternate));
+    return found->access == 0 && (is_path || is_serial) && is_placed(&device->place, found);
 }
 
 /* How many of what is on the bus it may be; one of them is kept. */
 static int look_for(struct device *device)
 {
-    const struct wanted any = {.path = device->serial == NULL ? device->path : NULL, .interface = -1, .alternate = -1};
+    const struct wanted any = {.path = device->serial == NULL ? device->path : NULL, .place = ANYWHERE};
     struct found list[ROOM];
     int count = find_all(device->usb, &any, list, ROOM), same = 0;
     for (int at = 0; at < count; at++) {
@@ -81,7 +78,7 @@ static int look_for(struct device *device)
 /* One that is back, and that nobody may open, or that another program took: what it is now may have other rules than before. */
 static void say_why(struct device *device, int error)
 {
-    const struct wanted any = {.path = device->path, .interface = -1, .alternate = -1};
+    const struct wanted any = {.path = device->path, .place = ANYWHERE};
     struct found one = {0};
     int count = find_all(device->usb, &any, &one, 1);
     if (count > 0 && one.access == 0)
@@ -116,7 +113,7 @@ bool device_reopen(struct device *device)
 /* Whether one with the serial number that was asked for is there. */
 static bool is_elsewhere(const struct device *device)
 {
-    const struct wanted named = {.serial = device->serial, .interface = -1, .alternate = -1};
+    const struct wanted named = {.serial = device->serial, .place = ANYWHERE};
     struct found one = {0};
     int count = device->serial == NULL ? 0 : find_all(device->usb, &named, &one, 1);
     found_drop(&one, count);

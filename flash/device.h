@@ -14,7 +14,7 @@ struct device {
     struct found is;                      /* as it was found last */
     char path[PATH_ROOM];                 /* by this it is found again, */
     const char *serial;                   /* or by the serial number that was asked for; NULL where none was */
-    int interface, alternate;             /* those that were asked for, -1 where none was */
+    struct place place;                   /* the interface and setting that were asked for */
     bool is_many;                         /* it came back with more than one setting */
     const volatile sig_atomic_t *is_stop; /* a wait for the device ends where this is set */
 };

@@ -38,13 +38,20 @@ static bool may_be(const struct wanted *wanted, const struct found *found)
     return is_vendor && is_product && (wanted->path == NULL || strcmp(wanted->path, found->path) == 0);
 }
 
+bool is_placed(const struct place *place, const struct found *found)
+{
+    bool is_interface = place->interface < 0 || place->interface == found->interface;
+    bool is_alternate = place->alternate < 0 || place->alternate == found->alternate;
+    /* As with a serial number: a name that may not be read may be the one. */
+    bool is_name = place->name == NULL || found->access != 0 || strcmp(place->name, found->name) == 0;
+    return !found->is_upgrade || (is_interface && is_alternate && is_name);
+}
+
 static bool is_wanted(const struct wanted *wanted, const struct found *found)
 {
     /* A serial number that may not be read may be the one: who chooses sees that it can't be opened. */
     bool is_serial = wanted->serial == NULL || found->access != 0 || strcmp(wanted->serial, found->serial) == 0;
-    bool is_interface = wanted->interface < 0 || wanted->interface == found->interface;
-    bool is_alternate = wanted->alternate < 0 || wanted->alternate == found->alternate;
-    return is_serial && (!found->is_upgrade || (is_interface && is_alternate));
+    return is_serial && is_placed(&wanted->place, found);
 }
 
 /* What is going on in one look at the bus. */
@@ -64,11 +71,11 @@ static void add_setting(struct look *look, const struct found *base, libusb_devi
     found.interface = setting->bInterfaceNumber;
     found.alternate = setting->bAlternateSetting;
     found.is_upgrade = setting->bInterfaceProtocol == 2;
+    if (handle != NULL)
+        string_find(handle, setting->iInterface, found.name);
     if (look->count == look->room || !is_wanted(look->wanted, &found))
         return;
     descriptor_find(&found, handle, configuration, interface, at);
-    if (handle != NULL)
-        string_find(handle, setting->iInterface, found.name);
     libusb_ref_device(found.device);
     look->list[look->count++] = found;
 }

@@ -25,14 +25,25 @@ struct found {
     size_t descriptor_size;            /* 9, or 7 of DFU 1.0; 0 where there is none */
 };
 
-/* What a device has to be. The interface and the setting count in DFU mode alone: in run-time mode there is one of each (USB DFU
-   1.1, section 4.1.2), and its number may be another. */
+/* Which interface and which alternate setting of it. They count in DFU mode alone: in run-time mode there is one of each (USB DFU
+   1.1, section 4.1.2), and its number and its name may be others. */
+struct place {
+    int interface, alternate;          /* -1 is any */
+    const char *name;                  /* of the setting; NULL is any */
+};
+
+#define ANYWHERE ((struct place){-1, -1, NULL})
+
+/* What a device has to be. */
 struct wanted {
     bool has_ids;
     uint16_t vendor, product;          /* FFFFh is any */
     const char *path, *serial;         /* NULL is any */
-    int interface, alternate;          /* -1 is any */
+    struct place place;
 };
+
+/* Whether a setting stands where that is asked for: in run-time mode each does. */
+bool is_placed(const struct place *place, const struct found *found);
 
 /* Writes those that are on the bus and are wanted to `list`, up to `room`. How many they are, or an error of libusb. */
 int find_all(libusb_context *usb, const struct wanted *wanted, struct found *list, int room);

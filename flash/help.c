@@ -16,7 +16,7 @@ void words_help(void)
           "  --path <PATH>        Take the device at this path, as 1-2.3\n"
           "  --serial <SERIAL>    Take the device with this serial number\n"
           "  --interface <N>      Take the interface of this number\n"
-          "  --alt <N>            Take the alternate setting of this number\n"
+          "  --alt <N>            Take the alternate setting of this number or name\n"
           "  --no-verify          Don't upload the image after the download to compare it\n"
           "  --upload <OUT>       Fetch the active image into a new file\n"
           "  --force              Let an upload replace a file that is there\n"

@@ -154,8 +154,8 @@ static int flash(const struct words *words, struct wanted *wanted)
 
 static int over_usb(const struct words *words)
 {
-    struct wanted wanted = {words->has_ids, words->vendor, words->product, words->path, words->serial, words->interface,
-                            words->alternate};
+    struct wanted wanted = {words->has_ids, words->vendor, words->product, words->path, words->serial,
+                            {words->interface, words->alternate, words->setting}};
     int error = libusb_init(&device.usb);
     int status;
     if (error != 0) {

@@ -59,13 +59,24 @@ static bool refuse(const char *what, const char *word)
     return false;
 }
 
-/* A number of an interface or of an alternate setting. */
-static bool is_setting(const char *text, int *setting)
+static bool is_interface(const char *text, struct words *words)
 {
     unsigned long number;
     if (!is_number(text, 255, &number))
-        return refuse("--interface and --alt take a number from 0 to 255, as --list shows it", text);
-    *setting = (int)number;
+        return refuse("--interface takes a number from 0 to 255, as --list shows it", text);
+    words->interface = (int)number;
+    return true;
+}
+
+/* The number of an alternate setting, or its name: digits alone are a number. */
+static bool is_setting(const char *text, struct words *words)
+{
+    unsigned long number;
+    bool is_digits = text[strspn(text, "0123456789")] == '\0';
+    if (is_digits && !is_number(text, 255, &number))
+        return refuse("--alt takes a number from 0 to 255, or a name, as --list shows them", text);
+    words->alternate = is_digits ? (int)number : -1;
+    words->setting = is_digits ? NULL : text;
     return true;
 }
 
@@ -87,8 +98,8 @@ static bool take_option(struct words *words, int code, int count, char **texts)
     case DEVICE: return is_pair(optarg, words) || refuse("--device takes VID:PID, four hexadecimal digits each", optarg);
     case PATH: words->path = optarg; return true;
     case SERIAL: words->serial = optarg; return true;
-    case INTERFACE: return is_setting(optarg, &words->interface);
-    case ALTERNATE: return is_setting(optarg, &words->alternate);
+    case INTERFACE: return is_interface(optarg, words);
+    case ALTERNATE: return is_setting(optarg, words);
     case NO_VERIFY: words->verify = false; return true;
     case UPLOAD: words->job = JOB_UPLOAD; words->file = optarg; return true;
     case FORCE: words->force = true; return true;

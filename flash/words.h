@@ -15,6 +15,7 @@ struct words {
     uint16_t vendor, product;
     const char *path, *serial;       /* NULL where they weren't given */
     int interface, alternate;        /* -1 where they weren't given */
+    const char *setting;             /* the name of --alt, NULL where it is a number or wasn't given */
     bool has_limits;                 /* --limits was given */
     uint32_t actions;
     uint16_t restarts;

@@ -58,9 +58,26 @@ for setting in 0 1 2; do
     row 0 old 'uploaded: ' "USB_ALTERNATES=3 USB_SETTING=$setting" --alt $setting --upload "up-$setting"
     expect "an upload of setting $setting" cmp old "up-$setting"
 done
+# By its name, in whole: not by a part of it, with other capitals, or by the name of another interface's setting.
+for words in 'boot 0' 'kernel 1' 'data 2'; do
+    name=${words% *}
+    setting=${words#* }
+    row 0 new 'verified: ' "USB_ALTERNATES=3 USB_SETTING=$setting" --alt "$name" new.dfu
+    row 0 new 'verified: ' "USB_ALTERNATES=3 USB_SETTING=$setting USB_START=app USB_AWAY=4" --alt "$name" new.dfu
+    row 0 old 'uploaded: ' "USB_ALTERNATES=3 USB_SETTING=$setting" --alt "$name" --upload "up-$name"
+    row 0 - "1209:0001 path 1-1 serial F1 interface 0 alt $setting \"$name\" DFU mode, " USB_ALTERNATES=3 --alt "$name" --list
+    expect "a line for $name" test "$(wc -l < out)" -eq 1
+done
+for name in kern kernels Kernel 1st; do
+    row 4 old '' USB_ALTERNATES=3 --alt "$name" new.dfu
+    says 'alt 1 "kernel"'
+    expect "no setting $name: nothing is sent" is_untouched
+done
+row 5 old '' 'USB_ALTERNATES=3 USB_DENIED=3' --alt kernel new.dfu
 for number in 0 4 12 17 20; do
     fate="leave $number"
     row 0 new 'verified: ' 'USB_ALTERNATES=2 USB_SETTING=1' --alt 1 new.dfu
+    row 0 new 'verified: ' 'USB_ALTERNATES=2 USB_SETTING=1' --alt kernel new.dfu
     row 0 new 'verified: ' 'USB_ALTERNATES=2 USB_SETTING=1 USB_DEVICE=uboot' --alt 1 new.dfu
 done
 fate=
