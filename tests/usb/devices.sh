@@ -113,7 +113,7 @@ done
 # One that left, and is back for another program: the wait for it is broken off here.
 code=0
 env LD_LIBRARY_PATH="$work" USB_DENIED=3 USB_OPENS=2 USB_FATE='leave 3' USB_SAVE="$work/saved" USB_IMAGE="$work/old" \
-    timeout --preserve-status -s INT 0.6 ./dfu-flash new.dfu > out 2> err || code=$?
+    timeout --preserve-status -s INT 3 ./dfu-flash new.dfu > out 2> err || code=$?
 expect 'a wait is broken off' test "$code" -eq 11
 expect 'a wait is broken off: the old image' cmp old saved
 says 'may not be opened: LIBUSB_ERROR_ACCESS'
