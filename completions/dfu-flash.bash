@@ -14,7 +14,7 @@ _dfu_flash() {
     case $word in
     -*)
         COMPREPLY=($(compgen -W '--device --path --serial --interface --alt --no-verify --upload --force --limits
-            --dry-run --quiet --json --list -h --help' -- "$word"))
+            --dry-run --quiet --json --list -h --help -V --version' -- "$word"))
         ;;
     *) compopt -o default ;;
     esac

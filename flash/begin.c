@@ -37,10 +37,20 @@ static bool is_dfuse(const struct found *is)
     return is->descriptor_size == 9 && is->descriptor[7] == 0x1a && is->descriptor[8] == 0x01;
 }
 
+/* A download is verified where that is asked for and the device can upload: that is bit 1 of bmAttributes. */
+static enum goal goal_of(const struct session *session)
+{
+    const struct found *is = &session->wire.device->is;
+    bool can_upload = is->descriptor_size >= 7 && (is->descriptor[2] & 2) != 0;
+    return session->is_upload ? GOAL_UPLOAD : session->wants_verified && can_upload ? GOAL_VERIFIED : GOAL_DOWNLOAD;
+}
+
 int32_t session_begin(struct session *session)
 {
     const struct found *is = &session->wire.device->is;
     uint8_t descriptor[9];
+    session->goal = goal_of(session);
+    session_meets(session);
     if (is_dfuse(is))
         return REFUSED_DFUSE;
     memcpy(session->known, is->descriptor, sizeof session->known);

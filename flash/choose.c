@@ -6,8 +6,6 @@
 #include <stdio.h>
 #include <string.h>
 
-#define ROOM 64
-
 /* One DFU interface may be there in several alternate settings, each for another part of the memory. */
 static void ask_for_one(const struct found *list, int count)
 {
@@ -19,8 +17,8 @@ static void ask_for_one(const struct found *list, int count)
 static int say_none(libusb_context *usb, const struct wanted *wanted)
 {
     const struct wanted any = {.place = ANYWHERE};
-    struct found list[ROOM];
-    int count = find_all(usb, &any, list, ROOM);
+    struct found list[FOUND_ROOM];
+    int count = find_all(usb, &any, list, FOUND_ROOM);
     if (count <= 0) {
         fprintf(stderr, "dfu-flash: no device with DFU is there\n");
         return STATUS_NO_DEVICE;
@@ -44,14 +42,47 @@ static bool is_unread(const struct wanted *wanted, const struct found *list, int
     return wanted->place.name != NULL;
 }
 
+/* Where the serial number that is asked for was read of one, those of which none can be read aren't meant. */
+static int drop_unread(const struct wanted *wanted, struct found *list, int count)
+{
+    int read = 0;
+    for (int at = 0; at < count; at++)
+        read += list[at].access == 0;
+    if (wanted->serial == NULL || read == 0)
+        return count;
+    read = 0;
+    for (int at = 0; at < count; at++)
+        if (list[at].access == 0)
+            list[read++] = list[at];
+        else
+            libusb_unref_device(list[at].device);
+    return read;
+}
+
+/* Whether it can be opened, and found again where it leaves. */
+static bool is_usable(const struct device *device)
+{
+    return device->is.access == 0 && (has_ports(device->path) || device->serial != NULL);
+}
+
+static int say_unusable(struct device *device)
+{
+    device_drop(device);
+    if (device->is.access != 0)
+        return say_no_access(&device->is);
+    fprintf(stderr, "dfu-flash: the system tells no ports, and without --serial a device that left isn't found again\n");
+    return STATUS_NO_DEVICE;
+}
+
 int device_choose(struct device *device, const struct wanted *wanted)
 {
-    struct found list[ROOM];
-    int count = find_all(device->usb, wanted, list, ROOM);
+    struct found list[FOUND_ROOM];
+    int count = find_all(device->usb, wanted, list, FOUND_ROOM);
     if (count < 0) {
         fprintf(stderr, "dfu-flash: the list of devices can't be had: %s\n", libusb_error_name(count));
         return STATUS_NO_DEVICE;
     }
+    count = drop_unread(wanted, list, count);
     if (count == 0)
         return say_none(device->usb, wanted);
     if (count > 1 && !is_unread(wanted, list, count)) {
@@ -61,11 +92,9 @@ int device_choose(struct device *device, const struct wanted *wanted)
     }
     device->is = list[0];
     found_drop(list + 1, count - 1);
-    device->serial = wanted->serial;
     device->place = wanted->place;
     memcpy(device->path, list[0].path, sizeof device->path);
-    if (list[0].access == 0)
-        return STATUS_DONE;
-    device_drop(device);
-    return say_no_access(&device->is);
+    /* One that was asked for at its path is found again nowhere else. */
+    device->serial = wanted->path != NULL && has_ports(device->path) ? NULL : wanted->serial;
+    return is_usable(device) ? STATUS_DONE : say_unusable(device);
 }

@@ -1,6 +1,7 @@
 /* Opens the device, and finds it again where it left: a device that goes from run-time mode to DFU mode, or back, leaves the
    bus and comes as another one, with other descriptors and often with other identifiers. So it is known by its path; and by
-   its serial number only where that was asked for, since two devices may have the same one. */
+   its serial number only where that was asked for, since two devices may have the same one. That it is no other board at the
+   same place session.c sees, by what it was before in the same mode. */
 #include "device.h"
 #include "clock.h"
 #include "say.h"
@@ -9,7 +10,6 @@
 
 #define AWAY_MS 10000 /* how long it may be away: an operating system takes a second or two to see a device */
 #define LOOK_MS 50
-#define ROOM 64
 
 int device_set(struct device *device)
 {
@@ -50,29 +50,30 @@ void device_drop(struct device *device)
     device->is.device = NULL;
 }
 
-static bool is_same(const struct device *device, const struct found *found)
+/* How many of what is wanted can be opened; one of them is kept. */
+static int keep_one(struct device *device, const struct wanted *wanted)
 {
-    bool is_path = strcmp(found->path, device->path) == 0;
-    bool is_serial = device->serial != NULL && strcmp(found->serial, device->serial) == 0;
-    return found->access == 0 && (is_path || is_serial) && is_placed(&device->place, found);
-}
-
-/* How many of what is on the bus it may be; one of them is kept. */
-static int look_for(struct device *device)
-{
-    const struct wanted any = {.path = device->serial == NULL ? device->path : NULL, .place = ANYWHERE};
-    struct found list[ROOM];
-    int count = find_all(device->usb, &any, list, ROOM), same = 0;
+    struct found list[FOUND_ROOM];
+    int count = find_all(device->usb, wanted, list, FOUND_ROOM), open = 0;
     for (int at = 0; at < count; at++) {
-        if (!is_same(device, &list[at]))
+        if (list[at].access != 0)
             continue;
-        same++;
+        open++;
         device_drop(device);
         device->is = list[at];
         libusb_ref_device(device->is.device);
     }
     found_drop(list, count);
-    return same;
+    return open;
+}
+
+/* How many of what is on the bus it may be, at its path, or where none is there, elsewhere. */
+static int look_for(struct device *device)
+{
+    const struct wanted here = {.path = device->path, .place = device->place};
+    const struct wanted named = {.serial = device->serial, .place = device->place};
+    int same = has_ports(device->path) ? keep_one(device, &here) : 0;
+    return same > 0 || device->serial == NULL ? same : keep_one(device, &named);
 }
 
 /* One that is back, and that nobody may open, or that another program took: what it is now may have other rules than before. */
@@ -80,7 +81,7 @@ static void say_why(struct device *device, int error)
 {
     const struct wanted any = {.path = device->path, .place = ANYWHERE};
     struct found one = {0};
-    int count = find_all(device->usb, &any, &one, 1);
+    int count = has_ports(device->path) ? find_all(device->usb, &any, &one, 1) : 0;
     if (count > 0 && one.access == 0)
         one.access = error;
     if (count > 0 && one.access != 0)
@@ -114,16 +115,24 @@ bool device_reopen(struct device *device)
 static bool is_elsewhere(const struct device *device)
 {
     const struct wanted named = {.serial = device->serial, .place = ANYWHERE};
-    struct found one = {0};
-    int count = device->serial == NULL ? 0 : find_all(device->usb, &named, &one, 1);
-    found_drop(&one, count);
-    return count > 0;
+    struct found list[FOUND_ROOM];
+    int count = device->serial == NULL ? 0 : find_all(device->usb, &named, list, FOUND_ROOM);
+    bool is = false;
+    for (int at = 0; at < count; at++)
+        is = is || list[at].access == 0;
+    found_drop(list, count);
+    return is;
+}
+
+static bool is_back(const struct device *device)
+{
+    return (has_ports(device->path) && is_at(device->usb, device->path)) || is_elsewhere(device);
 }
 
 bool device_await(struct device *device)
 {
     int64_t end = clock_ms() + AWAY_MS;
-    while (!is_at(device->usb, device->path) && !is_elsewhere(device)) {
+    while (!is_back(device)) {
         if (*device->is_stop || clock_ms() >= end)
             return false;
         clock_wait(LOOK_MS);

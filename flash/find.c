@@ -1,5 +1,5 @@
-/* Looks for devices with DFU: an interface of class FEh, subclass 01h (USB DFU 1.1, sections 4.1.2 and 4.2.3).
-   Protocol 02h is DFU mode, any other one is taken as run-time mode. */
+/* Looks for devices with DFU: an interface of class FEh, subclass 01h (USB DFU 1.1, sections 4.1.2 and 4.2.3), in the configuration
+   that the device stands in. Protocol 02h is DFU mode, any other one is taken as run-time mode. */
 #include "find.h"
 
 #include <stdio.h>
@@ -12,6 +12,11 @@ void path_of(libusb_device *device, char path[PATH_ROOM])
     int at = snprintf(path, PATH_ROOM, "%d", libusb_get_bus_number(device));
     for (int port = 0; port < depth; port++)
         at += snprintf(path + at, (size_t)(PATH_ROOM - at), "%c%d", port == 0 ? '-' : '.', ports[port]);
+}
+
+bool has_ports(const char *path)
+{
+    return strchr(path, '-') != NULL;
 }
 
 bool is_at(libusb_context *usb, const char *path)
@@ -52,6 +57,17 @@ static bool is_wanted(const struct wanted *wanted, const struct found *found)
     /* A serial number that may not be read may be the one: who chooses sees that it can't be opened. */
     bool is_serial = wanted->serial == NULL || found->access != 0 || strcmp(wanted->serial, found->serial) == 0;
     return is_serial && is_placed(&wanted->place, found);
+}
+
+static bool is_text(const char *first, const char *now)
+{
+    return first[0] == '\0' || now[0] == '\0' || strcmp(first, now) == 0;
+}
+
+bool is_again(const struct found *first, const struct found *now)
+{
+    return first->vendor == now->vendor && first->product == now->product && first->interface == now->interface
+        && first->alternate == now->alternate && is_text(first->serial, now->serial) && is_text(first->name, now->name);
 }
 
 /* What is going on in one look at the bus. */
@@ -131,13 +147,10 @@ static void add_device(struct look *look, libusb_device *device)
     path_of(device, base.path);
     if (!may_be(look->wanted, &base))
         return;
-    for (uint8_t at = 0; at < fields.bNumConfigurations; at++) {
-        base.configuration = at;
-        if (libusb_get_config_descriptor(device, at, &configuration) != 0)
-            continue;
-        add_configuration(look, &base, fields.iSerialNumber, configuration);
-        libusb_free_config_descriptor(configuration);
-    }
+    if (libusb_get_active_config_descriptor(device, &configuration) != 0)
+        return;
+    add_configuration(look, &base, fields.iSerialNumber, configuration);
+    libusb_free_config_descriptor(configuration);
 }
 
 int find_all(libusb_context *usb, const struct wanted *wanted, struct found *list, int room)

@@ -9,6 +9,7 @@
 
 #define PATH_ROOM 64   /* a bus and up to 7 ports */
 #define TEXT_ROOM 128  /* a string descriptor has up to 126 characters */
+#define FOUND_ROOM 256 /* settings that are looked at, each an entry of a list */
 
 /* One alternate setting of a DFU interface (USB DFU 1.1, sections 4.1.2 and 4.2.3). */
 struct found {
@@ -16,7 +17,6 @@ struct found {
     uint16_t vendor, product, release; /* idVendor, idProduct, bcdDevice */
     char path[PATH_ROOM];              /* bus and ports, as 1-2.3 */
     char serial[TEXT_ROOM];            /* empty where there is none, or where it may not be read */
-    uint8_t configuration;             /* its index, from 0 */
     uint8_t interface, alternate;
     char name[TEXT_ROOM];              /* of the setting, by its iInterface; empty where there is none */
     bool is_upgrade;                   /* in DFU mode, protocol 2; else in run-time mode */
@@ -45,6 +45,10 @@ struct wanted {
 /* Whether a setting stands where that is asked for: in run-time mode each does. */
 bool is_placed(const struct place *place, const struct found *found);
 
+/* Whether two looks at a device in one mode saw the same: its identifiers, interface and setting, and, where both looks could read
+   them, its serial number and the setting's name. */
+bool is_again(const struct found *first, const struct found *now);
+
 /* Writes those that are on the bus and are wanted to `list`, up to `room`. How many they are, or an error of libusb. */
 int find_all(libusb_context *usb, const struct wanted *wanted, struct found *list, int room);
 
@@ -53,6 +57,9 @@ void found_drop(struct found *list, int count);
 
 /* The path of a device, as 1-2.3. */
 void path_of(libusb_device *device, char path[PATH_ROOM]);
+
+/* Where the system tells no ports, a path is the number of a bus, and says of no device which it is. */
+bool has_ports(const char *path);
 
 /* Whether any device stands at the path, with DFU or without. */
 bool is_at(libusb_context *usb, const char *path);

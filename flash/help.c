@@ -1,4 +1,4 @@
-/* The text of --help. The man page and the completions say the same of each option; tests/flash compares them. */
+/* The texts of --help and --version. The man page and the completions say the same of each option; tests/flash compares them. */
 #include "words.h"
 
 #include <stdio.h>
@@ -25,6 +25,13 @@ void words_help(void)
           "  --quiet              Print no progress\n"
           "  --json               Print one record in JSON at the end\n"
           "  --list               List the devices that are there\n"
-          "  -h, --help           Print help\n",
+          "  -h, --help           Print help\n"
+          "  -V, --version        Print the version\n",
           stdout);
+}
+
+/* The version of all of Fustrelan: `dfu --help` begins with it too. */
+void words_version(void)
+{
+    puts("dfu-flash 0.1.0");
 }

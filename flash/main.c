@@ -20,24 +20,32 @@ static struct device device;
 static struct session session;
 static uint8_t no_file[1], no_room[1]; /* the host's library wants pointers also where there are no bytes */
 
-/* The first Ctrl-C ends the session well; the second one ends the program, since the handler stands for one alone. */
-static void on_interrupt(int number)
+/* The first signal ends the session well; a second one of its kind ends the program, since the handler stands for one alone. */
+static void on_stop(int number)
 {
     (void)number;
     is_stop = 1;
 }
 
-static void catch_interrupt(void)
+/* A terminal that is closed is no reason to stop where the program was told not to mind (nohup); and a reader that is gone, as
+   `head` in a pipe, never is. */
+static void catch_stops(void)
 {
-    struct sigaction action = {.sa_handler = on_interrupt, .sa_flags = (int)SA_RESETHAND};
+    static const int stops[] = {SIGINT, SIGTERM, SIGHUP};
+    struct sigaction action = {.sa_handler = on_stop, .sa_flags = (int)SA_RESETHAND}, before;
     sigemptyset(&action.sa_mask);
-    sigaction(SIGINT, &action, NULL);
+    for (size_t at = 0; at < sizeof stops / sizeof stops[0]; at++) {
+        sigaction(stops[at], NULL, &before);
+        if (stops[at] == SIGINT || before.sa_handler != SIG_IGN)
+            sigaction(stops[at], &action, NULL);
+    }
+    signal(SIGPIPE, SIG_IGN);
 }
 
 static int list_devices(libusb_context *usb, const struct wanted *wanted)
 {
-    struct found list[64];
-    int count = find_all(usb, wanted, list, 64);
+    struct found list[FOUND_ROOM];
+    int count = find_all(usb, wanted, list, FOUND_ROOM);
     if (count < 0) {
         fprintf(stderr, "dfu-flash: the list of devices can't be had: %s\n", libusb_error_name(count));
         return STATUS_NO_DEVICE;
@@ -45,7 +53,9 @@ static int list_devices(libusb_context *usb, const struct wanted *wanted)
     for (int at = 0; at < count; at++)
         say_found(stdout, &list[at]);
     found_drop(list, count);
-    return fflush(stdout) == 0 ? STATUS_DONE : STATUS_FILE;
+    if (count == FOUND_ROOM)
+        fputs("dfu-flash: more than these may be there; choose by --device, --path or --serial\n", stderr);
+    return record_out() ? STATUS_DONE : STATUS_FILE;
 }
 
 static int say_refused(const struct words *words, int32_t refusal)
@@ -92,11 +102,10 @@ static void print_plan(void)
     say_found(stdout, is);
 }
 
-/* A download is verified where the device can upload: that is bit 1 of bmAttributes. */
-static void choose_goal(const struct words *words)
+static void ask(const struct words *words)
 {
-    bool can_upload = device.is.descriptor_size >= 7 && (device.is.descriptor[2] & 2) != 0;
-    session.goal = words->job == JOB_UPLOAD ? GOAL_UPLOAD : words->verify && can_upload ? GOAL_VERIFIED : GOAL_DOWNLOAD;
+    session.is_upload = words->job == JOB_UPLOAD;
+    session.wants_verified = words->verify;
     session.ids = (struct dfu_ids){device.is.release, device.is.product, device.is.vendor};
     session.has_limits = words->has_limits;
     session.actions = words->actions;
@@ -112,11 +121,13 @@ static int run_session(const struct words *words)
         device.is.access = error;
         return say_none(words, say_no_access(&device.is));
     }
-    catch_interrupt();
+    catch_stops();
     session.began_ms = clock_ms();
     progress_begin(&session.progress, words->quiet, session.payload_length);
     session_run(&session);
     progress_end(&session.progress);
+    if (session.end == END_REFUSED)
+        return say_refused(words, session.refusal);
     verdict = verdict_of(&session);
     if (session.goal == GOAL_UPLOAD && verdict.status == STATUS_DONE
         && !file_make(words->file, words->force, session.kept, (size_t)session.host.kept))
@@ -136,7 +147,7 @@ static int prepare(const struct words *words, struct wanted *wanted)
     status = device_choose(&device, wanted);
     if (status != STATUS_DONE)
         return say_none(words, status);
-    choose_goal(words);
+    ask(words);
     refusal = session_begin(&session);
     return refusal < 0 ? say_refused(words, refusal) : STATUS_DONE;
 }
@@ -149,7 +160,7 @@ static int flash(const struct words *words, struct wanted *wanted)
     if (!words->dry_run)
         return run_session(words);
     print_plan();
-    return fflush(stdout) == 0 ? STATUS_DONE : STATUS_FILE;
+    return record_out() ? STATUS_DONE : STATUS_FILE;
 }
 
 static int over_usb(const struct words *words)
@@ -176,8 +187,11 @@ int main(int count, char **texts)
     struct words words;
     if (!words_read(&words, count, texts))
         return STATUS_WORDS;
-    if (words.job != JOB_HELP)
+    if (words.job != JOB_HELP && words.job != JOB_VERSION)
         return over_usb(&words);
-    words_help();
-    return fflush(stdout) == 0 ? STATUS_DONE : STATUS_FILE;
+    if (words.job == JOB_HELP)
+        words_help();
+    else
+        words_version();
+    return record_out() ? STATUS_DONE : STATUS_FILE;
 }

@@ -47,7 +47,7 @@ static void print_record(const struct session *session, const struct verdict *ve
     puts("}");
 }
 
-static bool is_out(void)
+bool record_out(void)
 {
     if (fflush(stdout) == 0 && !ferror(stdout))
         return true;
@@ -63,7 +63,7 @@ bool record_print(const struct session *session, const struct verdict *verdict, 
         printf("%s %s: %s\n", verdict->name, code_name(verdict->code), verdict->words);
     else
         printf("%s: %s\n", verdict->name, verdict->words);
-    return is_out();
+    return record_out();
 }
 
 static void print_short(int status, const char *name, const char *words)
@@ -80,7 +80,7 @@ bool record_refused(int32_t refusal, bool is_json)
         print_short(STATUS_REFUSED, refusal_name(refusal), refusal_words(refusal));
     else
         printf("%s: %s\n", refusal_name(refusal), refusal_words(refusal));
-    return is_out();
+    return record_out();
 }
 
 bool record_none(int status, bool is_json)
@@ -93,5 +93,5 @@ bool record_none(int status, bool is_json)
         print_short(status, "no-access", "the device may not be opened, or another program or a driver has it");
     else
         print_short(status, "no-device", "there is no such device, or more than one");
-    return is_out();
+    return record_out();
 }

@@ -17,4 +17,7 @@ bool record_refused(int32_t refusal, bool is_json);
    standard error. */
 bool record_none(int status, bool is_json);
 
+/* Whether all that was printed came to standard output. Where it didn't, that is said on standard error. */
+bool record_out(void);
+
 #endif

@@ -55,6 +55,19 @@ static struct answer perform(struct session *session, const struct dfu_action *a
     return answer;
 }
 
+/* Behind a download a device in run-time mode may be that of another image, and says what it likes. */
+bool session_meets(struct session *session)
+{
+    const struct found *is = &session->wire.device->is;
+    int mode = is->is_upgrade;
+    if (session->has_sent && !is->is_upgrade)
+        return true;
+    if (!session->has_first[mode])
+        session->first[mode] = *is;
+    session->has_first[mode] = true;
+    return is_again(&session->first[mode], is);
+}
+
 /* Whether the device that is open is the one that the session was begun with; one in run-time mode may say what it likes. */
 static bool is_as_begun(const struct session *session)
 {
@@ -93,15 +106,18 @@ static bool step(struct session *session, const struct dfu_action *action)
         answer.seen = DFU_NOTHING;
     if (session->silent >= MOST_SILENT)
         return end(session, END_SILENT);
+    if (device->handle != NULL && !session_meets(session))
+        return end(session, END_OTHER);
     if (is_as_begun(session))
         return tell(session, &answer);
-    if (session->has_sent || session->has_begun_anew || session_begin(session) != 0)
+    if (session->has_sent || session->has_begun_anew)
         return end(session, END_OTHER);
     session->has_begun_anew = true;
-    return true;
+    session->refusal = session_begin(session);
+    return session->refusal == 0 || end(session, END_REFUSED);
 }
 
-/* The first Ctrl-C: the host has the device leave what it is in. */
+/* The first signal: the host has the device leave what it is in. */
 static int32_t stop(struct session *session)
 {
     if (!*session->wire.device->is_stop || session->is_aborted)

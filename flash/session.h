@@ -17,18 +17,22 @@ enum end {
     END_GONE,   /* the device left and did not come back */
     END_SILENT, /* it answers no more */
     END_MANY,   /* it came back with more than one setting */
-    END_OTHER,  /* it came back as another device: its descriptor differs */
+    END_OTHER,  /* what came back is another device, or has another functional descriptor */
+    END_REFUSED, /* it came to DFU mode, and the host refused to begin with it there */
     END_BROKEN  /* the host's library refused its own record */
 };
 
 struct session {
-    enum goal goal;
+    bool is_upload, wants_verified; /* what was asked for, */
+    enum goal goal;               /* and what it is with the device's functional descriptor */
     const uint8_t *file;          /* of a download, never NULL: */
     size_t file_length;           /* the file with its suffix, */
     size_t payload_length;        /* and how many of its bytes, from the first on, are the payload; 0 of an upload */
     uint8_t *kept;                /* of an upload: what came, */
     size_t room;                  /* and how much may come before it grows */
     struct dfu_ids ids;           /* of the device as it was found first */
+    struct found first[2];        /* the device as it was found first in run-time mode, and in DFU mode, */
+    bool has_first[2];            /* where it was */
     bool has_limits;
     uint32_t actions;             /* the limits: those that were asked for, or by the file's size */
     uint16_t restarts;
@@ -43,6 +47,7 @@ struct session {
     int64_t began_ms;
     enum end end;
     struct dfu_action done;       /* the report, where `end` is END_REPORT */
+    int32_t refusal;              /* why not, where it is END_REFUSED */
 };
 
 /* The program's own refusal, beside the host's: the device speaks DfuSe. */
@@ -50,6 +55,9 @@ struct session {
 
 /* Begins the session of the device that was found. 0, REFUSED_DFUSE, or the host's refusal. Nothing is sent. */
 int32_t session_begin(struct session *session);
+
+/* Whether what the device is now is what it was when it was found first in that mode. */
+bool session_meets(struct session *session);
 
 /* Carries out what the host asks for, up to its report or to another end. */
 void session_run(struct session *session);

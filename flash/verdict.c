@@ -14,10 +14,10 @@ struct meaning {
 static const struct meaning reports[] = {
     [DFU_INSTALLED] = {STATUS_DONE, "the device took the whole image, told that it is in place, and was reset"},
     [DFU_UNCONFIRMED] = {STATUS_UNCONFIRMED, "the device took the whole image and was reset; it can't tell whether it is in place"},
-    [DFU_ABORTED] = {STATUS_ABORTED, "given up by Ctrl-C; the device may have the old image or the new one"},
-    [DFU_GAVE_UP] = {STATUS_GIVEN_UP, "the limit of actions is spent; the device may have the old image or the new one"},
-    [DFU_REFUSED] = {STATUS_DEVICE, "the device refused it; it may have the old image or the new one"},
-    [DFU_RESTARTS_SPENT] = {STATUS_GIVEN_UP, "the device restarted too often; it may have the old image or the new one"},
+    [DFU_ABORTED] = {STATUS_ABORTED, "given up by Ctrl-C or a signal; the device may have the old image, the new one or neither"},
+    [DFU_GAVE_UP] = {STATUS_GIVEN_UP, "the limit of actions is spent; the device may have the old image, the new one or neither"},
+    [DFU_REFUSED] = {STATUS_DEVICE, "the device refused it; it may have the old image, the new one or neither"},
+    [DFU_RESTARTS_SPENT] = {STATUS_GIVEN_UP, "the device restarted too often; it may have the old image, the new one or neither"},
     [DFU_UPLOADED] = {STATUS_DONE, "the device gave the image that it has"},
     [DFU_TOO_MANY_BLOCKS] = {STATUS_GIVEN_UP, "the image has 65535 full blocks or more: too many for an upload, or to compare it"},
     [DFU_NO_MEMORY] = {STATUS_GIVEN_UP, "there was no memory for the image"},
@@ -30,10 +30,10 @@ static const struct {
     const char *name;
     struct meaning meaning;
 } ends[] = {
-    [END_GONE] = {"gone", {STATUS_GONE, "the device left and did not come back; it may have the old image or the new one"}},
-    [END_SILENT] = {"silent", {STATUS_GONE, "the device answers no more; it may have the old image or the new one"}},
+    [END_GONE] = {"gone", {STATUS_GONE, "the device left and did not come back; it may have the old image, the new one or neither"}},
+    [END_SILENT] = {"silent", {STATUS_GONE, "the device answers no more; it may have the old image, the new one or neither"}},
     [END_MANY] = {"many", {STATUS_GONE, "the device came back with more than one setting: choose by --interface or --alt"}},
-    [END_OTHER] = {"other", {STATUS_GONE, "the device came back with another functional descriptor; it may have either image"}},
+    [END_OTHER] = {"other", {STATUS_GONE, "another device came back; the one of before may have the old image, the new one or neither"}},
     [END_BROKEN] = {"broken", {STATUS_GONE, "the host refused its own record, which is a mistake of this program"}},
 };
 

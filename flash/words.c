@@ -8,7 +8,9 @@
 #include <stdlib.h>
 #include <string.h>
 
-enum option_code { DEVICE = 256, PATH, SERIAL, INTERFACE, ALTERNATE, NO_VERIFY, UPLOAD, FORCE, LIMITS, DRY_RUN, QUIET, JSON, LIST, HELP };
+enum option_code {
+    DEVICE = 256, PATH, SERIAL, INTERFACE, ALTERNATE, NO_VERIFY, UPLOAD, FORCE, LIMITS, DRY_RUN, QUIET, JSON, LIST, HELP, VERSION
+};
 
 static const struct option options[] = {
     {"device", required_argument, NULL, DEVICE},   {"path", required_argument, NULL, PATH},
@@ -18,7 +20,7 @@ static const struct option options[] = {
     {"limits", required_argument, NULL, LIMITS},   {"dry-run", no_argument, NULL, DRY_RUN},
     {"quiet", no_argument, NULL, QUIET},           {"json", no_argument, NULL, JSON},
     {"list", no_argument, NULL, LIST},             {"help", no_argument, NULL, HELP},
-    {NULL, 0, NULL, 0},
+    {"version", no_argument, NULL, VERSION},       {NULL, 0, NULL, 0},
 };
 
 /* A decimal number up to `most`, with no sign and no other character. */
@@ -92,24 +94,35 @@ static bool is_limits(const char *first, const char *second, struct words *words
     return true;
 }
 
+/* --upload and --list each say what is to be done, in place of a download. */
+static bool is_job(struct words *words, enum job job)
+{
+    if (words->job != JOB_DOWNLOAD && (words->job != job || job == JOB_UPLOAD))
+        return refuse("one --upload, or --list, says what is to be done", "");
+    words->job = job;
+    return true;
+}
+
 static bool take_option(struct words *words, int code, int count, char **texts)
 {
     switch (code) {
     case DEVICE: return is_pair(optarg, words) || refuse("--device takes VID:PID, four hexadecimal digits each", optarg);
-    case PATH: words->path = optarg; return true;
-    case SERIAL: words->serial = optarg; return true;
+    case PATH: words->path = optarg; return *optarg != '\0' || refuse("--path takes a path, as --list shows it", "");
+    case SERIAL: words->serial = optarg; return *optarg != '\0' || refuse("--serial takes a serial number, as --list shows it", "");
     case INTERFACE: return is_interface(optarg, words);
     case ALTERNATE: return is_setting(optarg, words);
     case NO_VERIFY: words->verify = false; return true;
-    case UPLOAD: words->job = JOB_UPLOAD; words->file = optarg; return true;
+    case UPLOAD: words->file = optarg; return is_job(words, JOB_UPLOAD);
     case FORCE: words->force = true; return true;
     case LIMITS: return is_limits(optarg, optind < count ? texts[optind++] : NULL, words);
     case DRY_RUN: words->dry_run = true; return true;
     case QUIET: words->quiet = true; return true;
     case JSON: words->json = true; return true;
-    case LIST: words->job = JOB_LIST; return true;
+    case LIST: return is_job(words, JOB_LIST);
     case 'h':
     case HELP: words->job = JOB_HELP; return true;
+    case 'V':
+    case VERSION: words->job = JOB_VERSION; return true;
     default: fputs("See dfu-flash --help.\n", stderr); return false;
     }
 }
@@ -117,8 +130,6 @@ static bool take_option(struct words *words, int code, int count, char **texts)
 /* Whether the words go together. */
 static bool is_whole(struct words *words, int count, char **texts)
 {
-    if (words->job == JOB_HELP)
-        return true;
     if (words->job == JOB_DOWNLOAD && optind < count)
         words->file = texts[optind++];
     if (optind < count)
@@ -131,8 +142,10 @@ static bool is_whole(struct words *words, int count, char **texts)
         return refuse("--force goes with --upload alone", "");
     if (!words->verify && words->job != JOB_DOWNLOAD)
         return refuse("--no-verify goes with a download alone", "");
-    if (words->json && (words->job == JOB_LIST || words->dry_run))
-        return refuse("--json goes with neither --list nor --dry-run", "");
+    if (words->job == JOB_LIST && (words->has_limits || words->dry_run || words->quiet || words->json))
+        return refuse("--list goes with what chooses devices alone", "");
+    if (words->json && words->dry_run)
+        return refuse("--json doesn't go with --dry-run", "");
     return true;
 }
 
@@ -142,8 +155,11 @@ bool words_read(struct words *words, int count, char **texts)
     memset(words, 0, sizeof *words);
     words->verify = true;
     words->interface = words->alternate = -1;
-    while ((code = getopt_long(count, texts, "h", options, NULL)) != -1)
+    while ((code = getopt_long(count, texts, "hV", options, NULL)) != -1) {
         if (!take_option(words, code, count, texts))
             return false;
+        if (words->job == JOB_HELP || words->job == JOB_VERSION)
+            return true;
+    }
     return is_whole(words, count, texts);
 }

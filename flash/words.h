@@ -5,7 +5,7 @@
 #include <stdbool.h>
 #include <stdint.h>
 
-enum job { JOB_DOWNLOAD, JOB_UPLOAD, JOB_LIST, JOB_HELP };
+enum job { JOB_DOWNLOAD, JOB_UPLOAD, JOB_LIST, JOB_HELP, JOB_VERSION };
 
 struct words {
     enum job job;
@@ -24,7 +24,8 @@ struct words {
 /* Reads the words into `words`. False where they aren't understood, which is then said on standard error. */
 bool words_read(struct words *words, int count, char **texts);
 
-/* Prints the help on standard output. */
+/* Print the help, and the version, on standard output. */
 void words_help(void);
+void words_version(void);
 
 #endif

@@ -93,6 +93,21 @@ static bool set_rights(int out, const struct stat *there)
     return fchmod(out, mode) == 0;
 }
 
+/* For a file system that can neither rename without replacing nor link: an empty file of our own takes the name, and is replaced. */
+static bool take_name(const char *beside, const char *name)
+{
+    int error, empty = open(name, O_WRONLY | O_CREAT | O_EXCL | O_NOFOLLOW | O_CLOEXEC, 0600);
+    if (empty < 0)
+        return false;
+    close(empty);
+    if (rename(beside, name) == 0)
+        return true;
+    error = errno;
+    unlink(name);
+    errno = error;
+    return false;
+}
+
 /* Gives the new file its name. That of a file that came meanwhile is not taken. */
 static bool give_name(const char *beside, const char *name, bool is_there)
 {
@@ -100,7 +115,11 @@ static bool give_name(const char *beside, const char *name, bool is_there)
         return rename(beside, name) == 0;
     if (renameat2(AT_FDCWD, beside, AT_FDCWD, name, RENAME_NOREPLACE) == 0)
         return true;
-    return (errno == EINVAL || errno == ENOSYS) && link(beside, name) == 0 && unlink(beside) == 0;
+    if (errno != EINVAL && errno != ENOSYS)
+        return false;
+    if (link(beside, name) == 0)
+        return unlink(beside) == 0;
+    return errno != EEXIST && take_name(beside, name);
 }
 
 bool file_make(const char *name, bool is_forced, const uint8_t *bytes, size_t length)

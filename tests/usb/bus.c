@@ -17,7 +17,7 @@
 static const struct model *model;
 static struct {
     unsigned generation, away;
-    bool is_app, is_there;
+    bool is_app, is_there, is_swapped;
     int setting; /* the alternate setting that it stands in */
 } seen;
 static unsigned transfers;
@@ -137,6 +137,9 @@ static int handled(const uint8_t setup[8], uint8_t *data, uint16_t length, const
 static int meets(const struct fate *fate, const uint8_t setup[8], uint8_t *data, uint16_t length, unsigned timeout)
 {
     switch (fate->kind) {
+    case FATE_SWAP:
+        seen.is_swapped = true;
+        return leave();
     case FATE_LEAVE:
         return leave();
     case FATE_LOST_OUT:
@@ -217,4 +220,14 @@ unsigned bus_generation(void)
 bool bus_is_app(void)
 {
     return seen.is_app;
+}
+
+bool bus_is_swapped(void)
+{
+    return seen.is_swapped;
+}
+
+uint8_t bus_interface(void)
+{
+    return seen.is_swapped ? settings.swapped_interface : settings.interface;
 }

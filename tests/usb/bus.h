@@ -31,4 +31,10 @@ unsigned bus_generation(void);
 
 bool bus_is_app(void);
 
+/* Whether another board stands in the device's place. */
+bool bus_is_swapped(void);
+
+/* The number of the interface of what stands there. */
+uint8_t bus_interface(void);
+
 #endif

@@ -20,6 +20,8 @@ int libusb_open(libusb_device *device, libusb_device_handle **out)
     static unsigned opens;
     *out = NULL;
     bus_pass_time();
+    if (device->is_other && settings.other_denied != 0)
+        return settings.other_denied;
     if (settings.denied != 0 && opens++ >= settings.opens)
         return settings.denied;
     if (!device->is_other && device->generation != bus_generation())
@@ -54,21 +56,21 @@ static int held(const libusb_device_handle *handle)
 int libusb_claim_interface(libusb_device_handle *handle, int interface)
 {
     int error = held(handle);
-    if (error != 0 || interface != 0)
+    if (error != 0 || interface != bus_interface())
         return error != 0 ? error : USB_ERROR_NOT_FOUND;
     return settings.claimed;
 }
 
 int libusb_release_interface(libusb_device_handle *handle, int interface)
 {
-    return interface == 0 ? held(handle) : USB_ERROR_NOT_FOUND;
+    return interface == bus_interface() ? held(handle) : USB_ERROR_NOT_FOUND;
 }
 
 int libusb_set_interface_alt_setting(libusb_device_handle *handle, int interface, int setting)
 {
     int error = held(handle);
     int most = handle->device->is_app ? 1 : (int)settings.alternates;
-    if (error != 0 || interface != 0 || setting < 0 || setting >= most)
+    if (error != 0 || interface != bus_interface() || setting < 0 || setting >= most)
         return error != 0 ? error : USB_ERROR_NOT_FOUND;
     bus_set_interface(setting);
     return 0;
@@ -104,7 +106,7 @@ static int standard(const libusb_device *device, uint8_t kind, uint8_t request, 
         return describe_string(value & 0xff, device->is_other, data, length);
     if (value >> 8 != FUNCTIONAL || strcmp(settings.device, "uboot") != 0)
         return USB_ERROR_PIPE;
-    int count = describe_function(function);
+    int count = describe_function(device->is_app, function);
     count = length < count ? length : count;
     memcpy(data, function, (size_t)count);
     return count;
@@ -113,8 +115,8 @@ static int standard(const libusb_device *device, uint8_t kind, uint8_t request, 
 int libusb_control_transfer(libusb_device_handle *handle, uint8_t kind, uint8_t request, uint16_t value, uint16_t index,
                             unsigned char *data, uint16_t length, unsigned int timeout)
 {
-    const uint8_t setup[8] = { kind, request, (uint8_t)value, (uint8_t)(value >> 8), (uint8_t)index, (uint8_t)(index >> 8),
-                               (uint8_t)length, (uint8_t)(length >> 8) };
+    /* The device is its interface: which one that is on the bus the proved device isn't told, whose wIndex is 0. */
+    const uint8_t setup[8] = { kind, request, (uint8_t)value, (uint8_t)(value >> 8), 0, 0, (uint8_t)length, (uint8_t)(length >> 8) };
     int error = held(handle);
     if (error != 0)
         return error;
@@ -124,5 +126,7 @@ int libusb_control_transfer(libusb_device_handle *handle, uint8_t kind, uint8_t 
         fail_loudly("a request of type %02x is not one of the class to an interface", kind);
     if (handle->device->is_other)
         fail_loudly("a request of the class goes to the other device");
+    if (index != bus_interface())
+        fail_loudly("a request of the class goes to interface %u", index);
     return bus_transfer(setup, data, length, timeout);
 }

@@ -2,6 +2,7 @@
  * run-time mode and 2 in DFU mode (USB DFU 1.1, sections 4.1 and 4.2), in DFU mode with one alternate setting or more, and
  * the functional descriptor behind the last. */
 #include "descriptors.h"
+#include "bus.h"
 #include "settings.h"
 
 #include <stdlib.h>
@@ -11,7 +12,7 @@ enum { NO_STRING, SERIAL_STRING, INTERFACE_STRING }; /* behind the last those of
 
 void describe_device(bool is_app, struct libusb_device_descriptor *out)
 {
-    const struct ids *ids = is_app ? &settings.app : &settings.dfu;
+    const struct ids *ids = bus_is_swapped() ? &settings.swapped : is_app ? &settings.app : &settings.dfu;
     *out = (struct libusb_device_descriptor){
         .bLength = 18,
         .bDescriptorType = 1,
@@ -21,13 +22,13 @@ void describe_device(bool is_app, struct libusb_device_descriptor *out)
         .idProduct = ids->product,
         .bcdDevice = ids->release,
         .iSerialNumber = SERIAL_STRING,
-        .bNumConfigurations = 1,
+        .bNumConfigurations = settings.configurations,
     };
 }
 
-int describe_function(uint8_t out[9])
+int describe_function(bool is_app, uint8_t out[9])
 {
-    const uint8_t bytes[9] = { settings.descriptor, 0x21, settings.attributes,
+    const uint8_t bytes[9] = { settings.descriptor, 0x21, is_app ? settings.app_attributes : settings.attributes,
                                (uint8_t)settings.detach_ms, (uint8_t)(settings.detach_ms >> 8),
                                (uint8_t)settings.transfer, (uint8_t)(settings.transfer >> 8),
                                (uint8_t)settings.version, (uint8_t)(settings.version >> 8) };
@@ -53,6 +54,7 @@ struct libusb_config_descriptor *describe_configuration(bool is_app)
         whole->alternates[at] = (struct libusb_interface_descriptor){
             .bLength = 9,
             .bDescriptorType = 4,
+            .bInterfaceNumber = bus_interface(),
             .bAlternateSetting = (uint8_t)at,
             .bInterfaceClass = 0xfe,
             .bInterfaceSubClass = 1,
@@ -60,7 +62,7 @@ struct libusb_config_descriptor *describe_configuration(bool is_app)
             .iInterface = (uint8_t)(INTERFACE_STRING + (count > 1 ? 1 + at : 0)),
         };
     whole->alternates[count - 1].extra = whole->function;
-    whole->alternates[count - 1].extra_length = describe_function(whole->function);
+    whole->alternates[count - 1].extra_length = describe_function(is_app, whole->function);
     whole->interface = (struct libusb_interface){ whole->alternates, count };
     whole->configuration = (struct libusb_config_descriptor){
         .bLength = 9,
@@ -83,12 +85,14 @@ void forget_configuration(struct libusb_config_descriptor *found)
 int describe_string(unsigned number, bool is_other, uint8_t *out, uint16_t room)
 {
     static const char *const names[] = { "stand-in", "boot", "kernel", "data" };
-    const char *text = number < INTERFACE_STRING ? is_other ? "OTHER" : settings.serial : "";
+    const char *text = number < INTERFACE_STRING ? is_other || bus_is_swapped() ? "OTHER" : settings.serial : "";
     uint8_t bytes[2 + 2 * 126] = { 4, 3, 0x09, 0x04 };
     if (number > INTERFACE_STRING + MOST_ALTERNATES)
         return USB_ERROR_PIPE;
     if (number >= INTERFACE_STRING)
         text = names[number - INTERFACE_STRING];
+    if (number == INTERFACE_STRING && bus_is_swapped() && settings.swapped_name != NULL)
+        text = settings.swapped_name;
     if (strlen(text) > 126)
         fail_loudly("USB_SERIAL is too long");
     if (number != NO_STRING)

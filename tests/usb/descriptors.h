@@ -16,6 +16,6 @@ void forget_configuration(struct libusb_config_descriptor *found);
 int describe_string(unsigned number, bool is_other, uint8_t *out, uint16_t room);
 
 /* The functional descriptor: how many bytes it has. */
-int describe_function(uint8_t out[9]);
+int describe_function(bool is_app, uint8_t out[9]);
 
 #endif

@@ -28,9 +28,87 @@ says 'no device with DFU'
 row 5 old '' USB_DENIED=3 new.dfu
 says 'ATTR{idVendor}=="1209", ATTR{idProduct}=="0001"'
 row 5 old '' USB_DENIED=3 --serial F1 new.dfu
+row 4 old '' 'USB_DEVICES=2 USB_OTHER_DENIED=3' new.dfu
+row 0 new 'verified: ' 'USB_DEVICES=2 USB_OTHER_DENIED=3' --serial F1 new.dfu
+row 5 old '' USB_DENIED=3 --serial F2 new.dfu
 row 0 - '1209:0001 path 1-2 serial OTHER' USB_DEVICES=2 --list
 expect 'a list: nothing is sent' is_silent
 row 0 - '' USB_DEVICES=0 --list
+
+# The interface has another number than 0, which wIndex of each request is; and it is in the second configuration, in which the
+# device stands.
+for device in proved uboot; do
+    row 0 new 'verified: ' "USB_INTERFACE=3 USB_DEVICE=$device" new.dfu
+    row 0 new 'verified: ' "USB_INTERFACE=3 USB_DEVICE=$device" --interface 3 new.dfu
+    row 0 new 'verified: ' "USB_CONFIGURATIONS=2 USB_DEVICE=$device" new.dfu
+done
+row 0 new 'verified: ' 'USB_INTERFACE=3 USB_START=app' new.dfu
+row 4 old '' USB_INTERFACE=3 --interface 0 new.dfu
+row 0 - '1209:0001 path 1-1 serial F1 interface 0 alt 0 "stand-in" DFU mode, ' USB_CONFIGURATIONS=2 --list
+expect 'a line' test "$(wc -l < out)" -eq 1
+
+# Another board in its place, seen by its serial number, or by its identifiers where it tells none: nothing of an image goes to it,
+# and what it has isn't taken for the device's.
+swaps() {
+    for number in $1; do
+        fate="swap $number"
+        for words in new.dfu '--serial F1 new.dfu'; do
+            # shellcheck disable=SC2086
+            row 10 - 'other: ' "$2" $words
+            expect "$2 with $fate: no block" test "$(sed '1,/ swap /d' log | grep -c DNLOAD)" -eq 0
+        done
+    done
+    fate=
+}
+swaps '0 1 4 9 10 11 12 13 14' USB_SERIAL=F1
+swaps '0 1 2 5' 'USB_START=app'
+for number in 0 4 12 13; do
+    fate="swap $number"
+    row 10 - 'other: ' 'USB_SERIAL= USB_SWAP_IDS=1209:0002:0100' new.dfu
+done
+for number in 0 1 2; do
+    fate="swap $number"
+    row 10 - 'other: ' 'USB_SERIAL= USB_SWAP_IDS=1200:0001:0100' --upload never
+    expect 'another board: no file' test ! -e never
+done
+for settings in USB_SWAP_INTERFACE=1 USB_SWAP_NAME=other; do
+    for fate in 'swap 4' 'swap 13'; do
+        row 10 - 'other: ' "USB_SERIAL= $settings" new.dfu
+    done
+done
+fate='swap 4'
+row 0 new 'verified: ' USB_SERIAL=OTHER new.dfu
+fate=
+
+# Where the system tells no ports a path says of no device which it is: it is found again by its serial number alone.
+for number in 0 4 12; do
+    fate="leave $number"
+    row 0 new 'verified: ' 'USB_PATH=1 USB_DEVICES=2 USB_AWAY=4' --serial F1 new.dfu
+done
+fate='leave 4'
+row 4 old '' USB_PATH=1 new.dfu
+says 'the system tells no ports'
+expect 'no ports: nothing is sent' is_untouched
+fate=
+# And one that was asked for at its path is found nowhere else: the other board has the same serial number here.
+for number in 0 4 12; do
+    fate="leave $number"
+    row 0 new 'verified: ' 'USB_DEVICES=2 USB_SERIAL=OTHER USB_AWAY=4' --path 1-1 --serial OTHER new.dfu
+done
+fate=
+
+# In DFU mode a device may have another functional descriptor than in run-time mode: the session is begun anew by that one.
+row 0 new 'verified: ' 'USB_START=app USB_APP_ATTRIBUTES=05' new.dfu
+row 0 new 'installed: ' 'USB_START=app USB_ATTRIBUTES=05 USB_APP_ATTRIBUTES=07' new.dfu
+row 0 old 'uploaded: ' 'USB_START=app USB_APP_ATTRIBUTES=06' --upload anew
+for words in '05 CannotUpload --upload never' '06 CannotDownload new.dfu'; do
+    attributes=${words%% *}
+    words=${words#* }
+    # shellcheck disable=SC2086
+    row 1 old "${words%% *}: " "USB_START=app USB_ATTRIBUTES=$attributes USB_APP_ATTRIBUTES=07" ${words#* }
+    expect 'begun anew, and refused: no block, no part' test "$(grep -c 'DNLOAD\|UPLOAD' log)" -eq 0
+done
+expect 'begun anew, and refused: no file' test ! -e never
 
 # Alternate settings: each is listed with its name; of several none is taken but the one that was chosen, and no request is made
 # in another one (USB_SETTING), also where the device stands in setting 0 again: behind a reset, and where it left.

@@ -38,7 +38,7 @@ flash() {
     rm -f saved log
     # shellcheck disable=SC2086
     env LD_LIBRARY_PATH="$work" USB_IMAGE="$work/old" USB_SAVE="$work/saved" USB_LOG="$work/log" USB_FATE="$fate" $settings \
-        timeout 60 $as ./dfu-flash "$@" > out 2> err || code=$?
+        timeout -k 5 60 $as ./dfu-flash "$@" > out 2> err || code=$?
 }
 fate=
 as=

@@ -7,19 +7,27 @@
  * USB_LEAST       fewest bytes of an image (1)          USB_CAPACITY  most bytes of an image (100000)
  * USB_IMAGE       a file with the old image (one byte, 00h)
  * USB_IDS         vendor:product:release in run-time mode (1209:0001:0100); USB_DFU_IDS in DFU mode (the same)
- * USB_SERIAL      serial number (F1)                    USB_PATH      bus and ports, as 1-2.3 (1-1)
+ * USB_SERIAL      serial number (F1)                    USB_PATH      bus and ports, as 1-2.3, or a bus alone (1-1)
+ * USB_SWAP_IDS    of the board that stands in the device's place once it was swapped: its ids, in either mode, its
+ * USB_SWAP_INTERFACE  interface, and the name of its first setting in DFU mode (those of the device)
+ * USB_SWAP_NAME
  * USB_START       app or dfu: the mode at the start (dfu)
  * USB_DEVICES     1, or 2: another device, whose serial number is OTHER, stands on the bus (1)
  * USB_DENIED      the number of the error that opening a device answers, as 3 for LIBUSB_ERROR_ACCESS (0: it is opened)
+ * USB_OTHER_DENIED  the same of the other device alone (0)
  * USB_OPENS       so many opens go well before USB_DENIED holds (0)
  * USB_CLAIMED     the number of the error that claiming the interface answers, as 6 for LIBUSB_ERROR_BUSY (0: it is claimed)
  * USB_ALTERNATES  alternate settings of the interface in DFU mode, up to 3, with the names boot, kernel and data (1)
  * USB_SETTING     the setting that each request of DFU mode has to be made in: one in another ends the program (any)
+ * USB_INTERFACE   the number of the interface, which wIndex of each request has to be (0)
+ * USB_CONFIGURATIONS  configurations; the device stands in the last, and the others have no interface (1)
+ * USB_APP_ATTRIBUTES  bmAttributes of the descriptor in run-time mode (USB_ATTRIBUTES)
  * USB_DESCRIPTOR  bytes of the functional descriptor, 7 as in DFU 1.0, or 0 for none (9)
  * USB_VERSION     its bcdDFUVersion, hexadecimal (0110)
  * USB_AWAY        for how many lists of devices it is away when its mode changes, or when it leaves (0)
  * USB_FATE        fates of transfers, with commas between: `lost-out N`, `lost-back N`, `twice N`, `short N BYTES`,
- *                 `leave N` (its power goes and comes back), `kill N` (the program is killed before it), `deaf N` (from N on
+ *                 `leave N` (its power goes and comes back), `swap N` (the same, and another board, with the serial number
+ *                 OTHER, stands in its place), `kill N` (the program is killed before it), `deaf N` (from N on
  *                 each is lost on its way out, and resets fail), `mute N` (from N on each answer is lost; resets work)
  * USB_LOG         a file that gets a line for each transfer
  * USB_SAVE        a file that gets the active image at the end
@@ -91,9 +99,12 @@ static void read_path(const char *path)
 {
     unsigned bus = 0, port = 0;
     int used = 0;
-    if (sscanf(path, "%u-%n", &bus, &used) != 1 || used == 0)
+    if (sscanf(path, "%u%n", &bus, &used) != 1 || (path[used] != '\0' && path[used] != '-'))
         fail_loudly("USB_PATH is bus-port.port: %s", path);
     settings.bus = (uint8_t)bus;
+    if (path[used] == '\0')
+        return;
+    path++;
     for (path += used; settings.port_count < PORTS && sscanf(path, "%u%n", &port, &used) == 1; path += used + (path[used] == '.'))
         settings.ports[settings.port_count++] = (uint8_t)port;
     if (settings.port_count == 0 || *path != '\0')
@@ -102,7 +113,7 @@ static void read_path(const char *path)
 
 static enum fate_kind kind_of(const char *word)
 {
-    static const char *const words[] = { "pass", "lost-out", "lost-back", "twice", "short", "leave", "kill", "deaf", "mute" };
+    static const char *const words[] = { "pass", "lost-out", "lost-back", "twice", "short", "leave", "swap", "kill", "deaf", "mute" };
     for (unsigned kind = 0; kind < sizeof words / sizeof *words; kind++)
         if (strcmp(word, words[kind]) == 0)
             return (enum fate_kind)kind;
@@ -151,14 +162,21 @@ void settings_read(void)
     read_device();
     settings.app = ids("USB_IDS", "1209:0001:0100");
     settings.dfu = ids("USB_DFU_IDS", text("USB_IDS", "1209:0001:0100"));
+    settings.swapped = ids("USB_SWAP_IDS", text("USB_DFU_IDS", text("USB_IDS", "1209:0001:0100")));
     settings.serial = text("USB_SERIAL", "F1");
     read_path(text("USB_PATH", "1-1"));
     settings.starts_in_app = is_first("USB_START", "app", "dfu", "dfu");
     settings.devices = number("USB_DEVICES", 1, 10);
     settings.denied = -(int)number("USB_DENIED", 0, 10);
+    settings.other_denied = -(int)number("USB_OTHER_DENIED", 0, 10);
     settings.opens = number("USB_OPENS", 0, 10);
     settings.claimed = -(int)number("USB_CLAIMED", 0, 10);
     settings.alternates = number("USB_ALTERNATES", 1, 10);
+    settings.interface = (uint8_t)number("USB_INTERFACE", 0, 10);
+    settings.swapped_interface = (uint8_t)number("USB_SWAP_INTERFACE", settings.interface, 10);
+    settings.swapped_name = getenv("USB_SWAP_NAME");
+    settings.configurations = (uint8_t)number("USB_CONFIGURATIONS", 1, 10);
+    settings.app_attributes = (uint8_t)number("USB_APP_ATTRIBUTES", settings.attributes, 16);
     settings.descriptor = (uint8_t)number("USB_DESCRIPTOR", 9, 10);
     settings.version = (uint16_t)number("USB_VERSION", 0x0110, 16);
     if (settings.descriptor > 9)

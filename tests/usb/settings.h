@@ -5,7 +5,7 @@
 #include <stdbool.h>
 #include <stdint.h>
 
-enum fate_kind { FATE_PASS, FATE_LOST_OUT, FATE_LOST_BACK, FATE_TWICE, FATE_SHORT, FATE_LEAVE, FATE_KILL, FATE_DEAF, FATE_MUTE };
+enum fate_kind { FATE_PASS, FATE_LOST_OUT, FATE_LOST_BACK, FATE_TWICE, FATE_SHORT, FATE_LEAVE, FATE_SWAP, FATE_KILL, FATE_DEAF, FATE_MUTE };
 
 /* What becomes of the transfer of one number, and, of FATE_DEAF and FATE_MUTE, of each behind it; `bytes` is for FATE_SHORT. */
 struct fate {
@@ -23,20 +23,24 @@ struct ids {
 
 struct settings {
     const char *device;                /* "proved" or "uboot" */
-    uint8_t attributes;                /* bmAttributes */
+    uint8_t attributes, app_attributes; /* bmAttributes, in DFU mode and in run-time mode */
     uint16_t transfer, detach_ms;      /* wTransferSize, wDetachTimeOut */
     uint32_t busy_ms, manifest_ms, least, capacity;
     const char *image;                 /* a file with the old image, or NULL: one byte, 00h */
-    struct ids app, dfu;               /* in run-time mode, and in DFU mode */
+    struct ids app, dfu, swapped;      /* in run-time mode, in DFU mode, and of another board in its place */
     const char *serial;
     uint8_t bus, ports[PORTS];
-    unsigned port_count;
+    unsigned port_count;               /* 0: the system tells no ports */
     bool starts_in_app;
+    uint8_t interface;                 /* its number; */
+    uint8_t swapped_interface;         /* that of another board in its place, */
+    const char *swapped_name;          /* and the name of that one's first setting, or NULL: the same */
+    uint8_t configurations;            /* how many there are; the last one has the interface */
     unsigned alternates;               /* settings of the interface in DFU mode */
     uint8_t descriptor;                /* bytes of the functional descriptor */
     uint16_t version;                  /* bcdDFUVersion */
     int setting;                       /* the one that requests are to be made in, or -1: any */
-    int denied, claimed;               /* the error of an open and of a claim, or 0 */
+    int denied, other_denied, claimed; /* the error of an open, of one of the other device, and of a claim, or 0 */
     unsigned opens;                    /* so many opens go well before */
     unsigned devices, away;
     struct fate fates[FATES];

@@ -96,6 +96,8 @@ int libusb_get_port_numbers(libusb_device *device, uint8_t *ports, int room)
 {
     if (room < (int)settings.port_count)
         return USB_ERROR_OVERFLOW;
+    if (settings.port_count == 0)
+        return 0;
     memcpy(ports, settings.ports, settings.port_count);
     ports[settings.port_count - 1] += device->is_other;
     return (int)settings.port_count;
@@ -109,15 +111,17 @@ int libusb_get_device_descriptor(libusb_device *device, struct libusb_device_des
 
 int libusb_get_config_descriptor(libusb_device *device, uint8_t number, struct libusb_config_descriptor **out)
 {
-    if (number != 0)
+    if (number >= settings.configurations)
         return USB_ERROR_NOT_FOUND;
     *out = describe_configuration(device->is_app);
+    if (number + 1 < settings.configurations)
+        (*out)->bNumInterfaces = 0;
     return 0;
 }
 
 int libusb_get_active_config_descriptor(libusb_device *device, struct libusb_config_descriptor **out)
 {
-    return libusb_get_config_descriptor(device, 0, out);
+    return libusb_get_config_descriptor(device, settings.configurations - 1, out);
 }
 
 void libusb_free_config_descriptor(struct libusb_config_descriptor *found)
