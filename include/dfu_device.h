@@ -1,7 +1,7 @@
 /* A device of USB device firmware upgrade (USB DFU 1.1) for a program in C, as a bootloader runs it.
  *
  * The program owns all there is: what the device is set up with, the record of what it keeps between two calls, and the
- * medium, which is plain memory. The library has no state, takes no memory, and calls memcpy, memmove and memset alone:
+ * medium, which is plain memory. The library has no state, takes no memory, and calls at most memcpy, memmove and memset:
  * it needs nothing of the C library beside them. It is for 64-bit processors.
  *
  * Return values: 0 or more is an answer; a negative number is DFU_STALL or a refusal. After a refusal nothing changed:
@@ -10,7 +10,7 @@
  * What the program owes, always:
  * - No pointer is NULL, also where its length is 0, and each points to as much as its length or its type says.
  * - Nothing that is handed in overlaps anything else that is.
- * - One call at a time for a record or a medium; and enough stack: up to 8 kB below a call (tests/c-device).
+ * - One call at a time for a record or a medium; and enough stack: up to 9,000 bytes below a call (tests/c-device).
  * What it owes so that the device goes on as it stood:
  * - The configuration is the same in every call, and the record and the medium are as the last call left them. A record
  *   is begun by dfu_device_power_on.
@@ -22,21 +22,27 @@
  *
  *     on power:            dfu_device_power_on; and for a device that is to begin in dfuIDLE a DETACH and a reset of its own
  *     on a bus reset:      dfu_device_usb_reset, once an enumeration
- *     on a control transfer to the interface of this standard:
+ *     on a request of this class (bmRequestType 21h or A1h) to the interface of this standard:
+ *                          set wIndex, bytes 4 and 5 of the setup, to 0, whatever number the interface has
  *                          take in the whole data stage, wLength bytes, where the host sends; none where it reads
  *                          n = dfu_device_handle(..)
  *                          0 or more: answer with the n bytes of out, or acknowledge where the host sent
  *                          DFU_STALL: stall endpoint 0; the device goes on from the state that it is in then
  *     as time passes:      dfu_device_elapse where dfu_device_state says 1, 4 or 7: the other states count no time
+ *                          with bit 3 it leads from 1 to 2: then leave the bus and come back, and tell no reset of that
  *     then:                dfu_device_state says what runs: the application in 0 and 1, the upgrade elsewhere
  *
+ * - Other requests, as SET_INTERFACE, are the program's own: a call stalls them.
+ * - Tell the time that has passed before a request is handed in: in state 4 or 7 each request, GETSTATUS too, is an error, and
+ *   drops what was taken.
  * - A body that is longer than the program's buffer must not be cut: stall it, without a call.
  * - A second reset of the bus ends the upgrade mode: one in dfuIDLE goes to appIDLE, as the table has it. So tell no reset that
- *   belongs to the same enumeration.
+ *   belongs to the same enumeration, nor that of the first one where the device was brought to dfuIDLE as it got power.
  * - The medium is written within the dfu_device_elapse that comes to the end of the busy or the manifestation time; and where
  *   that time is 0, within the dfu_device_handle that answers GETSTATUS. A DNLOAD alone writes nothing.
- * - Each call that is given a medium reads the whole active image once, for its register; and until the next download writes its
- *   first block, the image before it too. So tell the time in few calls: one with busy_ms, when it has passed, will do. */
+ * - Each call that is given a medium reads the whole active image, for its register; and until the next download writes its
+ *   first block, the image before it too. The one that puts an image in place reads the new one, and then both again. So tell the
+ *   time in few calls: one with busy_ms, when it has passed, will do. */
 #ifndef DFU_DEVICE_H
 #define DFU_DEVICE_H
 
@@ -57,7 +63,7 @@ struct dfu_config {
     uint8_t attributes;   /* bmAttributes: bit 0 bitCanDnload, 1 bitCanUpload, 2 bitManifestationTolerant, 3 bitWillDetach */
     uint32_t busy_ms;     /* how long a block takes to be written, 0 to 16,777,215 ms */
     uint32_t manifest_ms; /* how long an image takes to be put in place, 0 to 16,777,215 ms; at least 1 without bit 2 */
-    uint32_t least;       /* the fewest bytes of an image, 1 to 16,777,216 */
+    uint32_t least;       /* the fewest bytes of an image, 1 to 16,777,216: with more than a slot holds no download can end */
 };
 
 /* What is kept of a device between two calls. A program reads it by dfu_device_state and dfu_device_code, and writes nothing in it.
@@ -100,11 +106,13 @@ struct dfu_place {
 
 /* Writes an image into the first slot and makes it the active one, whatever stood on the medium: 0; or DFU_NO_MEDIUM
  * (2^32 bytes or more), DFU_WRONG_SIZE, DFU_TOO_LARGE, looked for in this order. A medium has 2 * (32 + C) bytes, for images of
- * at most C bytes, C from 1 to 16,777,216. */
+ * at most C bytes, C from 1 to 16,777,216. It is for when a board is made: a loss of power within it may leave no image. */
 int32_t dfu_device_format(uint8_t *medium, size_t size, const uint8_t *image, size_t length);
 
 /* The device gets power: 0, and the record is that of a device in appIDLE, whatever it held. It writes nothing on the
- * medium. DFU_NO_CONFIG, DFU_NO_MEDIUM, looked for in this order. Also after each loss of power: the medium alone must last. */
+ * medium. DFU_NO_CONFIG, DFU_NO_MEDIUM, looked for in this order. Also after each loss of power: the medium alone must last. One
+ * within a call was tried after each instruction on x86-64, and isn't proved here: the writes are plain stores, which caches and
+ * memory have to let through in the processor's order, what opens the new slot last. */
 int32_t dfu_device_power_on(const struct dfu_config *config, struct dfu_device *device, uint8_t *medium, size_t size);
 
 /* Answers a setup with its body: how many bytes the answer has, which stand at the front of out; 0 where it is acknowledged

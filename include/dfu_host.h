@@ -2,26 +2,28 @@
 
    The library sends nothing, takes no memory and keeps nothing between two calls. The program keeps the record
    of the session, does what dfu_host_next says, and tells dfu_host_take what came of it. It links with
-   crates/dfu_host_c/out/libdfu_host_c.a, which wants memcpy, memmove, memset and memcmp of the program's C library.
+   crates/dfu_host_c/out/libdfu_host_c.a, which wants at most memcpy, memmove and memset of the program's C library.
 
        struct dfu_session s; struct dfu_action a; struct dfu_file f; uint8_t answer[65535];
        if (dfu_host_file(file, length, &f) < 0) ..
        if (dfu_host_download(&s, file, length, descriptor, size, &device, 100000, 3) < 0) ..
-       for (;;) {
-           dfu_host_next(&s, file, f.payload, &a);
-           if (a.what == DFU_DONE) break;
+       while (dfu_host_next(&s, file, f.payload, &a) == 0 && a.what != DFU_DONE) {
            if (a.what == DFU_WAIT) { sleep for a.value ms; seen = DFU_WAITED; }
            else if (a.what == DFU_RESET) { reset the bus; seen = DFU_WAS_RESET; }
            else { a control transfer with a.setup; seen = what came of it; }
-           dfu_host_take(&s, file, f.payload, buffer, room, seen, answer, count);
+           if (dfu_host_take(&s, file, f.payload, buffer, room, seen, answer, count) != 0) break;
        }
+       a.what is DFU_DONE, and a.value the report; or a call was refused, which is a mistake of the program
 
    What came of a transfer, by its outcome:
      acknowledged, where a.setup[0] is 21h (the host sends)        DFU_ACK
      answered, where a.setup[0] is A1h (the device answers)        DFU_BYTES, with the bytes, of any count from 0 on
      stalled                                                       DFU_STALLED
      not finished for any other reason, as a time that ran out     DFU_NOTHING
-     the device left, or somebody else reset it                    DFU_RESTARTED, once it is back, before all else
+     the device left unasked, or somebody else reset it            DFU_RESTARTED, once it is back, before all else
+   A device that leaves because of a DETACH that it acknowledged, or of DFU_RESET, does what it was asked to: that is no
+   restart, and what comes next is asked for once it is open again; DFU_WAS_RESET is the answer to DFU_RESET then too. Each
+   DFU_RESTARTED spends one of the session's restarts, and the host asks anew where the device stands.
 
    What the program owes:
      - pointers to as many bytes as their lengths say, which do not overlap, and none of which is NULL, also where
@@ -45,6 +47,10 @@
 
 #include <stddef.h>
 #include <stdint.h>
+
+#ifdef __cplusplus
+extern "C" {
+#endif
 
 /* A device, by its device descriptor: bcdDevice, idProduct, idVendor. */
 struct dfu_ids {
@@ -74,7 +80,8 @@ struct dfu_action {
     uint64_t from;    /* DFU_SEND: where in the payload the body begins */
     uint64_t length;  /* DFU_SEND: how many bytes the body has, 0 to 65,535; 0 where the device answers */
     uint32_t code;    /* DFU_DONE with DFU_REFUSED: the device's bStatus, 0 to 15 */
-    uint8_t setup[8]; /* DFU_SEND: the setup of a control transfer */
+    uint8_t setup[8]; /* DFU_SEND: the setup of a control transfer; its wIndex, bytes 4 and 5, is 0: send the number of the
+                         device's DFU interface there, and change nothing else */
 };
 
 enum { DFU_SEND, DFU_WAIT, DFU_RESET, DFU_DONE };
@@ -157,5 +164,9 @@ int32_t dfu_host_abort(struct dfu_session *session, const uint8_t *payload, size
 /* Writes a report's name, as `gave-up`, with no end mark: how many bytes it has, at most 15, or 0 where there is no
    such report or `out` has no room for it. */
 int32_t dfu_host_name(uint32_t report, uint8_t *out, size_t room);
+
+#ifdef __cplusplus
+}
+#endif
 
 #endif

@@ -39,6 +39,8 @@ static void pass(uint32_t ms) {
 }
 
 int main(void) {
+    /* Once, where a board is made: it throws away what stands on the medium. Here that is memory, which is empty each time. A
+     * bootloader begins with dfu_device_power_on. */
     if (dfu_device_format(medium, sizeof medium, (const uint8_t *)"\x11\x22", 2) != 0)
         return 1;
     show("power on", dfu_device_power_on(&config, &device, medium, sizeof medium));

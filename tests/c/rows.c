@@ -24,7 +24,8 @@ static void ask(const char *what, const char *setup, const void *body, size_t le
 
 static void image_is(const char *what, const char *bytes, uint32_t length) {
     struct dfu_place place = {0, 0};
-    expect(what, dfu_device_image(medium, sizeof medium, &place) == 0 && place.length == length && memcmp(medium + place.at, bytes, length) == 0);
+    expect(what, dfu_device_image(medium, sizeof medium, &place) == 0 && place.length == length
+        && memcmp(medium + place.at, bytes, length) == 0);
 }
 
 #define STATUS "\xa1\x03\0\0\0\0\x06\0"
@@ -64,7 +65,7 @@ static void refusals(void) {
     static uint8_t before[sizeof medium];
     struct dfu_device kept = device;
     struct dfu_place place = {7, 7};
-    uint8_t none[100] = {0};
+    uint8_t none[100] = {0}, zeros[100] = {0};
     config.transfer = 0;
     ask("NO_CONFIG", STATUS, "", 0, DFU_NO_CONFIG, "", 0);
     config.transfer = 17;
@@ -73,7 +74,10 @@ static void refusals(void) {
     expect("NO_MEDIUM", dfu_device_elapse(&config, &device, none, sizeof none, 1) == DFU_NO_MEDIUM
         && dfu_device_power_on(&config, &device, none, sizeof none) == DFU_NO_MEDIUM
         && dfu_device_image(none, sizeof none, &place) == DFU_NO_MEDIUM && place.at == 7 && place.length == 7);
+    expect("NO_MEDIUM: unchanged", memcmp(none, zeros, sizeof none) == 0);
     memcpy(before, medium, sizeof medium);
+    expect("image", dfu_device_image(medium, sizeof medium, &place) == 0 && memcmp(before, medium, sizeof medium) == 0);
+    place = (struct dfu_place){7, 7};
     kept.mode = 6;
     kept.first = 9;
     expect("NO_DEVICE", dfu_device_usb_reset(&config, &kept, medium, sizeof medium) == DFU_NO_DEVICE && kept.mode == 6 && kept.first == 9);
