@@ -1,0 +1,223 @@
+/* The device of the stand-in (tests/usb) as Linux has one on its bus: attached to vhci_hcd, the kernel's host controller for devices
+ * that stand behind a socket, with the protocol USB/IP. So the kernel's USB and the real libusb stand between it and a program.
+ *
+ * The kernel tells such a device of no reset. What comes behind one tells it: 64 bytes of the device descriptor are asked for, and
+ * at the end a configuration is set. So a reset is told where a configuration was set before, and once an enumeration. What the
+ * device says of itself behind it may differ, and then the kernel enumerates it anew.
+ *
+ * A device that leaves, by itself or by its fate, closes its socket, and is attached again. A transfer that is lost is not answered,
+ * until the program's time for it is over.
+ *
+ * usage: attached    (as root, until SIGTERM; the settings are those of the stand-in, in tests/usb/settings.c) */
+#define _GNU_SOURCE
+#include "abi.h"
+#include "bus.h"
+#include "descriptors.h"
+#include "settings.h"
+
+#include <arpa/inet.h>
+#include <errno.h>
+#include <fcntl.h>
+#include <poll.h>
+#include <signal.h>
+#include <stdio.h>
+#include <stdlib.h>
+#include <string.h>
+#include <sys/socket.h>
+#include <unistd.h>
+
+enum { SUBMIT = 1, UNLINK = 2, SUBMITTED = 3, UNLINKED = 4 };
+
+#define ATTACH "/sys/devices/platform/vhci_hcd.0/attach"
+#define DEVICE 0x10001 /* a bus and a number, which nothing looks at */
+#define FULL_SPEED 2
+
+/* All numbers have their high byte first. */
+struct header {
+    uint32_t command, number, device, direction, endpoint;
+    uint32_t fields[5]; /* of SUBMIT: flags, length; of UNLINK: the number; of an answer: status, length */
+    uint8_t setup[8];
+};
+
+static volatile sig_atomic_t is_stopped;
+static int line = -1;
+static bool is_configured;
+static unsigned generation;
+
+static void on_stop(int number)
+{
+    (void)number;
+    is_stopped = 1;
+}
+
+static bool attach(void)
+{
+    int ends[2];
+    char words[64];
+    int file = open(ATTACH, O_WRONLY), length;
+    bool is = false;
+    if (file < 0 || socketpair(AF_UNIX, SOCK_STREAM, 0, ends) != 0)
+        fail_loudly("there is no %s", ATTACH);
+    length = snprintf(words, sizeof words, "0 %d %d %d", ends[1], DEVICE, FULL_SPEED);
+    is = write(file, words, (size_t)length) == length;
+    close(file);
+    close(ends[1]);
+    if (is)
+        line = ends[0];
+    else
+        close(ends[0]);
+    is_configured = false;
+    generation = bus_generation();
+    return is;
+}
+
+static void detach(void)
+{
+    if (line >= 0) {
+        shutdown(line, SHUT_RDWR);
+        close(line);
+    }
+    line = -1;
+}
+
+static bool transfer_all(void *bytes, size_t length, bool is_in)
+{
+    for (size_t done = 0; done < length;) {
+        ssize_t count = is_in ? read(line, (char *)bytes + done, length - done) : write(line, (char *)bytes + done, length - done);
+        if (count < 0 && errno == EINTR)
+            continue;
+        if (count <= 0)
+            return false;
+        done += (size_t)count;
+    }
+    return true;
+}
+
+static int cut(const uint8_t *bytes, int length, uint8_t *out, int room)
+{
+    length = length < room ? length : room;
+    memcpy(out, bytes, (size_t)length);
+    return length;
+}
+
+static int get_device(uint8_t *out, int room)
+{
+    struct libusb_device_descriptor is;
+    describe_device(bus_is_app(), &is);
+    const uint8_t bytes[18] = { 18, 1, 0x00, 0x02, 0, 0, 0, 8, (uint8_t)is.idVendor, (uint8_t)(is.idVendor >> 8),
+                                (uint8_t)is.idProduct, (uint8_t)(is.idProduct >> 8), (uint8_t)is.bcdDevice,
+                                (uint8_t)(is.bcdDevice >> 8), is.iManufacturer, is.iProduct, is.iSerialNumber, is.bNumConfigurations };
+    return cut(bytes, sizeof bytes, out, room);
+}
+
+static int get_configuration(uint8_t *out, int room)
+{
+    struct libusb_config_descriptor *is = describe_configuration(bus_is_app());
+    uint8_t bytes[256] = { 9, 2, 0, 0, is->bNumInterfaces, is->bConfigurationValue, is->iConfiguration, is->bmAttributes, is->MaxPower };
+    int length = 9;
+    for (int at = 0; at < is->interface->num_altsetting; at++) {
+        const struct libusb_interface_descriptor *one = &is->interface->altsetting[at];
+        const uint8_t words[9] = { 9, 4, one->bInterfaceNumber, one->bAlternateSetting, 0, one->bInterfaceClass,
+                                   one->bInterfaceSubClass, one->bInterfaceProtocol, one->iInterface };
+        memcpy(bytes + length, words, 9);
+        length += 9;
+        if (one->extra_length > 0)
+            memcpy(bytes + length, one->extra, (size_t)one->extra_length);
+        length += one->extra_length;
+    }
+    bytes[2] = (uint8_t)length;
+    forget_configuration(is);
+    return cut(bytes, length, out, room);
+}
+
+static void tell_reset(void)
+{
+    if (!is_configured)
+        return;
+    is_configured = false;
+    bus_reset();
+    generation = bus_generation(); /* it is the same device to the bus, with other descriptors */
+}
+
+/* Bytes of the answer, or an error of libusb. */
+static int standard(const uint8_t setup[8], uint8_t *out, int room)
+{
+    static const uint8_t zeros[2];
+    int value = setup[2], kind = setup[3];
+    switch (setup[0] << 8 | setup[1]) {
+    case 0x8006:
+        if (kind == 1 && room == 64)
+            tell_reset();
+        return kind == 1 ? get_device(out, room) : kind == 2 ? get_configuration(out, room)
+            : kind == 3 ? describe_string((unsigned)value, false, out, (uint16_t)room) : USB_ERROR_PIPE;
+    case 0x0009: is_configured = value != 0; return 0;
+    case 0x010b: bus_set_interface(value); return 0;
+    case 0x8000: return cut(zeros, 2, out, room);
+    case 0x0001: case 0x0003: return 0;
+    default: return USB_ERROR_PIPE;
+    }
+}
+
+static int handle(const uint8_t setup[8], uint8_t *data)
+{
+    uint8_t request[8];
+    uint16_t length = (uint16_t)(setup[6] | setup[7] << 8);
+    if ((setup[0] & 0x60) == 0)
+        return standard(setup, data, length);
+    if ((setup[0] & 0x7f) != 0x21 || setup[4] != bus_interface())
+        return USB_ERROR_PIPE;
+    memcpy(request, setup, 8);
+    request[4] = request[5] = 0;
+    return bus_transfer(request, data, length, 1);
+}
+
+/* One transfer: false where the device left. */
+static bool serve(void)
+{
+    static uint8_t data[65536];
+    struct header is, answer = { 0 };
+    if (!transfer_all(&is, sizeof is, true))
+        return false;
+    uint32_t length = ntohl(is.fields[1]);
+    bool is_in = ntohl(is.direction) == 1;
+    answer.command = htonl(ntohl(is.command) == SUBMIT ? SUBMITTED : UNLINKED);
+    answer.number = is.number;
+    if (ntohl(is.command) == UNLINK) {
+        answer.fields[0] = htonl((uint32_t)-ECONNRESET);
+        return transfer_all(&answer, sizeof answer, false);
+    }
+    if (!is_in && length > 0 && !transfer_all(data, length, true))
+        return false;
+    bus_pass_time();
+    int count = handle(is.setup, data);
+    if (count == USB_ERROR_NO_DEVICE)
+        return false;
+    if (count == USB_ERROR_TIMEOUT)
+        return true;
+    answer.fields[0] = htonl(count < 0 ? (uint32_t)-EPIPE : 0);
+    answer.fields[1] = htonl(count < 0 ? 0 : is_in ? (uint32_t)count : length);
+    return transfer_all(&answer, sizeof answer, false) && (!is_in || count <= 0 || transfer_all(data, (size_t)count, false));
+}
+
+int main(void)
+{
+    struct sigaction action = { .sa_handler = on_stop };
+    sigaction(SIGTERM, &action, NULL);
+    signal(SIGPIPE, SIG_IGN);
+    bus_start();
+    while (!is_stopped) {
+        if (line < 0 && (!bus_lists() || !attach())) {
+            usleep(50000);
+            continue;
+        }
+        struct pollfd wait = { .fd = line, .events = POLLIN };
+        bool is_ready = poll(&wait, 1, 1) > 0, is_there = true;
+        bus_pass_time();
+        if (is_ready && bus_generation() == generation)
+            is_there = serve();
+        if (!is_there || bus_generation() != generation)
+            detach();
+    }
+    detach();
+    return 0;
+}
