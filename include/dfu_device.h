@@ -2,7 +2,7 @@
  *
  * The program owns all there is: what the device is set up with, the record of what it keeps between two calls, and the
  * medium, which is plain memory. The library has no state, takes no memory, and calls at most memcpy, memmove and memset:
- * it needs nothing of the C library beside them. It is for 64-bit processors.
+ * it needs nothing of the C library beside them. It is for 64-bit processors; of x86-64 for those of level v2, with SSE4.1.
  *
  * Return values: 0 or more is an answer; a negative number is DFU_STALL or a refusal. After a refusal nothing changed:
  * not the record, not the medium, and not the buffer of the answer.

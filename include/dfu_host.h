@@ -2,7 +2,8 @@
 
    The library sends nothing, takes no memory and keeps nothing between two calls. The program keeps the record
    of the session, does what dfu_host_next says, and tells dfu_host_take what came of it. It links with
-   crates/dfu_host_c/out/libdfu_host_c.a, which wants at most memcpy, memmove and memset of the program's C library.
+   crates/dfu_host_c/out/libdfu_host_c.a, which wants at most memcpy, memmove and memset of the program's C library. It
+   is for 64-bit processors; of x86-64 for those of level v2, with SSE4.1.
 
        struct dfu_session s; struct dfu_action a; struct dfu_file f; uint8_t answer[65535];
        if (dfu_host_file(file, length, &f) < 0) ..
