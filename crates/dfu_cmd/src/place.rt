@@ -10,6 +10,9 @@ use std::rt::Files;
 /// How many symbolic links are followed, as by Linux.
 const MAX_LINKS: u32 = 40;
 
+/// How often OUT is looked at while somebody else replaces it.
+const MAX_LOOKS: u32 = 10;
+
 /// The name of a file, which is no link, and what stands there.
 #[derive(Drop)]
 pub(crate) struct Place {
@@ -72,16 +75,19 @@ fn followed<R: Files + AllocGlobal>(rt: &R, out: &str) -> io::Result<Place> {
     Err(io::Error::from(ErrorKind::FilesystemLoop))
 }
 
-/// Whether both looks found nothing, or both the same regular file.
+/// Whether what a look found can be OUT's place.
+fn may_be(file: &Option<Metadata>) -> bool {
+    match file {
+        Some(file) => file.is_file(),
+        None => true,
+    }
+}
+
+/// Whether both looks found nothing, or both the same file.
 fn is_same(look: &Option<Metadata>, other: &Option<Metadata>) -> bool {
     match (look, other) {
         (None, None) => true,
-        (Some(file), Some(again)) => {
-            file.is_file()
-                && again.is_file()
-                && file.dev() == again.dev()
-                && file.ino() == again.ino()
-        }
+        (Some(file), Some(again)) => file.dev() == again.dev() && file.ino() == again.ino(),
         _ => false,
     }
 }
@@ -90,14 +96,21 @@ fn is_same(look: &Option<Metadata>, other: &Option<Metadata>) -> bool {
 ///
 /// # Errors
 ///
-/// It is no regular file, the links go round, or a look fails.
+/// It is no regular file, the links go round, or a look fails; or somebody else replaces it again
+/// and again.
 pub(crate) fn place_of<R: Files + AllocGlobal>(rt: &R, out: &str) -> io::Result<Place> {
     // The system's own look comes first, since it may refuse to follow a link that someone else
-    // made; the place has to be what that look found.
-    let seen = found(fs::metadata(rt, out))?;
-    let place = followed(rt, out)?;
-    if !is_same(&seen, &place.file) {
-        return Err(io::Error::from(ErrorKind::InvalidInput));
+    // made; the place has to be what that look found. Where it isn't, OUT may have been replaced
+    // between the two, and is looked at anew.
+    for _ in 0..MAX_LOOKS {
+        let seen = found(fs::metadata(rt, out))?;
+        let place = followed(rt, out)?;
+        if !may_be(&seen) || !may_be(&place.file) {
+            break;
+        }
+        if is_same(&seen, &place.file) {
+            return Ok(place);
+        }
     }
-    Ok(place)
+    Err(io::Error::from(ErrorKind::InvalidInput))
 }
