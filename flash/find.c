@@ -59,7 +59,7 @@ static bool is_wanted(const struct wanted *wanted, const struct found *found)
     return is_serial && is_placed(&wanted->place, found);
 }
 
-static bool is_text(const char *first, const char *now)
+static bool is_same_text(const char *first, const char *now)
 {
     return first[0] == '\0' || now[0] == '\0' || strcmp(first, now) == 0;
 }
@@ -67,7 +67,7 @@ static bool is_text(const char *first, const char *now)
 bool is_again(const struct found *first, const struct found *now)
 {
     return first->vendor == now->vendor && first->product == now->product && first->interface == now->interface
-        && first->alternate == now->alternate && is_text(first->serial, now->serial) && is_text(first->name, now->name);
+        && first->alternate == now->alternate && is_same_text(first->serial, now->serial) && is_same_text(first->name, now->name);
 }
 
 /* What is going on in one look at the bus. */

@@ -55,7 +55,7 @@ static struct answer perform(struct session *session, const struct dfu_action *a
     return answer;
 }
 
-/* Behind a download a device in run-time mode may be that of another image, and says what it likes. */
+/* Once a block was sent, a device in run-time mode may be that of another image, and says what it likes. */
 bool session_meets(struct session *session)
 {
     const struct found *is = &session->wire.device->is;
