@@ -24,6 +24,3 @@ pub use config::Config;
 pub use device::Device;
 pub use fault::ConfigFault;
 pub use mode::Mode;
-
-#[cfg(test)]
-mod tests;

@@ -42,6 +42,3 @@ pub use phase::Phase;
 pub use report::Report;
 pub use seen::Seen;
 pub use session::Session;
-
-#[cfg(test)]
-mod tests;

@@ -22,12 +22,10 @@ mod scripting;
 mod uploading;
 mod world;
 
+pub use aim::Aim;
 pub use event::Event;
 pub use fate::Fate;
 pub use fault::{LinkFault, OfferFault};
 pub use running::{Stop, run};
 pub use scripting::{ScriptFault, script};
 pub use world::World;
-
-#[cfg(test)]
-mod tests;

@@ -25,6 +25,3 @@ pub use medium::{Failed, Faulty, Medium};
 pub use sim::{NoMemory, SimMedium};
 pub use slots::Slots;
 pub use unit::Unit;
-
-#[cfg(test)]
-mod tests;

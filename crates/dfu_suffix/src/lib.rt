@@ -33,6 +33,3 @@ pub use gathering::{GatherFault, gather};
 pub use parse::{read, read_small};
 pub use summary::Summary;
 pub use writing::{WriteFault, write_whole};
-
-#[cfg(test)]
-mod tests;

@@ -17,8 +17,6 @@ mod round_trips;
 mod setups;
 mod states;
 mod statuses;
-#[cfg(test)]
-mod tests;
 
 pub use codes::Code;
 pub use fault::WireFault;

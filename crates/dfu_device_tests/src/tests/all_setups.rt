@@ -1,0 +1,254 @@
+//! Every pair of bmRequestType and bRequest at each station, a reset of the bus, and time, against the table of `stations.rt`.
+
+ghost use Rattle.std.specs.Prelude.{◌<◌};
+
+use super::cells::{cell, seen};
+use super::stations::{IMAGE, STATIONS, Station};
+use super::{IDS, carry_out, device_on, functional, play};
+use arrayvec::ArrayVec;
+use dfu_device::{Answer, Config, Device};
+use dfu_slots::SimMedium;
+use dfu_wire::State;
+use std::alloc::Global;
+use std::process::Abort;
+use std::test::Fail;
+
+/// The bytes of the bodies.
+static BODY: [u8; 4097] = [0; 4097];
+
+/// A setup for interface 0, and whether its body has as many bytes as go with it.
+#[derive(Clone, Copy)]
+struct Asked {
+    kind: u8,
+    request: u8,
+    length: u16,
+    fits: bool,
+}
+
+/// A device as it is set up for a station.
+fn made(alloc: Global, station: &Station) -> Result<Device<SimMedium>, Fail> {
+    let (attributes, least, busy_ms, manifest_ms) = station.set_up;
+    let config = Config::new(IDS, functional(attributes), least, busy_ms, manifest_ms)?;
+    device_on(SimMedium::new(alloc, 192)?, config, &IMAGE)
+}
+
+/// Goes to a station, from wherever the device stands.
+fn go(device: &mut Device<SimMedium>, station: &Station, out: &mut ArrayVec<u8, 4096>) {
+    device.usb_reset();
+    if device.state() == State::DfuIdle {
+        device.usb_reset();
+    }
+    for (cause, _, _, _) in station.way.rows().iter().take(station.steps) {
+        let _ = carry_out(device, *cause, out);
+    }
+}
+
+/// Whether a setup of this kind is a request of the class.
+fn is_of_class(kind: u8) -> bool {
+    kind == 0x21 || kind == 0xa1
+}
+
+/// Where the table has a request of the class.
+fn place(kind: u8, request: u8) -> usize
+    ensures { result < 8 }
+{
+    match (kind, request) {
+        (0x21, 0) => 0,
+        (0x21, 1) => 1,
+        (0xa1, 2) => 2,
+        (0xa1, 3) => 3,
+        (0x21, 4) => 4,
+        (0xa1, 5) => 5,
+        (0x21, 6) => 6,
+        _ => 7,
+    }
+}
+
+/// The cell for a setup that goes by the table.
+fn cell_for(station: &Station, asked: Asked) -> [u8; 3] {
+    let size = asked.length.min(2) as usize;
+    cell(station, 1 + place(asked.kind, asked.request) * 3 + size)
+}
+
+/// How many bytes the body has.
+fn body_len(asked: Asked) -> usize {
+    let right = if asked.kind == 0x21 {
+        asked.length as usize
+    } else {
+        0
+    };
+    if asked.fits {
+        right
+    } else if right == 0 {
+        1
+    } else {
+        right - 1
+    }
+}
+
+/// Asks a device at a station.
+fn ask(
+    device: &mut Device<SimMedium>,
+    station: &Station,
+    asked: Asked,
+    out: &mut ArrayVec<u8, 4096>,
+) -> Answer {
+    let [low, high] = asked.length.to_le_bytes();
+    let setup = [
+        asked.kind,
+        asked.request,
+        station.number,
+        0,
+        0,
+        0,
+        low,
+        high,
+    ];
+    device.handle(&setup, &BODY[..body_len(asked).min(4097)], out)
+}
+
+/// Whether these bytes are the front of others, cut to a length.
+fn is_front(bytes: &[u8], told: &[u8], len: u16) -> bool {
+    bytes == &told[..told.len().min(len as usize)]
+}
+
+/// Whether these are the bytes with which a request is answered.
+fn is_told(station: &Station, asked: Asked, bytes: &[u8]) -> bool {
+    match asked.request {
+        3 => is_front(bytes, station.status, asked.length),
+        5 => is_front(bytes, station.state, asked.length),
+        _ => is_front(bytes, station.piece, asked.length),
+    }
+}
+
+/// Asks what goes by the table of a device that was brought to the station for it.
+fn check_served(
+    rt: &impl Abort,
+    device: &mut Device<SimMedium>,
+    station: &Station,
+    asked: Asked,
+    out: &mut ArrayVec<u8, 4096>,
+) {
+    go(device, station, out);
+    let answer = ask(device, station, asked, out);
+    let told = match answer {
+        Answer::Bytes => is_told(station, asked, out.as_slice()),
+        _ => out.is_empty(),
+    };
+    assert!(rt;
+        told && seen(device, answer) == cell_for(station, asked),
+        "request {} of length {} in {}",
+        asked.request,
+        asked.length,
+        station.name
+    );
+}
+
+/// Every setup that goes by the table.
+fn check_all_served(rt: &impl Abort, alloc: Global, station: &Station) -> Result<(), Fail> {
+    let mut out = ArrayVec::new();
+    for kind in [0x21, 0xa1] {
+        for request in 0..=255 {
+            let mut device = made(alloc, station)?;
+            for length in [0, 1, 4097] {
+                let asked = Asked {
+                    kind,
+                    request,
+                    length,
+                    fits: true,
+                };
+                check_served(rt, &mut device, station, asked, &mut out);
+            }
+        }
+    }
+    Ok(())
+}
+
+/// Asks what does not go by the table, and says whether it is stalled and nothing is seen to change.
+fn is_refused(
+    device: &mut Device<SimMedium>,
+    station: &Station,
+    asked: Asked,
+    out: &mut ArrayVec<u8, 4096>,
+) -> bool {
+    let state = device.state();
+    let code = device.code();
+    let answer = ask(device, station, asked, out);
+    answer == Answer::Stall && out.is_empty() && device.state() == state && device.code() == code
+}
+
+/// Every setup that does not go by the table, one after the other. In the end the device goes on as if nothing had come.
+fn check_all_others(rt: &impl Abort, alloc: Global, station: &Station) -> Result<(), Fail> {
+    let mut out = ArrayVec::new();
+    let mut device = made(alloc, station)?;
+    go(&mut device, station, &mut out);
+    for pair in 0..=65_535_u16 {
+        let [request, kind] = pair.to_le_bytes();
+        for length in [0, 1, 4097] {
+            let asked = Asked {
+                kind,
+                request,
+                length,
+                fits: !is_of_class(kind),
+            };
+            let refused = is_refused(&mut device, station, asked, &mut out);
+            assert!(rt;
+                refused,
+                "kind {kind} request {request} length {length} in {}",
+                station.name
+            );
+        }
+    }
+    assert!(rt;
+        seen(&device, Answer::Stall) == cell(station, 0),
+        "{}",
+        station.name
+    );
+    let rows = station.way.rows();
+    play(rt, &mut device, &rows[station.steps.min(rows.len())..]);
+    Ok(())
+}
+
+/// A reset of the bus.
+fn check_reset(rt: &impl Abort, alloc: Global, station: &Station) -> Result<(), Fail> {
+    let mut device = made(alloc, station)?;
+    go(&mut device, station, &mut ArrayVec::new());
+    device.usb_reset();
+    assert!(rt;
+        seen(&device, Answer::Ack) == cell(station, 25),
+        "{}",
+        station.name
+    );
+    Ok(())
+}
+
+/// Milliseconds that pass.
+fn check_time(rt: &impl Abort, alloc: Global, station: &Station) -> Result<(), Fail> {
+    for (column, ms) in [(26, 0), (27, 1), (28, 10)] {
+        let mut device = made(alloc, station)?;
+        go(&mut device, station, &mut ArrayVec::new());
+        device.elapse(ms);
+        assert!(rt;
+            seen(&device, Answer::Ack) == cell(station, column),
+            "{}",
+            station.name
+        );
+    }
+    Ok(())
+}
+
+/// All that can come to a device at a station.
+fn check_station(rt: &impl Abort, alloc: Global, station: &Station) -> Result<(), Fail> {
+    check_all_served(rt, alloc, station)?;
+    check_all_others(rt, alloc, station)?;
+    check_reset(rt, alloc, station)?;
+    check_time(rt, alloc, station)
+}
+
+#[test]
+fn every_setup_a_reset_and_time_go_by_the_table(rt: HostRuntime) -> Result<(), Fail> {
+    for station in &STATIONS {
+        check_station(&rt, rt.alloc(), station)?;
+    }
+    Ok(())
+}

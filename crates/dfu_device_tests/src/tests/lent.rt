@@ -1,0 +1,69 @@
+//! A device that answers into a buffer of its caller answers as one that is lent an `ArrayVec`.
+
+use super::apart::config_of;
+use super::stations::{IMAGE, STATIONS};
+use super::{Cause, GET_STATUS, Row, device, device_on, functional};
+use dfu_device::{Answer, Device};
+use dfu_slots::SimMedium;
+use std::process::Abort;
+use std::test::Fail;
+
+/// Carries out a row: the answer and how many bytes of it stand in the buffer, Ack and 0 where nothing is answered.
+fn carry_out(
+    device: &mut Device<SimMedium>,
+    cause: Cause,
+    out: &mut [u8],
+) -> Option<(Answer, usize)> {
+    match cause {
+        Cause::Ask(setup, body) => device.handle_into(&setup, body, out),
+        Cause::Wait(ms) => {
+            device.elapse(ms);
+            Some((Answer::Ack, 0))
+        }
+        Cause::Reset => {
+            device.usb_reset();
+            Some((Answer::Ack, 0))
+        }
+    }
+}
+
+/// Carries out a row with a buffer of nine bytes: the answer stands at its front, and the rest stays.
+fn lend(rt: &impl Abort, device: &mut Device<SimMedium>, row: &Row) {
+    let (cause, wanted, bytes, after) = *row;
+    let mut out = [0x5a; 9];
+    let told = carry_out(device, cause, &mut out);
+    assert_eq!(rt;
+        (told, device.state()),
+        (Some((wanted, bytes.len())), after)
+    );
+    assert_eq!(rt; &out[..bytes.len().min(9)], bytes);
+    for byte in &out[bytes.len().min(9)..] {
+        assert_eq!(rt; *byte, 0x5a);
+    }
+}
+
+#[test]
+fn a_device_answers_into_its_callers_buffer(rt: HostRuntime) -> Result<(), Fail> {
+    for station in &STATIONS {
+        let config = config_of(station)?;
+        let mut device = device_on(SimMedium::new(rt.alloc(), 192)?, config, &IMAGE)?;
+        for row in station.way.rows() {
+            lend(&rt, &mut device, row);
+        }
+    }
+    Ok(())
+}
+
+#[test]
+fn a_buffer_that_is_too_short_changes_nothing(rt: HostRuntime) -> Result<(), Fail> {
+    let mut device = device(rt.alloc(), functional(0x07), 1, 0, 0)?;
+    let mut out = [0x5a; 8];
+    let detach = [0x21, 0, 9, 0, 0, 0, 0, 0];
+    assert_eq!(rt; device.handle_into(&detach, &[], &mut out[..7]), None);
+    assert_eq!(rt;
+        device.handle_into(&GET_STATUS, &[], &mut out),
+        Some((Answer::Bytes, 6))
+    );
+    assert_eq!(rt; out, [0, 0, 0, 0, 0, 0, 0x5a, 0x5a]);
+    Ok(())
+}

@@ -1,0 +1,239 @@
+//! Downloads row by row, with bytes worked out by hand.
+
+use super::Cause::{Ask, Reset, Wait};
+use super::restart::restarted;
+use super::{
+    ABORT, BLOCK, CLOSE, CLR_STATUS, DETACH, FIRST, GET_STATE, GET_STATUS, IDS, Row, SECOND,
+    UPLOAD, device, functional, play,
+};
+use dfu_device::{Answer, Config, ConfigFault};
+use dfu_wire::{Code, Functional, State};
+use std::test::Fail;
+
+/// A whole download, with a detach that comes too late before it.
+#[rattlefmt::skip]
+static DOWNLOADED: [Row; 24] = [
+    (Ask(GET_STATUS, &[]), Answer::Bytes, &[0, 0, 0, 0, 0, 0], State::AppIdle),
+    (Ask([0x21, 0, 100, 0, 0, 0, 0, 0], &[]), Answer::Ack, &[], State::AppDetach),
+    (Wait(60), Answer::Ack, &[], State::AppDetach),
+    // these two do not begin the time anew
+    (Ask(GET_STATUS, &[]), Answer::Bytes, &[0, 0, 0, 0, 1, 0], State::AppDetach),
+    (Ask(GET_STATE, &[]), Answer::Bytes, &[1], State::AppDetach),
+    (Wait(39), Answer::Ack, &[], State::AppDetach),
+    (Wait(1), Answer::Ack, &[], State::AppIdle),
+    (Ask(DETACH, &[]), Answer::Ack, &[], State::AppDetach),
+    (Reset, Answer::Ack, &[], State::DfuIdle),
+    (Ask(GET_STATUS, &[]), Answer::Bytes, &[0, 0, 0, 0, 2, 0], State::DfuIdle),
+    (Ask([0xa1, 3, 0, 0, 0, 0, 3, 0], &[]), Answer::Bytes, &[0, 0, 0], State::DfuIdle),
+    (Ask([0xa1, 3, 0, 0, 1, 0, 6, 0], &[]), Answer::Stall, &[], State::DfuIdle),
+    (Ask(FIRST, &[1, 2, 3]), Answer::Stall, &[], State::DfuIdle),
+    (Ask(FIRST, &BLOCK), Answer::Ack, &[], State::DownloadSync),
+    (Ask(GET_STATUS, &[]), Answer::Bytes, &[0, 5, 0, 0, 4, 0], State::DownloadBusy),
+    (Wait(4), Answer::Ack, &[], State::DownloadBusy),
+    (Wait(1), Answer::Ack, &[], State::DownloadSync),
+    (Ask(GET_STATUS, &[]), Answer::Bytes, &[0, 0, 0, 0, 5, 0], State::DownloadIdle),
+    (Ask(CLOSE, &[]), Answer::Ack, &[], State::ManifestSync),
+    (Ask(GET_STATUS, &[]), Answer::Bytes, &[0, 10, 0, 0, 7, 0], State::Manifest),
+    (Wait(9), Answer::Ack, &[], State::Manifest),
+    (Wait(1), Answer::Ack, &[], State::ManifestSync),
+    (Ask(GET_STATUS, &[]), Answer::Bytes, &[0, 0, 0, 0, 2, 0], State::DfuIdle),
+    (Ask(UPLOAD, &[]), Answer::Bytes, &BLOCK, State::DfuIdle),
+];
+
+/// Requests that are errors in dfuIDLE.
+#[rattlefmt::skip]
+static WRONG_REQUESTS: [Row; 6] = [
+    (Ask([0x21, 4, 0, 0, 0, 0, 1, 0], &[0]), Answer::Stall, &[], State::Error),
+    (Ask(GET_STATUS, &[]), Answer::Bytes, &[15, 0, 0, 0, 10, 0], State::Error),
+    (Ask(GET_STATE, &[]), Answer::Bytes, &[10], State::Error),
+    (Ask(CLR_STATUS, &[]), Answer::Ack, &[], State::DfuIdle),
+    (Ask(SECOND, &BLOCK), Answer::Stall, &[], State::Error),
+    (Ask(GET_STATUS, &[]), Answer::Bytes, &[8, 0, 0, 0, 10, 0], State::Error),
+];
+
+#[rattlefmt::skip]
+#[test]
+fn a_download_goes_by_the_table(rt: HostRuntime) -> Result<(), Fail> {
+    let mut device = device(rt.alloc(), functional(0x07), 1, 5, 10)?;
+    play(&rt, &mut device, &DOWNLOADED);
+    play(&rt, &mut device, &WRONG_REQUESTS);
+    assert!(rt; device.code() == Code::Address);
+    Ok(())
+}
+
+/// A download of four bytes that is closed.
+#[rattlefmt::skip]
+pub(crate) static TOO_SHORT: [Row; 6] = [
+    (Ask(DETACH, &[]), Answer::Ack, &[], State::AppDetach),
+    (Reset, Answer::Ack, &[], State::DfuIdle),
+    (Ask(FIRST, &BLOCK), Answer::Ack, &[], State::DownloadSync),
+    (Ask(GET_STATUS, &[]), Answer::Bytes, &[0, 0, 0, 0, 5, 0], State::DownloadIdle),
+    (Ask(CLOSE, &[]), Answer::Stall, &[], State::Error),
+    (Ask(GET_STATUS, &[]), Answer::Bytes, &[9, 0, 0, 0, 10, 0], State::Error),
+];
+
+#[rattlefmt::skip]
+#[test]
+fn an_image_that_is_too_short_is_a_fault(rt: HostRuntime) -> Result<(), Fail> {
+    let mut device = device(rt.alloc(), functional(0x07), 5, 0, 10)?;
+    play(&rt, &mut device, &TOO_SHORT);
+    Ok(())
+}
+
+/// A download to a device that waits for a reset at the end.
+#[rattlefmt::skip]
+pub(crate) static NOT_TOLERANT: [Row; 9] = [
+    (Ask(DETACH, &[]), Answer::Ack, &[], State::AppDetach),
+    (Reset, Answer::Ack, &[], State::DfuIdle),
+    (Ask(FIRST, &BLOCK), Answer::Ack, &[], State::DownloadSync),
+    (Ask(GET_STATUS, &[]), Answer::Bytes, &[0, 0, 0, 0, 5, 0], State::DownloadIdle),
+    (Ask(CLOSE, &[]), Answer::Ack, &[], State::ManifestSync),
+    (Ask(GET_STATUS, &[]), Answer::Bytes, &[0, 10, 0, 0, 7, 0], State::Manifest),
+    (Wait(10), Answer::Ack, &[], State::ManifestWaitReset),
+    (Ask(GET_STATUS, &[]), Answer::Stall, &[], State::ManifestWaitReset),
+    (Reset, Answer::Ack, &[], State::AppIdle),
+];
+
+#[rattlefmt::skip]
+#[test]
+fn a_device_that_is_not_tolerant_waits_for_a_reset(rt: HostRuntime) -> Result<(), Fail> {
+    let mut device = device(rt.alloc(), functional(0x03), 1, 0, 10)?;
+    play(&rt, &mut device, &NOT_TOLERANT);
+    assert_eq!(rt; device.slots().active_len(), 4);
+    Ok(())
+}
+
+/// The way to dfuDNLOAD-SYNC, with a block.
+#[rattlefmt::skip]
+static FIRST_TAKEN: [Row; 3] = [
+    (Ask(DETACH, &[]), Answer::Ack, &[], State::AppDetach),
+    (Reset, Answer::Ack, &[], State::DfuIdle),
+    (Ask(FIRST, &BLOCK), Answer::Ack, &[], State::DownloadSync),
+];
+
+/// The block is not written, and the next one is.
+#[rattlefmt::skip]
+static FAILED_BLOCK: [Row; 5] = [
+    (Ask(GET_STATUS, &[]), Answer::Bytes, &[3, 0, 0, 0, 10, 0], State::Error),
+    (Ask(CLR_STATUS, &[]), Answer::Ack, &[], State::DfuIdle),
+    (Ask(FIRST, &BLOCK), Answer::Ack, &[], State::DownloadSync),
+    (Ask(GET_STATUS, &[]), Answer::Bytes, &[0, 0, 0, 0, 5, 0], State::DownloadIdle),
+    (Ask(CLOSE, &[]), Answer::Ack, &[], State::ManifestSync),
+];
+
+/// The image is not put in place.
+#[rattlefmt::skip]
+static FAILED_IMAGE: [Row; 1] = [
+    (Ask(GET_STATUS, &[]), Answer::Bytes, &[6, 0, 0, 0, 10, 0], State::Error),
+];
+
+#[rattlefmt::skip]
+#[test]
+fn a_failed_write_is_told_in_the_same_answer(rt: HostRuntime) -> Result<(), Fail> {
+    let mut device = device(rt.alloc(), functional(0x07), 1, 0, 0)?;
+    play(&rt, &mut device, &FIRST_TAKEN);
+    device.arm(0, &[0xaa], false);
+    play(&rt, &mut device, &FAILED_BLOCK);
+    device.arm(0, &[0xaa], true);
+    play(&rt, &mut device, &FAILED_IMAGE);
+    device.disarm();
+    assert_eq!(rt; device.slots().active_len(), 1);
+    let device = restarted(device);
+    assert_eq!(rt; device.state(), State::AppIdle);
+    assert_eq!(rt; device.slots().active_len(), 1);
+    Ok(())
+}
+
+/// Fewer bytes are asked for than a status or a state has.
+#[rattlefmt::skip]
+static SHORT_ANSWERS: [Row; 8] = [
+    (Ask(DETACH, &[]), Answer::Ack, &[], State::AppDetach),
+    (Reset, Answer::Ack, &[], State::DfuIdle),
+    (Ask(FIRST, &BLOCK), Answer::Ack, &[], State::DownloadSync),
+    (Ask([0xa1, 5, 0, 0, 0, 0, 0, 0], &[]), Answer::Bytes, &[], State::DownloadSync),
+    (Ask([0xa1, 3, 0, 0, 0, 0, 0, 0], &[]), Answer::Bytes, &[], State::DownloadBusy),
+    (Wait(5), Answer::Ack, &[], State::DownloadSync),
+    (Ask([0xa1, 3, 0, 0, 0, 0, 5, 0], &[]), Answer::Bytes, &[0, 0, 0, 0, 5], State::DownloadIdle),
+    (Ask(ABORT, &[]), Answer::Ack, &[], State::DfuIdle),
+];
+
+#[rattlefmt::skip]
+#[test]
+fn a_short_answer_makes_its_transition(rt: HostRuntime) -> Result<(), Fail> {
+    let mut device = device(rt.alloc(), functional(0x07), 1, 5, 10)?;
+    play(&rt, &mut device, &SHORT_ANSWERS);
+    Ok(())
+}
+
+/// A device that detaches by itself.
+#[rattlefmt::skip]
+pub(crate) static WILLING: [Row; 3] = [
+    (Ask(DETACH, &[]), Answer::Ack, &[], State::AppDetach),
+    (Wait(0), Answer::Ack, &[], State::AppDetach),
+    (Wait(1), Answer::Ack, &[], State::DfuIdle),
+];
+
+/// A device with wDetachTimeOut 0.
+#[rattlefmt::skip]
+static AT_ONCE: [Row; 3] = [
+    (Ask(DETACH, &[]), Answer::Ack, &[], State::AppDetach),
+    (Wait(0), Answer::Ack, &[], State::AppDetach),
+    (Wait(1), Answer::Ack, &[], State::AppIdle),
+];
+
+/// A device with the longest wDetachTimeOut.
+#[rattlefmt::skip]
+static LATE: [Row; 5] = [
+    (Ask([0x21, 0, 0xff, 0xff, 0, 0, 0, 0], &[]), Answer::Ack, &[], State::AppDetach),
+    (Wait(65_534), Answer::Ack, &[], State::AppDetach),
+    (Wait(4_294_967_295), Answer::Ack, &[], State::AppIdle),
+    (Ask(DETACH, &[]), Answer::Ack, &[], State::AppDetach),
+    (Ask(DETACH, &[]), Answer::Stall, &[], State::AppIdle),
+];
+
+#[rattlefmt::skip]
+#[test]
+fn a_device_detaches_in_time(rt: HostRuntime) -> Result<(), Fail> {
+    for (attributes, detach_ms, rows) in [(0x0f, 255, &WILLING[..]), (0x07, 0, &AT_ONCE[..]), (0x07, 65_535, &LATE[..])] {
+        let functional = Functional { detach_ms, ..functional(attributes) };
+        let mut device = device(rt.alloc(), functional, 1, 5, 10)?;
+        play(&rt, &mut device, rows);
+    }
+    Ok(())
+}
+
+/// Arguments of `Config::new` with their first fault: the transfer size, bmAttributes, the fewest
+/// bytes, the busy time and the manifestation time.
+static REFUSED: [(u16, u8, u32, u32, u32, ConfigFault); 7] = [
+    (0, 0x07, 0, 0x100_0000, 0, ConfigFault::BadTransfer),
+    (4097, 0x07, 1, 5, 10, ConfigFault::BadTransfer),
+    (8, 0x07, 0, 0x100_0000, 10, ConfigFault::BadPoll),
+    (8, 0x07, 1, 5, 0x100_0000, ConfigFault::BadPoll),
+    (8, 0x03, 1, 5, 0, ConfigFault::BadPoll),
+    (8, 0x07, 0, 5, 0, ConfigFault::BadLeast),
+    (4096, 0x07, 0x100_0001, 5, 0, ConfigFault::BadLeast),
+];
+
+#[test]
+fn a_configuration_is_refused_by_its_first_fault(rt: HostRuntime) {
+    for (transfer, attributes, least, busy_ms, manifest_ms, fault) in &REFUSED {
+        let functional = Functional {
+            transfer: *transfer,
+            ..functional(*attributes)
+        };
+        let found = Config::new(IDS, functional, *least, *busy_ms, *manifest_ms).err();
+        assert_eq!(rt; found, Some(*fault));
+    }
+}
+
+#[test]
+fn a_configuration_is_shown_with_version_0110(rt: HostRuntime) -> Result<(), Fail> {
+    let device = device(rt.alloc(), functional(0x07), 0x100_0000, 0xff_ffff, 0)?;
+    assert_eq!(rt; device.ids(), IDS);
+    let shown = Functional {
+        version: 0x0110,
+        ..functional(0x07)
+    };
+    assert_eq!(rt; device.functional(), shown);
+    Ok(())
+}

@@ -1,0 +1,156 @@
+//! What follows by the rows of the host's table, in sessions that can be begun anew.
+
+use super::dialogue::DEVICE;
+use super::played::told;
+use super::rows::{Asks, FINDING, Row};
+use dfu_host::Seen::{Ack, Bytes, Nothing, Restarted, Stall, Waited, WasReset};
+use dfu_host::{Action, Host, Limits, Report, Seen};
+use dfu_suffix::read;
+use dfu_wire::{Code, Functional};
+use std::alloc::Global;
+use std::test::Fail;
+
+/// The codes of section 6.1.2, in their order.
+static CODES: [Code; 16] = [
+    Code::Ok,
+    Code::Target,
+    Code::File,
+    Code::Write,
+    Code::Erase,
+    Code::CheckErased,
+    Code::Prog,
+    Code::Verify,
+    Code::Address,
+    Code::NotDone,
+    Code::Firmware,
+    Code::Vendor,
+    Code::Usbr,
+    Code::Por,
+    Code::Unknown,
+    Code::StalledPkt,
+];
+
+/// What follows a status.
+fn by_status(letters: &[u8], bytes: &[u8]) -> Option<u8> {
+    let [code, _, _, _, state, _] = bytes else {
+        return None;
+    };
+    let start = match *code {
+        0 => 0,
+        15 => 12,
+        1..=14 => 24,
+        _ => return None,
+    };
+    if *state > 10 {
+        return None;
+    }
+    letters.get(start + *state as usize).copied()
+}
+
+/// What follows an answer to GETSTATE.
+fn by_state(letters: &[u8], bytes: &[u8]) -> Option<u8> {
+    let [state] = bytes else {
+        return None;
+    };
+    letters.get(*state as usize).copied()
+}
+
+/// What follows bytes in a phase, where they are an answer.
+fn answered(row: &Row, bytes: &[u8]) -> Option<u8> {
+    match row.4 {
+        Asks::Nothing => None,
+        Asks::Status => by_status(row.5, bytes),
+        Asks::State => by_state(row.5, bytes),
+        Asks::Part if bytes.len() < 8 => Some(b'Y'),
+        Asks::Part => None,
+        Asks::Compared(letter) if bytes == row.5 => Some(letter),
+        Asks::Compared(_) if bytes.len() <= 8 => Some(b'Z'),
+        Asks::Compared(_) => None,
+    }
+}
+
+/// The letter of the phase that follows.
+pub(crate) fn after(row: &Row, seen: Seen<'_>) -> u8 {
+    let [acked, stalled, lost, waited, was_reset] = *row.3;
+    match seen {
+        Ack => acked,
+        Bytes(bytes) => answered(row, bytes).unwrap_or(lost),
+        Stall => stalled,
+        Nothing => lost,
+        Waited => waited,
+        WasReset => was_reset,
+        Restarted => match row.2 {
+            Action::Done(_) => row.0,
+            _ => b'F',
+        },
+    }
+}
+
+/// The row of a letter in a table.
+fn row_in(rows: &[Row], letter: u8) -> Option<Row> {
+    for row in rows {
+        if row.0 == letter {
+            return Some(*row);
+        }
+    }
+    None
+}
+
+/// The end that is Refused with the code of this byte.
+pub(crate) fn refusal(code: u8) -> Option<Action<'static>> {
+    let code = CODES.get(code as usize)?;
+    Some(Action::Done(Report::Refused(*code)))
+}
+
+/// A session that can be begun anew.
+#[derive(Drop)]
+pub(crate) struct Session<'f> {
+    pub(crate) alloc: Global,
+    /// The file of a download; of an upload nothing.
+    pub(crate) file: &'f [u8],
+    pub(crate) device: &'f Functional,
+    /// What is seen before a comparison begins; of all others nothing.
+    pub(crate) before: &'f [Seen<'static>],
+    /// The rows behind those of finding the device, and those that are its own.
+    pub(crate) rows: &'f [Row],
+    pub(crate) own: &'f [Row],
+}
+
+impl<'f> Session<'f> {
+    /// A host in the phase of a row, with one restart left.
+    pub(crate) fn host(&self, row: &Row) -> Result<Host<'f>, Fail> {
+        let limits = Limits {
+            actions: 100,
+            restarts: 1,
+        };
+        let mut host = if self.file.is_empty() {
+            Host::upload(self.alloc, self.device, limits)?
+        } else if self.before.is_empty() {
+            Host::download(&read(self.file)?, self.device, DEVICE, limits)?
+        } else {
+            Host::download_verified(&read(self.file)?, self.device, DEVICE, limits)?
+        };
+        told(&mut host, self.before);
+        told(&mut host, row.1);
+        Ok(host)
+    }
+
+    /// The row of a letter.
+    fn row(&self, letter: u8) -> Option<Row> {
+        for rows in [&FINDING as &[Row], self.rows, self.own] {
+            if let Some(row) = row_in(rows, letter) {
+                return Some(row);
+            }
+        }
+        None
+    }
+
+    /// The action in the phase of a letter, once all this is seen there.
+    pub(crate) fn action(&self, letter: u8, all: &[Seen<'_>]) -> Option<Action<'static>> {
+        let mut row = self.row(letter)?;
+        for seen in all {
+            row = self.row(after(&row, *seen))?;
+        }
+        Some(row.2)
+    }
+}

@@ -1,0 +1,218 @@
+//! Hosts in each phase, which are told each thing that can be seen.
+
+use super::dialogue::{ABORT, DFU_IDLE, SILENT, TOLERANT, WRITTEN};
+use super::files::NINE;
+use super::following::{Session, after, refusal};
+use super::played::{shows, told, wants};
+use super::rows::{COMPARING, ERROR, FETCHING, FINDING, Row, SENDING, SILENTLY, TOLERANTLY};
+use dfu_host::Seen::{Ack, Bytes, Nothing, Restarted, Stall, Waited, WasReset};
+use dfu_host::{Action, Host, Report, Seen};
+use std::process::Abort;
+use std::test::Fail;
+
+/// What tells the phases apart that have the same action.
+static PROBES: [&'static [Seen<'static>]; 14] = [
+    &[],
+    &[Ack],
+    &[Stall],
+    &[Nothing],
+    &[Waited],
+    &[WasReset],
+    &[DFU_IDLE],
+    &[WRITTEN],
+    &[ERROR],
+    &[Bytes(&[2])],
+    &[Bytes(&[5])],
+    &[Bytes(&[6])],
+    &[Waited, DFU_IDLE],
+    &[Waited, WRITTEN],
+];
+
+/// A host wants this, which has to be known.
+fn wants_some(rt: &impl Abort, host: &Host<'_>, wanted: Option<Action<'static>>) {
+    assert!(rt; wanted.is_some());
+    if let Some(action) = wanted {
+        wants(rt, host, action);
+    }
+}
+
+/// A host in a phase is told this, and then each probe.
+fn tell(rt: &impl Abort, session: &Session<'_>, row: &Row, seen: Seen<'_>) -> Result<(), Fail> {
+    let letter = after(row, seen);
+    for probe in &PROBES {
+        let mut host = session.host(row)?;
+        host.take(seen);
+        told(&mut host, probe);
+        wants_some(rt, &host, session.action(letter, probe));
+    }
+    Ok(())
+}
+
+/// Bytes that are no status and no state.
+static NO_ANSWER: [u8; 4097] = [0xff; 4097];
+
+/// What is no status and no state.
+fn tell_words(rt: &impl Abort, session: &Session<'_>, row: &Row) -> Result<(), Fail> {
+    for seen in [Ack, Stall, Nothing, Waited, WasReset, Restarted] {
+        tell(rt, session, row, seen)?;
+    }
+    for len in 0..8usize {
+        tell(rt, session, row, Bytes(&NO_ANSWER[..len]))?;
+    }
+    tell(rt, session, row, Bytes(&NO_ANSWER))
+}
+
+/// The status of each state, and of one past them, with a code.
+fn tell_states(rt: &impl Abort, session: &Session<'_>, row: &Row, code: u8) -> Result<(), Fail> {
+    for state in 0..12u8 {
+        tell(rt, session, row, Bytes(&[code, 5, 0, 0, state, 0]))?;
+    }
+    Ok(())
+}
+
+/// Statuses with OK, with errADDRESS, with errSTALLEDPKT and with no code, and answers to GETSTATE.
+fn tell_answers(rt: &impl Abort, session: &Session<'_>, row: &Row) -> Result<(), Fail> {
+    for code in [0, 8, 15, 16] {
+        tell_states(rt, session, row, code)?;
+    }
+    for state in 0..12u8 {
+        tell(rt, session, row, Bytes(&[state]))?;
+    }
+    Ok(())
+}
+
+/// A host in a phase is told these bytes.
+fn tell_bytes(rt: &impl Abort, session: &Session<'_>, row: &Row, bytes: &[u8]) -> Result<(), Fail> {
+    let mut host = session.host(row)?;
+    host.take(Bytes(bytes));
+    let letter = after(row, Bytes(bytes));
+    let wanted = match bytes {
+        [code, ..] if letter == b'X' && row.0 != b'X' => refusal(*code),
+        _ => session.action(letter, &[]),
+    };
+    wants_some(rt, &host, wanted);
+    Ok(())
+}
+
+/// Each byte as a code and as a state.
+fn tell_each_byte(rt: &impl Abort, session: &Session<'_>, row: &Row) -> Result<(), Fail> {
+    for byte in 0..=255u8 {
+        tell_bytes(rt, session, row, &[byte])?;
+        tell_bytes(rt, session, row, &[0, 5, 0, 0, byte, 0])?;
+        tell_bytes(rt, session, row, &[8, 5, 0, 0, byte, 0])?;
+        tell_bytes(rt, session, row, &[byte, 5, 0, 0, 2, 0])?;
+        tell_bytes(rt, session, row, &[byte, 5, 0, 0, 10, 0])?;
+    }
+    Ok(())
+}
+
+/// A host is given up in a phase. What comes of the ABORT doesn't matter.
+fn give_up(rt: &impl Abort, session: &Session<'_>, row: &Row) -> Result<(), Fail> {
+    if let Action::Done(_) = row.2 {
+        let mut host = session.host(row)?;
+        host.abort();
+        wants(rt, &host, row.2);
+        return Ok(());
+    }
+    for seen in [Ack, WRITTEN, Stall, Nothing, Waited, WasReset, Restarted] {
+        let mut host = session.host(row)?;
+        host.abort();
+        host.abort();
+        wants(rt, &host, ABORT);
+        host.take(seen);
+        wants(rt, &host, Action::Done(Report::Aborted));
+        shows(rt, &host, &[]);
+    }
+    Ok(())
+}
+
+/// Two restarts in a phase, of which one is allowed.
+fn restart(rt: &impl Abort, session: &Session<'_>, row: &Row) -> Result<(), Fail> {
+    let mut host = session.host(row)?;
+    host.take(Restarted);
+    host.take(Restarted);
+    let wanted = match row.2 {
+        Action::Done(_) => row.2,
+        _ => Action::Done(Report::RestartsSpent),
+    };
+    wants(rt, &host, wanted);
+    Ok(())
+}
+
+/// All of this in each phase of a table.
+fn try_rows(rt: &impl Abort, session: &Session<'_>, rows: &[Row]) -> Result<(), Fail> {
+    for row in rows {
+        let host = session.host(row)?;
+        wants(rt, &host, row.2);
+        tell_words(rt, session, row)?;
+        tell_answers(rt, session, row)?;
+        tell_each_byte(rt, session, row)?;
+        give_up(rt, session, row)?;
+        restart(rt, session, row)?;
+    }
+    Ok(())
+}
+
+/// All of this in each phase of a session.
+fn try_session(rt: &impl Abort, session: &Session<'_>) -> Result<(), Fail> {
+    try_rows(rt, session, &FINDING)?;
+    try_rows(rt, session, session.rows)?;
+    try_rows(rt, session, session.own)
+}
+
+#[test]
+fn download_to_a_tolerant_device(rt: HostRuntime) -> Result<(), Fail> {
+    let session = Session {
+        alloc: rt.alloc(),
+        file: &NINE,
+        device: &TOLERANT,
+        before: &[],
+        rows: &SENDING,
+        own: &TOLERANTLY,
+    };
+    try_session(&rt, &session)
+}
+
+#[test]
+fn download_to_another_device(rt: HostRuntime) -> Result<(), Fail> {
+    let session = Session {
+        alloc: rt.alloc(),
+        file: &NINE,
+        device: &SILENT,
+        before: &[],
+        rows: &SENDING,
+        own: &SILENTLY,
+    };
+    try_session(&rt, &session)
+}
+
+#[test]
+fn upload(rt: HostRuntime) -> Result<(), Fail> {
+    let session = Session {
+        alloc: rt.alloc(),
+        file: &[],
+        device: &TOLERANT,
+        before: &[],
+        rows: &FETCHING,
+        own: &[],
+    };
+    try_session(&rt, &session)
+}
+
+/// The download of a session that is to be verified, up to its last reset.
+static INSTALLED: [Seen<'static>; 8] = [
+    DFU_IDLE, Ack, WRITTEN, Ack, WRITTEN, Ack, DFU_IDLE, WasReset,
+];
+
+#[test]
+fn comparison(rt: HostRuntime) -> Result<(), Fail> {
+    let session = Session {
+        alloc: rt.alloc(),
+        file: &NINE,
+        device: &TOLERANT,
+        before: &INSTALLED,
+        rows: &COMPARING,
+        own: &[],
+    };
+    try_session(&rt, &session)
+}

@@ -1,0 +1,157 @@
+//! The host's table, written down once more: each phase has a letter, and its row says by letters
+//! what follows.
+
+use super::dialogue::{
+    ABORT, APP_IDLE, BUSY, CLEAR, DETACH, DFU_IDLE, GET_STATE, GET_STATUS, OLD_ERROR, WRITTEN,
+};
+use dfu_host::Seen::{Ack, Bytes, Nothing, Stall, WasReset};
+use dfu_host::{Action, Report, Seen};
+use dfu_wire::Code;
+
+/// Which bytes answer the action of a phase. Others are as nothing.
+#[derive(Clone, Copy)]
+pub(crate) enum Asks {
+    Nothing,
+    /// The letters say what follows a status, by the state: with OK, with errSTALLEDPKT, and with
+    /// another code.
+    Status,
+    /// The letters say what follows an answer to GETSTATE, by the state.
+    State,
+    /// A part of an upload of under eight bytes leads to Last with Uploaded.
+    Part,
+    /// A part of a comparison that is these bytes leads to the phase of the letter, any other of at
+    /// most eight bytes to Last with Different.
+    Compared(u8),
+}
+
+/// The letter of a phase, what is seen on the way to it, its action, what follows an Ack, a Stall,
+/// Nothing, Waited and WasReset, and what follows bytes.
+pub(crate) type Row = (
+    u8,
+    &'static [Seen<'static>],
+    Action<'static>,
+    &'static [u8; 5],
+    Asks,
+    &'static [u8],
+);
+
+/// A status by the list.
+const LIST: &'static [u8] = b"DEBWWQWWRQC DEBWWQWWRQC DEBWWQWWRQC";
+
+const WAIT: Action<'static> = Action::Wait(5);
+
+const RESET: Action<'static> = Action::Reset;
+
+/// Block 0 of nine bytes, sent by eights.
+const FIRST: Action<'static> = Action::Send {
+    setup: [0x21, 1, 0, 0, 0, 0, 8, 0],
+    body: b"12345678",
+};
+
+const SECOND: Action<'static> = Action::Send {
+    setup: [0x21, 1, 1, 0, 0, 0, 1, 0],
+    body: b"9",
+};
+
+const CLOSE: Action<'static> = Action::Send {
+    setup: [0x21, 1, 2, 0, 0, 0, 0, 0],
+    body: &[],
+};
+
+/// UPLOAD of part 0 and of part 1, of at most eight bytes.
+const PART_0: Action<'static> = Action::Send {
+    setup: [0xa1, 2, 0, 0, 0, 0, 8, 0],
+    body: &[],
+};
+
+const PART_1: Action<'static> = Action::Send {
+    setup: [0xa1, 2, 1, 0, 0, 0, 8, 0],
+    body: &[],
+};
+
+const FULL: Seen<'static> = Bytes(b"12345678");
+
+/// The part behind it, which is the last.
+const REST: Seen<'static> = Bytes(b"9");
+
+/// A status of dfuERROR with errADDRESS.
+pub(crate) const ERROR: Seen<'static> = Bytes(&[8, 0, 0, 0, 10, 0]);
+
+/// A status of dfuMANIFEST.
+const LATE: Seen<'static> = Bytes(&[0, 5, 0, 0, 7, 0]);
+
+/// Find, Find again, Detach, Clear, Quit, the wait before Find and the reset before it.
+#[rattlefmt::skip]
+pub(crate) static FINDING: [Row; 7] = [
+    (b'F', &[], GET_STATUS, b"FGFFF", Asks::Status, LIST),
+    (b'G', &[Stall], GET_STATUS, b"GRGGG", Asks::Status, LIST),
+    (b'D', &[APP_IDLE], DETACH, b"EFFFF", Asks::Nothing, b""),
+    (b'C', &[OLD_ERROR], CLEAR, b"FFFFF", Asks::Nothing, b""),
+    (b'Q', &[WRITTEN], ABORT, b"FFFFF", Asks::Nothing, b""),
+    (b'W', &[BUSY], WAIT, b"WWWFW", Asks::Nothing, b""),
+    (b'R', &[Stall, Stall], RESET, b"RRRRF", Asks::Nothing, b""),
+];
+
+/// Block, Ask, Poll and its wait, of block 0 and of block 1, which is the last; Close, Ask last,
+/// Trouble, and the end that is Refused.
+#[rattlefmt::skip]
+pub(crate) static SENDING: [Row; 12] = [
+    (b'B', &[DFU_IDLE], FIRST, b"PTAAA", Asks::Nothing, b""),
+    (b'A', &[DFU_IDLE, Nothing], GET_STATE, b"ATAAA", Asks::State, b"TTBPTTTTTTT"),
+    (b'P', &[DFU_IDLE, Ack], GET_STATUS, b"PTPPP", Asks::Status, b"DEBwwbWWRQC DEBwwbWWRQC DEBwwbWWRQX"),
+    (b'w', &[DFU_IDLE, Ack, BUSY], WAIT, b"wwwPw", Asks::Nothing, b""),
+    (b'b', &[DFU_IDLE, Ack, WRITTEN], SECOND, b"pTaaa", Asks::Nothing, b""),
+    (b'a', &[DFU_IDLE, Ack, WRITTEN, Nothing], GET_STATE, b"aTaaa", Asks::State, b"TTTpTbTTTTT"),
+    (b'p', &[DFU_IDLE, Ack, WRITTEN, Ack], GET_STATUS, b"pTppp", Asks::Status, b"DEBvvLWWRQC DEBvvLWWRQC DEBvvLWWRQX"),
+    (b'v', &[DFU_IDLE, Ack, WRITTEN, Ack, BUSY], WAIT, b"vvvpv", Asks::Nothing, b""),
+    (b'L', &[DFU_IDLE, Ack, WRITTEN, Ack, WRITTEN], CLOSE, b"MTKKK", Asks::Nothing, b""),
+    (b'K', &[DFU_IDLE, Ack, WRITTEN, Ack, WRITTEN, Nothing], GET_STATE, b"KTKKK", Asks::State, b"TTTTTLMTTTT"),
+    (b'T', &[DFU_IDLE, Stall], GET_STATUS, b"TGTTT", Asks::Status, b"DEBWWQWWRQC DEBWWQWWRQC DEBWWQWWRQX"),
+    (b'X', &[DFU_IDLE, Stall, ERROR], Action::Done(Report::Refused(Code::Address)), b"XXXXX", Asks::Nothing, b""),
+];
+
+/// Of a tolerant device: Enter, Manifest and its wait, Last with Installed, and that end.
+#[rattlefmt::skip]
+pub(crate) static TOLERANTLY: [Row; 5] = [
+    (b'E', &[APP_IDLE, Ack], RESET, b"EEEEF", Asks::Nothing, b""),
+    (b'M', &[DFU_IDLE, Ack, WRITTEN, Ack, WRITTEN, Ack], GET_STATUS, b"MTMMM", Asks::Status, b"DEIWWQNNRQC DEBWWQNNRQC DEBWWQNNRQX"),
+    (b'N', &[DFU_IDLE, Ack, WRITTEN, Ack, WRITTEN, Ack, LATE], WAIT, b"NNNMN", Asks::Nothing, b""),
+    (b'I', &[DFU_IDLE, Ack, WRITTEN, Ack, WRITTEN, Ack, DFU_IDLE], RESET, b"IIIIi", Asks::Nothing, b""),
+    (b'i', &[DFU_IDLE, Ack, WRITTEN, Ack, WRITTEN, Ack, DFU_IDLE, WasReset], Action::Done(Report::Installed), b"iiiii",
+        Asks::Nothing, b""),
+];
+
+/// Of a device that detaches by itself and isn't tolerant: Enter, Manifest and its wait, Last with
+/// Unconfirmed, and that end.
+#[rattlefmt::skip]
+pub(crate) static SILENTLY: [Row; 5] = [
+    (b'E', &[APP_IDLE, Ack], Action::Wait(255), b"EEEFE", Asks::Nothing, b""),
+    (b'M', &[DFU_IDLE, Ack, WRITTEN, Ack, WRITTEN, Ack], GET_STATUS, b"MTMMM", Asks::Status, b"DEUWWQVVUQC DEUWWQVVUQC DEUWWQVVUQX"),
+    (b'V', &[DFU_IDLE, Ack, WRITTEN, Ack, WRITTEN, Ack, LATE], WAIT, b"VVVUV", Asks::Nothing, b""),
+    (b'U', &[DFU_IDLE, Ack, WRITTEN, Ack, WRITTEN, Ack, DFU_IDLE], RESET, b"UUUUu", Asks::Nothing, b""),
+    (b'u', &[DFU_IDLE, Ack, WRITTEN, Ack, WRITTEN, Ack, DFU_IDLE, WasReset], Action::Done(Report::Unconfirmed), b"uuuuu",
+        Asks::Nothing, b""),
+];
+
+/// Of an upload by eights: Enter, Fetch 0 and 1, Last with Uploaded, and that end.
+#[rattlefmt::skip]
+pub(crate) static FETCHING: [Row; 5] = [
+    (b'E', &[APP_IDLE, Ack], RESET, b"EEEEF", Asks::Nothing, b""),
+    (b'B', &[DFU_IDLE], PART_0, b"FFFFF", Asks::Part, b""),
+    (b'b', &[DFU_IDLE, FULL], PART_1, b"FFFFF", Asks::Part, b""),
+    (b'Y', &[DFU_IDLE, FULL, WRITTEN], RESET, b"YYYYy", Asks::Nothing, b""),
+    (b'y', &[DFU_IDLE, FULL, WRITTEN, WasReset], Action::Done(Report::Uploaded), b"yyyyy", Asks::Nothing, b""),
+];
+
+/// Of a comparison by eights: Enter, Compare 0 and 1, Last with Verified and with Different, and
+/// those ends.
+#[rattlefmt::skip]
+pub(crate) static COMPARING: [Row; 7] = [
+    (b'E', &[APP_IDLE, Ack], RESET, b"EEEEF", Asks::Nothing, b""),
+    (b'B', &[DFU_IDLE], PART_0, b"FFFFF", Asks::Compared(b'b'), b"12345678"),
+    (b'b', &[DFU_IDLE, FULL], PART_1, b"FFFFF", Asks::Compared(b'Y'), b"9"),
+    (b'Y', &[DFU_IDLE, FULL, REST], RESET, b"YYYYy", Asks::Nothing, b""),
+    (b'y', &[DFU_IDLE, FULL, REST, WasReset], Action::Done(Report::Verified), b"yyyyy", Asks::Nothing, b""),
+    (b'Z', &[DFU_IDLE, FULL, WRITTEN], RESET, b"ZZZZz", Asks::Nothing, b""),
+    (b'z', &[DFU_IDLE, REST, WasReset], Action::Done(Report::Different), b"zzzzz", Asks::Nothing, b""),
+];

@@ -1,0 +1,190 @@
+//! Downloads that are verified, played by hand.
+
+use super::CLEAN;
+use super::dialogue::{
+    AMPLE, APP_IDLE, BLOCK, DETACH, DEVICE, DFU_IDLE, GET_STATUS, MANIFEST, SILENT, TOLERANT,
+    WRITTEN, fetch,
+};
+use super::files::{ALL_ONES, EMPTY, FOR_ZERO, NINE, zeros};
+use super::played::{Step, follow, told, wants};
+use dfu_host::Seen::{Ack, Bytes, Restarted, Waited, WasReset};
+use dfu_host::{Action, Host, HostFault, Limits, Report, Seen};
+use dfu_suffix::read;
+use dfu_wire::Functional;
+use std::process::Abort;
+use std::test::Fail;
+
+const ONES: Seen<'static> = Bytes(&[0xff, 0xff, 0xff, 0xff]);
+
+const VERIFIED: Action<'static> = Action::Done(Report::Verified);
+
+const DIFFERENT: Action<'static> = Action::Done(Report::Different);
+
+/// UPLOAD of part 0, of at most 8 bytes.
+const PART_0: Action<'static> = Action::Send {
+    setup: [0xa1, 2, 0, 0, 0, 0, 8, 0],
+    body: &[],
+};
+
+/// The comparison that follows a clean download.
+static COMPARED: [Step; 6] = [
+    (GET_STATUS, APP_IDLE),
+    (DETACH, Ack),
+    (Action::Reset, WasReset),
+    (GET_STATUS, DFU_IDLE),
+    (PART_0, ONES),
+    (Action::Reset, WasReset),
+];
+
+/// What is seen of a download of one block by a device that closes at once.
+static LOADED: [Seen<'static>; 6] = [DFU_IDLE, Ack, WRITTEN, Ack, DFU_IDLE, WasReset];
+
+static BY_FOUR: Functional = Functional {
+    can_download: true,
+    can_upload: true,
+    tolerant: true,
+    will_detach: false,
+    detach_ms: 255,
+    transfer: 4,
+    version: 0x0110,
+};
+
+#[test]
+fn clean_verified_download_takes_nineteen_actions(rt: HostRuntime) -> Result<(), Fail> {
+    let file = read(&ALL_ONES)?;
+    let mut host = Host::download_verified(&file, &TOLERANT, DEVICE, AMPLE)?;
+    follow(&rt, &mut host, &CLEAN);
+    follow(&rt, &mut host, &COMPARED);
+    wants(&rt, &host, VERIFIED);
+    Ok(())
+}
+
+#[test]
+fn device_that_is_not_tolerant_is_verified_too(rt: HostRuntime) -> Result<(), Fail> {
+    let file = read(&ALL_ONES)?;
+    for (bytes, action) in [
+        (ONES, VERIFIED),
+        (Bytes(&[0xff, 0xff, 0xff]), DIFFERENT),
+        (Bytes(&[0xff, 0xff, 0xff, 0xfe]), DIFFERENT),
+        (Bytes(&[]), DIFFERENT),
+    ] {
+        let mut host = Host::download_verified(&file, &SILENT, DEVICE, AMPLE)?;
+        told(&mut host, &[DFU_IDLE, Ack, WRITTEN, Ack, MANIFEST, Waited]);
+        wants(&rt, &host, Action::Reset);
+        told(&mut host, &[WasReset, DFU_IDLE, bytes]);
+        wants(&rt, &host, Action::Reset);
+        host.take(WasReset);
+        wants(&rt, &host, action);
+    }
+    Ok(())
+}
+
+/// A restart before the last reset goes on as a download, one after it as a comparison, from its
+/// first part.
+#[test]
+fn restart_goes_on_with_what_is_left_to_do(rt: HostRuntime) -> Result<(), Fail> {
+    let file = read(&ALL_ONES)?;
+    let twice = Limits {
+        actions: 100,
+        restarts: 2,
+    };
+    let mut host = Host::download_verified(&file, &BY_FOUR, DEVICE, twice)?;
+    told(
+        &mut host,
+        &[DFU_IDLE, Ack, WRITTEN, Ack, DFU_IDLE, Restarted, DFU_IDLE],
+    );
+    wants(&rt, &host, BLOCK);
+    told(
+        &mut host,
+        &[Ack, WRITTEN, Ack, DFU_IDLE, WasReset, DFU_IDLE, ONES],
+    );
+    wants(&rt, &host, fetch(1, 4));
+    told(&mut host, &[Restarted, DFU_IDLE]);
+    wants(&rt, &host, fetch(0, 4));
+    told(&mut host, &[ONES, Bytes(&[]), WasReset]);
+    wants(&rt, &host, VERIFIED);
+    Ok(())
+}
+
+/// A payload of full blocks ends by an empty answer; a full one there is another image.
+#[test]
+fn full_blocks_end_by_an_empty_answer(rt: HostRuntime) -> Result<(), Fail> {
+    let file = read(&ALL_ONES)?;
+    for (bytes, action) in [
+        (Bytes(&[]), VERIFIED),
+        (ONES, DIFFERENT),
+        (Bytes(&[0xff]), DIFFERENT),
+    ] {
+        let mut host = Host::download_verified(&file, &BY_FOUR, DEVICE, AMPLE)?;
+        told(&mut host, &LOADED);
+        told(&mut host, &[DFU_IDLE, ONES, bytes, WasReset]);
+        wants(&rt, &host, action);
+    }
+    Ok(())
+}
+
+/// Tells a host that sends a file of zeros by blocks of one byte of a clean download, and then so
+/// many parts of it.
+fn verify_zeros(rt: &impl Abort, host: &mut Host<'_>, blocks: u32, parts: u16) {
+    host.take(DFU_IDLE);
+    for _ in 0..blocks {
+        told(host, &[Ack, WRITTEN]);
+    }
+    told(host, &[Ack, DFU_IDLE, WasReset, DFU_IDLE]);
+    for number in 0..parts {
+        wants(rt, host, fetch(number, 1));
+        host.take(Bytes(&[0]));
+    }
+}
+
+#[test]
+fn comparison_has_less_than_65_535_full_parts(rt: HostRuntime) -> Result<(), Fail> {
+    let by_one = Functional {
+        transfer: 1,
+        ..TOLERANT
+    };
+    let bytes = zeros(rt.alloc(), 65_534)?;
+    let mut host = Host::download_verified(&read(&bytes)?, &by_one, DEVICE, AMPLE)?;
+    verify_zeros(&rt, &mut host, 65_534, 65_534);
+    told(&mut host, &[Bytes(&[]), WasReset]);
+    wants(&rt, &host, VERIFIED);
+    let bytes = zeros(rt.alloc(), 65_536)?;
+    let mut host = Host::download_verified(&read(&bytes)?, &by_one, DEVICE, AMPLE)?;
+    verify_zeros(&rt, &mut host, 65_536, 65_535);
+    wants(&rt, &host, Action::Done(Report::TooManyBlocks));
+    Ok(())
+}
+
+#[test]
+fn refusals_of_a_verified_download_come_in_their_order(rt: HostRuntime) -> Result<(), Fail> {
+    let mute = Functional {
+        can_download: false,
+        can_upload: false,
+        transfer: 0,
+        ..TOLERANT
+    };
+    let kept = Functional {
+        can_upload: false,
+        transfer: 0,
+        ..TOLERANT
+    };
+    let narrow = Functional {
+        transfer: 0,
+        ..TOLERANT
+    };
+    let refused = [
+        (read(&EMPTY)?, mute, Some(HostFault::EmptyPayload)),
+        (read(&FOR_ZERO)?, mute, Some(HostFault::WrongTarget)),
+        (read(&NINE)?, mute, Some(HostFault::CannotDownload)),
+        (read(&NINE)?, kept, Some(HostFault::CannotUpload)),
+        (read(&NINE)?, narrow, Some(HostFault::BadDescriptor)),
+        (read(&NINE)?, TOLERANT, None),
+    ];
+    for (file, functional, fault) in &refused {
+        assert_eq!(rt;
+            Host::download_verified(file, functional, DEVICE, AMPLE).err(),
+            *fault
+        );
+    }
+    Ok(())
+}

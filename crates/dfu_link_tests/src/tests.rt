@@ -1,0 +1,111 @@
+//! Links played by events, from the tables of the standard and of this project's profile.
+
+mod bench;
+mod cuts;
+mod dice;
+mod fates;
+mod faults;
+mod lists;
+mod plain;
+mod runs;
+mod scripts;
+mod uploads;
+mod verifying;
+
+use bench::{AMPLE, Setup, USUAL, W, go, offer, pass, play, stands, world};
+use dfu_host::{Limits, Report};
+use dfu_link::{Event, Fate};
+use dfu_wire::{Code, State};
+use std::test::Fail;
+
+const QUICK: Setup = Setup {
+    busy_ms: 0,
+    manifest_ms: 0,
+    ..USUAL
+};
+
+#[rattlefmt::skip]
+#[test]
+fn clean_downloads_have_their_count(rt: HostRuntime) -> Result<(), Fail> {
+    let rows = [
+        (USUAL, 12, None),
+        (USUAL, 13, Some(Report::Installed)),
+        (Setup { attributes: 0x0f, ..USUAL }, 13, Some(Report::Installed)),
+        (QUICK, 8, None),
+        (QUICK, 9, Some(Report::Installed)),
+    ];
+    for (setup, passes, last) in rows {
+        let mut world = world(rt.alloc(), setup)?;
+        play(&rt, &mut world, &[offer(&W), pass(passes)], last);
+        let state = if last.is_some() { State::AppIdle } else { State::DfuIdle };
+        stands(&rt, &world, state, Code::Ok, &[0xff; 4]);
+    }
+    Ok(())
+}
+
+#[rattlefmt::skip]
+#[test]
+fn devices_refuse_images(rt: HostRuntime) -> Result<(), Fail> {
+    let rows = [
+        (Setup { capacity: 3, ..USUAL }, 6, Report::Refused(Code::Address)),
+        (Setup { least: 5, ..USUAL }, 10, Report::Refused(Code::NotDone)),
+    ];
+    for (setup, passes, report) in rows {
+        let mut world = world(rt.alloc(), setup)?;
+        play(&rt, &mut world, &[offer(&W), pass(passes)], Some(report));
+        assert_eq!(rt; world.device().state(), State::Error);
+        assert_eq!(rt; world.device().slots().active_len(), 1);
+    }
+    Ok(())
+}
+
+#[test]
+fn nothing_confirms_an_install_without_tolerance(rt: HostRuntime) -> Result<(), Fail> {
+    let silent = Setup {
+        attributes: 0x03,
+        ..USUAL
+    };
+    let mut world = world(rt.alloc(), silent)?;
+    play(
+        &rt,
+        &mut world,
+        &[offer(&W), pass(12)],
+        Some(Report::Unconfirmed),
+    );
+    stands(&rt, &world, State::AppIdle, Code::Ok, &[0xff; 4]);
+    Ok(())
+}
+
+#[test]
+fn a_budget_is_spent(rt: HostRuntime) -> Result<(), Fail> {
+    let mut world = world(rt.alloc(), USUAL)?;
+    let mut short = offer(&W);
+    short.event = Event::Offer {
+        file: &W,
+        limits: Limits {
+            actions: 9,
+            ..AMPLE
+        },
+    };
+    play(&rt, &mut world, &[short, pass(9)], Some(Report::GaveUp));
+    play(&rt, &mut world, &[offer(&W), pass(3)], None);
+    stands(&rt, &world, State::DfuIdle, Code::Ok, &[0xff; 4]);
+    play(&rt, &mut world, &[pass(9)], Some(Report::Installed));
+    Ok(())
+}
+
+#[test]
+fn a_device_comes_back_without_a_session(rt: HostRuntime) -> Result<(), Fail> {
+    let mut world = world(rt.alloc(), USUAL)?;
+    play(&rt, &mut world, &[offer(&W), pass(4)], None);
+    let mut world = match world.into_device() {
+        Ok(_) => panic!(rt; "a session is live"),
+        Err(world) => world,
+    };
+    play(&rt, &mut world, &[pass(9)], Some(Report::Installed));
+    match world.into_device() {
+        Ok(device) => assert_eq!(rt; device.slots().active_len(), 4),
+        Err(_) => panic!(rt; "no session is live"),
+    }
+    Ok(())
+}

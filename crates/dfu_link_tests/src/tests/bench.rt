@@ -1,0 +1,202 @@
+//! Links to a device on a medium in memory, and the turns that are played on them.
+
+use dfu_device::{Config, Device};
+use dfu_host::{Limits, Report};
+use dfu_link::{Event, Fate, LinkFault, World};
+use dfu_slots::{SimMedium, Slots};
+use dfu_wire::{Code, Functional, Ids, State};
+use std::alloc::Global;
+use std::process::Abort;
+use std::test::Fail;
+
+/// Payload ffffffff, for every device.
+pub(crate) const W: [u8; 20] = [
+    0xff, 0xff, 0xff, 0xff, 0xff, 0xff, 0xff, 0xff, 0xff, 0xff, 0x00, 0x01, 0x55, 0x46, 0x44, 0x10,
+    0x71, 0xc8, 0x51, 0x0c,
+];
+
+/// Payload ffffffff, for a device with the identifiers 0.
+pub(crate) const FOR_ZERO: [u8; 20] = [
+    0xff, 0xff, 0xff, 0xff, 0x00, 0x00, 0x00, 0x00, 0x00, 0x00, 0x00, 0x01, 0x55, 0x46, 0x44, 0x10,
+    0x37, 0xbd, 0x06, 0x3c,
+];
+
+/// An image of eight bytes.
+pub(crate) const EIGHT: [u8; 8] = [0, 1, 2, 3, 4, 5, 6, 7];
+
+/// Actions enough, and no restart.
+pub(crate) const AMPLE: Limits = Limits {
+    actions: 1_000_000,
+    restarts: 0,
+};
+
+/// What a device is set up with: bmAttributes, wTransferSize, the fewest bytes of an image, its two
+/// times, and how many bytes of an image it has room for, at most 2^24.
+#[derive(Clone, Copy)]
+pub(crate) struct Setup {
+    pub(crate) attributes: u8,
+    pub(crate) transfer: u16,
+    pub(crate) least: u32,
+    pub(crate) busy_ms: u32,
+    pub(crate) manifest_ms: u32,
+    pub(crate) capacity: u32,
+}
+
+/// A tolerant device that takes 5 ms for a block and 10 ms for an image.
+pub(crate) const USUAL: Setup = Setup {
+    attributes: 0x07,
+    transfer: 8,
+    least: 1,
+    busy_ms: 5,
+    manifest_ms: 10,
+    capacity: 64,
+};
+
+/// How many bytes a medium has whose slots have room for so many: up to 2^24, else none.
+pub(crate) fn medium_len(capacity: u32) -> u32 {
+    if capacity > 0x100_0000 {
+        return 0;
+    }
+    2 * (32 + capacity)
+}
+
+/// A link to a device with the image `00`.
+pub(crate) fn world<'f>(alloc: Global, setup: Setup) -> Result<World<'f, SimMedium>, Fail> {
+    world_of(alloc, setup, &[0])
+}
+
+/// A link to a device with this image.
+pub(crate) fn world_of<'f>(
+    alloc: Global,
+    setup: Setup,
+    image: &[u8],
+) -> Result<World<'f, SimMedium>, Fail> {
+    let medium = SimMedium::new(alloc, medium_len(setup.capacity))?;
+    world_on(alloc, medium, setup, image)
+}
+
+/// A link to a device with this image on this medium, which has the length for it.
+pub(crate) fn world_on<'f>(
+    alloc: Global,
+    medium: SimMedium,
+    setup: Setup,
+    image: &[u8],
+) -> Result<World<'f, SimMedium>, Fail> {
+    let ids = Ids {
+        device: 0x0100,
+        product: 0x0001,
+        vendor: 0x1209,
+    };
+    let functional = Functional {
+        can_download: setup.attributes & 1 != 0,
+        can_upload: setup.attributes & 2 != 0,
+        tolerant: setup.attributes & 4 != 0,
+        will_detach: setup.attributes & 8 != 0,
+        detach_ms: 255,
+        transfer: setup.transfer,
+        version: 0x0110,
+    };
+    let config = Config::new(
+        ids,
+        functional,
+        setup.least,
+        setup.busy_ms,
+        setup.manifest_ms,
+    )?;
+    match Slots::format(medium, image) {
+        Ok(slots) => Ok(World::new(alloc, Device::start(config, slots))),
+        Err((fault, _)) => Err(fault)?,
+    }
+}
+
+/// An event that comes so many times.
+#[derive(Clone, Copy)]
+pub(crate) struct Turn<'f, 't> {
+    pub(crate) event: Event<'f, 't>,
+    pub(crate) times: usize,
+}
+
+pub(crate) fn offer(file: &[u8]) -> Turn<'_, 'static> {
+    Turn {
+        event: Event::Offer {
+            file,
+            limits: AMPLE,
+        },
+        times: 1,
+    }
+}
+
+pub(crate) const UPLOAD: Turn<'static, 'static> = Turn {
+    event: Event::Upload { limits: AMPLE },
+    times: 1,
+};
+
+pub(crate) fn go(fate: Fate<'_>) -> Turn<'static, '_> {
+    Turn {
+        event: Event::Go(fate),
+        times: 1,
+    }
+}
+
+pub(crate) fn pass(times: usize) -> Turn<'static, 'static> {
+    Turn {
+        event: Event::Go(Fate::Pass),
+        times,
+    }
+}
+
+/// Plays the turns. Nothing is refused, and nothing is reported before the last event, of which
+/// `last` is.
+pub(crate) fn play<'f>(
+    rt: &impl Abort,
+    world: &mut World<'f, SimMedium>,
+    turns: &[Turn<'f, '_>],
+    last: Option<Report>,
+) {
+    for (number, turn) in turns.iter().enumerate() {
+        for time in 0..turn.times {
+            let ends = turns.len() - number == 1 && turn.times - time == 1;
+            let due = if ends { last } else { None };
+            match world.step(turn.event) {
+                Ok(report) => assert_eq!(rt;
+                    report,
+                    due,
+                    "the report at time {time} of turn {number}"
+                ),
+                Err(fault) => panic!(rt; "turn {number} is refused: {fault}"),
+            }
+        }
+    }
+}
+
+/// The event is refused as this fault.
+pub(crate) fn refused(
+    rt: &impl Abort,
+    world: &mut World<'static, SimMedium>,
+    event: Event<'static, 'static>,
+    fault: LinkFault,
+) {
+    match world.step(event) {
+        Ok(_) => panic!(rt; "it is not refused: {fault}"),
+        Err(found) => assert_eq!(rt; found, fault),
+    }
+}
+
+/// The device stands in this state, with this code and this image of at most 8 bytes.
+pub(crate) fn stands(
+    rt: &impl Abort,
+    world: &World<'_, SimMedium>,
+    state: State,
+    code: Code,
+    image: &[u8],
+) {
+    let device = world.device();
+    assert_eq!(rt; device.state(), state);
+    assert_eq!(rt; device.code(), code);
+    let slots = device.slots();
+    assert_eq!(rt; slots.active_len() as usize, image.len());
+    let mut found = [0; 8];
+    let found = &mut found[..image.len().min(8)];
+    slots.read_active(0, found);
+    assert_eq!(rt; &*found, image);
+}

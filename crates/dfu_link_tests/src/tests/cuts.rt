@@ -1,0 +1,206 @@
+//! Power cuts and failed writes.
+
+use super::bench::{AMPLE, Turn, USUAL, W, go, offer, pass, play, refused, stands, world};
+use dfu_host::{Limits, Report};
+use dfu_link::{Event, Fate, LinkFault, World};
+use dfu_slots::SimMedium;
+use dfu_wire::{Code, State};
+use std::alloc::Global;
+use std::process::Abort;
+use std::test::Fail;
+
+const CUT: Turn<'static, 'static> = Turn {
+    event: Event::Cut,
+    times: 1,
+};
+
+/// What a harmed write leaves: nothing new, a closed gate, an open one, bytes as they stood, or an
+/// open gate at the front of a long range.
+fn tear(number: u32) -> &'static [u8] {
+    match number {
+        0 => &[],
+        1 => &[0x00],
+        2 => &[0xa5],
+        3 => &[0xff],
+        _ => &[0xa5; 64],
+    }
+}
+
+/// The image is the one before, `00`, or the whole new one, `ffffffff`.
+fn is_old_or_new(rt: &impl Abort, world: &World<'_, SimMedium>) {
+    let slots = world.device().slots();
+    let mut found = [0x55; 4];
+    match slots.active_len() {
+        1 => {
+            slots.read_active(0, &mut found[..1]);
+            assert_eq!(rt; found, [0x00, 0x55, 0x55, 0x55]);
+        }
+        4 => {
+            slots.read_active(0, &mut found);
+            assert_eq!(rt; found, [0xff; 4]);
+        }
+        len => panic!(rt; "the image has {len} bytes"),
+    }
+}
+
+/// The first actions of a download, and then one with this fate. They all pass, but where the
+/// download is late the seventh slips.
+fn comes_to(
+    rt: &impl Abort,
+    world: &mut World<'static, SimMedium>,
+    late: bool,
+    before: usize,
+    fate: Fate<'_>,
+    report: Option<Report>,
+) {
+    play(rt, world, &[offer(&W)], None);
+    for action in 0..before {
+        let fate = if late && action == 6 {
+            Fate::Slip(4)
+        } else {
+            Fate::Pass
+        };
+        play(rt, world, &[go(fate)], None);
+    }
+    play(rt, world, &[go(fate)], report);
+}
+
+/// A cut after so many actions, at each of the first writes with each tear. The image is the old one
+/// or the new one, and a download installs.
+fn cuts_after(rt: &impl Abort, alloc: Global, late: bool, before: usize) -> Result<(), Fail> {
+    for number in 0..20u32 {
+        let mut world = world(alloc, USUAL)?;
+        let fate = Fate::Cut {
+            writes: number / 5,
+            tear: tear(number % 5),
+        };
+        comes_to(
+            rt,
+            &mut world,
+            late,
+            before,
+            fate,
+            Some(Report::RestartsSpent),
+        );
+        assert_eq!(rt; world.device().state(), State::AppIdle);
+        is_old_or_new(rt, &world);
+        play(
+            rt,
+            &mut world,
+            &[offer(&W), pass(13)],
+            Some(Report::Installed),
+        );
+    }
+    Ok(())
+}
+
+/// The same with a write that fails or lies, which is reported later.
+fn fails_after(rt: &impl Abort, alloc: Global, before: usize) -> Result<(), Fail> {
+    for number in 0..40u32 {
+        let mut world = world(alloc, USUAL)?;
+        let writes = number / 5 % 4;
+        let tear = tear(number % 5);
+        let fate = if number < 20 {
+            Fate::Fail { writes, tear }
+        } else {
+            Fate::Lie { writes, tear }
+        };
+        comes_to(rt, &mut world, false, before, fate, None);
+        is_old_or_new(rt, &world);
+    }
+    Ok(())
+}
+
+#[test]
+fn cuts_at_each_action_of_a_download(rt: HostRuntime) -> Result<(), Fail> {
+    for before in 0..13 {
+        cuts_after(&rt, rt.alloc(), false, before)?;
+    }
+    Ok(())
+}
+
+#[test]
+fn cuts_at_each_action_of_a_late_download(rt: HostRuntime) -> Result<(), Fail> {
+    for before in 0..20 {
+        cuts_after(&rt, rt.alloc(), true, before)?;
+    }
+    Ok(())
+}
+
+#[test]
+fn failures_and_lies_at_each_action_of_a_download(rt: HostRuntime) -> Result<(), Fail> {
+    for before in 0..12 {
+        fails_after(&rt, rt.alloc(), before)?;
+    }
+    Ok(())
+}
+
+/// A cut in the write of the block, and one right after it. A tear lasts as long as its event.
+#[test]
+fn a_host_goes_on_after_a_cut(rt: HostRuntime) -> Result<(), Fail> {
+    let mut world = world(rt.alloc(), USUAL)?;
+    let twice = Turn {
+        event: Event::Offer {
+            file: &W,
+            limits: Limits {
+                restarts: 2,
+                ..AMPLE
+            },
+        },
+        times: 1,
+    };
+    play(&rt, &mut world, &[twice, pass(6)], None);
+    for writes in [0, 1] {
+        let tear = [0xaa, 0xbb];
+        let fate = Fate::Cut {
+            writes,
+            tear: &tear,
+        };
+        play(&rt, &mut world, &[go(fate)], None);
+        stands(&rt, &world, State::AppIdle, Code::Ok, &[0]);
+        play(&rt, &mut world, &[pass(6)], None);
+    }
+    play(&rt, &mut world, &[pass(7)], Some(Report::Installed));
+    stands(&rt, &world, State::AppIdle, Code::Ok, &[0xff; 4]);
+    Ok(())
+}
+
+#[test]
+fn a_cut_between_actions_is_told_to_the_host(rt: HostRuntime) -> Result<(), Fail> {
+    let mut world = world(rt.alloc(), USUAL)?;
+    play(
+        &rt,
+        &mut world,
+        &[CUT, offer(&W), pass(8), CUT],
+        Some(Report::RestartsSpent),
+    );
+    stands(&rt, &world, State::AppIdle, Code::Ok, &[0]);
+    let nowhere = Fate::Cut {
+        writes: 0,
+        tear: &[],
+    };
+    refused(&rt, &mut world, Event::Go(nowhere), LinkFault::NoHost);
+    Ok(())
+}
+
+/// The medium works again after the action, whether or not a write was harmed in it.
+#[test]
+fn a_failure_and_a_lie_are_over_with_their_action(rt: HostRuntime) -> Result<(), Fail> {
+    let mut world = world(rt.alloc(), USUAL)?;
+    let fails = Fate::Fail {
+        writes: 0,
+        tear: &[],
+    };
+    let lies = Fate::Lie {
+        writes: 0,
+        tear: &[0x5a],
+    };
+    play(
+        &rt,
+        &mut world,
+        &[offer(&W), pass(4), go(lies), go(fails), pass(7)],
+        Some(Report::Installed),
+    );
+    stands(&rt, &world, State::AppIdle, Code::Ok, &[0xff; 4]);
+    Ok(())
+}

@@ -1,0 +1,110 @@
+//! Random events.
+
+ghost use Rattle.std.specs.Prelude.{◌<◌};
+
+use dfu_host::Limits;
+use dfu_link::{Event, Fate};
+
+/// A plain generator: the upper bits of x * 6364136223846793005 + 1442695040888963407.
+#[derive(Drop)]
+pub(crate) struct Dice {
+    pub(crate) state: u64,
+}
+
+impl Dice {
+    /// A number under `sides`.
+    pub(crate) fn roll(&mut self, sides: u32) -> u32
+        requires { 0 < sides }
+        ensures { result < sides }
+    {
+        self.state = self.state.wrapping_mul(6_364_136_223_846_793_005);
+        self.state = self.state.wrapping_add(1_442_695_040_888_963_407);
+        (self.state >> 33) as u32 % sides
+    }
+}
+
+/// Files whose payloads have 1, 4, 9 and 24 bytes, and one that is damaged.
+#[rattlefmt::skip]
+pub(crate) fn file(number: u32) -> &'static [u8] {
+    match number {
+        0 => &[
+            0x5a, 0xff, 0xff, 0xff, 0xff, 0xff, 0xff, 0x00, 0x01, 0x55, 0x46, 0x44, 0x10, 0x5b, 0x20, 0x0f,
+            0xcf,
+        ],
+        1 => &[
+            0xff, 0xff, 0xff, 0xff, 0xff, 0xff, 0xff, 0xff, 0xff, 0xff, 0x00, 0x01, 0x55, 0x46, 0x44, 0x10,
+            0x71, 0xc8, 0x51, 0x0c,
+        ],
+        2 => &[
+            0x31, 0x32, 0x33, 0x34, 0x35, 0x36, 0x37, 0x38, 0x39, 0xff, 0xff, 0xff, 0xff, 0xff, 0xff, 0x00,
+            0x01, 0x55, 0x46, 0x44, 0x10, 0x16, 0x4b, 0x65, 0x0f,
+        ],
+        3 => &[
+            0x01, 0x02, 0x03, 0x04, 0x05, 0x06, 0x07, 0x08, 0x09, 0x0a, 0x0b, 0x0c, 0x0d, 0x0e, 0x0f, 0x10,
+            0x11, 0x12, 0x13, 0x14, 0x15, 0x16, 0x17, 0x18, 0xff, 0xff, 0xff, 0xff, 0xff, 0xff, 0x00, 0x01,
+            0x55, 0x46, 0x44, 0x10, 0xc8, 0x00, 0x4a, 0x35,
+        ],
+        _ => &[
+            0xff, 0xff, 0xfe, 0xff, 0xff, 0xff, 0xff, 0xff, 0xff, 0xff, 0x00, 0x01, 0x55, 0x46, 0x44, 0x10,
+            0x71, 0xc8, 0x51, 0x0c,
+        ],
+    }
+}
+
+/// The payload of a file, which stands before its 16 bytes of suffix.
+pub(crate) fn payload(number: u32) -> &'static [u8] {
+    let file = file(number);
+    let len = file.len().saturating_sub(16);
+    let (payload, _) = file.split_at(len);
+    payload
+}
+
+/// What a harmed write leaves: nothing new, an open gate, a closed one, or an open one before more.
+fn tear(number: u32) -> &'static [u8] {
+    match number {
+        0 => &[],
+        1 => &[0xa5],
+        2 => &[0x00],
+        _ => &[0xa5; 64],
+    }
+}
+
+fn fate(dice: &mut Dice) -> Fate<'static> {
+    let writes = dice.roll(5);
+    let torn = tear(dice.roll(4));
+    match dice.roll(13) {
+        0 => Fate::LostOut,
+        1 => Fate::LostBack,
+        2 => Fate::Twice,
+        3 => Fate::TwiceLostBack,
+        4 => Fate::Slip(dice.roll(40)),
+        5 => Fate::Cut { writes, tear: torn },
+        6 => Fate::Fail { writes, tear: torn },
+        7 => Fate::Lie { writes, tear: torn },
+        _ => Fate::Pass,
+    }
+}
+
+/// The next event; an offer is of the file with this number.
+pub(crate) fn event(dice: &mut Dice, number: u32) -> Event<'static, 'static> {
+    let limits = Limits {
+        actions: dice.roll(61),
+        restarts: dice.roll(3) as u16,
+    };
+    match dice.roll(40) {
+        0 => Event::Offer {
+            file: file(number),
+            limits,
+        },
+        1 => Event::OfferVerified {
+            file: file(number),
+            limits,
+        },
+        2 => Event::Upload { limits },
+        3 => Event::Abort,
+        4 => Event::Time(dice.roll(30)),
+        5 => Event::Reset,
+        6 => Event::Cut,
+        _ => Event::Go(fate(dice)),
+    }
+}

@@ -1,0 +1,48 @@
+//! Which events are refused, and as what.
+
+use super::bench::{AMPLE, FOR_ZERO, USUAL, W, offer, pass, play, refused, world};
+use dfu_host::{HostFault, Report};
+use dfu_link::{Event, Fate, LinkFault, OfferFault};
+use dfu_suffix::SuffixFault;
+use std::test::Fail;
+
+fn offered(file: &'static [u8]) -> Event<'static, 'static> {
+    Event::Offer {
+        file,
+        limits: AMPLE,
+    }
+}
+
+#[test]
+fn refused_events_change_nothing(rt: HostRuntime) -> Result<(), Fail> {
+    let mut world = world(rt.alloc(), USUAL)?;
+    let wrong = LinkFault::BadOffer(OfferFault::Host(HostFault::WrongTarget));
+    let short = LinkFault::BadOffer(OfferFault::Suffix(SuffixFault::TooShort));
+    let cut = LinkFault::BadOffer(OfferFault::Suffix(SuffixFault::NoSignature));
+    refused(&rt, &mut world, Event::Go(Fate::Pass), LinkFault::NoHost);
+    refused(&rt, &mut world, offered(&FOR_ZERO), wrong);
+    refused(&rt, &mut world, offered(&W[..15]), short);
+    refused(&rt, &mut world, offered(&W[..19]), cut);
+    play(&rt, &mut world, &[offer(&W), pass(7)], None);
+    refused(&rt, &mut world, offered(&W), LinkFault::HostBusy);
+    refused(&rt, &mut world, offered(&FOR_ZERO), LinkFault::HostBusy);
+    play(&rt, &mut world, &[pass(6)], Some(Report::Installed));
+    refused(&rt, &mut world, Event::Go(Fate::LostOut), LinkFault::NoHost);
+    Ok(())
+}
+
+#[rattlefmt::skip]
+#[test]
+fn faults_have_their_texts(rt: HostRuntime) -> Result<(), Fail> {
+    let rows = [
+        (LinkFault::HostBusy, "a session is live already"),
+        (LinkFault::NoHost, "no session is live"),
+        (LinkFault::BadOffer(OfferFault::Suffix(SuffixFault::NoSignature)), "the session is refused: the file has no DFU signature"),
+        (LinkFault::BadOffer(OfferFault::Host(HostFault::CannotDownload)), "the session is refused: the device takes no downloads"),
+        (LinkFault::NoMemory, "out of memory"),
+    ];
+    for (fault, text) in rows {
+        assert_eq!(rt; format!(in rt.alloc(); "{fault}")?.as_str(), text);
+    }
+    Ok(())
+}

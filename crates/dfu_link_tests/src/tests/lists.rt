@@ -1,0 +1,180 @@
+//! Random lists of events, and what a stranger sees of the device after each of them.
+
+use super::bench::{Setup, world_on};
+use super::dice::{Dice, event, payload};
+use super::plain::plain_image;
+use dfu_device::Device;
+use dfu_host::Report;
+use dfu_link::{Event, World};
+use dfu_slots::{Medium, SimMedium, Unit};
+use dfu_wire::{Code, State};
+use std::alloc::Global;
+use std::process::Abort;
+use std::test::Fail;
+
+/// What the dice begin with, how many lists are played, and how many events each has.
+const SEED: u64 = 1;
+
+const LISTS: u32 = 1_000;
+
+const EVENTS: u32 = 100;
+
+/// The room of a slot, which every unit divides, and the longest medium with it.
+const ROOM: u32 = 256;
+
+const LONGEST: usize = 1_536;
+
+/// An unwritten medium that is written in the unit with this number.
+fn blank(alloc: Global, unit: u32) -> Result<SimMedium, Fail> {
+    let made = match unit {
+        0 => SimMedium::with_unit(alloc, 576, Unit::Byte)?,
+        1 => SimMedium::with_unit(alloc, 576, Unit::U16)?,
+        2 => SimMedium::with_unit(alloc, 768, Unit::U64)?,
+        _ => SimMedium::with_unit(alloc, 1_536, Unit::U256)?,
+    };
+    Ok(made)
+}
+
+/// How long the gate unit of such a medium is.
+fn gate_size(unit: u32) -> usize {
+    match unit {
+        0 | 1 => 16,
+        2 => 64,
+        _ => 256,
+    }
+}
+
+/// Another medium of this unit, with these bytes, which are as many as it has.
+fn copy(rt: &impl Abort, alloc: Global, unit: u32, bytes: &[u8]) -> Result<SimMedium, Fail> {
+    let mut medium = blank(alloc, unit)?;
+    let size = medium.unit().size() as usize;
+    if bytes.len() != medium.len() as usize || bytes.len() % size != 0 {
+        panic!(rt; "the medium has another length");
+    }
+    medium.write(0, bytes)?;
+    Ok(medium)
+}
+
+/// A device of any attributes, with a transfer size of 1 to 9 or of 4,096.
+fn setup(dice: &mut Dice) -> Setup {
+    let transfer = match dice.roll(10) {
+        0 => 4_096,
+        size => size as u16,
+    };
+    Setup {
+        attributes: dice.roll(16) as u8,
+        transfer,
+        least: 1,
+        busy_ms: dice.roll(3),
+        manifest_ms: 1 + dice.roll(3),
+        capacity: ROOM,
+    }
+}
+
+/// The image is the first one or that of an offered file.
+fn is_known(image: &[u8], offered: u32) -> bool {
+    if image == [0].as_slice() {
+        return true;
+    }
+    for number in 0..4 {
+        if offered >> number & 1 == 1 && image == payload(number) {
+            return true;
+        }
+    }
+    false
+}
+
+/// The image that the device shows.
+fn shown<'b>(device: &Device<SimMedium>, buffer: &'b mut [u8; 256]) -> &'b [u8] {
+    let len = device.slots().active_len() as usize;
+    let found = &mut buffer[..len.min(256)];
+    device.slots().read_active(0, found);
+    found
+}
+
+/// The bytes of the device's medium have the image that it shows, and a device that starts on a copy
+/// of them has it too.
+fn looked_at(
+    rt: &impl Abort,
+    alloc: Global,
+    device: &Device<SimMedium>,
+    unit: u32,
+) -> Result<(), Fail> {
+    let mut before = [0; 256];
+    let image = shown(device, &mut before);
+    let medium = device.slots().medium();
+    let mut bytes = [0; LONGEST];
+    let len = (medium.len() as usize).min(LONGEST);
+    medium.read(0, &mut bytes[..len]);
+    assert!(rt; plain_image(&bytes[..len], gate_size(unit)) == Some(image));
+    match Device::power_on(device.config(), copy(rt, alloc, unit, &bytes[..len])?) {
+        Ok(started) => {
+            let mut after = [0; 256];
+            assert!(rt; shown(&started, &mut after) == image);
+            Ok(())
+        }
+        Err(_) => panic!(rt; "power doesn't come back"),
+    }
+}
+
+/// The device is taken from the link where no session is live, and starts again on its own medium.
+fn taken_apart(
+    rt: &impl Abort,
+    alloc: Global,
+    world: World<'static, SimMedium>,
+) -> World<'static, SimMedium> {
+    let device = match world.into_device() {
+        Ok(device) => device,
+        Err(live) => return live,
+    };
+    let config = device.config();
+    match Device::power_on(config, device.into_medium()) {
+        Ok(device) => World::new(alloc, device),
+        Err(_) => panic!(rt; "power doesn't come back"),
+    }
+}
+
+/// After each event the image is the first one or an offered one; where the host reports Installed
+/// or Verified the device stands in appIDLE with the image that was offered last, and where it
+/// reports Different with another one.
+fn play_list(rt: &impl Abort, alloc: Global, dice: &mut Dice) -> Result<(), Fail> {
+    let setup = setup(dice);
+    let unit = dice.roll(4);
+    let mut world = world_on(alloc, blank(alloc, unit)?, setup, &[0])?;
+    let mut offered = 0;
+    let mut last = 0;
+    for _ in 0..EVENTS {
+        let number = dice.roll(5);
+        let event = event(dice, number);
+        let answer = world.step(event);
+        if let (Event::Offer { .. } | Event::OfferVerified { .. }, Ok(_)) = (event, answer) {
+            offered |= 1 << number;
+            last = number;
+        }
+        let mut buffer = [0; 256];
+        let image = shown(world.device(), &mut buffer);
+        assert!(rt; is_known(image, offered));
+        if let Ok(Some(Report::Installed | Report::Verified)) = answer {
+            assert!(rt; image == payload(last));
+            assert_eq!(rt; world.device().state(), State::AppIdle);
+            assert_eq!(rt; world.device().code(), Code::Ok);
+        }
+        if answer == Ok(Some(Report::Different)) {
+            assert!(rt; image != payload(last));
+        }
+        looked_at(rt, alloc, world.device(), unit)?;
+        if dice.roll(4) == 0 {
+            world = taken_apart(rt, alloc, world);
+        }
+    }
+    Ok(())
+}
+
+#[test]
+fn lists_of_events_keep_an_image(rt: HostRuntime) -> Result<(), Fail> {
+    let mut dice = Dice { state: SEED };
+    for _ in 0..LISTS {
+        play_list(&rt, rt.alloc(), &mut dice)?;
+    }
+    Ok(())
+}

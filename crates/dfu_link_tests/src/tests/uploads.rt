@@ -1,0 +1,113 @@
+//! Uploads of the active image, and sessions that are given up.
+
+use super::bench::{
+    EIGHT, Setup, Turn, UPLOAD, USUAL, W, go, offer, pass, play, refused, stands, world, world_of,
+};
+use dfu_host::{HostFault, Report};
+use dfu_link::{Event, Fate, LinkFault, OfferFault};
+use dfu_wire::{Code, State};
+use std::test::Fail;
+
+const ABORT: Turn<'static, 'static> = Turn {
+    event: Event::Abort,
+    times: 1,
+};
+
+#[test]
+fn an_upload_gives_the_image_of_its_time(rt: HostRuntime) -> Result<(), Fail> {
+    let mut world = world_of(rt.alloc(), USUAL, &EIGHT)?;
+    play(&rt, &mut world, &[UPLOAD, pass(6)], None);
+    assert!(rt; world.uploaded().is_empty());
+    play(&rt, &mut world, &[pass(1)], Some(Report::Uploaded));
+    assert_eq!(rt; world.uploaded(), EIGHT.as_slice());
+    play(
+        &rt,
+        &mut world,
+        &[offer(&W), pass(13)],
+        Some(Report::Installed),
+    );
+    assert_eq!(rt; world.uploaded(), EIGHT.as_slice());
+    play(&rt, &mut world, &[UPLOAD, pass(6)], Some(Report::Uploaded));
+    assert_eq!(rt; world.uploaded(), [0xff; 4].as_slice());
+    stands(&rt, &world, State::AppIdle, Code::Ok, &[0xff; 4]);
+    Ok(())
+}
+
+#[rattlefmt::skip]
+#[test]
+fn uploads_go_on_after_losses(rt: HostRuntime) -> Result<(), Fail> {
+    let rows = [
+        (4, Fate::Twice, 6),
+        (4, Fate::LostOut, 4),
+        (5, Fate::LostBack, 4),
+        (5, Fate::Slip(7), 1),
+    ];
+    for (before, fate, after) in rows {
+        let mut world = world_of(rt.alloc(), USUAL, &EIGHT)?;
+        play(&rt, &mut world, &[UPLOAD, pass(before), go(fate), pass(after)], Some(Report::Uploaded));
+        assert_eq!(rt; world.uploaded(), EIGHT.as_slice());
+    }
+    let mut short = world(rt.alloc(), USUAL)?;
+    play(&rt, &mut short, &[UPLOAD, pass(4), go(Fate::Twice), pass(1)], Some(Report::Uploaded));
+    assert_eq!(rt; short.uploaded(), [0].as_slice());
+    Ok(())
+}
+
+#[test]
+fn an_upload_takes_65_534_full_parts(rt: HostRuntime) -> Result<(), Fail> {
+    let by_one = Setup {
+        transfer: 1,
+        capacity: 65_534,
+        ..USUAL
+    };
+    let image = vec![in rt.alloc(); 7u8; 65_534]?;
+    let mut world = world_of(rt.alloc(), by_one, &image)?;
+    play(
+        &rt,
+        &mut world,
+        &[UPLOAD, pass(65_540)],
+        Some(Report::Uploaded),
+    );
+    assert_eq!(rt; world.uploaded().len(), 65_534);
+    Ok(())
+}
+
+#[test]
+fn an_upload_needs_a_device_that_can_upload(rt: HostRuntime) -> Result<(), Fail> {
+    let silent = Setup {
+        attributes: 0x05,
+        ..USUAL
+    };
+    let mut world = world(rt.alloc(), silent)?;
+    let cannot = LinkFault::BadOffer(OfferFault::Host(HostFault::CannotUpload));
+    refused(&rt, &mut world, UPLOAD.event, cannot);
+    Ok(())
+}
+
+#[test]
+fn a_session_is_the_only_one(rt: HostRuntime) -> Result<(), Fail> {
+    let mut world = world(rt.alloc(), USUAL)?;
+    play(&rt, &mut world, &[UPLOAD, pass(2)], None);
+    refused(&rt, &mut world, UPLOAD.event, LinkFault::HostBusy);
+    refused(&rt, &mut world, offer(&W).event, LinkFault::HostBusy);
+    play(&rt, &mut world, &[pass(4)], Some(Report::Uploaded));
+    Ok(())
+}
+
+#[test]
+fn a_session_is_given_up(rt: HostRuntime) -> Result<(), Fail> {
+    let mut world = world(rt.alloc(), USUAL)?;
+    refused(&rt, &mut world, Event::Abort, LinkFault::NoHost);
+    play(&rt, &mut world, &[offer(&W), pass(8), ABORT], None);
+    play(&rt, &mut world, &[pass(1)], Some(Report::Aborted));
+    stands(&rt, &world, State::DfuIdle, Code::Ok, &[0]);
+    play(
+        &rt,
+        &mut world,
+        &[UPLOAD, pass(2), ABORT, ABORT, go(Fate::LostOut)],
+        Some(Report::Aborted),
+    );
+    assert!(rt; world.uploaded().is_empty());
+    refused(&rt, &mut world, Event::Abort, LinkFault::NoHost);
+    Ok(())
+}

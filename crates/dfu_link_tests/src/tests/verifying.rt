@@ -1,0 +1,154 @@
+//! Sessions that compare the active image with what they installed.
+
+use super::bench::{
+    AMPLE, Setup, Turn, USUAL, W, go, pass, play, refused, stands, world, world_of,
+};
+use super::runs::zeros;
+use dfu_host::{HostFault, Limits, Report};
+use dfu_link::{Event, Fate, LinkFault, OfferFault, World};
+use dfu_slots::SimMedium;
+use dfu_wire::{Code, State};
+use std::alloc::Global;
+use std::process::Abort;
+use std::test::Fail;
+
+const SILENT: Setup = Setup {
+    attributes: 0x03,
+    ..USUAL
+};
+
+fn verify(file: &[u8]) -> Turn<'_, 'static> {
+    Turn {
+        event: Event::OfferVerified {
+            file,
+            limits: AMPLE,
+        },
+        times: 1,
+    }
+}
+
+#[rattlefmt::skip]
+#[test]
+fn each_device_that_uploads_is_verified(rt: HostRuntime) -> Result<(), Fail> {
+    let rows = [
+        (USUAL, 18, None),
+        (USUAL, 19, Some(Report::Verified)),
+        (Setup { attributes: 0x0f, ..USUAL }, 19, Some(Report::Verified)),
+        (Setup { transfer: 4, ..USUAL }, 20, Some(Report::Verified)),
+        (Setup { transfer: 3, ..USUAL }, 24, Some(Report::Verified)),
+        (Setup { busy_ms: 0, manifest_ms: 0, ..USUAL }, 15, Some(Report::Verified)),
+        (SILENT, 17, None),
+        (SILENT, 18, Some(Report::Verified)),
+    ];
+    for (setup, passes, last) in rows {
+        let mut world = world(rt.alloc(), setup)?;
+        play(&rt, &mut world, &[verify(&W), pass(passes)], last);
+        let state = if last.is_some() { State::AppIdle } else { State::DfuIdle };
+        stands(&rt, &world, state, Code::Ok, &[0xff; 4]);
+        assert!(rt; world.uploaded().is_empty());
+    }
+    Ok(())
+}
+
+#[test]
+fn a_device_that_lost_the_image_differs(rt: HostRuntime) -> Result<(), Fail> {
+    let images: [&[u8]; 5] = [&[0], &[], &[0xff; 3], &[0xff; 5], &[0xff; 8]];
+    for image in images {
+        let mut world = world_of(rt.alloc(), SILENT, image)?;
+        play(
+            &rt,
+            &mut world,
+            &[verify(&W), pass(10), go(Fate::Slip(4)), pass(7)],
+            Some(Report::Different),
+        );
+        stands(&rt, &world, State::AppIdle, Code::Ok, image);
+    }
+    Ok(())
+}
+
+/// The report of a session that ends within so many passes.
+fn ends(rt: &impl Abort, world: &mut World<'_, SimMedium>, passes: usize) -> Option<Report> {
+    for _ in 0..passes {
+        match world.step(Event::Go(Fate::Pass)) {
+            Ok(None) => {}
+            Ok(report) => return report,
+            Err(fault) => panic!(rt; "a pass is refused: {fault}"),
+        }
+    }
+    None
+}
+
+#[rattlefmt::skip]
+#[test]
+fn one_loss_anywhere_changes_no_verdict(rt: HostRuntime) -> Result<(), Fail> {
+    let fates = [
+        Fate::LostOut,
+        Fate::LostBack,
+        Fate::Twice,
+        Fate::TwiceLostBack,
+        Fate::Cut { writes: 0, tear: &[] },
+        Fate::Fail { writes: 9, tear: &[] },
+        Fate::Lie { writes: 9, tear: &[] },
+    ];
+    let once = Limits { actions: 80, restarts: 1 };
+    for fate in fates {
+        for setup in [USUAL, SILENT, Setup { transfer: 2, ..USUAL }] {
+            for before in 0..17 {
+                let mut world = world(rt.alloc(), setup)?;
+                let mut begun = verify(&W);
+                begun.event = Event::OfferVerified { file: &W, limits: once };
+                play(&rt, &mut world, &[begun, pass(before), go(fate)], None);
+                assert_eq!(rt; ends(&rt, &mut world, 60), Some(Report::Verified));
+                stands(&rt, &world, State::AppIdle, Code::Ok, &[0xff; 4]);
+            }
+        }
+    }
+    Ok(())
+}
+
+#[test]
+fn only_a_device_that_uploads_is_verified(rt: HostRuntime) -> Result<(), Fail> {
+    let mute = Setup {
+        attributes: 0x05,
+        ..USUAL
+    };
+    let mut world = world(rt.alloc(), mute)?;
+    let cannot = LinkFault::BadOffer(OfferFault::Host(HostFault::CannotUpload));
+    refused(&rt, &mut world, verify(&W).event, cannot);
+    stands(&rt, &world, State::AppIdle, Code::Ok, &[0]);
+    Ok(())
+}
+
+/// A payload of so many bytes, in blocks of one byte.
+fn by_ones(
+    rt: &impl Abort,
+    alloc: Global,
+    len: usize,
+    passes: usize,
+    report: Report,
+) -> Result<(), Fail> {
+    let by_one = Setup {
+        transfer: 1,
+        busy_ms: 0,
+        manifest_ms: 0,
+        capacity: 65_537,
+        ..USUAL
+    };
+    let bytes = zeros(alloc, len)?;
+    let mut world = world(alloc, by_one)?;
+    play(
+        rt,
+        &mut world,
+        &[verify(&bytes), pass(passes)],
+        Some(report),
+    );
+    assert_eq!(rt; world.device().slots().active_len() as usize, len);
+    Ok(())
+}
+
+#[test]
+fn a_comparison_takes_65_534_full_blocks(rt: HostRuntime) -> Result<(), Fail> {
+    by_ones(&rt, rt.alloc(), 65_534, 196_615, Report::Verified)?;
+    by_ones(&rt, rt.alloc(), 65_535, 196_616, Report::TooManyBlocks)?;
+    Ok(())
+}

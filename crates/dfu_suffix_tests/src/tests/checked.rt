@@ -1,0 +1,188 @@
+//! What `read`, `read_small` and `check` answer of files, and of what is nearly one, however a reader cuts them.
+
+use super::files::{COMPLEMENT, DFUSE, DFUSE_DAMAGED, EMPTY, FOUR_ONES, GOOD, UNSET};
+use super::readers::{Pieces, in_pieces};
+use dfu_suffix::{File, SuffixFault, Summary, add, check, read, read_small};
+use dfu_wire::Ids;
+use std::process::Abort;
+use std::test::Fail;
+
+/// What `check` answers of a reader, and how often it asks it.
+fn checks(
+    rt: &impl Abort,
+    mut reader: Pieces<'_>,
+    answer: Result<Summary, SuffixFault>,
+    calls: usize,
+) {
+    let (step, stop) = (reader.step, reader.stop);
+    let said = check(&mut reader);
+    assert_eq!(rt;
+        (said, reader.calls),
+        (answer, calls),
+        "{step} at a time, stopped at call {stop}"
+    );
+}
+
+/// What `check` answers of bytes in pieces of 1 to 20. It asks once more at their end.
+fn checks_in_pieces(rt: &impl Abort, bytes: &[u8], answer: Result<Summary, SuffixFault>) {
+    for step in 1..=20usize {
+        checks(
+            rt,
+            in_pieces(bytes, step),
+            answer,
+            bytes.len().div_ceil(step) + 1,
+        );
+    }
+}
+
+/// What is no file, whole and in pieces.
+fn refused(rt: &impl Abort, bytes: &[u8], fault: SuffixFault) {
+    assert_eq!(rt;
+        (read(bytes).err(), read_small(bytes).err()),
+        (Some(fault), Some(fault)),
+        "of {bytes:?}"
+    );
+    checks_in_pieces(rt, bytes, Err(fault));
+}
+
+fn summary(payload: u32, suffix: u8, ids: Ids, crc: u32) -> Summary {
+    Summary {
+        payload,
+        suffix,
+        ids,
+        dfu: 0x0100,
+        crc,
+    }
+}
+
+/// What is read of a file.
+fn reads(rt: &impl Abort, bytes: &[u8], read: Result<File<'_>, SuffixFault>, known: Summary) {
+    let Ok(file) = read else {
+        assert!(rt; false, "refused {bytes:?}");
+        return;
+    };
+    let payload = file.payload();
+    assert!(rt; bytes.starts_with(payload), "of {bytes:?}");
+    assert_eq!(rt; payload.len(), known.payload as usize, "of {bytes:?}");
+    assert_eq!(rt;
+        (file.suffix(), file.ids(), file.dfu()),
+        (known.suffix, known.ids, known.dfu),
+        "of {bytes:?}"
+    );
+}
+
+#[test]
+fn what_known_files_say(rt: HostRuntime) {
+    for (bytes, payload, suffix, ids, crc) in &GOOD {
+        let known = summary(*payload, *suffix, *ids, *crc);
+        reads(&rt, bytes, read(bytes), known);
+        reads(&rt, bytes, read_small(bytes), known);
+        checks_in_pieces(&rt, bytes, Ok(known));
+    }
+}
+
+/// What is said of the first bytes of `FOUR_ONES`.
+fn of_front(len: usize) -> Result<Summary, SuffixFault> {
+    match len {
+        0..=15 => Err(SuffixFault::TooShort),
+        16..=19 => Err(SuffixFault::NoSignature),
+        _ => Ok(summary(4, 16, UNSET, 0x0c51_c871)),
+    }
+}
+
+#[test]
+fn fronts_of_a_file(rt: HostRuntime) {
+    for len in 0..20usize {
+        if let Err(fault) = of_front(len) {
+            refused(&rt, &FOUR_ONES[..len], fault);
+        }
+    }
+}
+
+/// What is said of `FOUR_ONES` with this bit of this byte turned. Bytes 12 to 14 are the signature,
+/// and byte 15 is bLength, 16 and at most 20 where a bit of its low three is turned.
+fn of_turned(at: usize, bit: u32) -> SuffixFault {
+    match (at, bit) {
+        (12..=14, _) => SuffixFault::NoSignature,
+        (15, 3..=7) => SuffixFault::BadLength,
+        _ => SuffixFault::BadCrc,
+    }
+}
+
+#[test]
+fn each_bit_of_a_file_turned(rt: HostRuntime) {
+    for at in 0..20usize {
+        for bit in 0..8u32 {
+            let mut changed = FOUR_ONES;
+            changed[at] ^= 1 << bit;
+            refused(&rt, &changed, of_turned(at, bit));
+        }
+    }
+}
+
+#[test]
+fn first_faults_of_known_bytes(rt: HostRuntime) {
+    refused(&rt, &COMPLEMENT, SuffixFault::BadCrc);
+    refused(&rt, &DFUSE, SuffixFault::DfuSe);
+    refused(&rt, &DFUSE_DAMAGED, SuffixFault::DfuSe);
+}
+
+// The reader fails in place of each of its answers in turn, the end too, or gives nothing there and
+// would go on behind it. It is not asked again.
+#[test]
+fn reader_that_stops(rt: HostRuntime) {
+    for fails in [true, false] {
+        for step in 1..=20usize {
+            let calls = 20usize.div_ceil(step) + 1;
+            for stop in 0..calls {
+                let reader = Pieces {
+                    left: &FOUR_ONES,
+                    step,
+                    stop,
+                    fails,
+                    calls: 0,
+                };
+                let answer = if fails {
+                    Err(SuffixFault::Read)
+                } else {
+                    of_front(stop * step)
+                };
+                checks(&rt, reader, answer, stop + 1);
+            }
+        }
+    }
+}
+
+/// The suffix of 16,777,200 zeros, with its CRC by another program.
+static ZEROS_SUFFIX: [u8; 16] = [
+    0xff, 0xff, 0xff, 0xff, 0xff, 0xff, 0x00, 0x01, 0x55, 0x46, 0x44, 0x10, 0xaf, 0x59, 0xe8, 0xfa,
+];
+
+// The 257th call is the one that gives nothing, or the byte past the limit.
+#[test]
+fn files_at_and_past_the_limit(rt: HostRuntime) -> Result<(), Fail> {
+    let mut file = vec![in rt.alloc(); 0u8; 16_777_200]?;
+    file.extend_from_slice(&ZEROS_SUFFIX)?;
+    let known = summary(16_777_200, 16, UNSET, 0xfae8_59af);
+    checks(&rt, in_pieces(&file, 65_536), Ok(known), 257);
+    file.push(0)?;
+    checks(
+        &rt,
+        in_pieces(&file, 65_536),
+        Err(SuffixFault::TooLarge),
+        257,
+    );
+    Ok(())
+}
+
+// The pieces end before, at and behind the end of the room that a read is given, 65,536 bytes.
+#[test]
+fn long_file_in_pieces(rt: HostRuntime) -> Result<(), Fail> {
+    let mut file = Vec::new(rt.alloc());
+    add(rt.alloc(), &[0x5a; 70_000][..], UNSET, &mut file)?;
+    let known = summary(70_000, 16, UNSET, 0x2675_8014);
+    for (step, calls) in [(1usize, 70_017usize), (17, 4_120), (65_535, 3), (70_016, 3)] {
+        checks(&rt, in_pieces(&file, step), Ok(known), calls);
+    }
+    Ok(())
+}
