@@ -30,8 +30,8 @@ pub trait Medium: Drop {
     fn unit(&self) -> Unit
         ensures { result ≡ (state self.now).unit };
 
-    /// Whether the register over its images goes by a table of 64 bytes, in about five times as many instructions, and not
-    /// by those of 16,384 bytes. It is the same register. A program all of whose media answer the constant `true` links
+    /// Whether the register over its images goes by a table of 64 bytes, in over four times as many instructions, and not
+    /// by those of 8,192 bytes. It is the same register. A program all of whose media answer the constant `true` links
     /// without the large tables.
     fn has_small_tables(&self) -> bool {
         false

@@ -1,5 +1,5 @@
 -- Lists of bytes, and their parts.
-use Rattle.std.proofs.Common.{ℕ, zero, suc, ◌+◌, List, [], ◌∷◌, ◌++◌, take, drop, arith}
+use Rattle.std.proofs.Common.{ℕ, zero, suc, ◌+◌, ◌<◌, List, [], ◌∷◌, ◌++◌, take, drop, set, arith}
 use Rattle.std.proofs.lemmas.List.{get_or-drop}
 use Rattle.dfu_suffix.specs.Laws.{AreBytes}
 
@@ -19,3 +19,11 @@ pub AreBytes-append : (xs ys : List ℕ) → AreBytes xs → AreBytes ys → Are
 AreBytes-append [] ys f g k = g k
 AreBytes-append (x ∷ xs) ys f g zero = f zero
 AreBytes-append (x ∷ xs) ys f g (suc k) = AreBytes-append xs ys (λ i. f (suc i)) g k
+
+-- A list of bytes in which one was set is one of bytes.
+pub AreBytes-set : (xs : List ℕ) (i c : ℕ) → AreBytes xs → c < 256 → AreBytes (set xs i c)
+AreBytes-set [] i c f h k = f k
+AreBytes-set (x ∷ xs) zero c f h zero = h
+AreBytes-set (x ∷ xs) zero c f h (suc k) = f (suc k)
+AreBytes-set (x ∷ xs) (suc i) c f h zero = f zero
+AreBytes-set (x ∷ xs) (suc i) c f h (suc k) = AreBytes-set xs i c (λ j. f (suc j)) h k

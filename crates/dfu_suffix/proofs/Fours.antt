@@ -1,11 +1,11 @@
 -- Four bytes at once.
 use Rattle.std.proofs.Common.{subst, get_or, List, ◌≡◌, ℕ, ◌+◌, ◌/◌, ◌%◌, ◌^◌, ◌<◌, sym, ap, ◌∙◌, arith}
 use Rattle.std.specs.Int.Bits.{bit_xor, xor_assoc}
-use Rattle.std.proofs.lemmas.Nat.{xor_comm, shr-shr}
+use Rattle.std.proofs.lemmas.Nat.{shr-shr}
 use Rattle.byteorder.specs.Endian.{little_number}
 use Rattle.dfu_suffix.specs.Laws.{AreBytes}
 use Rattle.dfu_suffix.specs.Register.{shifts}
-use Rattle.dfu_suffix.proofs.Shifts.{shifts_add, shifts_of_xor, shifts_peel}
+use Rattle.dfu_suffix.proofs.Shifts.{shifts_peel}
 
 peel : (m n s : ℕ) → m ≡ 8 + n → shifts m s ≡ bit_xor (shifts m (s % 256)) (shifts n (s / 256))
 peel m n s e = subst (λ (k : ℕ). shifts k s ≡ bit_xor (shifts k (s % 256)) (shifts n (s / 256))) (sym e) (shifts_peel n s)
@@ -40,14 +40,3 @@ shifts_of_four n xs f =
     let e3 : s / 2 ^ 24 % 256 ≡ get_or xs 3 0 = omega (arith, f 0, f 1, f 2, f 3) in
     let whole = shifts_by_fours n s (four_small xs f) in
     cc
-
--- Shifts of two numbers together, by 32 bits and then n more, are those of each.
-pub absorb : (n t x : ℕ) → shifts n (shifts 32 (bit_xor t x)) ≡ bit_xor (shifts (32 + n) t) (shifts (32 + n) x)
-absorb n t x = sym (shifts_add 32 n (bit_xor t x)) ∙ shifts_of_xor (32 + n) t x
-
--- Four numbers give the same in the other order.
-pub four_turned : (a b c d : ℕ) → bit_xor (bit_xor (bit_xor a b) c) d ≡ bit_xor (bit_xor (bit_xor d c) b) a
-four_turned a b c d =
-    xor_comm (bit_xor (bit_xor a b) c) d
-    ∙ (ap (bit_xor d) (xor_comm (bit_xor a b) c ∙ ap (bit_xor c) (xor_comm a b))
-    ∙ (sym (xor_assoc d c (bit_xor b a)) ∙ sym (xor_assoc (bit_xor d c) b a)))

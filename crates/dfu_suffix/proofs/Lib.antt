@@ -6,6 +6,11 @@ pub mod Shifts
 pub mod Fours
 pub mod Tables
 pub mod SmallTable
+pub mod Combined
+pub mod Spread
+pub mod FoldSteps
+pub mod FoldRooms
+pub mod Residues
 pub mod NoFault
 pub mod FileLaws
 pub mod ReadLaws

@@ -12,7 +12,8 @@ use Rattle.std.proofs.Math.Nat.{pow-suc, mul_assoc, zero-add}
 use Rattle.std.proofs.lemmas.Nat.{pow_pos, mod_below}
 use Rattle.dfu_suffix.specs.Register.{after_bit, after_bits, low_bits, bits_of, shift, shifts}
 
-swap_last : (a b c : ℕ) → bit_xor (bit_xor a b) c ≡ bit_xor (bit_xor a c) b
+-- Two numbers may be combined with a third one in either order.
+pub swap_last : (a b c : ℕ) → bit_xor (bit_xor a b) c ≡ bit_xor (bit_xor a c) b
 swap_last a b c = xor_assoc a b c ∙ (ap (bit_xor a) (xor_comm b c) ∙ sym (xor_assoc a c b))
 
 by_low : (r x h k : ℕ) → r < 2 → x < 2 → cond (eqb (bit_xor r x) 0) (bit_xor h k) (bit_xor (bit_xor h k) 0xEDB8_8320)

@@ -1,14 +1,14 @@
 -- What stands in the table, and what a byte does.
 use Rattle.std.proofs.Common.{inl, inr, append-nil, subst, fold, ◌≡◌, ℕ, zero, suc, ◌+◌, ◌/◌, ◌%◌, ◌^◌, ◌<◌, ◌≤◌, Bool, true, false, cond, eqb, List, [], ◌∷◌, ◌++◌, length, take, drop, get_or, bit_and, bit_xor, refl, sym, ap, ◌∙◌, arith}
 use Rattle.std.proofs.lemmas.Bool.{eqb-true}
-use Rattle.std.proofs.lemmas.Nat.{and_mask}
+use Rattle.std.proofs.lemmas.Nat.{and_mask, xor_comm}
 use Rattle.std.proofs.Math.Nat.{eq-or-lt_of_le}
 use Rattle.std.specs.List.{flat_map}
 use Rattle.std.proofs.lemmas.List.{take_more, take_all, take-append-drop}
 use Rattle.std.proofs.lemmas.List.Sums.{fold-append}
 use Rattle.std.proofs.lemmas.List.Concat.{flat_map-append}
 use Rattle.dfu_suffix.proofs.Shifts.{bits_little, bits_step, byte_step, shifts_add, shifts_of_xor}
-use Rattle.dfu_suffix.proofs.Fours.{absorb, four_small, four_turned}
+use Rattle.dfu_suffix.proofs.Fours.{four_small}
 use Rattle.dfu_suffix.specs.Laws.{AreBytes}
 use Rattle.byteorder.specs.Endian.{little_number}
 use Rattle.dfu_suffix.specs.Register.{after_bit, after_bits, low_bits, bits_of, register, shifts}
@@ -20,14 +20,6 @@ use Rattle.dfu_suffix.specs.declared.table.bits_40.TheConstants.{AFTER_40}
 use Rattle.dfu_suffix.specs.declared.table.bits_48.TheConstants.{AFTER_48}
 use Rattle.dfu_suffix.specs.declared.table.bits_56.TheConstants.{AFTER_56}
 use Rattle.dfu_suffix.specs.declared.table.bits_64.TheConstants.{AFTER_64}
-use Rattle.dfu_suffix.specs.declared.table.bits_72.TheConstants.{AFTER_72}
-use Rattle.dfu_suffix.specs.declared.table.bits_80.TheConstants.{AFTER_80}
-use Rattle.dfu_suffix.specs.declared.table.bits_88.TheConstants.{AFTER_88}
-use Rattle.dfu_suffix.specs.declared.table.bits_96.TheConstants.{AFTER_96}
-use Rattle.dfu_suffix.specs.declared.table.bits_104.TheConstants.{AFTER_104}
-use Rattle.dfu_suffix.specs.declared.table.bits_112.TheConstants.{AFTER_112}
-use Rattle.dfu_suffix.specs.declared.table.bits_120.TheConstants.{AFTER_120}
-use Rattle.dfu_suffix.specs.declared.table.bits_128.TheConstants.{AFTER_128}
 
 -- Whether n numbers of a list, from place i on, are those of another after k bits 0.
 abbrev pub right_from : ℕ → (ℕ → ℕ) → List ℕ → ℕ → ℕ → Bool
@@ -107,46 +99,6 @@ pub right_64 : Holds 64 AFTER_64
 unfolding shifts
 right_64 = holds_more 56 AFTER_56 AFTER_64 right_56 refl
 
--- The table for 72 bits holds what they make of each byte.
-pub right_72 : Holds 72 AFTER_72
-unfolding shifts
-right_72 = holds_more 64 AFTER_64 AFTER_72 right_64 refl
-
--- The table for 80 bits holds what they make of each byte.
-pub right_80 : Holds 80 AFTER_80
-unfolding shifts
-right_80 = holds_more 72 AFTER_72 AFTER_80 right_72 refl
-
--- The table for 88 bits holds what they make of each byte.
-pub right_88 : Holds 88 AFTER_88
-unfolding shifts
-right_88 = holds_more 80 AFTER_80 AFTER_88 right_80 refl
-
--- The table for 96 bits holds what they make of each byte.
-pub right_96 : Holds 96 AFTER_96
-unfolding shifts
-right_96 = holds_more 88 AFTER_88 AFTER_96 right_88 refl
-
--- The table for 104 bits holds what they make of each byte.
-pub right_104 : Holds 104 AFTER_104
-unfolding shifts
-right_104 = holds_more 96 AFTER_96 AFTER_104 right_96 refl
-
--- The table for 112 bits holds what they make of each byte.
-pub right_112 : Holds 112 AFTER_112
-unfolding shifts
-right_112 = holds_more 104 AFTER_104 AFTER_112 right_104 refl
-
--- The table for 120 bits holds what they make of each byte.
-pub right_120 : Holds 120 AFTER_120
-unfolding shifts
-right_120 = holds_more 112 AFTER_112 AFTER_120 right_112 refl
-
--- The table for 128 bits holds what they make of each byte.
-pub right_128 : Holds 128 AFTER_128
-unfolding shifts
-right_128 = holds_more 120 AFTER_120 AFTER_128 right_120 refl
-
 -- What a byte does, by the table.
 pub table_step : (r b : ℕ) → b < 256 → after_bits r (low_bits 8 b) ≡ bit_xor (r / 2 ^ 8) (get_or AFTER_8 (bit_and (bit_xor r b) 255) 0)
 table_step r b h = byte_step r b h ∙ ap (bit_xor (r / 256)) (sym (entry_at 8 AFTER_8 (bit_xor r b) right_8))
@@ -166,7 +118,8 @@ in_two n r t u xs ys zs front back first second =
     second ∙ (ap (λ (z : ℕ). after_bits z (bits_of ys)) first
     ∙ (sym (after-append r xs ys) ∙ ap (λ (ts : List ℕ). after_bits r (bits_of ts)) joined))
 
-after_one : (r b : ℕ) → after_bits r (bits_of (b ∷ [])) ≡ after_bits r (low_bits 8 b)
+-- One byte alone.
+pub after_one : (r b : ℕ) → after_bits r (bits_of (b ∷ [])) ≡ after_bits r (low_bits 8 b)
 unfolding bits_of
 after_one r b = ap (after_bits r) (append-nil (low_bits 8 b))
 
@@ -183,10 +136,10 @@ pub register-append : (xs ys : List ℕ) → register (xs ++ ys) ≡ after_bits 
 unfolding register
 register-append xs ys = after-append 0xFFFF_FFFF xs ys
 
--- ---- sixteen bytes at once
+-- ---- eight bytes at once
 
 -- Four bytes more, by the number that they make.
-four_bytes : (r x : ℕ) (xs : List ℕ) → length xs ≡ 4 → AreBytes xs → x ≡ little_number 4 xs → x < 2 ^ 32 →
+pub four_bytes : (r x : ℕ) (xs : List ℕ) → length xs ≡ 4 → AreBytes xs → x ≡ little_number 4 xs → x < 2 ^ 32 →
     after_bits r (bits_of xs) ≡ shifts 32 (bit_xor r x)
 four_bytes r x xs h f e small =
     let all : take 4 xs ≡ xs = take_all 4 xs (omega arith) in
@@ -197,39 +150,28 @@ four_bytes r x xs h f e small =
 then_rest : (r t : ℕ) (xs ys : List ℕ) → after_bits r (bits_of xs) ≡ t → after_bits r (bits_of (xs ++ ys)) ≡ after_bits t (bits_of ys)
 then_rest r t xs ys e = after-append r xs ys ∙ ap (λ (z : ℕ). after_bits z (bits_of ys)) e
 
--- The registers after four, eight, twelve and sixteen bytes, from the one before.
-turned : (r a b c d t1 t2 t3 : ℕ) → t1 ≡ shifts 32 (bit_xor r a) → t2 ≡ shifts 32 (bit_xor t1 b) → t3 ≡ shifts 32 (bit_xor t2 c) →
-    shifts 32 (bit_xor t3 d) ≡ bit_xor (bit_xor (bit_xor (shifts 32 d) (shifts 64 c)) (shifts 96 b)) (shifts 128 (bit_xor r a))
-turned r a b c d t1 t2 t3 e1 e2 e3 =
-    let s4 : shifts 32 (bit_xor t3 d) ≡ bit_xor (shifts 32 t3) (shifts 32 d) = shifts_of_xor 32 t3 d in
-    let s3 : shifts 32 t3 ≡ bit_xor (shifts 64 t2) (shifts 64 c) = ap (shifts 32) e3 ∙ absorb 32 t2 c in
-    let s2 : shifts 64 t2 ≡ bit_xor (shifts 96 t1) (shifts 96 b) = ap (shifts 64) e2 ∙ absorb 64 t1 b in
-    let s1 : shifts 96 t1 ≡ shifts 128 (bit_xor r a) = ap (shifts 96) e1 ∙ sym (shifts_add 32 96 (bit_xor r a)) in
-    let whole : shifts 32 (bit_xor t3 d) ≡ bit_xor (bit_xor (bit_xor (shifts 128 (bit_xor r a)) (shifts 96 b)) (shifts 64 c))
-    (shifts 32 d) = cc in
-    whole ∙ four_turned (shifts 128 (bit_xor r a)) (shifts 96 b) (shifts 64 c) (shifts 32 d)
+-- The register after eight bytes, from that after the first four.
+turned : (r a b t : ℕ) → t ≡ shifts 32 (bit_xor r a) → shifts 32 (bit_xor t b) ≡ bit_xor (shifts 32 b) (shifts 64 (bit_xor r a))
+turned r a b t e =
+    let first : shifts 32 t ≡ shifts 64 (bit_xor r a) = ap (shifts 32) e ∙ sym (shifts_add 32 32 (bit_xor r a)) in
+    shifts_of_xor 32 t b ∙ (ap (λ (z : ℕ). bit_xor z (shifts 32 b)) first ∙ xor_comm (shifts 64 (bit_xor r a)) (shifts 32 b))
 
--- A quarter of sixteen bytes, as a number.
-pub record Quarter (x : ℕ) (xs : List ℕ) : Type 0 where
+-- Four bytes, as a number.
+pub record Four (x : ℕ) (xs : List ℕ) : Type 0 where
   pub long : length xs ≡ 4
   pub bytes : AreBytes xs
   pub number : x ≡ little_number 4 xs
   pub small : x < 2 ^ 32
 
--- Four bytes are a quarter, by the number that they make.
-pub quarter : (xs : List ℕ) → length xs ≡ 4 → AreBytes xs → Quarter (little_number 4 xs) xs
-quarter xs h f = record { long = h; bytes = f; number = refl; small = four_small xs f }
+-- Four bytes make a number.
+pub four : (xs : List ℕ) → length xs ≡ 4 → AreBytes xs → Four (little_number 4 xs) xs
+four xs h f = record { long = h; bytes = f; number = refl; small = four_small xs f }
 
--- Sixteen bytes more, as four numbers.
-pub sixteen_step : (r a b c d : ℕ) (xs ys zs ws : List ℕ) → Quarter a xs → Quarter b ys → Quarter c zs → Quarter d ws →
-    bit_xor (bit_xor (bit_xor (shifts 32 d) (shifts 64 c)) (shifts 96 b)) (shifts 128 (bit_xor r a))
-    ≡ after_bits r (bits_of (xs ++ (ys ++ (zs ++ ws))))
-sixteen_step r a b c d xs ys zs ws p q u v =
-    let t1 = shifts 32 (bit_xor r a) in
-    let t2 = shifts 32 (bit_xor t1 b) in
-    let t3 = shifts 32 (bit_xor t2 c) in
-    let s1 = then_rest r t1 xs (ys ++ (zs ++ ws)) (four_bytes r a xs p.long p.bytes p.number p.small) in
-    let s2 = then_rest t1 t2 ys (zs ++ ws) (four_bytes t1 b ys q.long q.bytes q.number q.small) in
-    let s3 = then_rest t2 t3 zs ws (four_bytes t2 c zs u.long u.bytes u.number u.small) in
-    let s4 = four_bytes t3 d ws v.long v.bytes v.number v.small in
-    sym (s1 ∙ (s2 ∙ (s3 ∙ (s4 ∙ turned r a b c d t1 t2 t3 refl refl refl))))
+-- Eight bytes more, as two numbers.
+pub eight_step : (r a b : ℕ) (xs ys : List ℕ) → Four a xs → Four b ys →
+    bit_xor (shifts 32 b) (shifts 64 (bit_xor r a)) ≡ after_bits r (bits_of (xs ++ ys))
+eight_step r a b xs ys p q =
+    let t = shifts 32 (bit_xor r a) in
+    let s1 = then_rest r t xs ys (four_bytes r a xs p.long p.bytes p.number p.small) in
+    let s2 = four_bytes t b ys q.long q.bytes q.number q.small in
+    sym (s1 ∙ (s2 ∙ turned r a b t refl))

@@ -40,7 +40,7 @@ pub fn check<R: Read + Drop>(mut reader: R) -> Result<Summary, SuffixFault>
                 }
                 let more = &buffer[..taken];
                 count += taken as u32;
-                crc.update(more);
+                crc.update_long(more);
                 slide(&mut window, more);
             }
             Err(_) => return Err(SuffixFault::Read),

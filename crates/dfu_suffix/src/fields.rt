@@ -70,7 +70,7 @@ pub(crate) fn crc_due(bytes: &[u8], by_small_table: bool) -> u32
     if by_small_table {
         crc.update_small(front);
     } else {
-        crc.update(front);
+        crc.update_long(front);
     }
     crc.value()
 }

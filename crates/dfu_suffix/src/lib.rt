@@ -12,6 +12,7 @@ mod crc;
 mod fault;
 mod fields;
 mod file;
+mod folding;
 mod gathering;
 mod judging;
 pub mod laws;

@@ -42,7 +42,7 @@ fn crc_over(payload: &[u8], fields: &[u8]) -> u32
     ensures { result ≡ register (payload.now ++ fields.now) }
 {
     let mut crc = Crc::new();
-    crc.update(payload);
+    crc.update_long(payload);
     crc.update(fields);
     crc.value()
 }

@@ -72,9 +72,9 @@ pub fn read(bytes: &[u8]) -> Result<File<'_>, SuffixFault>
     read_by(bytes, false)
 }
 
-/// Reads a whole file as `read` does, with the same faults, by a table of 64 bytes, in about five times as many
-/// instructions: for a program that has no room for the 16,384 bytes of the large tables. Only one that nowhere calls
-/// `read`, `check`, `add` or `Crc::update` links without these.
+/// Reads a whole file as `read` does, with the same faults, by a table of 64 bytes, in about nine times as many
+/// instructions: for a program that has no room for the 8,192 bytes of the large tables. Only one that nowhere calls
+/// `read`, `check`, `add`, `Crc::update` or `Crc::update_long` links without these.
 ///
 /// # Errors
 ///

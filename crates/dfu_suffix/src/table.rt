@@ -1,11 +1,7 @@
-//! Tables of the register: what 8, 16, .. 128 further bits 0 make of each number below 256. The check
+//! Tables of the register: what 8, 16, .. 64 further bits 0 make of each number below 256. The check
 //! computes the first one by the definition over single bits, and each further one from the one before
 //! it (proofs/Tables.antt).
 
-mod bits_104;
-mod bits_112;
-mod bits_120;
-mod bits_128;
 mod bits_16;
 mod bits_24;
 mod bits_32;
@@ -13,11 +9,7 @@ mod bits_40;
 mod bits_48;
 mod bits_56;
 mod bits_64;
-mod bits_72;
 mod bits_8;
-mod bits_80;
-mod bits_88;
-mod bits_96;
 
 use bits_8::AFTER_8;
 use bits_16::AFTER_16;
@@ -27,18 +19,9 @@ use bits_40::AFTER_40;
 use bits_48::AFTER_48;
 use bits_56::AFTER_56;
 use bits_64::AFTER_64;
-use bits_72::AFTER_72;
-use bits_80::AFTER_80;
-use bits_88::AFTER_88;
-use bits_96::AFTER_96;
-use bits_104::AFTER_104;
-use bits_112::AFTER_112;
-use bits_120::AFTER_120;
-use bits_128::AFTER_128;
 
-/// The table for each place of sixteen bytes: from where the first byte begins 128 bits are to come, from
+/// The table for each place of eight bytes: from where the first byte begins 64 bits are to come, from
 /// where the last one does 8. They lie behind one another, so that one address serves for all of them.
-pub(crate) static TABLES: [[u32; 256]; 16] = [
-    AFTER_128, AFTER_120, AFTER_112, AFTER_104, AFTER_96, AFTER_88, AFTER_80, AFTER_72, AFTER_64,
-    AFTER_56, AFTER_48, AFTER_40, AFTER_32, AFTER_24, AFTER_16, AFTER_8,
+pub(crate) static TABLES: [[u32; 256]; 8] = [
+    AFTER_64, AFTER_56, AFTER_48, AFTER_40, AFTER_32, AFTER_24, AFTER_16, AFTER_8,
 ];

@@ -3,6 +3,7 @@
 mod added;
 mod checked;
 mod files;
+mod folded;
 mod gathered;
 mod readers;
 mod texts;
@@ -66,8 +67,8 @@ fn registers_of_known_bytes(rt: HostRuntime) {
     }
 }
 
-// The fast body, the small one and the plain one agree at each length around steps of sixteen and
-// thirty-two bytes, however the bytes are cut, and where both take a part.
+// The fast body, the small one and the plain one agree at each length around steps of eight and
+// sixteen bytes, however the bytes are cut, and where both take a part.
 #[test]
 fn register_in_pieces(rt: HostRuntime) {
     let mut bytes = [0u8; 67];

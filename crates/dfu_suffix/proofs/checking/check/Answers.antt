@@ -25,4 +25,4 @@ loop-turn-preserved g c =
     let more = take c.in-Ok.taken c.read.new.buf in
     let some : 0 < length more = omega (arith, b.1, c.in-Ok.taken-test.1) in
     seen_more _ _ _ _ _ _ _ _ _ _ more c.loop-turn.invariant p.0 c.slide.ensures.bytes some
-    c.update.ensures.more (ap (λ (n : ℕ). c.loop-turn.count + n) b.1) c.slide.ensures.last (omega (arith, b.1))
+    c.update_long.ensures.more (ap (λ (n : ℕ). c.loop-turn.count + n) b.1) c.slide.ensures.last (omega (arith, b.1))

@@ -1,0 +1,97 @@
+-- A residue in a room, and a turn of folding.
+use Rattle.std.proofs.Common.{◌≡◌, ℕ, ◌+◌, ◌-◌, ◌^◌, ◌<◌, ◌≤◌, List, [], ◌∷◌, ◌++◌, length, take, drop, set, get_or, bit_xor, sym, ap, subst, ◌∙◌, arith}
+use Rattle.std.proofs.lemmas.List.{drop-drop, drop-set-add, drop-take, get_or-drop, get_or-take, length-drop, length-set, length-take-le, take_all, take_at, take_more_set}
+use Rattle.std.proofs.lemmas.Nat.{xor_lt}
+use Rattle.std.specs.List.{copy_within}
+use Rattle.dfu_suffix.proofs.Bytes.{AreBytes-drop, AreBytes-set, AreBytes-take}
+use Rattle.dfu_suffix.proofs.Tables.{after_more}
+use Rattle.dfu_suffix.specs.Laws.{AreBytes}
+use Rattle.dfu_suffix.specs.Register.{after_bits, bits_of, low_bits}
+use Rattle.dfu_suffix.specs.inside.Folding.{combined, stands_for}
+use Rattle.dfu_suffix.proofs.FoldSteps.{fold_step, folded}
+
+residue_at : (room : List ℕ) (i k : ℕ) → k < 1968 → get_or (take 1968 (drop i room)) k 0 ≡ get_or room (i + k) 0
+residue_at room i k h = get_or-take 1968 (drop i room) k 0 h ∙ get_or-drop i room k 0
+
+-- A byte was set behind the residue.
+residue_step : (room : List ℕ) (i c : ℕ) → i + 1968 < length room →
+    take 1968 (drop (i + 1) (set room (i + 1968) c)) ≡ drop 1 (take 1968 (drop i room)) ++ c ∷ []
+residue_step room i c h =
+    let place : i + 1968 ≡ (i + 1) + 1967 = omega arith in
+    let fits : 1967 < length (drop (i + 1) room) = omega (arith, length-drop (i + 1) room) in
+    ap (λ (k : ℕ). take 1968 (drop (i + 1) (set room k c))) place
+    ∙ (ap (take 1968) (drop-set-add (i + 1) room 1967 c)
+    ∙ (take_more_set (drop (i + 1) room) 1967 c fits
+    ∙ ap (λ (ys : List ℕ). ys ++ c ∷ []) (ap (take 1967) (sym (drop-drop 1 i room)) ∙ sym (drop-take 1 1967 (drop i room)))))
+
+-- The byte that comes behind the residue at a place of the room.
+abbrev pub folded_at : ℕ → List ℕ → ℕ → ℕ
+folded_at m room i =
+    bit_xor (bit_xor (bit_xor (bit_xor (bit_xor (bit_xor m (get_or room i 0)) (get_or room (i + 720) 0)) (get_or room (i + 848) 0))
+    (get_or room (i + 1184) 0)) (get_or room (i + 1280) 0)) (get_or room (i + 1920) 0)
+
+folded_fits : (m : ℕ) (room : List ℕ) (i : ℕ) → m < 256 → AreBytes room → folded_at m room i < 256
+folded_fits m room i h f =
+    let b = λ (k : ℕ). get_or room k 0 in
+    let n0 = bit_xor m (b i) in
+    let n1 = bit_xor n0 (b (i + 720)) in
+    let n2 = bit_xor n1 (b (i + 848)) in
+    let n3 = bit_xor n2 (b (i + 1184)) in
+    let n4 = bit_xor n3 (b (i + 1280)) in
+    let h0 : n0 < 2 ^ 8 = xor_lt 8 m (b i) h (f i) in
+    let h1 : n1 < 2 ^ 8 = xor_lt 8 n0 (b (i + 720)) h0 (f (i + 720)) in
+    let h2 : n2 < 2 ^ 8 = xor_lt 8 n1 (b (i + 848)) h1 (f (i + 848)) in
+    let h3 : n3 < 2 ^ 8 = xor_lt 8 n2 (b (i + 1184)) h2 (f (i + 1184)) in
+    let h4 : n4 < 2 ^ 8 = xor_lt 8 n3 (b (i + 1280)) h3 (f (i + 1280)) in
+    xor_lt 8 n4 (b (i + 1920)) h4 (f (i + 1920))
+
+folded_same : (m : ℕ) (room : List ℕ) (i : ℕ) → folded_at m room i ≡ folded m (take 1968 (drop i room))
+unfolding combined
+folded_same m room i =
+    let here : i ≡ i + 0 = omega arith in
+    let e0 = ap (λ (k : ℕ). get_or room k 0) here ∙ sym (residue_at room i 0 (omega arith)) in
+    let e1 = residue_at room i 720 (omega arith) in
+    let e2 = residue_at room i 848 (omega arith) in
+    let e3 = residue_at room i 1184 (omega arith) in
+    let e4 = residue_at room i 1280 (omega arith) in
+    let e5 = residue_at room i 1920 (omega arith) in
+    cc
+
+-- What a turn of folding keeps: the room has only bytes, and the residue at this place stands for the register so far.
+pub record Folds (start : ℕ) (bytes room : List ℕ) (i : ℕ) : Type 0 where
+  pub long : length room ≡ 6064
+  pub each : AreBytes room
+  pub so_far : stands_for (take 1968 (drop i room)) ≡ after_bits start (bits_of (take i bytes))
+
+-- A byte more.
+pub folds_more : (start : ℕ) (bytes room : List ℕ) (i : ℕ) → Folds start bytes room i → AreBytes bytes → i < length bytes →
+    length bytes ≤ 4096 → Folds start bytes (set room (i + 1968) (folded_at (get_or bytes i 0) room i)) (i + 1)
+folds_more start bytes room i p f h short =
+    let m = get_or bytes i 0 in
+    let c = folded_at m room i in
+    let residue = take 1968 (drop i room) in
+    let behind : i + 1968 < length room = omega (arith, p.long) in
+    let fits : c < 256 = folded_fits m room i (f i) p.each in
+    let long : length residue ≡ 1968 = length-take-le 1968 (drop i room) (omega (arith, length-drop i room)) in
+    let each : AreBytes residue = AreBytes-take 1968 (drop i room) (AreBytes-drop room i p.each) in
+    record {
+      long = length-set room (i + 1968) c ∙ p.long;
+      each = AreBytes-set room (i + 1968) c p.each fits;
+      so_far =
+          ap stands_for (residue_step room i c behind)
+          ∙ (fold_step m c residue long each (f i) fits (folded_same m room i)
+          ∙ (ap (λ (r : ℕ). after_bits r (low_bits 8 m)) p.so_far ∙ sym (after_more start bytes i h)));
+    }
+
+-- At the end the residue is copied to the front of the room.
+pub folds_end : (start i : ℕ) (bytes room : List ℕ) → Folds start bytes room i → i ≡ length bytes → length bytes ≤ 4096 →
+    stands_for (take 1968 (copy_within room (length bytes) (length bytes + 1968) 0)) ≡ after_bits start (bits_of bytes)
+folds_end start i bytes room p all short =
+    let n = length bytes in
+    let q : Folds start bytes room n = subst (Folds start bytes room) all p in
+    let size : n + 1968 - n ≡ 1968 = omega arith in
+    let residue = take 1968 (drop n room) in
+    let long : length residue ≡ 1968 = length-take-le 1968 (drop n room) (omega (arith, length-drop n room, q.long)) in
+    ap (λ (k : ℕ). stands_for (take 1968 (take k (drop n room) ++ drop (0 + k) room))) size
+    ∙ (ap stands_for (take_at residue (drop 1968 room) 1968 long)
+    ∙ (q.so_far ∙ ap (λ (xs : List ℕ). after_bits start (bits_of xs)) (take_all n bytes (omega arith))))

@@ -1,0 +1,8 @@
+use Rattle.std.proofs.Common.{◌∙◌, refl, arith}
+use Rattle.dfu_suffix.proofs.Residues.{begun, register_bytes}
+use Rattle.dfu_suffix.proofs.folding.residue_for.Goals as goal
+
+pub returns : goal.returns
+returns c =
+    let four = register_bytes c.args.register c.copy_from_slice.new.self (omega arith) (c.copy_from_slice.ensures.after ∙ c.to_le_bytes.ensures) in
+    begun 6060 c.args.register c.copy_from_slice.new.self _ four (omega arith) refl
