@@ -4,5 +4,6 @@ use Rattle.dfu_suffix.proofs.folding.residue_for.Goals as goal
 
 pub returns : goal.returns
 returns c =
-    let four = register_bytes c.args.register c.copy_from_slice.new.self (omega arith) (c.copy_from_slice.ensures.after ∙ c.to_le_bytes.ensures) in
-    begun 6060 c.args.register c.copy_from_slice.new.self _ four (omega arith) refl
+    let xs = c.copy_from_slice.new.self in
+    let four = register_bytes c.args.register xs (omega arith) (c.copy_from_slice.ensures.after ∙ c.to_le_bytes.ensures) in
+    begun 6060 c.args.register xs _ four (omega arith) refl
