@@ -56,14 +56,18 @@ def best(work, prepare=None):
     return 1000 * clock, 1000 * processor
 
 
-def dfu(*words):
-    """Runs the program, which has to succeed, and answers the seconds of the processor."""
+def spent(program, *words):
+    """Runs a program, which has to succeed, and answers the seconds of the processor."""
     to_nothing = [(os.POSIX_SPAWN_OPEN, 1, os.devnull, os.O_WRONLY, 0)]
-    child = os.posix_spawn(PROGRAM, [PROGRAM, *words], os.environ, file_actions=to_nothing)
+    child = os.posix_spawn(program, [program, *words], os.environ, file_actions=to_nothing)
     _, status, used = os.wait4(child, 0)
     if status:
-        raise SystemExit(f"dfu {' '.join(words)}: {status}")
+        raise SystemExit(f"{program} {' '.join(words)}: {status}")
     return used.ru_utime + used.ru_stime
+
+
+def dfu(*words):
+    return spent(PROGRAM, *words)
 
 
 def traced(tool, *words):
@@ -93,6 +97,10 @@ def check():
         print(f"{reads} reads: check of 16 MiB")
     clock, processor = best(lambda: dfu("check", full))
     print(f"{clock:.1f} ms, {processor:.1f} of the processor: check of 16 MiB")
+    for other, *words in (("cksum",), ("dfu-suffix", "-c")):
+        if has(other, f"what {other} takes for the same file"):
+            clock, processor = best(lambda: spent(shutil.which(other), *words, full))
+            print(f"{clock:.1f} ms, {processor:.1f} of the processor: {' '.join((other, *words))} of the same file")
 
 
 def replace(data, to):
