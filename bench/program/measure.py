@@ -15,7 +15,7 @@ import zlib
 PROGRAM, FOLDER = sys.argv[1:]
 MOST = 16_777_216
 ROUNDS = 30
-SHORT_ROUNDS = 100
+RUN_ROUNDS = 100
 SUFFIX = bytes.fromhex("ffffffffffff000155464410")
 
 
@@ -154,7 +154,7 @@ def run():
     passes = {name: script(name, *case) for name, case in cases.items()}
     least = dict.fromkeys(cases, 1e9)
     # In turn, so that what else the machine does for a moment meets each of them.
-    for _ in range(SHORT_ROUNDS):
+    for _ in range(RUN_ROUNDS):
         for name in cases:
             least[name] = min(least[name], dfu("run", path(name)))
     for name in ("short", "middle", "long"):
