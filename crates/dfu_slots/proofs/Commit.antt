@@ -40,7 +40,8 @@ header_written g wide old p gen len crc fits =
 -- The gate of a slot whose header and data are a new image's.
 
 module _ (g : ℕ) (wide : 16 ≤ g) (old mid left : List ℕ) (mine other : ℕ) (image : List ℕ) (a : ActiveAt g old mine other image)
-    (len : ℕ) (whole : List ℕ) (fits : len ≤ length whole) (bound : len < 2 ^ 32) (keeps : KeepsOutside (other + g) (other + slot_size old) old mid)
+    (len : ℕ) (whole : List ℕ) (fits : len ≤ length whole) (bound : len < 2 ^ 32)
+    (keeps : KeepsOutside (other + g) (other + slot_size old) old mid)
     (torn : KeepsOutside other (other + g) mid left)
     (head : (slot g mid other).header ≡ header 2 (next_generation (generation (slot g old mine))) len (register (take len whole)))
     (data_is : (slot g mid other).data_bytes ≡ whole) where
@@ -199,7 +200,8 @@ module _ (g : ℕ) (wide : 16 ≤ g) (s : MediumState) (mine other : ℕ) (image
       (mid_keeps mid first) torn (mid_head mid first) (mid_data mid first) is_open)
 
   -- Those up to one that failed.
-  pub commit_broken : (fault : WriteFault) (now : MediumState) → BrokenWrites fault s (commit_writes g was len crc) now → ActiveAt g now.bytes mine other image
+  pub commit_broken : (fault : WriteFault) (now : MediumState) → BrokenWrites fault s (commit_writes g was len crc) now
+      → ActiveAt g now.bytes mine other image
       ⊎ ActiveAt g now.bytes other mine new_image
   commit_broken fault now broken = elim (broken_parts fault before_gate gate_write s now broken) [
     | inl early ↦
@@ -209,7 +211,8 @@ module _ (g : ℕ) (wide : 16 ≤ g) (s : MediumState) (mine other : ℕ) (image
         let mid = late.0 in
         let first = late.1.first in
         let size = (mid_keeps mid first).size in
-        let torn = broken_keep other (other + g) fault gate_write mid now (omega (arith, size, end, a.sized.room)) gate_inside late.1.second in
+        let torn = broken_keep other (other + g) fault gate_write mid now (omega (arith, size, end, a.sized.room)) gate_inside
+        late.1.second in
         subst (λ (q : ℕ). ActiveAt g now.bytes mine other image
         ⊎ ActiveAt g now.bytes other mine (take len (slot g was q).data_bytes)) places_of.1
         (either_way g wide was mid.bytes now.bytes mine other image a len (slot g was other).data_bytes (omega (arith, whole_length)) bound

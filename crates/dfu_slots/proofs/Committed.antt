@@ -103,7 +103,8 @@ module _ (g : ℕ) (wide : 16 ≤ g) (s : MediumState) (mine other : ℕ) (image
         ((crc_is ∙ ap (λ (l : List ℕ). register l) (sym image_is)) i)
 
   -- All writes came.
-  pub committed : (now : MediumState) → AllWrites s (part ++ commit_writes g s.bytes len crc) now → ActiveAt g now.bytes other mine new_image
+  pub committed : (now : MediumState) → AllWrites s (part ++ commit_writes g s.bytes len crc) now
+      → ActiveAt g now.bytes other mine new_image
   committed now came =
       let parts = all_parts part (commit_writes g s.bytes len crc) s now came in
       let mid = parts.0 in

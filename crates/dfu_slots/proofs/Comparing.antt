@@ -30,7 +30,8 @@ module _ (g : ℕ) (bytes : List ℕ) (at : ℕ) (end : at + slot_size bytes ≤
   unfolding is_intact
   intact_compared fits same made crc compared made_is crc_is =
       compared ∙ ap (λ (l : List ℕ). bytes_eq shown l) made_is
-      ∙ (λ i. bytes_eq (shown_is i) (header 2 (slice_index (shown_is i) 0) (told i) ((crc_is ∙ ap (λ (n : ℕ). register (take n s.data_bytes)) told) i)))
+      ∙ (λ i. bytes_eq (shown_is i) (header 2 (slice_index (shown_is i) 0) (told i)
+      ((crc_is ∙ ap (λ (n : ℕ). register (take n s.data_bytes)) told) i)))
       ∙ sym (ap (λ (b : Bool). b && bytes_eq s.header
       (header 2 (slice_index s.header 0) (header_length s) (register (take (header_length s) s.data_bytes))))
       (le-leb _ _ (omega (arith, fits, told, room_is))))

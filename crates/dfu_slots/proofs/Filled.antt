@@ -23,10 +23,11 @@ buffer_front bytes size most fits le =
     take_past bytes (replicate (most - length bytes) 0) size fits
     ∙ ap (λ (l : List ℕ). bytes ++ l) (take-replicate (size - length bytes) (most - length bytes) 0 (omega (arith, le)))
 
--- The bytes and their zeros stand at the front of a buffer of 4096 zeros, and a write of that front is one of the filled bytes.
+-- The bytes and their zeros are at the front of a buffer of 4096 zeros, so that to write this front is to write the filled bytes.
 pub filled_series : {T : Type 0} (m now : MediumState) (v : WriteUnit) → v ≡ m.unit → (at : ℕ) (bytes copied : List ℕ) (zeros : ℕ)
     → zeros ≡ fill_size v (length bytes) → length bytes ≤ 4096 → copied ≡ bytes
-    → (r : Result T WriteFault) → Series m (write_some at (take (length bytes + zeros) (copied ++ drop (length bytes) (replicate 4096 0)))) r now
+    → (r : Result T WriteFault)
+    → Series m (write_some at (take (length bytes + zeros) (copied ++ drop (length bytes) (replicate 4096 0)))) r now
     → Series m (write_some at (filled m.unit bytes)) r now
 filled_series m now v unit at bytes copied zeros zeros_are short is r series =
     let size = length bytes + zeros in

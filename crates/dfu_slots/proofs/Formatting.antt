@@ -116,7 +116,8 @@ module _ (s mid : MediumState) (image : List ℕ) (can : CanFormat s image) (at 
   are = pieces_are s mid image at at_is unit
 
   -- A piece fails.
-  pub pieces_broken : (fault : WriteFault) (now : MediumState) → ((n : ℕ) → length units ≤ n → BrokenWrites fault mid (piece_writes n at units) now)
+  pub pieces_broken : (fault : WriteFault) (now : MediumState)
+      → ((n : ℕ) → length units ≤ n → BrokenWrites fault mid (piece_writes n at units) now)
       → BrokenWrites fault s (format_series s image) now
   pieces_broken fault now broken =
       broken_first fault (close_writes (gate_of s) s.bytes ++ image_writes s.unit (gate_of s) image)
@@ -164,7 +165,8 @@ module _ (s mid : MediumState) (image : List ℕ) (can : CanFormat s image) (at 
         (arith, units_fit mid image (closed_can s mid image can closed), (closed_sized s mid can.sized closed).room) in
         let even = (closed_sized s mid can.sized closed).even in
         let is : filling.bytes ≡ written mid.bytes (0 + 2 * g + 0) units =
-        pieces_written (length units) at units mid filling (omega arith) (omega (arith, here, room, even)) (all (length units) (omega arith))
+        pieces_written (length units) at units mid filling (omega arith) (omega (arith, here, room, even))
+        (all (length units) (omega arith))
         ∙ ap (λ (p : ℕ). written mid.bytes p units) here in
         ap (λ (u : WriteUnit). take (length image) (slot (gate_size u) filling.bytes 0).data_bytes) image_unit_is
         ∙ ap (λ (l : List ℕ). take (length image) l)

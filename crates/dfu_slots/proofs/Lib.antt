@@ -1,7 +1,7 @@
 mod AfterBegin
+mod AfterCall
 mod AfterCommit
 mod AfterPut
-mod Answered
 mod Begun
 mod Commit
 mod Committed

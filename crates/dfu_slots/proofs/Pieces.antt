@@ -40,7 +40,8 @@ pieces_step (suc m) at (b ∷ bs) size is some le =
     tail (inr long) = let e : 4096 ≡ size = omega arith in ap (λ (k : ℕ). piece_writes m (at + k) (drop k (b ∷ bs))) e
 
 -- The first piece, where its write fails.
-pieces_first : (fault : WriteFault) (s now : MediumState) (n at size : ℕ) (bytes : List ℕ) → size ≡ min 4096 (length bytes) → 0 < length bytes → length bytes ≤ n
+pieces_first : (fault : WriteFault) (s now : MediumState) (n at size : ℕ) (bytes : List ℕ) → size ≡ min 4096 (length bytes)
+    → 0 < length bytes → length bytes ≤ n
     → FailedWrite fault s at (take size bytes) now → BrokenWrites fault s (piece_writes n at bytes) now
 pieces_first fault s now n at size bytes is some le failed =
     let step = pieces_step n at bytes size is some le in
@@ -80,7 +81,8 @@ module _ (old mid now : MediumState) (n at : ℕ) (bytes : List ℕ) (place : �
       }
 
   -- The next piece fails.
-  written_stopped : (fault : WriteFault) → FailedWrite fault mid place (take size rest) now → BrokenWrites fault old (piece_writes n at bytes) now
+  written_stopped : (fault : WriteFault) → FailedWrite fault mid place (take size rest) now
+      → BrokenWrites fault old (piece_writes n at bytes) now
   written_stopped fault failed =
       subst (λ (ws : List Write). BrokenWrites fault old ws now) (sym w.pieces)
       (broken_later fault w.front (piece_writes w.left place rest) old mid now w.all

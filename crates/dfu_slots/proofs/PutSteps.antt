@@ -116,7 +116,8 @@ module _ (m : MediumState) (v : WriteUnit) (unit : v ≡ m.unit) (at : ℕ) (hel
   pub full_broken : (fault : WriteFault) (now : MediumState) (x y h : List ℕ) → x ≡ y → y ≡ held ++ h → h ≡ take (size - k) bytes
       → BrokenWrites fault m (write_some at x) now → BrokenWrites fault m (put_writes m.unit at held bytes) now
   full_broken fault now x y h one two three broken =
-      subst (λ (ws : List Write). BrokenWrites fault m ws now) (writes_of_full m.unit at held bytes count count_of size of_unit some short full)
+      subst (λ (ws : List Write). BrokenWrites fault m ws now)
+      (writes_of_full m.unit at held bytes count count_of size of_unit some short full)
       (broken_first fault (write_some at (held ++ take (size - length held) bytes)) _ m now
       (subst (λ (l : List ℕ). BrokenWrites fault m (write_some at l) now) (first_is x y h one two three) broken))
 

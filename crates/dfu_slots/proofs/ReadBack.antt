@@ -6,12 +6,14 @@ use Rattle.std.proofs.lemmas.Bool.{true≢false}
 use Rattle.std.proofs.Math.Seq.{take-add}
 
 -- What `!=` says of the bytes that were read: none differs.
-pub found_same : (read piece : List ℕ) (differ same : Bool) → differ ≡ not same → Decides same (read ≡ piece) → differ ≡ false → read ≡ piece
+pub found_same : (read piece : List ℕ) (differ same : Bool) → differ ≡ not same → Decides same (read ≡ piece) → differ ≡ false
+    → read ≡ piece
 found_same read piece differ true is d none = d.0 refl
 found_same read piece differ false is d none = absurd (true≢false (sym is ∙ none))
 
 -- Or one does.
-pub found_other : (read piece : List ℕ) (differ same : Bool) → differ ≡ not same → Decides same (read ≡ piece) → differ ≡ true → read ≢ piece
+pub found_other : (read piece : List ℕ) (differ same : Bool) → differ ≡ not same → Decides same (read ≡ piece) → differ ≡ true
+    → read ≢ piece
 found_other read piece differ true is d some = absurd (true≢false (sym some ∙ is))
 found_other read piece differ false is d some = λ e. true≢false (sym (d.1 e))
 
@@ -34,7 +36,8 @@ module _ (m : List ℕ) (at : ℕ) (xs ys : List ℕ) (room : at + length xs + l
   size : length (slice_range m at (at + length xs)) ≡ length xs
   size = ap length (range_is m at (length xs)) ∙ length-take-le (length xs) (drop at m) (omega (arith, room, length-drop at m))
 
-  whole_is : slice_range m at (at + length (xs ++ ys)) ≡ slice_range m at (at + length xs) ++ slice_range m (at + length xs) (at + length xs + length ys)
+  whole_is : slice_range m at (at + length (xs ++ ys))
+      ≡ slice_range m at (at + length xs) ++ slice_range m (at + length xs) (at + length xs + length ys)
   whole_is = ap (λ (n : ℕ). slice_range m at (at + n)) (length-append xs ys) ∙ range_two m at (length xs) (length ys)
 
   -- The bytes stand there where both parts do.
@@ -58,7 +61,8 @@ pub record ReadBack (m : List ℕ) (at : ℕ) (bytes : List ℕ) (ahead : ℕ) (
   pub same : Stand m at bytes ↔ Stand m (length m - ahead) rest
 
 -- Nothing is read back at first.
-pub back_none : (m : List ℕ) (at : ℕ) (bytes : List ℕ) → at + length bytes ≤ length m → (len : ℕ) → len ≡ length m → ReadBack m at bytes (len - at) bytes
+pub back_none : (m : List ℕ) (at : ℕ) (bytes : List ℕ) → at + length bytes ≤ length m → (len : ℕ) → len ≡ length m
+    → ReadBack m at bytes (len - at) bytes
 back_none m at bytes fits len is =
     let place : length m - (len - at) ≡ at = omega (arith, fits, is) in
     record {

@@ -19,7 +19,8 @@ pub piece_on : (bytes : List ℕ) (len at n m next : ℕ) (piece : List ℕ) →
     → piece ≡ slice_range bytes at (at + m) → next ≡ register (take at bytes ++ piece) → SoFar bytes len (at + n) next
 piece_on bytes len at n m next piece fits size is more = record {
   within = fits;
-  register_is = more ∙ ap (λ (l : List ℕ). register l) (ap (λ (l : List ℕ). take at bytes ++ l) (is ∙ ap (λ (k : ℕ). slice_range bytes at (at + k)) size) ∙ front_on bytes at n);
+  register_is = more ∙ ap (λ (l : List ℕ). register l)
+      (ap (λ (l : List ℕ). take at bytes ++ l) (is ∙ ap (λ (k : ℕ). slice_range bytes at (at + k)) size) ∙ front_on bytes at n);
 }
 
 -- The whole front is in the register where the pieces have come to its end.

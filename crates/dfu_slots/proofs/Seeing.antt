@@ -8,6 +8,7 @@ use Rattle.dfu_slots.specs.Layout.{capacity, slot, OPEN, IsOpen, header_length}
 use Rattle.dfu_slots.specs.Image.{gate_of, capacity_of, Active, HasImage, has_image_fused, active_at, spare_at, spare}
 use Rattle.dfu_slots.specs.Seen.{SlotsState, store_of, store_on, fused, spare_slot, held_at, image_of, spare_of, is_begun, room_of, is_shaped, image_fused, spare_fused, begun_fused, room_fused}
 use Rattle.dfu_slots.specs.Store.{HasPuts, IsStore}
+use Rattle.dfu_slots.specs.Leaves.{FuseLeaves}
 use Rattle.dfu_slots.proofs.Stands.{ActiveAt, standing, active_from}
 use Rattle.dfu_slots.proofs.Torn.{written_torn}
 use Rattle.dfu_slots.proofs.Parts.{data_length}
@@ -170,18 +171,9 @@ begun_from_gate s now same = ap (λ (g : ℕ). not (g == OPEN)) same
 
 -- Another fuse on the medium.
 
--- A store that was seen as `v` is seen as this with another fuse.
-pub record FuseLeaves (v now : SlotsState) : Type 0 where
-  pub image : image_of now ≡ image_of v
-  pub spare : spare_of now ≡ spare_of v
-  pub begun : is_begun now ≡ is_begun v
-  pub room : room_of now ≡ room_of v
-  pub shape : is_shaped now ≡ true
-  pub store : IsStore now
-
--- Where the medium has another fuse, the store is as it was.
+-- Where the medium has another fuse, a store that was seen as `v` is as it was.
 pub fuse_leaves : {s v : SlotsState} → s ≡ v → IsStore s → (m : MediumState) (fuse : Fuse) → m ≡ record s.medium { fuse = fuse }
-    → FuseLeaves v (store_of m s.held s.put_end)
+    → FuseLeaves v fuse (store_of m s.held s.put_end)
 fuse_leaves {s} {v} view store m fuse is =
     let same : store_of m s.held s.put_end ≡ fused s fuse = ap (λ (x : MediumState). store_of x s.held s.put_end) is in
     let kept : IsStore (store_of m s.held s.put_end) =
@@ -189,12 +181,13 @@ fuse_leaves {s} {v} view store m fuse is =
       has_image = has_image_fused s.medium fuse store.has_image;
       puts = record { fits = store.puts.fits; part = store.puts.part };
     }) in
-    subst (λ (x : SlotsState). FuseLeaves x (store_of m s.held s.put_end)) view
+    subst (λ (x : SlotsState). FuseLeaves x fuse (store_of m s.held s.put_end)) view
     (record {
+      medium = same;
+      store = kept;
       image = ap image_of same ∙ image_fused s fuse;
       spare = ap spare_of same ∙ spare_fused s fuse;
       begun = ap is_begun same ∙ begun_fused s fuse;
       room = ap room_of same ∙ room_fused s fuse;
       shape = shaped (store_of m s.held s.put_end) kept;
-      store = kept;
     })

@@ -6,11 +6,6 @@ use Rattle.dfu_slots.specs.declared.fault.WriteFault.{WriteFault}
 use Rattle.dfu_slots.specs.Medium.{MediumState, Write, KeepsOutside, Torn, Rose, Wrote, FailedWrite, AllWrites, BrokenWrites, written}
 use Rattle.dfu_slots.specs.inside.Series.{Series}
 use Rattle.dfu_slots.specs.Writes.{write_some}
-use Rattle.dfu_slots.specs.Seen.{SlotsState, Call, writes_of}
-use Rattle.dfu_slots.specs.Changes.{IsBroken, Changes}
-use Rattle.dfu_slots.specs.declared.fault.PutFault.{PutFault}
-use Rattle.dfu_slots.specs.declared.fault.PutFault.TheVariants.{TooLarge, Failed, NotVerified, NotBegun}
-use Rattle.dfu_slots.specs.declared.fault.WriteFault.TheVariants.{Failed as WriteFailed, NotVerified as WriteNotVerified}
 use Rattle.dfu_slots.proofs.Torn.{written_torn, keeps_wider, keeps_same, keeps_both}
 use Rattle.dfu_slots.proofs.Within.{written_nil}
 
@@ -40,7 +35,8 @@ module _ (from to : ℕ) where
       keeps_both from to s.bytes next.bytes now.bytes first (all_keep ws next now (omega (arith, first.size)) inside more)
 
   -- So do those up to one that failed, and that one.
-  pub broken_keep : (fault : WriteFault) (ws : List Write) (s now : MediumState) → to ≤ length s.bytes → AllInside from to ws → BrokenWrites fault s ws now
+  pub broken_keep : (fault : WriteFault) (ws : List Write) (s now : MediumState) → to ≤ length s.bytes → AllInside from to ws
+      → BrokenWrites fault s ws now
       → KeepsOutside from to s.bytes now.bytes
   broken_keep fault [] s now room inside none = absurd none
   broken_keep fault (w ∷ ws) s now room (low, high, inside) (inl failed) =
@@ -89,31 +85,6 @@ broken_rose fault (w ∷ ws) s now (inr (next, wrote, more)) = omega (arith, wro
 pub broken_count : (fault : WriteFault) (ws : List Write) (s now : MediumState) → BrokenWrites fault s ws now → s.failures ≤ now.failures
 broken_count fault ws s now broken = omega (arith, broken_rose fault ws s now broken)
 
--- A change of the store.
-
--- A change made its writes, or those up to one that failed, or it left the store as it was.
-pub changes_ends : {T : Type 0} (s now : SlotsState) (call : Call) (result : Result T PutFault) → Changes s call result now
-    → Ends s.medium (writes_of s call) now.medium ⊎ (now ≡ s)
-changes_ends s now call (Ok x) worked = inl (inl worked.writes)
-changes_ends s now call (Err Failed) failed = inl (inr (WriteFailed, failed.writes))
-changes_ends s now call (Err NotVerified) failed = inl (inr (WriteNotVerified, failed.writes))
-changes_ends s now call (Err TooLarge) same = inr same
-changes_ends s now call (Err NotBegun) same = inr same
-
--- It fails only where the medium did.
-pub changes_rose : {T : Type 0} (s now : SlotsState) (call : Call) (result : Result T PutFault) → Changes s call result now
-    → IsBroken result → Rose s.medium.failures now.medium.failures
-changes_rose s now call (Ok x) changes is = absurd is
-changes_rose s now call (Err Failed) failed is = broken_rose WriteFailed (writes_of s call) s.medium now.medium failed.writes
-changes_rose s now call (Err NotVerified) failed is = broken_rose WriteNotVerified (writes_of s call) s.medium now.medium failed.writes
-changes_rose s now call (Err TooLarge) changes is = absurd is
-changes_rose s now call (Err NotBegun) changes is = absurd is
-
--- A fact that holds whatever was answered holds at Ok.
-pub on_ok_of : {T E P : Type 0} (result : Result T E) → P → OnOk result P
-on_ok_of (Ok x) p = p
-on_ok_of (Err e) p = tt
-
 -- A write at a place, and of bytes, that are known by other terms.
 pub wrote_there : (s now : MediumState) (p q : ℕ) (x y : List ℕ) → p ≡ q → x ≡ y → Wrote s p x now → Wrote s q y now
 wrote_there s now p q x y place bytes wrote = subst (λ (l : List ℕ). Wrote s q l now) bytes (subst (λ (n : ℕ). Wrote s n x now) place wrote)
@@ -132,7 +103,8 @@ all_append [] vs s mid now same all = subst (λ (m : MediumState). AllWrites m v
 all_append (w ∷ ws) vs s mid now (next, wrote, rest) all = (next, wrote, all_append ws vs next mid now rest all)
 
 -- A list that was broken off in its first part is broken off.
-pub broken_first : (fault : WriteFault) (ws vs : List Write) (s now : MediumState) → BrokenWrites fault s ws now → BrokenWrites fault s (ws ++ vs) now
+pub broken_first : (fault : WriteFault) (ws vs : List Write) (s now : MediumState) → BrokenWrites fault s ws now
+    → BrokenWrites fault s (ws ++ vs) now
 broken_first fault [] vs s now broken = absurd broken
 broken_first fault (w ∷ ws) vs s now (inl failed) = inl failed
 broken_first fault (w ∷ ws) vs s now (inr (next, wrote, broken)) = inr (next, wrote, broken_first fault ws vs next now broken)
@@ -144,7 +116,8 @@ broken_later fault [] vs s mid now same broken = subst (λ (m : MediumState). Br
 broken_later fault (w ∷ ws) vs s mid now (next, wrote, rest) broken = inr (next, wrote, broken_later fault ws vs next mid now rest broken)
 
 -- A list of writes that came, and a series after it.
-pub series_after : {T : Type 0} (ws vs : List Write) (s mid now : MediumState) (r : Result T WriteFault) → AllWrites s ws mid → Series mid vs r now
+pub series_after : {T : Type 0} (ws vs : List Write) (s mid now : MediumState) (r : Result T WriteFault) → AllWrites s ws mid
+    → Series mid vs r now
     → Series s (ws ++ vs) r now
 series_after ws vs s mid now (Ok x) first second = all_append ws vs s mid now first second
 series_after ws vs s mid now (Err fault) first second = broken_later fault ws vs s mid now first second
@@ -175,7 +148,8 @@ all_parts (w ∷ ws) vs s now (next, wrote, rest) =
     (parts.0, record { first = (next, wrote, parts.1.first); second = parts.1.second })
 
 -- A list that was broken off was so in its first part or in its second.
-pub broken_parts : (fault : WriteFault) (ws vs : List Write) (s now : MediumState) → BrokenWrites fault s (ws ++ vs) now → BrokenWrites fault s ws now
+pub broken_parts : (fault : WriteFault) (ws vs : List Write) (s now : MediumState) → BrokenWrites fault s (ws ++ vs) now
+    → BrokenWrites fault s ws now
     ⊎ ((mid : MediumState) × Halfway ws vs s mid (BrokenWrites fault mid vs now))
 broken_parts fault [] vs s now broken = inr (s, record { first = refl; second = broken })
 broken_parts fault (w ∷ ws) vs s now (inl failed) = inl (inl failed)

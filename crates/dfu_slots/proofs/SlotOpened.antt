@@ -27,7 +27,8 @@ module _ (m mid : MediumState) (at size gen len crc : ℕ) (head : List ℕ) (si
   -- It works, and the write of the gate follows it.
   pub gate_follows : {T : Type 0} (now : MediumState) (r : Result T WriteFault)
       → Wrote m (at + size) (head ++ replicate (size - length head) 0) mid
-      → OnOk r (Wrote mid at (gate_unit (gate_of mid) OPEN) now) → IfErr r (λ fault. FailedWrite fault mid at (gate_unit (gate_of mid) OPEN) now)
+      → OnOk r (Wrote mid at (gate_unit (gate_of mid) OPEN) now)
+      → IfErr r (λ fault. FailedWrite fault mid at (gate_unit (gate_of mid) OPEN) now)
       → Series m (open_writes (gate_of m) at gen len crc) r now
   gate_follows now r wrote worked failed =
       let first : Wrote m (at + gate_of m) (header_unit (gate_of m) gen len crc) mid =

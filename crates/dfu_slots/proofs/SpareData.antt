@@ -13,7 +13,8 @@ use Rattle.dfu_slots.proofs.Within.{written_within}
 use Rattle.dfu_slots.proofs.Begun.{same_spare}
 
 module _ (g : ℕ) (wide : 16 ≤ g) (s now : MediumState) (mine other : ℕ) (image : List ℕ) (a : ActiveAt g s.bytes mine other image)
-    (shut : ¬ IsOpen (slot g s.bytes other)) (ws : List Write) (inside : AllInside (other + 2 * g) (other + slot_size s.bytes) ws) (ends : Ends s ws now) where
+    (shut : ¬ IsOpen (slot g s.bytes other)) (ws : List Write) (inside : AllInside (other + 2 * g) (other + slot_size s.bytes) ws)
+    (ends : Ends s ws now) where
   place : other ≡ spare_at g s.bytes
   place = (places_are g s.bytes mine other image a).1
 

@@ -81,7 +81,8 @@ module _ (m : MediumState) (held : List ℕ) (end : ℕ) (sized : IsSized m) (pu
         ∙ ap (λ (l : List ℕ). take len l) (sym (spare_is_written s))
 
     -- And the writes that open the slot are the last ones of a `commit`.
-    pub spare_opened : {T : Type 0} (now : MediumState) (r : Result T WriteFault) (first gen len : ℕ) → first ≡ active_at (gate_of m) m.bytes
+    pub spare_opened : {T : Type 0} (now : MediumState) (r : Result T WriteFault) (first gen len : ℕ)
+        → first ≡ active_at (gate_of m) m.bytes
         → gen ≡ generation (slot_of m first)
         → len ≤ end
         → Series mid (open_writes (gate_of mid) place (next_generation gen) len (register (take len (slot_of mid place).data_bytes))) r now
@@ -91,6 +92,7 @@ module _ (m : MediumState) (held : List ℕ) (end : ℕ) (sized : IsSized m) (pu
         (λ i. write_some (at_is i) (filled m.unit (shown_is i))) came in
         let next : gen ≡ generation (slot_of m (active_at (gate_of m) m.bytes)) = gen_is
         ∙ ap (λ (p : ℕ). generation (slot_of m p)) first_is in
-        series_after (part_writes m.unit (data_place s (held_at s)) held) (commit_writes (gate_of m) m.bytes len (register (take len (spare_of s)))) m mid now r all
+        series_after (part_writes m.unit (data_place s (held_at s)) held)
+        (commit_writes (gate_of m) m.bytes len (register (take len (spare_of s)))) m mid now r all
         (subst (λ (ws : List Write). Series mid ws r now)
         (λ i. open_writes (gate_size (unit i)) (spare_is i) (next_generation (next i)) len (register (image_there len le i))) series)

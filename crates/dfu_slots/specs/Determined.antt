@@ -138,7 +138,8 @@ call_known s x call k a = all_known (writes_of s call) s.medium x.medium k a.wri
 -- Lists of calls.
 
 -- The same calls from the same store do not all work here and break off there.
-never_ends : (f : WriteFault) (calls : List Call) (s t x y : SlotsState) → SameStore s t → IsKnown s.medium.fuse → Called s calls AllWorked x
+never_ends : (f : WriteFault) (calls : List Call) (s t x y : SlotsState) → SameStore s t → IsKnown s.medium.fuse
+    → Called s calls AllWorked x
     → Called t calls (BrokenBy f) y → ⊥
 never_ends f [] s t x y same k a b = b
 never_ends f (call ∷ calls) s t x y same k (p, a, more) (inl b) = call_one_way s t p y call same f k a b

@@ -1,6 +1,5 @@
 -- Which image of a medium is the active one.
-use Rattle.std.specs.Prelude.{◌≡◌, ◌⊎◌, ◌&&◌, ◌||◌, not, ℕ, ◌*◌, ◌^◌, ◌<◌, ◌≤◌, Bool, List, length, take, drop, if◌then◌else◌, ◌==◌, nat_le, slice_index}
-use Rattle.std.specs.Int.{w32, from_le_bytes}
+use Rattle.std.specs.Prelude.{◌≡◌, ◌⊎◌, ◌&&◌, ◌||◌, not, ℕ, ◌*◌, ◌^◌, ◌<◌, ◌≤◌, Bool, List, length, take, if◌then◌else◌, ◌==◌, nat_le}
 use Rattle.std.specs.Str.{bytes_eq}
 use Rattle.dfu_suffix.specs.Register.{register}
 use Rattle.dfu_slots.specs.Units.{gate_size, IsMultiple}
@@ -26,10 +25,10 @@ pub record IsSized (m : MediumState) : Type 0 where
   pub bound : capacity_of m ≤ 2 ^ 24
   pub whole : IsMultiple m.unit (capacity_of m)
 
--- A slot counts where its gate is open and, if its header is of version 2 by its second byte, that is well formed with the length in it.
+-- A slot counts where its gate is open and its header, if that is of version 2, is well formed with the length in it.
 pub record Counts (s : Slot) : Type 0 where
   pub is_open : s.gate ≡ OPEN
-  pub intact : slice_index s.header 1 ≡ 2 → HasHeader s (from_le_bytes w32 (take 4 (drop 4 s.header)))
+  pub intact : version s ≡ 2 → HasHeader s (header_length s)
 
 -- The first of two slots counts, and the other one does not, or is one generation behind.
 pub record IsNewest (mine other : Slot) : Type 0 where

@@ -47,7 +47,7 @@ Rose before now = max before (min (before + 1) (2 ^ 64 - 1)) ≤ now
 abbrev pub torn_by : List ℕ → ℕ → List ℕ → List ℕ → List ℕ
 torn_by old at new tear = written old at (take (length new) tear)
 
--- A write of these bytes there may work with this fuse, and leaves that one; a lie whose tear happens to be what was written works too.
+-- A write of these bytes there may work with this fuse, and leaves that one. A lie whose tear is what was written works too.
 abbrev pub MayWork : Fuse → List ℕ → ℕ → List ℕ → Fuse → Type 0
 MayWork Unknown old at new next = next ≡ Unknown
 MayWork Whole old at new next = next ≡ Whole

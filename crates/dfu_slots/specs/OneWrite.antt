@@ -113,7 +113,8 @@ module _ (w : Write) (s t x y : MediumState) (same : Same s t) where
   -- With the same fault on both it leaves the same too.
   pub failed_same : (f : WriteFault) → IsKnown s.fuse → FailedWrite f s w.at w.bytes x → FailedWrite f t w.at w.bytes y → Same x y
   failed_same f k a b =
-      let both = breaks_one t.bytes w.at w.bytes t.fuse f x.bytes y.bytes x.fuse y.fuse (known_on k) (breaks_on f x.bytes x.fuse a.fuse) b.fuse in
+      let both = breaks_one t.bytes w.at w.bytes t.fuse f x.bytes y.bytes x.fuse y.fuse (known_on k) (breaks_on f x.bytes x.fuse a.fuse)
+      b.fuse in
       record { bytes = both.0; fuse = both.1; unit = a.unit ∙ same.unit ∙ sym b.unit }
 
   -- It does not work on one and have a fault on the other.

@@ -18,7 +18,8 @@ all_whole s now (w ∷ ws) e (next, wrote, more) = all_whole next now ws (wrote_
 -- None of a list of writes fails.
 pub broken_whole : (fault : WriteFault) (s now : MediumState) (ws : List Write) → s.fuse ≡ Whole → BrokenWrites fault s ws now → ⊥
 broken_whole fault s now [] e none = none
-broken_whole fault s now (w ∷ ws) e (inl failed) = subst (λ (f : Fuse). MayFail f fault s.bytes w.at w.bytes now.bytes now.fuse) e failed.fuse
+broken_whole fault s now (w ∷ ws) e (inl failed) =
+    subst (λ (f : Fuse). MayFail f fault s.bytes w.at w.bytes now.bytes now.fuse) e failed.fuse
 broken_whole fault s now (w ∷ ws) e (inr (next, wrote, more)) = broken_whole fault next now ws (wrote_whole s next w e wrote) more
 
 -- After a list of calls it is whole.

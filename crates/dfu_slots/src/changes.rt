@@ -1,9 +1,6 @@
 //! The calls that change a medium: `begin`, `put` and `commit`.
-ghost use Rattle.std.specs.Prelude.{◌≡◌, ◌+◌, ◌≤◌, ◌<◌, ◌⊎◌, ◌↔◌, length, take, OnOk, OnErr, IsErrOf, false, true};
-ghost use Rattle.dfu_slots.specs.Medium.{Rose, written};
-ghost use Rattle.dfu_slots.specs.Image.{Active, HasImage};
-ghost use Rattle.dfu_slots.specs.Seen.{store_on, spare_slot, image_of, spare_of, is_begun, room_of, is_shaped, Begin, Put, Commit, DidCall};
-ghost use Rattle.dfu_slots.specs.Changes.{IsBroken, ending_of, Changes};
+ghost use Rattle.std.specs.Prelude.{◌≡◌, ◌≤◌, length};
+ghost use Rattle.dfu_slots.specs.Leaves.{BeginLeaves, PutLeaves, CommitLeaves};
 
 use crate::places::look;
 use crate::{Medium, PutFault, Slots, steps};
@@ -18,21 +15,7 @@ impl<M: Medium> Slots<M> {
     ///
     /// `Failed` where the write failed; `NotVerified` where it answered Ok and other bytes were read back.
     pub fn begin(&mut self) -> Result<(), PutFault>
-        ensures call { DidCall self.old (Begin) (ending_of result) self.new }
-        ensures writes { Changes self.old (Begin) result self.new }
-        ensures fault { OnErr result (IsBroken result) }
-        ensures rose { IsBroken result → Rose self.old.medium.failures self.new.medium.failures }
-
-        ensures image { image_of self.new ≡ image_of self.old }
-        ensures active { Active self.new.medium (image_of self.new) }
-        ensures has_image { HasImage self.new.medium }
-        ensures shape { is_shaped self.new ≡ true }
-        ensures room { room_of self.new ≡ room_of self.old }
-
-        ensures fresh { self.new ≡ store_on self.new.medium }
-        ensures end { self.new.put_end ≡ 0 }
-        ensures shut { OnOk result (is_begun self.new ≡ true) }
-        ensures spare { OnOk result (spare_of self.new ≡ (spare_slot self.old).data_bytes) }
+        ensures { BeginLeaves self.old result self.new }
     {
         steps::begin(&mut self.medium, &mut self.puts, self.places)
     }
@@ -54,25 +37,7 @@ impl<M: Medium> Slots<M> {
     pub fn put(&mut self, at: u32, bytes: &[u8]) -> Result<(), PutFault>
         requires place { at ≡ self.old.put_end }
         requires short { length bytes.now ≤ 4096 }
-        ensures call { is_begun self.old ≡ true → at + length bytes.now ≤ room_of self.old →
-            DidCall self.old (Put at bytes.now) (ending_of result) self.new }
-        ensures writes { Changes self.old (Put at bytes.now) result self.new }
-        ensures not_begun { IsErrOf result PutFault.NotBegun ↔ (is_begun self.old ≡ false) }
-        ensures too_large { IsErrOf result PutFault.TooLarge ↔
-            ((is_begun self.old ≡ true) × (room_of self.old < at + length bytes.now)) }
-        ensures rose { IsBroken result → Rose self.old.medium.failures self.new.medium.failures }
-
-        ensures image { image_of self.new ≡ image_of self.old }
-        ensures active { Active self.new.medium (image_of self.new) }
-        ensures has_image { HasImage self.new.medium }
-        ensures shape { is_shaped self.new ≡ true }
-        ensures room { room_of self.new ≡ room_of self.old }
-
-        ensures end { OnOk result (self.new.put_end ≡ at + length bytes.now) }
-        ensures failed { IsBroken result → self.new ≡ store_on self.new.medium }
-        ensures shut { OnOk result (is_begun self.new ≡ is_begun self.old) }
-        ensures gate { OnOk result ((spare_slot self.new).gate ≡ (spare_slot self.old).gate) }
-        ensures spare { OnOk result (spare_of self.new ≡ written (spare_of self.old) at bytes.now) }
+        ensures { PutLeaves self.old at bytes.now result self.new }
     {
         steps::put(&mut self.medium, &mut self.puts, self.places, at, bytes)
     }
@@ -90,24 +55,7 @@ impl<M: Medium> Slots<M> {
     /// capacity. But for `NotBegun`, what was put is forgotten, and `put_end` is 0.
     pub fn commit(&mut self, len: u32) -> Result<(), PutFault>
         requires { len ≤ self.old.put_end }
-        ensures call { is_begun self.old ≡ true → len ≤ room_of self.old →
-            DidCall self.old (Commit len) (ending_of result) self.new }
-        ensures writes { Changes self.old (Commit len) result self.new }
-        ensures not_begun { IsErrOf result PutFault.NotBegun ↔ (is_begun self.old ≡ false) }
-        ensures too_large { IsErrOf result PutFault.TooLarge ↔
-            ((is_begun self.old ≡ true) × (room_of self.old < len)) }
-        ensures rose { IsBroken result → Rose self.old.medium.failures self.new.medium.failures }
-
-        ensures image { OnOk result (image_of self.new ≡ take len (spare_of self.old)) }
-        ensures kept { OnErr result (
-            (image_of self.new ≡ image_of self.old) ⊎ (image_of self.new ≡ take len (spare_of self.old))) }
-        ensures active { Active self.new.medium (image_of self.new) }
-        ensures has_image { HasImage self.new.medium }
-        ensures shape { is_shaped self.new ≡ true }
-        ensures room { room_of self.new ≡ room_of self.old }
-
-        ensures done { OnOk result (self.new ≡ store_on self.new.medium) }
-        ensures failed { IsBroken result → self.new ≡ store_on self.new.medium }
+        ensures { CommitLeaves self.old len result self.new }
     {
         let done = steps::commit(&mut self.medium, &mut self.puts, self.places, len);
         self.places = look(&self.medium);

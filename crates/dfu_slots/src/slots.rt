@@ -3,8 +3,9 @@ ghost use Rattle.std.specs.Prelude.{◌≡◌, ◌≢◌, [], ◌+◌, ◌*◌, 
 ghost use Rattle.dfu_slots.specs.Medium.{Rose, AllWrites, BrokenWrites};
 ghost use Rattle.dfu_slots.specs.Medium.Fuse.{Whole, Armed, Lying};
 ghost use Rattle.dfu_slots.specs.Image.{gate_of, capacity_of, active_at, Active, HasImage};
-ghost use Rattle.dfu_slots.specs.Seen.{store_on, fused, image_of, spare_of, is_begun, room_of, is_shaped, format_series};
+ghost use Rattle.dfu_slots.specs.Seen.{store_on, image_of, is_begun, room_of, is_shaped, format_series};
 ghost use Rattle.dfu_slots.specs.Changes.{CanFormat, IsFormatFault, IsOpenFault};
+ghost use Rattle.dfu_slots.specs.Leaves.{FuseLeaves};
 
 use crate::places::{Places, look};
 use crate::puts::Puts;
@@ -207,36 +208,21 @@ impl<M: Medium> Slots<M> {
 impl<M: Faulty> Slots<M> {
     /// As the medium's `arm`. It changes no byte.
     pub fn arm(&mut self, writes: u32, tear: &[u8], stop: bool)
-        ensures medium { self.new ≡ fused self.old (Armed writes (take 4096 tear.now) stop) }
-        ensures image { image_of self.new ≡ image_of self.old }
-        ensures spare { spare_of self.new ≡ spare_of self.old }
-        ensures begun { is_begun self.new ≡ is_begun self.old }
-        ensures room { room_of self.new ≡ room_of self.old }
-        ensures shape { is_shaped self.new ≡ true }
+        ensures { FuseLeaves self.old (Armed writes (take 4096 tear.now) stop) self.new }
     {
         self.medium.arm(writes, tear, stop);
     }
 
     /// As the medium's `arm_lie`. It changes no byte.
     pub fn arm_lie(&mut self, writes: u32, tear: &[u8])
-        ensures medium { self.new ≡ fused self.old (Lying writes (take 4096 tear.now)) }
-        ensures image { image_of self.new ≡ image_of self.old }
-        ensures spare { spare_of self.new ≡ spare_of self.old }
-        ensures begun { is_begun self.new ≡ is_begun self.old }
-        ensures room { room_of self.new ≡ room_of self.old }
-        ensures shape { is_shaped self.new ≡ true }
+        ensures { FuseLeaves self.old (Lying writes (take 4096 tear.now)) self.new }
     {
         self.medium.arm_lie(writes, tear);
     }
 
     /// As the medium's `disarm`. It changes no byte.
     pub fn disarm(&mut self)
-        ensures medium { self.new ≡ fused self.old Whole }
-        ensures image { image_of self.new ≡ image_of self.old }
-        ensures spare { spare_of self.new ≡ spare_of self.old }
-        ensures begun { is_begun self.new ≡ is_begun self.old }
-        ensures room { room_of self.new ≡ room_of self.old }
-        ensures shape { is_shaped self.new ≡ true }
+        ensures { FuseLeaves self.old (Whole) self.new }
     {
         self.medium.disarm();
     }

@@ -14,9 +14,10 @@ returns-then-written-gt0-clause-spare g c =
 pub returns-in-Ok-clause-calls : goal.returns-in-Ok-clause-calls
 returns-in-Ok-clause-calls g c =
     let none : c.args.written ≡ 0 = omega (arith, c.if-written-gt0.false) in
-    let fits : 0 + length c.args.block.now ≤ room_of c.begin.new.self = omega (arith, c.requires.room, c.in-Ok.ensures.room) in
+    let fits : 0 + length c.args.block.now ≤ room_of c.begin.new.self = omega (arith, c.requires.room, c.in-Ok.ensures.common.room) in
     block_begun c.args.slots.now c.begin.new.self c.put-in-Ok.new.self c.args.written c.args.block.now
-    (ending_of c.put-in-Ok.result) none c.in-Ok.ensures.call (c.put-in-Ok.ensures.call c.in-Ok.ensures.shut fits)
+    (ending_of c.put-in-Ok.result) none (c.in-Ok.ensures.common.call refl (omega arith))
+    (c.put-in-Ok.ensures.common.call c.in-Ok.ensures.shut fits)
 
 pub returns-in-Ok-clause-spare : goal.returns-in-Ok-clause-spare
 returns-in-Ok-clause-spare g c =
@@ -29,7 +30,8 @@ returns-in-Ok-clause-spare g c =
 pub returns-in-Err-clause-calls : goal.returns-in-Err-clause-calls
 returns-in-Err-clause-calls g c =
     let none : c.args.written ≡ 0 = omega (arith, c.if-written-gt0.false) in
-    block_not_begun (fault_of c.in-Err.fault) c.args.slots.now c.begin.new.self c.args.written c.args.block.now none c.in-Err.ensures.call
+    block_not_begun (fault_of c.in-Err.fault) c.args.slots.now c.begin.new.self c.args.written c.args.block.now none
+    (c.in-Err.ensures.common.call refl (omega arith))
 
 pub returns-in-Ok-clause-put : goal.returns-in-Ok-clause-put
 returns-in-Ok-clause-put g c =
@@ -40,9 +42,9 @@ returns-in-Ok-clause-put g c =
 
 pub returns-in-Ok-clause-err : goal.returns-in-Ok-clause-err
 returns-in-Ok-clause-err g c =
-    let fits : 0 + length c.args.block.now ≤ room_of c.begin.new.self = omega (arith, c.requires.room, c.in-Ok.ensures.room) in
+    let fits : 0 + length c.args.block.now ≤ room_of c.begin.new.self = omega (arith, c.requires.room, c.in-Ok.ensures.common.room) in
     rose_since c.put-in-Ok.result c.args.slots.now.medium.failures c.begin.new.self.medium.failures c.put-in-Ok.new.self.medium.failures
-    c.in-Ok.ensures.call.count (c.put-in-Ok.ensures.call c.in-Ok.ensures.shut fits).rose
+    (c.in-Ok.ensures.common.call refl (omega arith)).count (c.put-in-Ok.ensures.common.call c.in-Ok.ensures.shut fits).rose
 
 pub returns-then-written-gt0-clause-calls : goal.returns-then-written-gt0-clause-calls
 returns-then-written-gt0-clause-calls g c =
@@ -51,7 +53,7 @@ returns-then-written-gt0-clause-calls g c =
     let begun = begun_before n s c.if-written-gt0.true c.requires.put in
     let fits : n ≤ room_of s = omega (arith, c.requires.room) in
     block_further s c.put.new.self n c.args.block.now (ending_of c.put.result) c.if-written-gt0.true (fits_spare s n c.requires.shape fits)
-    (c.put.ensures.call begun c.requires.room)
+    (c.put.ensures.common.call begun c.requires.room)
 
 pub returns-then-written-gt0-clause-put : goal.returns-then-written-gt0-clause-put
 returns-then-written-gt0-clause-put g c =
@@ -63,4 +65,4 @@ pub returns-then-written-gt0-clause-err : goal.returns-then-written-gt0-clause-e
 returns-then-written-gt0-clause-err g c =
     let begun = begun_before c.args.written c.args.slots.now c.if-written-gt0.true c.requires.put in
     let count = c.args.slots.now.medium.failures in
-    rose_since c.put.result count count c.put.new.self.medium.failures (omega arith) (c.put.ensures.call begun c.requires.room).rose
+    rose_since c.put.result count count c.put.new.self.medium.failures (omega arith) (c.put.ensures.common.call begun c.requires.room).rose

@@ -47,7 +47,8 @@ pub header_len-requires-clause-counts : goal.header_len-requires-clause-counts
 header_len-requires-clause-counts g c =
     let m = g.M.Medium.state c.args.medium.now in
     let found = c.find_places-places in
-    (newest_from (slot_of m found.result.active) (slot_of m found.result.spare) (sym c.has_newest.ensures ∙ c.if-not-has_newest.false)).counts
+    (newest_from (slot_of m found.result.active) (slot_of m found.result.spare)
+    (sym c.has_newest.ensures ∙ c.if-not-has_newest.false)).counts
 
 pub header_len-requires-clause-within : goal.header_len-requires-clause-within
 header_len-requires-clause-within g c =

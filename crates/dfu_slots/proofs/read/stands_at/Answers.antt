@@ -7,33 +7,39 @@ use Rattle.dfu_slots.proofs.ReadBack.{ReadBack, cut_is, found_same, found_other,
 use Rattle.dfu_slots.proofs.read.stands_at.Goals as goal
 
 pub loop-rest-init : goal.loop-rest-init
-loop-rest-init g c = back_none (g.M.Medium.state c.args.medium.now).bytes c.args.at c.args.bytes.now c.requires.within c.len.result c.len.ensures
+loop-rest-init g c =
+    back_none (g.M.Medium.state c.args.medium.now).bytes c.args.at c.args.bytes.now c.requires.within c.len.result c.len.ensures
 
 pub loop-rest-preserved : goal.loop-rest-preserved
 loop-rest-preserved g c =
     let m : List ℕ = (g.M.Medium.state c.args.medium.now).bytes in
     let piece : List ℕ = c.split_at.result.0.now in
-    let parts = cut_is c.loop-rest.rest.now piece c.split_at.result.1.now c.min-size.result c.split_at.ensures.front c.split_at.ensures.back in
+    let parts = cut_is c.loop-rest.rest.now piece c.split_at.result.1.now c.min-size.result c.split_at.ensures.front
+    c.split_at.ensures.back in
     let same : c.read.new.out ≡ piece = found_same c.read.new.out piece c.ne.result _ c.ne.ensures
     (slice_eq-Decides Decides-eqb c.read.new.out piece _ refl) c.if-ne.false in
     subst (λ (n : ℕ). ReadBack m c.args.at c.args.bytes.now (c.loop-rest.ahead - n) c.split_at.result.1.now) c.split_at.ensures.front_len
-    (piece_back m c.args.at c.args.bytes.now c.loop-rest.ahead c.loop-rest.rest.now piece c.split_at.result.1.now c.loop-rest.invariant parts
+    (piece_back m c.args.at c.args.bytes.now c.loop-rest.ahead c.loop-rest.rest.now piece c.split_at.result.1.now
+    c.loop-rest.invariant parts
     (read_there m (length m - c.loop-rest.ahead) (c.len-in-loop-rest.result - c.loop-rest.ahead) piece c.read.new.out
     (ap (λ (n : ℕ). n - c.loop-rest.ahead) c.len-in-loop-rest.ensures) (length (take c.min-size.result c.loop-rest.buffer))
-    (length-take-le c.min-size.result c.loop-rest.buffer (omega (arith, c.min-size.ensures, c.min-size.array_long)) ∙ sym c.split_at.ensures.front_len)
+    (length-take-le c.min-size.result c.loop-rest.buffer (omega (arith, c.min-size.ensures, c.min-size.array_long))
+    ∙ sym c.split_at.ensures.front_len)
     c.read.ensures ∙ same))
 
 pub returns-then-ne : goal.returns-then-ne
 returns-then-ne g c =
     let m : List ℕ = (g.M.Medium.state c.args.medium.now).bytes in
     let piece : List ℕ = c.split_at.result.0.now in
-    let parts = cut_is c.loop-rest.rest.now piece c.split_at.result.1.now c.min-size.result c.split_at.ensures.front c.split_at.ensures.back in
+    let parts = cut_is c.loop-rest.rest.now piece c.split_at.result.1.now c.min-size.result c.split_at.ensures.front
+    c.split_at.ensures.back in
     let other = found_other c.read.new.out piece c.ne.result _ c.ne.ensures
     (slice_eq-Decides Decides-eqb c.read.new.out piece _ refl) c.if-ne.true in
     let there : slice_range m (length m - c.loop-rest.ahead) (length m - c.loop-rest.ahead + length piece) ≡ c.read.new.out =
     read_there m (length m - c.loop-rest.ahead) (c.len-in-loop-rest.result - c.loop-rest.ahead) piece c.read.new.out
     (ap (λ (n : ℕ). n - c.loop-rest.ahead) c.len-in-loop-rest.ensures) (length (take c.min-size.result c.loop-rest.buffer))
-    (length-take-le c.min-size.result c.loop-rest.buffer (omega (arith, c.min-size.ensures, c.min-size.array_long)) ∙ sym c.split_at.ensures.front_len)
+    (length-take-le c.min-size.result c.loop-rest.buffer (omega (arith, c.min-size.ensures, c.min-size.array_long))
+    ∙ sym c.split_at.ensures.front_len)
     c.read.ensures in (
       λ t. absurd (true≢false (sym t)),
       λ all. absurd (piece_missing m c.args.at c.args.bytes.now c.loop-rest.ahead c.loop-rest.rest.now piece c.split_at.result.1.now

@@ -15,4 +15,5 @@ returns-clause-failed g c =
     let bytes = ap (λ (l : List ℕ). take c.args.size l) c.fill_up-unit.ensures
     ∙ buffer_front c.args.bytes.now c.args.size 256 c.requires.least c.requires.most in
     subst (λ (l : List ℕ). IfErr c.write.result
-    (λ fault. FailedWrite fault (g.M.Medium.state c.args.medium.now) c.args.at l (g.M.Medium.state c.write.new.medium))) bytes c.write.ensures.failed
+    (λ fault. FailedWrite fault (g.M.Medium.state c.args.medium.now) c.args.at l (g.M.Medium.state c.write.new.medium)))
+    bytes c.write.ensures.failed

@@ -13,17 +13,5 @@ invariant_of-self g c =
       spare_there = c.self.invariant.spare_there ∙ sym (ap (λ (m : MediumState). spare_at (gate_of m) m.bytes) c.disarm.ensures);
     }
 
-pub returns-clause-image : goal.returns-clause-image
-returns-clause-image g c = (fuse_leaves c.self.view_is c.self.invariant.store (g.M.Medium.state c.disarm.new.self) Whole c.disarm.ensures).image
-
-pub returns-clause-spare : goal.returns-clause-spare
-returns-clause-spare g c = (fuse_leaves c.self.view_is c.self.invariant.store (g.M.Medium.state c.disarm.new.self) Whole c.disarm.ensures).spare
-
-pub returns-clause-begun : goal.returns-clause-begun
-returns-clause-begun g c = (fuse_leaves c.self.view_is c.self.invariant.store (g.M.Medium.state c.disarm.new.self) Whole c.disarm.ensures).begun
-
-pub returns-clause-room : goal.returns-clause-room
-returns-clause-room g c = (fuse_leaves c.self.view_is c.self.invariant.store (g.M.Medium.state c.disarm.new.self) Whole c.disarm.ensures).room
-
-pub returns-clause-shape : goal.returns-clause-shape
-returns-clause-shape g c = (fuse_leaves c.self.view_is c.self.invariant.store (g.M.Medium.state c.disarm.new.self) Whole c.disarm.ensures).shape
+pub returns : goal.returns
+returns g c = fuse_leaves c.self.view_is c.self.invariant.store (g.M.Medium.state c.disarm.new.self) Whole c.disarm.ensures

@@ -26,9 +26,10 @@ pub returns-clause-image : goal.returns-clause-image
 returns-clause-image g c =
     let inside = c.self.inside in
     let s : SlotsState = store_of (g.M.Medium.state inside.medium) inside.puts.held.items inside.puts.end in
-    rw (← c.self.view_is) (ap image_of (fresh_leaves s.medium c.self.invariant.store.has_image c.clear.new.self.held.items c.clear.new.self.end
-    c.clear.ensures.held c.clear.ensures.end).fresh ∙ reopened_image s)
+    rw (← c.self.view_is) (ap image_of (fresh_leaves s.medium c.self.invariant.store.has_image c.clear.new.self.held.items
+    c.clear.new.self.end c.clear.ensures.held c.clear.ensures.end).fresh ∙ reopened_image s)
 
 pub returns-clause-shape : goal.returns-clause-shape
-returns-clause-shape g c = (fresh_leaves (g.M.Medium.state c.self.inside.medium) c.self.invariant.store.has_image c.clear.new.self.held.items
+returns-clause-shape g c =
+    (fresh_leaves (g.M.Medium.state c.self.inside.medium) c.self.invariant.store.has_image c.clear.new.self.held.items
     c.clear.new.self.end c.clear.ensures.held c.clear.ensures.end).shape
