@@ -16,8 +16,8 @@ pub called_one : (s now : SlotsState) (call : Call) (ending : Ending) → DidCal
 called_one s now call AllWorked d = (now, d.calls, refl)
 called_one s now call (BrokenBy fault) d = inl d.calls
 
-called_two : (s mid now : SlotsState) (first second : Call) (ending : Ending) → DidCall s first AllWorked mid → DidCall mid second ending now
-    → Called s (first ∷ second ∷ []) ending now
+called_two : (s mid now : SlotsState) (first second : Call) (ending : Ending) → DidCall s first AllWorked mid
+    → DidCall mid second ending now → Called s (first ∷ second ∷ []) ending now
 called_two s mid now first second AllWorked d e = (mid, d.calls, (now, e.calls, refl))
 called_two s mid now first second (BrokenBy fault) d e = inr (mid, d.calls, inl e.calls)
 

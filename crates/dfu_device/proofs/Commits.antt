@@ -95,8 +95,8 @@ block_room m b n number s (inl (passed, e)) sound = room_found n b s (subst (λ 
 block_room m b n number s (inr e) sound = room_found n b s (subst (λ (k : Mode). IsTrue (is_sound k b s)) e sound)
 
 -- A commit that worked is what the table says of it.
-pub committed : (config : Setting) (s now : SlotsState) (next : Mode) (block : List ℕ) (n : ℕ) → IsReady s n → DidCall s (Commit n) AllWorked now
-    → image_of now ≡ take n (spare_of s) → room_of now ≡ room_of s
+pub committed : (config : Setting) (s now : SlotsState) (next : Mode) (block : List ℕ) (n : ℕ) → IsReady s n
+    → DidCall s (Commit n) AllWorked now → image_of now ≡ take n (spare_of s) → room_of now ≡ room_of s
     → (next ≡ mode.DfuIdle) ⊎ (next ≡ mode.ManifestSyncComplete) ⊎ (next ≡ mode.ManifestWaitReset)
     → Committed (take n (spare_of s)) config s (stage_of next [] []) (shows config now next block)
 committed config s now next block n ready d image room three = record {
@@ -108,8 +108,8 @@ committed config s now next block n ready d image room three = record {
 }
 
 -- A commit that failed is what the table says of it.
-pub not_committed : (fault : WriteFault) (config : Setting) (s now : SlotsState) (block : List ℕ) (n : ℕ) → IsReady s n → DidCall s (Commit n) (BrokenBy fault) now
-    → (image_of now ≡ image_of s) ⊎ (image_of now ≡ take n (spare_of s)) → room_of now ≡ room_of s
+pub not_committed : (fault : WriteFault) (config : Setting) (s now : SlotsState) (block : List ℕ) (n : ℕ) → IsReady s n
+    → DidCall s (Commit n) (BrokenBy fault) now → (image_of now ≡ image_of s) ⊎ (image_of now ≡ take n (spare_of s)) → room_of now ≡ room_of s
     → FailedCommit fault (take n (spare_of s)) config s (shows config now (mode.Error (commit_code fault)) block)
 not_committed fault config s now block n ready d image room = record {
   config_is = refl;

@@ -4,13 +4,14 @@ use Rattle.std.proofs.Common.{ap, inl, inr, subst}
 use Rattle.dfu_slots.specs.Seen.{image_of}
 use Rattle.dfu_device.specs.declared.answer.Answer.{Answer}
 use Rattle.dfu_device.specs.declared.answer.Answer.TheVariants as answer
-use Rattle.dfu_device.specs.Stage.{Stage, InAppIdle, InAppDetach, InDfuIdle, InDownloadSync, InDownloadSyncWritten, InDownloadBusy, InDownloadIdle, InManifestSync, InManifestSyncComplete, InManifest, InManifestWaitReset, InUploadIdle, InError}
+use Rattle.dfu_device.specs.Stage.{Stage, InAppDetach}
 use Rattle.dfu_device.specs.Table.{reset_stage, Plan, Sure, Writes, Commits, time_plan}
 use Rattle.dfu_device.specs.Shown.{Shown, profile}
 use Rattle.dfu_device.specs.Rows.{meant, asked_length, Done, is_served, setup_plan, handled_as, Transfer, Passing, BusReset, PowerOn}
 use Rattle.dfu_device.specs.Cases.{either_way}
 use Rattle.dfu_device.specs.Errors.{IsMediumError, MediumFailed, ErrorsHaveCause}
-use Rattle.dfu_device.proofs.Leads.{WorksWell, row_leads, time_leads}
+use Rattle.dfu_device.specs.RowForms.{WorksWell}
+use Rattle.dfu_device.proofs.Leads.{row_leads, time_leads}
 
 done_works : (p : Plan) (len : ℕ) (w : Shown) (a : Answer) (out : List ℕ) (w' : Shown) → WorksWell w.stage p → Done p len w a out w'
     → IsMediumError w'.stage → IsMediumError w.stage ⊎ MediumFailed w w'
@@ -23,19 +24,8 @@ done_works (Commits taken reply stage bad) len w a out w' well (inl (says, h)) b
 done_works (Commits taken reply stage bad) len w a out w' well (inr (fault, says, h)) broken = inr h.failed
 
 reset_works : (st : Stage) → IsMediumError (reset_stage st) → ⊥
-reset_works InAppIdle x = x
 reset_works (InAppDetach timer passed) x = x
-reset_works InDfuIdle x = x
-reset_works (InDownloadSync before block number) x = x
-reset_works (InDownloadSyncWritten taken number) x = x
-reset_works (InDownloadBusy before block number passed) x = x
-reset_works (InDownloadIdle taken number) x = x
-reset_works (InManifestSync taken) x = x
-reset_works InManifestSyncComplete x = x
-reset_works (InManifest taken passed) x = x
-reset_works InManifestWaitReset x = x
-reset_works (InUploadIdle place number) x = x
-reset_works (InError code) x = x
+reset_works st x = x
 
 -- An error of the medium comes only where the medium failed.
 pub errors_have_cause : ErrorsHaveCause

@@ -14,7 +14,8 @@ use Rattle.dfu_device.specs.Shown.{Shown, profile, situation, written_in}
 use Rattle.dfu_device.specs.Rows.{meant, asked_length, Done, is_served, setup_plan, handled_as, Transfer, Passing, BusReset, PowerOn}
 use Rattle.dfu_device.specs.Taken.{taken_of}
 use Rattle.dfu_device.specs.Cases.{either_way}
-use Rattle.dfu_device.proofs.Leads.{CallsFor, row_leads, time_leads}
+use Rattle.dfu_device.specs.RowForms.{CallsFor}
+use Rattle.dfu_device.proofs.Leads.{row_leads, time_leads}
 use Rattle.dfu_device.specs.Kept.{KeepsImage, RowKeeps, ErrorKeeps}
 
 -- What broke a call off is one fault.
@@ -56,7 +57,10 @@ done_keeps (Commits taken reply stage bad) len w a out w' only (inr (fault, says
   ending = BrokenBy fault;
   calls = subst (λ (x : List ℕ). Called w.slots (Commit (length x) ∷ []) (BrokenBy fault) w'.slots) only h.calls;
   image = λ e. absurd (cc);
-  failed = λ f e. (rw (← ended_one e) h.stage_is, subst (λ (x : List ℕ). (image_of w'.slots ≡ image_of w.slots) ⊎ (image_of w'.slots ≡ x)) only h.image);
+  failed = λ f e. (
+    rw (← ended_one e) h.stage_is,
+    subst (λ (x : List ℕ). (image_of w'.slots ≡ image_of w.slots) ⊎ (image_of w'.slots ≡ x)) only h.image,
+  );
 }))
 
 setup_calls : (w : Shown) (p : Setup) (q : Asked) (body : List ℕ)

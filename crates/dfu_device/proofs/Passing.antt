@@ -20,8 +20,8 @@ reached : (a b : ℕ) → a ≤ b → nat_le a b ≡ true
 reached a b le = grind (arith, le, common_steps)
 
 -- Once the manifestation time has passed, the row is what came of the commit.
-pub commit_late : {Done : Type 0} (config : Setting) (s : SlotsState) (t : List ℕ) (passed ms : ℕ) (w' : Shown) (next : Stage) (r : Result Done WriteFault)
-    → (ms ≡ 0 → ⊥) → config.manifest_ms ≤ passed + ms
+pub commit_late : {Done : Type 0} (config : Setting) (s : SlotsState) (t : List ℕ) (passed ms : ℕ) (w' : Shown) (next : Stage)
+    (r : Result Done WriteFault) → (ms ≡ 0 → ⊥) → config.manifest_ms ≤ passed + ms
     → next ≡ (if config.functional.tolerant then InManifestSyncComplete else InManifestWaitReset)
     → OnOk r (Committed t config s next w') → IfErr r (λ fault. FailedCommit fault t config s w')
     → Elapses ms (record { config = config; slots = s; stage = InManifest t passed }) w'
@@ -30,8 +30,8 @@ commit_late config s t passed ms w' next r some late is good bad =
     (either_way_ended r good bad (λ g. inl ((refl, refl), g)) (λ fault b. inr (fault, (refl, refl), b)))
 
 -- Once the busy time has passed, the row is what came of the write.
-pub write_late : {Done : Type 0} (config : Setting) (s : SlotsState) (t block : List ℕ) (number passed ms : ℕ) (w' : Shown) (r : Result Done WriteFault)
-    → (ms ≡ 0 → ⊥) → config.busy_ms ≤ passed + ms
+pub write_late : {Done : Type 0} (config : Setting) (s : SlotsState) (t block : List ℕ) (number passed ms : ℕ) (w' : Shown)
+    (r : Result Done WriteFault) → (ms ≡ 0 → ⊥) → config.busy_ms ≤ passed + ms
     → OnOk r (WroteBlock t block config s (InDownloadSyncWritten (t ++ block) number) w')
     → IfErr r (λ fault. FailedBlock fault t block config s w')
     → Elapses ms (record { config = config; slots = s; stage = InDownloadBusy t block number passed }) w'

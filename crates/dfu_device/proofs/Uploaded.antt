@@ -1,60 +1,52 @@
 -- At the end of an upload its pieces are the active image.
 use Rattle.std.specs.Prelude.{◌≡◌, ℕ, true, List, ◌++◌}
-use Rattle.std.proofs.Common.{refl, sym, ap, ◌∙◌, inl, inr, subst}
+use Rattle.std.proofs.Common.{sym, ap, ◌∙◌, subst}
 use Rattle.std.proofs.lemmas.Bool.{false≢true}
-use Rattle.dfu_wire.specs.declared.setups.Setup.{Setup}
 use Rattle.dfu_wire.specs.declared.requests.Request.{Request as Asked}
 use Rattle.dfu_wire.specs.declared.requests.Request.TheVariants as asked
 use Rattle.dfu_slots.specs.Seen.{image_of}
 use Rattle.dfu_device.specs.declared.answer.Answer.{Answer}
 use Rattle.dfu_device.specs.declared.answer.Answer.TheVariants as answer
-use Rattle.dfu_device.specs.Stage.{Reply, InDfuIdle}
+use Rattle.dfu_device.specs.Stage.{Reply, Data, Stall, InDfuIdle}
 use Rattle.dfu_device.specs.Table.{plan}
-use Rattle.dfu_device.specs.Outcome.{Outcome}
 use Rattle.dfu_device.specs.Shown.{Shown, profile, situation}
 use Rattle.dfu_device.specs.Rows.{meant, asked_length, Answers, is_served, Handles, handled_as, Cause, Row}
 use Rattle.dfu_device.specs.Came.{Came, asked_came, not_served}
-use Rattle.dfu_device.proofs.Told.{bytes_no_stall}
+use Rattle.dfu_device.specs.RowForms.{Fits, row_form}
 use Rattle.dfu_device.specs.Sent.{sent_of, is_upload}
-use Rattle.dfu_device.proofs.SentRow.{Uploads}
-use Rattle.dfu_device.proofs.SentHistory.{Kind, upload_asked, other_asked, kind_of, uploads_of, history_sends}
-use Rattle.dfu_device.proofs.Cases.{by_cases}
 use Rattle.dfu_device.specs.Uploaded.{UploadEnds, UploadGives}
+use Rattle.dfu_device.proofs.Told.{bytes_no_stall}
+use Rattle.dfu_device.proofs.FirstBytes.{is_numbered}
+use Rattle.dfu_device.proofs.SentRow.{Completes, form_completes}
+use Rattle.dfu_device.proofs.RowGathers.{reply_fits}
+use Rattle.dfu_device.proofs.SentHistory.{upload_as, history_sends}
+use Rattle.dfu_device.proofs.Cases.{by_cases}
 
--- An UPLOAD that is answered by bytes and ends in dfuIDLE: what was sent before it, with these bytes, is the image.
-ends_with : (w w' : Shown) (a : Answer) (out : List ℕ) (o : Outcome) → o.after ≡ situation w' → Answers 0 o.reply a out → a ≡ answer.Bytes
-    → w'.stage ≡ InDfuIdle → Uploads (image_of w.slots) w.stage o
-    → sent_of (situation w) ++ out ≡ image_of w'.slots
-ends_with w w' a out o at says bytes idle (inl stall) =
-    absurd (bytes_no_stall (sym bytes ∙ (subst (λ (r : Reply). Answers 0 r a out) stall says).0))
-ends_with w w' a out o at says bytes idle (inr (piece, data_is, rest)) =
-    let is : out ≡ piece = (subst (λ (r : Reply). Answers 0 r a out) data_is says).1 in
-    ap (λ (l : List ℕ). sent_of (situation w) ++ l) is ∙ rest (ap (λ z. z.stage) at ∙ idle) ∙ ap (λ z. z.image) at
+-- An UPLOAD that is answered by bytes is answered by these bytes of the image.
+piece_answered : (q : Asked) (body : List ℕ) (most len : ℕ) (reply : Reply) (a : Answer) (out : List ℕ) → is_numbered 0xa1 2 q ≡ true
+    → a ≡ answer.Bytes → Fits most reply (meant q body) → Answers len reply a out → reply ≡ Data out
+piece_answered (asked.Upload number size) body most len (Data bytes) a out on is fits says = ap Data (sym says.1)
+piece_answered (asked.Upload number size) body most len Stall a out on is fits says = absurd (bytes_no_stall (sym is ∙ says.0))
+piece_answered (asked.Upload number size) body most len reply a out on is fits says = absurd fits
+piece_answered q body most len reply a out on is fits says = absurd (false≢true on)
 
-asked_ends : (number size : ℕ) (q : Asked) (w w' : Shown) (body out : List ℕ) (a : Answer) → q ≡ asked.Upload number size → a ≡ answer.Bytes
-    → w'.stage ≡ InDfuIdle
+served_ends : (q : Asked) (body : List ℕ) (w : Shown) (a : Answer) (out : List ℕ) (w' : Shown) → is_numbered 0xa1 2 q ≡ true
+    → a ≡ answer.Bytes → w'.stage ≡ InDfuIdle
     → Came (plan (profile w) (image_of w.slots) w.stage (meant q body)) (asked_length q) w a out w'
     → sent_of (situation w) ++ out ≡ image_of w'.slots
-asked_ends number size q w w' body out a is bytes idle x =
-    subst (λ (y : Asked). Came (plan (profile w) (image_of w.slots) w.stage (meant y body)) (asked_length y) w a out w'
-    → sent_of (situation w) ++ out ≡ image_of w'.slots) (sym is)
-    (λ y. ends_with w w' a out (record { reply = y.reply; after = situation w' }) refl y.answers bytes idle
-    (uploads_of number size w w' a out y)) x
-
-served_ends : (p : Setup) (q : Asked) (setup body : List ℕ) (w : Shown) (a : Answer) (out : List ℕ) (w' : Shown) → is_upload setup ≡ true
-    → a ≡ answer.Bytes → w'.stage ≡ InDfuIdle → Kind q setup
-    → Came (plan (profile w) (image_of w.slots) w.stage (meant q body)) (asked_length q) w a out w'
-    → sent_of (situation w) ++ out ≡ image_of w'.slots
-served_ends p q setup body w a out w' on bytes idle (other_asked off none) x = absurd (false≢true (sym off ∙ on))
-served_ends p q setup body w a out w' on bytes idle (upload_asked number size is one) x =
-    asked_ends number size q w w' body out a is bytes idle x
+served_ends q body w a out w' on is idle x =
+    subst (Completes (image_of w.slots) w.stage) x.same
+    (form_completes (profile w) (image_of w.slots) w.stage (meant q body) (plan (profile w) (image_of w.slots) w.stage (meant q body))
+    x.luck (row_form (profile w) (image_of w.slots) w.stage (meant q body)))
+    out (piece_answered q body (profile w).transfer (asked_length q) x.reply a out on is
+    (reply_fits q body (asked_length q) w a out w' x) x.answers) idle
 
 row_ends : (setup body : List ℕ) (w : Shown) (a : Answer) (out : List ℕ) (w' : Shown) → Handles setup body w a out w'
     → is_upload setup ≡ true → a ≡ answer.Bytes → w'.stage ≡ InDfuIdle
     → sent_of (situation w) ++ out ≡ image_of w'.slots
 row_ends setup body w a out w' (handled_as p q reads asks done) on bytes idle =
     by_cases (is_served p q body)
-    (λ goes. served_ends p q setup body w a out w' on bytes idle (kind_of p q setup body reads asks goes)
+    (λ goes. served_ends q body w a out w' (sym (upload_as p q setup body reads asks goes) ∙ on) bytes idle
     (asked_came p q setup body w a out w' reads asks goes (handled_as p q reads asks done)))
     (λ off. absurd (bytes_no_stall (sym bytes ∙ (not_served p q setup body w a out w' reads asks off (handled_as p q reads asks done)).0)))
 

@@ -17,4 +17,5 @@ pub mod Uploaded
 pub mod Told
 pub mod Kept
 pub mod Errors
+pub mod RowForms
 pub mod inside

@@ -7,13 +7,13 @@ use Rattle.dfu_slots.specs.declared.fault.WriteFault.{WriteFault}
 use Rattle.dfu_slots.specs.declared.fault.WriteFault.TheVariants.{Failed, NotVerified}
 use Rattle.dfu_device.specs.Stage.{Request, Detach, Dnload, Upload, GetStatus, ClrStatus, GetState, Abort, Reply, Ack, StateOf, Data, Stall, Profile, Stage, InAppIdle, InAppDetach, InDfuIdle, InDownloadSync, InDownloadSyncWritten, InDownloadBusy, InDownloadIdle, InManifestSync, InManifestSyncComplete, InManifest, InManifestWaitReset, InUploadIdle, InError, state_of, status_of}
 
--- What a row does. Only the medium is left open: where it works the first reply and stage come, where a write has a fault the last reply and
--- dfuERROR.
+-- What a row does. Only the medium is left open: where it works the first reply and stage come, where a write has a fault the last reply
+-- and dfuERROR.
 pub data Plan : Type 0 where
   -- It answers and enters a stage, and calls nothing of the slot store.
   Sure : Reply → Stage → Plan
-  -- It first writes a block behind the bytes taken before, and enters dfuERROR with errWRITE where that fails, with errVERIFY where it is not
-  -- there.
+  -- It first writes a block behind the bytes taken before, and enters dfuERROR with errWRITE where that fails, with errVERIFY where it is
+  -- not there.
   Writes : (before block : List ℕ) → Reply → Stage → (WriteFault → Reply) → Plan
   -- It first makes the bytes taken the active image, and enters dfuERROR with errPROG where that fails, with errVERIFY where a write is not
   -- there.
@@ -181,7 +181,8 @@ time_plan c (InDownloadBusy before block number passed) ms =
 -- dfuMANIFEST. A device that is not tolerant of manifestation waits for a reset.
 time_plan c (InManifest taken passed) ms =
     if ms == 0 then ack (InManifest taken passed)
-    else if nat_le c.manifest (passed + ms) then Commits taken Ack (if c.tolerant then InManifestSyncComplete else InManifestWaitReset) (λ fault. Ack)
+    else if nat_le c.manifest (passed + ms)
+    then Commits taken Ack (if c.tolerant then InManifestSyncComplete else InManifestWaitReset) (λ fault. Ack)
     else ack (InManifest taken (passed + ms))
 time_plan c stage ms = ack stage
 
