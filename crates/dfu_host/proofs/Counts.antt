@@ -39,7 +39,8 @@ module _ (p : List ℕ) (t : ℕ) where
       ∙ ap (λ z. take t (drop z p)) begins ∙ ap (take t) (drop_min (n * t) p) ∙ sym (block_at p t n ht)
 
   -- A block is as much of the payload as it has bytes, from its first one on.
-  pub block_begins : (n : ℕ) (block : List ℕ) → 0 < t → block ≡ slice_index_or (blocks p t) n [] → block ≡ take (length block) (drop (n * t) p)
+  pub block_begins : (n : ℕ) (block : List ℕ) → 0 < t → block ≡ slice_index_or (blocks p t) n []
+      → block ≡ take (length block) (drop (n * t) p)
   block_begins n block ht is =
       let rest = drop (n * t) p in
       let e : block ≡ take t rest = is ∙ block_at p t n ht in

@@ -15,10 +15,10 @@ use Rattle.dfu_host.specs.Host.{HostState, budgeted, spent, restarted, told, aft
 use Rattle.dfu_host.specs.InParts.{phase_of}
 use Rattle.dfu_host.specs.inside.View.{heard_of}
 
--- A tolerant device's status in any other state.
-pub confirmed_else : (start : table.Phase) (c : Code) (poll : ℕ) (s : State) → (s ≡ state.DfuIdle → ⊥) → (s ≡ state.ManifestSync → ⊥)
-    → (s ≡ state.Manifest → ⊥) → table.troubled start c poll s ≡ table.manifested start true c poll s
-confirmed_else start c poll state.DfuIdle a b d = absurd (a refl)
+-- A tolerant device's status that neither confirms an install nor asks for a wait is trouble.
+pub confirmed_else : (start : table.Phase) (c : Code) (poll : ℕ) (s : State) → (s ≡ state.DfuIdle → c ≡ code.Ok → ⊥)
+    → (s ≡ state.ManifestSync → ⊥) → (s ≡ state.Manifest → ⊥) → table.troubled start c poll s ≡ table.manifested start true c poll s
+confirmed_else start code.Ok poll state.DfuIdle a b d = absurd (a refl refl)
 confirmed_else start c poll state.ManifestSync a b d = absurd (b refl)
 confirmed_else start c poll state.Manifest a b d = absurd (d refl)
 confirmed_else start c poll s a b d = refl

@@ -2,26 +2,43 @@
 use Rattle.std.specs.Prelude.{ℕ}
 use Rattle.dfu_wire.specs.declared.codes.Code.{Code}
 use Rattle.dfu_wire.specs.declared.states.State.TheVariants.{DfuIdle}
-use Rattle.dfu_host.specs.declared.report.Report.TheVariants.{Aborted, Refused}
-use Rattle.dfu_host.specs.Phases.{Task, Phase, Find, FindAgain, Detach, Enter, Clear, Quit, WaitFind, ResetFind, Trouble, GiveUp, Over, Heard, Status}
+use Rattle.dfu_host.specs.declared.report.Report.TheVariants.{Aborted, Refused, Unconfirmed}
+use Rattle.dfu_host.specs.Phases.{Task, Phase, Find, FindAgain, Trouble, Last, Over, Heard, Status}
+use Rattle.dfu_host.specs.PhaseClasses.{Common, Sending, Closing, Manifesting, Fetching, Comparing, Ending, EndingUpload, Ended, EndedUpload, class_of}
 use Rattle.dfu_host.specs.Table.{start_of}
 
 -- The phases that each session has: those that look for the device's state and bring it to dfuIDLE or to appIDLE, and the last of a
 -- session that is given up.
 abbrev pub IsCommon : Phase → Type 0
-IsCommon Find = Unit {0}
-IsCommon FindAgain = Unit {0}
-IsCommon Detach = Unit {0}
-IsCommon Enter = Unit {0}
-IsCommon Clear = Unit {0}
-IsCommon Quit = Unit {0}
-IsCommon (WaitFind poll) = Unit {0}
-IsCommon ResetFind = Unit {0}
-IsCommon Trouble = Unit {0}
-IsCommon GiveUp = Unit {0}
-IsCommon phase = ⊥
+IsCommon phase = elim (class_of phase) [
+  | Common ↦ Unit {0}
+  | Sending n ↦ ⊥
+  | Closing ↦ ⊥
+  | Manifesting ↦ ⊥
+  | Fetching k kept ↦ ⊥
+  | Comparing k ↦ ⊥
+  | Ending report ↦ ⊥
+  | EndingUpload kept ↦ ⊥
+  | Ended report ↦ ⊥
+  | EndedUpload kept ↦ ⊥
+]
 
--- Those that ask for the status: what follows goes by the state that is heard.
+-- The phases of a download up to its last reset: the common ones, and those in which its blocks are sent and installed.
+abbrev pub IsDownloading : Phase → Type 0
+IsDownloading phase = elim (class_of phase) [
+  | Common ↦ Unit {0}
+  | Sending n ↦ Unit {0}
+  | Closing ↦ Unit {0}
+  | Manifesting ↦ Unit {0}
+  | Fetching k kept ↦ ⊥
+  | Comparing k ↦ ⊥
+  | Ending report ↦ ⊥
+  | EndingUpload kept ↦ ⊥
+  | Ended report ↦ ⊥
+  | EndedUpload kept ↦ ⊥
+]
+
+-- The common phases that ask for the status: what follows goes by the state that is heard.
 abbrev pub IsSeeking : Phase → Type 0
 IsSeeking Find = Unit {0}
 IsSeeking FindAgain = Unit {0}
@@ -35,3 +52,16 @@ pub record CommonHolds (task : Task) (P : Phase → Type 0) (Known : Heard → T
   pub begins : (code : Code) (poll : ℕ) → Known (Status code poll DfuIdle) → P (start_of task.goal)
   pub refused : (code : Code) → P (Over (Refused code))
   pub aborted : P (Over Aborted)
+
+-- Nothing has to be known of what is heard.
+abbrev pub Any : Heard → Type 0
+Any heard = Unit {0}
+
+-- A property that holds of a download's phases, of the one in which the work begins, and of the ends that may follow. Of a confirmed
+-- install it says nothing.
+pub record DownloadHolds (task : Task) (P : Phase → Type 0) : Type 0 where
+  pub anywhere : (phase : Phase) → IsDownloading phase → P phase
+  pub begins : P (start_of task.goal)
+  pub refused : (code : Code) → P (Over (Refused code))
+  pub aborted : P (Over Aborted)
+  pub unconfirmed : P (Last Unconfirmed)

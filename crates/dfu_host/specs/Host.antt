@@ -5,7 +5,8 @@ use Rattle.dfu_host.specs.declared.limits.Limits.{Limits}
 use Rattle.dfu_host.specs.declared.report.Report.TheVariants as report
 use Rattle.dfu_host.specs.declared.action.Action.{Action}
 use Rattle.dfu_host.specs.declared.seen.Seen.{Seen}
-use Rattle.dfu_host.specs.Phases.{Goal, Task, Phase, Find, FindAgain, Detach, Enter, Clear, Quit, WaitFind, ResetFind, Block, Ask, Poll, WaitPoll, Close, AskLast, Manifest, WaitManifest, WaitLast, Trouble, Fetch, LastUploaded, Compare, Last, GiveUp, Over, OverUploaded, Heard, NoRoom, Restarted}
+use Rattle.dfu_host.specs.Phases.{Goal, Task, Phase, Find, Fetch, GiveUp, Over, OverUploaded, Heard, NoRoom, Restarted}
+use Rattle.dfu_host.specs.PhaseClasses.{Common, Sending, Closing, Manifesting, Fetching, Comparing, Ending, EndingUpload, Ended, EndedUpload, class_of}
 use Rattle.dfu_host.specs.Table.{deed, row, task_after}
 use Rattle.dfu_host.specs.Wire.{Hears, Spells}
 
@@ -36,31 +37,18 @@ started functional goal limits = begun (task_for functional goal) limits.actions
 
 -- The host is not done.
 abbrev pub IsOn : Phase → Type 0
-IsOn Find = Unit {0}
-IsOn FindAgain = Unit {0}
-IsOn Detach = Unit {0}
-IsOn Enter = Unit {0}
-IsOn Clear = Unit {0}
-IsOn Quit = Unit {0}
-IsOn (WaitFind poll) = Unit {0}
-IsOn ResetFind = Unit {0}
-IsOn (Block n) = Unit {0}
-IsOn (Ask n) = Unit {0}
-IsOn (Poll n) = Unit {0}
-IsOn (WaitPoll n poll) = Unit {0}
-IsOn Close = Unit {0}
-IsOn AskLast = Unit {0}
-IsOn Manifest = Unit {0}
-IsOn (WaitManifest poll) = Unit {0}
-IsOn (WaitLast poll) = Unit {0}
-IsOn Trouble = Unit {0}
-IsOn (Fetch k kept) = Unit {0}
-IsOn (LastUploaded kept) = Unit {0}
-IsOn (Compare k) = Unit {0}
-IsOn (Last report) = Unit {0}
-IsOn GiveUp = Unit {0}
-IsOn (Over report) = ⊥
-IsOn (OverUploaded kept) = ⊥
+IsOn phase = elim (class_of phase) [
+  | Common ↦ Unit {0}
+  | Sending n ↦ Unit {0}
+  | Closing ↦ Unit {0}
+  | Manifesting ↦ Unit {0}
+  | Fetching k kept ↦ Unit {0}
+  | Comparing k ↦ Unit {0}
+  | Ending report ↦ Unit {0}
+  | EndingUpload kept ↦ Unit {0}
+  | Ended report ↦ ⊥
+  | EndedUpload kept ↦ ⊥
+]
 
 -- The host is done: in the two phases that are not on.
 abbrev pub IsOver : Phase → Type 0

@@ -7,6 +7,7 @@ use Rattle.dfu_host.specs.declared.parts.Parts.{Parts}
 use Rattle.dfu_host.specs.declared.action.Action.{Action}
 use Rattle.dfu_host.specs.declared.action.Action.TheVariants as action
 use Rattle.dfu_host.specs.Goals.{goal_of, payload_of, size_of, IsFetch}
+use Rattle.dfu_host.specs.PhaseClasses.{Common, Sending, Closing, Manifesting, Fetching, Comparing, Ending, EndingUpload, Ended, EndedUpload, class_of}
 use Rattle.dfu_host.specs.Table as table
 use Rattle.dfu_host.specs.Host.{HostState}
 
@@ -46,31 +47,18 @@ phase_of memory phase.OverUploaded = table.OverUploaded memory
 -- What a phase needs of a session: a block that there is, a payload to close, or an image to fetch, of which the parts 0 to 65,534 are
 -- asked for, as they are of one that is compared, or nothing.
 abbrev pub IsWithin : Goal → (transfer : ℕ) → Phase → Type 0
-IsWithin goal t phase.Find = Unit {0}
-IsWithin goal t phase.FindAgain = Unit {0}
-IsWithin goal t phase.Detach = Unit {0}
-IsWithin goal t phase.Enter = Unit {0}
-IsWithin goal t phase.Clear = Unit {0}
-IsWithin goal t phase.Quit = Unit {0}
-IsWithin goal t (phase.WaitFind poll) = Unit {0}
-IsWithin goal t phase.ResetFind = Unit {0}
-IsWithin goal t (phase.Block n) = n * t < length (payload_of goal)
-IsWithin goal t (phase.Ask n) = n * t < length (payload_of goal)
-IsWithin goal t (phase.Poll n) = n * t < length (payload_of goal)
-IsWithin goal t (phase.WaitPoll n poll) = n * t < length (payload_of goal)
-IsWithin goal t phase.Close = 0 < length (payload_of goal)
-IsWithin goal t phase.AskLast = 0 < length (payload_of goal)
-IsWithin goal t phase.Manifest = Unit {0}
-IsWithin goal t (phase.WaitManifest poll) = Unit {0}
-IsWithin goal t (phase.WaitLast poll) = Unit {0}
-IsWithin goal t phase.Trouble = Unit {0}
-IsWithin goal t (phase.Fetch k) = IsFetch goal × (k < 65535)
-IsWithin goal t phase.LastUploaded = Unit {0}
-IsWithin goal t (phase.Compare k) = k < 65535
-IsWithin goal t (phase.Last report) = Unit {0}
-IsWithin goal t phase.GiveUp = Unit {0}
-IsWithin goal t (phase.Over report) = Unit {0}
-IsWithin goal t phase.OverUploaded = Unit {0}
+IsWithin goal t phase = elim (class_of (phase_of [] phase)) [
+  | Common ↦ Unit {0}
+  | Sending n ↦ n * t < length (payload_of goal)
+  | Closing ↦ 0 < length (payload_of goal)
+  | Manifesting ↦ Unit {0}
+  | Fetching k kept ↦ IsFetch goal × (k < 65535)
+  | Comparing k ↦ k < 65535
+  | Ending report ↦ Unit {0}
+  | EndingUpload kept ↦ Unit {0}
+  | Ended report ↦ Unit {0}
+  | EndedUpload kept ↦ Unit {0}
+]
 
 -- Parts are those of a session where there is something to do, blocks have room for a byte, and the phase has what it needs.
 pub record IsSession (p : Parts) : Type 0 where

@@ -4,7 +4,8 @@ use Rattle.dfu_wire.specs.declared.codes.Code.TheVariants as code
 use Rattle.dfu_wire.specs.declared.states.State.TheVariants as state
 use Rattle.dfu_host.specs.declared.report.Report.{Report}
 use Rattle.dfu_host.specs.declared.report.Report.TheVariants as report
-use Rattle.dfu_host.specs.Phases.{Task, Phase, Find, FindAgain, Detach, Enter, Clear, Quit, WaitFind, ResetFind, Block, Ask, Poll, WaitPoll, Close, AskLast, Manifest, WaitManifest, WaitLast, Trouble, Fetch, LastUploaded, Compare, Last, GiveUp, Over, OverUploaded, Heard, Status, Part}
+use Rattle.dfu_host.specs.Phases.{Task, Phase, Manifest, Compare, Heard, Status, Part}
+use Rattle.dfu_host.specs.PhaseClasses.{Common, Sending, Closing, Manifesting, Fetching, Comparing, Ending, EndingUpload, Ended, EndedUpload, class_of}
 use Rattle.dfu_host.specs.Table.{pieces, row}
 
 -- The report says that the payload is in place.
@@ -37,31 +38,18 @@ IsVerified report.Different = ⊥
 
 -- The session is about to end with such a report, or has ended so.
 abbrev pub IsEnding : (Report → Type 0) → Phase → Type 0
-IsEnding P Find = ⊥
-IsEnding P FindAgain = ⊥
-IsEnding P Detach = ⊥
-IsEnding P Enter = ⊥
-IsEnding P Clear = ⊥
-IsEnding P Quit = ⊥
-IsEnding P (WaitFind poll) = ⊥
-IsEnding P ResetFind = ⊥
-IsEnding P (Block n) = ⊥
-IsEnding P (Ask n) = ⊥
-IsEnding P (Poll n) = ⊥
-IsEnding P (WaitPoll n poll) = ⊥
-IsEnding P Close = ⊥
-IsEnding P AskLast = ⊥
-IsEnding P Manifest = ⊥
-IsEnding P (WaitManifest poll) = ⊥
-IsEnding P (WaitLast poll) = ⊥
-IsEnding P Trouble = ⊥
-IsEnding P (Fetch k kept) = ⊥
-IsEnding P (LastUploaded kept) = ⊥
-IsEnding P (Compare k) = ⊥
-IsEnding P (Last report) = P report
-IsEnding P GiveUp = ⊥
-IsEnding P (Over report) = P report
-IsEnding P (OverUploaded kept) = ⊥
+IsEnding P phase = elim (class_of phase) [
+  | Common ↦ ⊥
+  | Sending n ↦ ⊥
+  | Closing ↦ ⊥
+  | Manifesting ↦ ⊥
+  | Fetching k kept ↦ ⊥
+  | Comparing k ↦ ⊥
+  | Ending report ↦ P report
+  | EndingUpload kept ↦ ⊥
+  | Ended report ↦ P report
+  | EndedUpload kept ↦ ⊥
+]
 
 -- A tolerant device told after the close that it stands in dfuIDLE with OK.
 pub record IsConfirmed (task : Task) (phase : Phase) (heard : Heard) : Type 0 where

@@ -1,6 +1,7 @@
 pub mod Blocks
 pub mod BlockLaws
 pub mod Phases
+pub mod PhaseClasses
 pub mod Table
 pub mod Clean
 pub mod Wire
@@ -20,6 +21,7 @@ pub mod TaskLaws
 pub mod CommonPhases
 pub mod RowLaws
 pub mod Counting
+pub mod HostLaws
 pub mod CountingLaws
 pub mod FaultName
 pub mod ReportName

@@ -5,7 +5,8 @@ use Rattle.dfu_host.specs.declared.fault.HostFault.{HostFault}
 use Rattle.dfu_host.specs.declared.fault.HostFault.TheVariants as fault
 use Rattle.dfu_host.specs.declared.seen.Seen.{Seen}
 use Rattle.dfu_host.specs.declared.seen.Seen.TheVariants as seen
-use Rattle.dfu_host.specs.Phases.{Phase, ToFetch, Find, FindAgain, Detach, Enter, Clear, Quit, WaitFind, ResetFind, Block, Ask, Poll, WaitPoll, Close, AskLast, Manifest, WaitManifest, WaitLast, Trouble, Fetch, LastUploaded, Compare, Last, GiveUp, Over, OverUploaded, Part, NoRoom}
+use Rattle.dfu_host.specs.Phases.{Phase, ToFetch, Part, NoRoom}
+use Rattle.dfu_host.specs.PhaseClasses.{Common, Sending, Closing, Manifesting, Fetching, Comparing, Ending, EndingUpload, Ended, EndedUpload, class_of}
 use Rattle.dfu_host.specs.Wire.{NeedsRoom}
 use Rattle.dfu_host.specs.Host.{HostState, after}
 
@@ -39,57 +40,31 @@ TakesAsPart h k seen.Restarted h' = Unit {0}
 
 -- What is seen where a part is fetched is taken as that part. Of the phases that fetch none nothing is said here.
 abbrev pub TakesPart : HostState → Phase → Seen → HostState → Type 0
-TakesPart h Find seen h' = Unit {0}
-TakesPart h FindAgain seen h' = Unit {0}
-TakesPart h Detach seen h' = Unit {0}
-TakesPart h Enter seen h' = Unit {0}
-TakesPart h Clear seen h' = Unit {0}
-TakesPart h Quit seen h' = Unit {0}
-TakesPart h (WaitFind poll) seen h' = Unit {0}
-TakesPart h ResetFind seen h' = Unit {0}
-TakesPart h (Block n) seen h' = Unit {0}
-TakesPart h (Ask n) seen h' = Unit {0}
-TakesPart h (Poll n) seen h' = Unit {0}
-TakesPart h (WaitPoll n poll) seen h' = Unit {0}
-TakesPart h Close seen h' = Unit {0}
-TakesPart h AskLast seen h' = Unit {0}
-TakesPart h Manifest seen h' = Unit {0}
-TakesPart h (WaitManifest poll) seen h' = Unit {0}
-TakesPart h (WaitLast poll) seen h' = Unit {0}
-TakesPart h Trouble seen h' = Unit {0}
-TakesPart h (Fetch k kept) seen h' = TakesAsPart h k seen h'
-TakesPart h (LastUploaded kept) seen h' = Unit {0}
-TakesPart h (Compare k) seen h' = Unit {0}
-TakesPart h (Last report) seen h' = Unit {0}
-TakesPart h GiveUp seen h' = Unit {0}
-TakesPart h (Over report) seen h' = Unit {0}
-TakesPart h (OverUploaded kept) seen h' = Unit {0}
+TakesPart h phase seen h' = elim (class_of phase) [
+  | Common ↦ Unit {0}
+  | Sending n ↦ Unit {0}
+  | Closing ↦ Unit {0}
+  | Manifesting ↦ Unit {0}
+  | Fetching k kept ↦ TakesAsPart h k seen h'
+  | Comparing k ↦ Unit {0}
+  | Ending report ↦ Unit {0}
+  | EndingUpload kept ↦ Unit {0}
+  | Ended report ↦ Unit {0}
+  | EndedUpload kept ↦ Unit {0}
+]
 
 -- What an upload keeps: the parts that came since it last began, until it goes back to find the device. In all other phases nothing
 -- is kept.
 abbrev pub kept_in : Phase → List ℕ
-kept_in Find = []
-kept_in FindAgain = []
-kept_in Detach = []
-kept_in Enter = []
-kept_in Clear = []
-kept_in Quit = []
-kept_in (WaitFind poll) = []
-kept_in ResetFind = []
-kept_in (Block n) = []
-kept_in (Ask n) = []
-kept_in (Poll n) = []
-kept_in (WaitPoll n poll) = []
-kept_in Close = []
-kept_in AskLast = []
-kept_in Manifest = []
-kept_in (WaitManifest poll) = []
-kept_in (WaitLast poll) = []
-kept_in Trouble = []
-kept_in (Fetch k kept) = kept
-kept_in (LastUploaded kept) = kept
-kept_in (Compare k) = []
-kept_in (Last report) = []
-kept_in GiveUp = []
-kept_in (Over report) = []
-kept_in (OverUploaded kept) = kept
+kept_in phase = elim (class_of phase) [
+  | Common ↦ []
+  | Sending n ↦ []
+  | Closing ↦ []
+  | Manifesting ↦ []
+  | Fetching k kept ↦ kept
+  | Comparing k ↦ []
+  | Ending report ↦ []
+  | EndingUpload kept ↦ kept
+  | Ended report ↦ []
+  | EndedUpload kept ↦ kept
+]

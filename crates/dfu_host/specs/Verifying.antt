@@ -3,7 +3,8 @@ use Rattle.std.specs.Prelude.{◌≡◌, ◌⊎◌, ℕ, List}
 use Rattle.dfu_host.specs.declared.report.Report.{Report}
 use Rattle.dfu_host.specs.declared.report.Report.TheVariants as report
 use Rattle.dfu_host.specs.declared.seen.Seen.{Seen}
-use Rattle.dfu_host.specs.Phases.{ToVerify, ToCompare, Phase, Find, FindAgain, Detach, Enter, Clear, Quit, WaitFind, ResetFind, Block, Ask, Poll, WaitPoll, Close, AskLast, Manifest, WaitManifest, WaitLast, Trouble, Fetch, LastUploaded, Compare, Last, GiveUp, Over, OverUploaded}
+use Rattle.dfu_host.specs.Phases.{ToVerify, ToCompare, Phase, Compare, Last, Over}
+use Rattle.dfu_host.specs.PhaseClasses.{Common, Sending, Closing, Manifesting, Fetching, Comparing, Ending, EndingUpload, Ended, EndedUpload, class_of}
 use Rattle.dfu_host.specs.CommonPhases.{IsCommon}
 use Rattle.dfu_host.specs.Host.{HostState, HostRows}
 
@@ -23,31 +24,18 @@ IsOwn report.Different = Unit {0}
 
 -- Its phases up to its last reset: those of a download, but that it is over only with a report of its own.
 abbrev pub IsInstalling : Phase → Type 0
-IsInstalling Find = Unit {0}
-IsInstalling FindAgain = Unit {0}
-IsInstalling Detach = Unit {0}
-IsInstalling Enter = Unit {0}
-IsInstalling Clear = Unit {0}
-IsInstalling Quit = Unit {0}
-IsInstalling (WaitFind poll) = Unit {0}
-IsInstalling ResetFind = Unit {0}
-IsInstalling (Block n) = Unit {0}
-IsInstalling (Ask n) = Unit {0}
-IsInstalling (Poll n) = Unit {0}
-IsInstalling (WaitPoll n poll) = Unit {0}
-IsInstalling Close = Unit {0}
-IsInstalling AskLast = Unit {0}
-IsInstalling Manifest = Unit {0}
-IsInstalling (WaitManifest poll) = Unit {0}
-IsInstalling (WaitLast poll) = Unit {0}
-IsInstalling Trouble = Unit {0}
-IsInstalling (Fetch k kept) = ⊥
-IsInstalling (LastUploaded kept) = ⊥
-IsInstalling (Compare k) = ⊥
-IsInstalling (Last report) = Unit {0}
-IsInstalling GiveUp = Unit {0}
-IsInstalling (Over report) = IsOwn report
-IsInstalling (OverUploaded kept) = ⊥
+IsInstalling phase = elim (class_of phase) [
+  | Common ↦ Unit {0}
+  | Sending n ↦ Unit {0}
+  | Closing ↦ Unit {0}
+  | Manifesting ↦ Unit {0}
+  | Fetching k kept ↦ ⊥
+  | Comparing k ↦ ⊥
+  | Ending report ↦ Unit {0}
+  | EndingUpload kept ↦ ⊥
+  | Ended report ↦ IsOwn report
+  | EndedUpload kept ↦ ⊥
+]
 
 -- Its phases from then on.
 abbrev pub IsComparing : Phase → Type 0

@@ -18,7 +18,8 @@ impl Task<'_> {
     /// Compares a part of the image with the block of its number.
     pub(crate) fn compare(&self, number: u16, part: &[u8]) -> Heard
         requires { IsWithin self.now.goal self.now.transfer (Phase.Compare number) }
-        ensures hears { result ≡ Heard.Compared (bytes_eq part.now (slice_index_or (pieces (task_of self.now)) number [])) (length part.now) }
+        ensures hears { result
+            ≡ Heard.Compared (bytes_eq part.now (slice_index_or (pieces (task_of self.now)) number [])) (length part.now) }
     {
         Heard::Compared {
             same: part == self.block(number as usize),

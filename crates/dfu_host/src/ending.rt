@@ -117,7 +117,6 @@ impl Task<'_> {
         match (status.state(), status.code()) {
             (State::ManifestSync | State::Manifest, _) => Phase::WaitManifest(status.poll_ms()),
             (State::DfuIdle, Code::Ok) => Phase::Last(Report::Installed),
-            (State::DfuIdle, _) => self.troubled(status),
             _ => self.troubled(status),
         }
     }

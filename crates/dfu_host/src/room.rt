@@ -43,7 +43,8 @@ impl Session<'_> {
 /// room nothing changes.
 fn keep(session: &Session<'_>, room: &mut [u8], kept: usize, seen: Seen<'_>) -> Option<usize>
     requires { kept ≤ length room.old }
-    ensures some { IfSome result (λ n. Kept session.now.transfer session.now.phase seen.entry false (take kept room.old) (take n room.new)) }
+    ensures some { IfSome result (λ n.
+        Kept session.now.transfer session.now.phase seen.entry false (take kept room.old) (take n room.new)) }
     ensures none { result ≡ None → Kept session.now.transfer session.now.phase seen.entry true (take kept room.old) (take kept room.old) }
     ensures len { length room.new ≡ length room.old }
     ensures fits { IfSome result (λ n. n ≤ length room.old) }

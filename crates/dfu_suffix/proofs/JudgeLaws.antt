@@ -1,12 +1,11 @@
--- What a window of 16 bytes, a count and the register over all bytes say of the bytes.
-use Rattle.std.proofs.Common.{◌≡◌, ◌≢◌, ◌↔◌, inl, inr, ℕ, ◌+◌, ◌-◌, ◌≤◌, ◌||◌, Bool, true, false, not, cond, eqb, ltb, List, [], ◌∷◌, length, take, drop, get_or, Some, None, Result, Ok, Err, IfOk, refl, sym, ap, ◌∙◌, arith}
+-- What the last 16 bytes, a count and the register over all bytes say of the bytes: for `read`, and for `check`, which has them in a window.
+use Rattle.std.proofs.Common.{Option, ◌≡◌, ◌↔◌, ℕ, ◌+◌, ◌-◌, ◌≤◌, ◌||◌, Bool, true, false, not, cond, eqb, ltb, List, [], ◌∷◌, length, take, drop, get_or, Some, None, Result, Ok, Err, IfOk, refl, sym, ap, ◌∙◌, arith}
 use Rattle.std.specs.Prelude.{find}
 use Rattle.std.proofs.lemmas.Bool.{eqb-true, eq-eqb, ltb-false}
-use Rattle.std.proofs.lemmas.Bool.Decides.{eqb_tells}
 use Rattle.std.proofs.lemmas.List.{drop-drop, length-take-le}
 use Rattle.byteorder.specs.Endian.{little_number}
 use Rattle.dfu_suffix.specs.Register.{register}
-use Rattle.dfu_suffix.specs.Grammar.{Content, tail_of, is_signed, has_fault}
+use Rattle.dfu_suffix.specs.Grammar.{Content, tail_of, is_signed, has_fault, fault_order}
 use Rattle.dfu_suffix.specs.inside.Reading.{content_of, content_or, reading}
 use Rattle.dfu_suffix.specs.inside.Judging.{told_by, told, sealed, judged}
 use Rattle.dfu_suffix.specs.Laws.{AreBytes}
@@ -111,65 +110,6 @@ too_short : (t : List ℕ) (n : ℕ) → ltb n 16 ≡ true → told t n ≡ Err 
 unfolding told
 too_short t n e = at_once (ltb n 16) (Err TooShort) _ e
 
--- A summary that was told is what the last 16 bytes say.
-ok_of : (t1 t2 t3 t4 : Bool) (a s : Summary) →
-    cond t1 (Err TooShort) (cond t2 (Err NoSignature) (cond t3 (Err BadLength) (cond t4 (Err DfuSe) (Ok a)))) ≡ Ok s → a ≡ s
-ok_of true t2 t3 t4 a s h = cc
-ok_of false true t3 t4 a s h = cc
-ok_of false false true t4 a s h = cc
-ok_of false false false true a s h = cc
-ok_of false false false false a s h = cc
-
-told_ok : (t : List ℕ) (n : ℕ) (s : Summary) → told t n ≡ Ok s → told_by t n ≡ s
-unfolding told
-told_ok t n s h = ok_of (ltb n 16) (not (is_signed t)) (ltb (get_or t 11 0) 16 || ltb n (get_or t 11 0))
-    (eqb (little_number 2 (drop 6 t)) 0x011A) (told_by t n) s h
-
--- A fault that was told is the answer of reading.
-pub parsed_fault : (b t : List ℕ) (r : Result Summary SuffixFault) (f : SuffixFault) → length b ≤ 16777216 →
-    t ≡ tail_of b → r ≡ told t (length b) → r ≡ Err f → reading b ≡ Err f
-parsed_fault b t r f small tail answer is =
-    let same : told (tail_of b) (length b) ≡ Err f = ap (λ (w : List ℕ). told w (length b)) (sym tail) ∙ (sym answer ∙ is) in
-    reading_told b small ∙ ap (λ (x : Result Summary SuffixFault). read_by (is_intact b) x (content_of b)) same
-
--- A summary that was told is read, by whether its dwCRC is right.
-pub parsed : (b t : List ℕ) (r : Result Summary SuffixFault) (s : Summary) → length b ≤ 16777216 →
-    t ≡ tail_of b → r ≡ told t (length b) → r ≡ Ok s →
-    reading b ≡ cond (eqb s.crc (register (take (length b - 4) b))) (Ok
-    (record { payload = take (length b - s.suffix) b; ids = s.ids; dfu = s.dfu; suffix = s.suffix })) (Err BadCrc)
-parsed b t r s small tail answer is =
-    let same : told (tail_of b) (length b) ≡ Ok s = ap (λ (w : List ℕ). told w (length b)) (sym tail) ∙ (sym answer ∙ is) in
-    reading_told b small ∙ (ap (λ (x : Result Summary SuffixFault). read_by (is_intact b) x (content_of b)) same
-    ∙ ap (λ (z : Summary). cond (eqb z.crc (register (take (length b - 4) b)))
-    (Ok (record { payload = take (length b - z.suffix) b; ids = z.ids; dfu = z.dfu; suffix = z.suffix })) (Err BadCrc))
-    (told_ok (tail_of b) (length b) s same))
-
--- Where dwCRC isn't the register over the bytes before it, that is the answer.
-pub parsed_wrong : (b t : List ℕ) (r : Result Summary SuffixFault) (s : Summary) (due : ℕ) → length b ≤ 16777216 →
-    t ≡ tail_of b → r ≡ told t (length b) → r ≡ Ok s → due ≡ register (take (length b - 4) b) → s.crc ≢ due → reading b ≡ Err BadCrc
-parsed_wrong b t r s due small tail answer is e other =
-    let no : eqb s.crc (register (take (length b - 4) b)) ≡ false =
-    elim (eqb_tells s.crc (register (take (length b - 4) b))) [ inl p ↦ absurd (other (p.1 ∙ sym e)) | inr p ↦ p.0 ] in
-    parsed b t r s small tail answer is ∙ ap (λ (yes : Bool). cond yes
-    (Ok (record { payload = take (length b - s.suffix) b; ids = s.ids; dfu = s.dfu; suffix = s.suffix })) (Err BadCrc)) no
-
--- Where dwCRC is that register, the answer is what was told, with the bytes before the suffix.
-pub parsed_right : (b t p : List ℕ) (r : Result Summary SuffixFault) (s : Summary) (due : ℕ) → length b ≤ 16777216 →
-    t ≡ tail_of b → r ≡ told t (length b) → r ≡ Ok s → due ≡ register (take (length b - 4) b) → s.crc ≡ due →
-    p ≡ take (length b - s.suffix) b →
-    reading b ≡ Ok (record { payload = p; ids = s.ids; dfu = s.dfu; suffix = s.suffix })
-parsed_right b t p r s due small tail answer is e same paid =
-    let yes : eqb s.crc (register (take (length b - 4) b)) ≡ true = eq-eqb s.crc (register (take (length b - 4) b)) (same ∙ e) in
-    parsed b t r s small tail answer is
-    ∙ (ap (λ (right : Bool). cond right (Ok (record {
-      payload = take (length b - s.suffix) b;
-      ids = s.ids;
-      dfu = s.dfu;
-      suffix =
-          s.suffix;
-    })) (Err BadCrc)) yes
-    ∙ ap (λ (xs : List ℕ). Ok (record { payload = xs; ids = s.ids; dfu = s.dfu; suffix = s.suffix })) (sym paid))
-
 -- What the last 16 bytes told sums up what they say.
 sums_up : (s : List ℕ) → 16 ≤ length s → IfOk (told (tail_of s) (length s)) (λ y. y ≡ summary_in s (content_of s))
 unfolding told
@@ -197,19 +137,49 @@ zero_intact s f long =
     let law = last_four s f (omega arith) in
     by_zero (register s) 0 last due (λ z. ap (little_number 4) moved ∙ law.0 z, λ z. law.1 (sym (ap (little_number 4) moved) ∙ z))
 
-by_length : (s : List ℕ) → AreBytes s → length s ≤ 16777216 → (short : Bool) → ltb (length s) 16 ≡ short →
-    judged (window_of s) (length s) (register s) ≡ summed s (reading s)
-by_length s f small true e =
-    ap (sealed (eqb (register s) 0)) (too_short (window_of s) (length s) e)
+-- The last 16 bytes tell what the window tells, also where they are fewer.
+told_window : (s : List ℕ) (short : Bool) → ltb (length s) 16 ≡ short → told (window_of s) (length s) ≡ told (tail_of s) (length s)
+told_window s true e = too_short (window_of s) (length s) e ∙ sym (too_short (tail_of s) (length s) e)
+told_window s false e = ap (λ (w : List ℕ). told w (length s)) (window_tail s (ltb-false (length s) 16 e))
+
+-- Judging by the last 16 bytes, the count and the register is reading all of the bytes.
+judged_tail : (s : List ℕ) → AreBytes s → length s ≤ 16777216 → (short : Bool) → ltb (length s) 16 ≡ short →
+    judged (tail_of s) (length s) (register s) ≡ summed s (reading s)
+judged_tail s f small true e =
+    ap (sealed (eqb (register s) 0)) (too_short (tail_of s) (length s) e)
     ∙ sym (ap (summed s) (reading_told s small
     ∙ ap (λ (x : Result Summary SuffixFault). read_by (is_intact s) x (content_of s)) (too_short (tail_of s) (length s) e)))
-by_length s f small false e =
+judged_tail s f small false e =
     let long : 16 ≤ length s = ltb-false (length s) 16 e in
-    ap (λ (w : List ℕ). judged w (length s) (register s)) (window_tail s long)
-    ∙ (ap (λ (b : Bool). sealed b (told (tail_of s) (length s))) (zero_intact s f long)
+    ap (λ (b : Bool). sealed b (told (tail_of s) (length s))) (zero_intact s f long)
     ∙ (sealed_is_read (told (tail_of s) (length s)) (is_intact s) s (content_of s) (sums_up s long)
-    ∙ sym (ap (summed s) (reading_told s small))))
+    ∙ sym (ap (summed s) (reading_told s small)))
 
 -- Judging by the window, the count and the register is reading all of the bytes.
 pub judged_is_read : (s : List ℕ) → AreBytes s → length s ≤ 16777216 → judged (window_of s) (length s) (register s) ≡ summed s (reading s)
-judged_is_read s f small = by_length s f small (ltb (length s) 16) refl
+judged_is_read s f small = ap (sealed (eqb (register s) 0)) (told_window s (ltb (length s) 16) refl)
+    ∙ judged_tail s f small (ltb (length s) 16) refl
+
+-- A file is read from bytes by the summary of it.
+abbrev pub filed : List ℕ → Result Summary SuffixFault → Result Content SuffixFault
+filed s (Ok y) = Ok (record { payload = take (length s - y.suffix) s; ids = y.ids; dfu = y.dfu; suffix = y.suffix })
+filed s (Err fault) = Err fault
+
+summed_filed : (s : List ℕ) (o : Option SuffixFault) → content_or o (content_of s) ≡ filed s (summed s (content_or o (content_of s)))
+summed_filed s None = refl
+summed_filed s (Some fault) = refl
+
+-- Reading is filing what is judged by the last 16 bytes, the count and the register.
+read_is_filed : (s : List ℕ) → AreBytes s → length s ≤ 16777216 → reading s ≡ filed s (judged (tail_of s) (length s) (register s))
+unfolding reading
+read_is_filed s f small =
+    summed_filed s (find (has_fault s) fault_order) ∙ ap (filed s) (sym (judged_tail s f small (ltb (length s) 16) refl))
+
+-- Reading is what the last 16 bytes told, with the bytes before the suffix, unless the register over all bytes isn't 0.
+pub told_is_read : (s t : List ℕ) (due : ℕ) (intact : Bool) (r x : Result Summary SuffixFault) → AreBytes s → length s ≤ 16777216 →
+    t ≡ tail_of s → r ≡ told t (length s) → r ≡ x → due ≡ register s → eqb due 0 ≡ intact → filed s (sealed intact x) ≡ reading s
+told_is_read s t due intact r x f small tail answer is register_is zero =
+    let same : x ≡ told (tail_of s) (length s) = sym is ∙ (answer ∙ ap (λ (w : List ℕ). told w (length s)) tail) in
+    let sound : intact ≡ eqb (register s) 0 = sym zero ∙ ap (λ (n : ℕ). eqb n 0) register_is in
+    ap (λ (b : Bool). filed s (sealed b x)) sound
+    ∙ (ap (λ (y : Result Summary SuffixFault). filed s (sealed (eqb (register s) 0) y)) same ∙ sym (read_is_filed s f small))

@@ -11,13 +11,12 @@ use crate::limits::MIN_SUFFIX;
 use byteorder::{ByteOrder, LittleEndian};
 use dfu_wire::Ids;
 
-/// The last 16 bytes.
+/// The last 16 bytes, or all of them, where there are fewer.
 pub(crate) fn tail(bytes: &[u8]) -> &[u8]
-    requires { 16 ≤ length bytes.now }
     ensures value { result.now ≡ tail_of bytes.now }
-    ensures len { length result.now ≡ 16 }
+    ensures len { 16 ≤ length bytes.now → length result.now ≡ 16 }
 {
-    let (_, tail) = bytes.split_at(bytes.len() - MIN_SUFFIX as usize);
+    let (_, tail) = bytes.split_at(bytes.len().saturating_sub(MIN_SUFFIX as usize));
     tail
 }
 
@@ -59,18 +58,16 @@ pub(crate) fn ids_of(tail: &[u8]) -> Ids
     }
 }
 
-/// The dwCRC that the file is to have: the register over all but its last four bytes. It is the same by either table.
+/// The register over all bytes. It is the same by either table.
 #[inline(always)]
-pub(crate) fn crc_due(bytes: &[u8], by_small_table: bool) -> u32
-    requires { 4 ≤ length bytes.now }
-    ensures { result ≡ register (take (length bytes.now - 4) bytes.now) }
+pub(crate) fn register_over(bytes: &[u8], by_small_table: bool) -> u32
+    ensures { result ≡ register bytes.now }
 {
-    let (front, _) = bytes.split_at(bytes.len() - 4);
     let mut crc = Crc::new();
     if by_small_table {
-        crc.update_small(front);
+        crc.update_small(bytes);
     } else {
-        crc.update_long(front);
+        crc.update_long(bytes);
     }
     crc.value()
 }

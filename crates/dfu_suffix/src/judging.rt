@@ -12,7 +12,7 @@ use crate::summary::Summary;
 /// What the last 16 of `count` bytes say, or the first fault of the file but TooLarge and BadCrc.
 #[tactic(auto, using(std::proofs::lemmas::Bool::Decides::nat_tests), unfolding(crate::specs::inside::Judging::told))]
 pub(crate) fn told(tail: &[u8], count: u32) -> Result<Summary, SuffixFault>
-    requires { length tail.now ≡ 16 }
+    requires { 16 ≤ count → length tail.now ≡ 16 }
     ensures answer { result ≡ told tail.now count }
     ensures fits { IfOk result (λ s. (16 ≤ s.suffix) × (s.suffix ≤ count) × (s.dfu ≢ 0x011A)) }
     ensures memory { result ≢ Err NoMemory }

@@ -6,10 +6,10 @@ ghost use Rattle.dfu_suffix.specs.inside.Reading.{reading};
 ghost use Rattle.dfu_wire.specs.declared.ids.Ids.{Ids};
 
 use crate::fault::SuffixFault;
-use crate::fields::{crc_due, payload_of, tail};
+use crate::fields::{payload_of, register_over, tail};
 use crate::file::File;
 use crate::judging::told;
-use crate::limits::{MAX_FILE, MIN_SUFFIX};
+use crate::limits::MAX_FILE;
 
 /// What the bytes say, read from their end, or their first fault. Each reader has a body of its own, so that the small
 /// one is linked without the large tables.
@@ -21,21 +21,14 @@ fn parse(bytes: &[u8], by_small_table: bool) -> Result<File<'_>, SuffixFault>
     if bytes.len() > MAX_FILE {
         return Err(SuffixFault::TooLarge);
     }
-    if bytes.len() < MIN_SUFFIX as usize {
-        return Err(SuffixFault::TooShort);
-    }
     match told(tail(bytes), bytes.len() as u32) {
-        Ok(summary) => {
-            if summary.crc != crc_due(bytes, by_small_table) {
-                return Err(SuffixFault::BadCrc);
-            }
-            Ok(File {
-                payload: payload_of(bytes, summary.suffix as usize),
-                ids: summary.ids,
-                dfu: summary.dfu,
-                suffix: summary.suffix,
-            })
-        }
+        Ok(_) if register_over(bytes, by_small_table) != 0 => Err(SuffixFault::BadCrc),
+        Ok(summary) => Ok(File {
+            payload: payload_of(bytes, summary.suffix as usize),
+            ids: summary.ids,
+            dfu: summary.dfu,
+            suffix: summary.suffix,
+        }),
         Err(fault) => Err(fault),
     }
 }

@@ -1,5 +1,15 @@
-use Rattle.std.proofs.Common.{rules, inr, refl}
+use Rattle.std.proofs.Common.{rules, inl, inr, refl}
 use Rattle.dfu_host_c.proofs.beginning.dfu_host_upload.Goals as goal
+
+pub returns-in-Ok-upload : goal.returns-in-Ok-upload
+returns-in-Ok-upload c = record {
+  outcome = inl (record {
+    functional = c.in-Ok.functional;
+    is_functional = c.in-Ok.ensures.ok;
+    begun = c.start.ensures.begun _ c.in-Ok-upload.ensures.started;
+    number_is = search rules;
+  });
+}
 
 pub returns-in-Err-upload : goal.returns-in-Err-upload
 returns-in-Err-upload c = record {

@@ -1,19 +1,25 @@
-use Rattle.std.proofs.Common.{sym, arith}
-use Rattle.dfu_suffix.proofs.JudgeLaws.{parsed_fault, parsed_right, parsed_wrong}
+use Rattle.std.proofs.Common.{ℕ, List, Ok, Err, refl, ap, ◌∙◌, arith}
+use Rattle.std.proofs.lemmas.Bool.{eq-eqb, ne_eqb}
+use Rattle.dfu_suffix.specs.Register.{register}
+use Rattle.dfu_suffix.proofs.JudgeLaws.{told_is_read}
 use Rattle.dfu_suffix.proofs.parse.parse.Goals as goal
 
 pub returns-in-Err : goal.returns-in-Err
 returns-in-Err c =
-    sym (parsed_fault c.args.bytes.now c.tail.result.now c.told.result c.in-Err.fault (omega arith)
-    c.tail.ensures.value c.told.ensures.answer c.in-Err.is)
+    let b = c.args.bytes.now in
+    told_is_read b c.tail.result.now (register b) _ c.told.result (Err c.in-Err.fault)
+    (λ k. omega (arith, c.type_inv.bytes k)) (omega arith) c.tail.ensures.value c.told.ensures.answer c.in-Err.is refl refl
 
-pub returns-then-summary-crc_due : goal.returns-then-summary-crc_due
-returns-then-summary-crc_due c =
-    sym (parsed_wrong c.args.bytes.now c.tail.result.now c.told.result c.in-Ok.summary c.crc_due.result (omega arith)
-    c.tail.ensures.value c.told.ensures.answer c.in-Ok.is c.crc_due.ensures c.if-summary-crc_due.true)
+pub returns-in-Ok : goal.returns-in-Ok
+returns-in-Ok c =
+    told_is_read c.args.bytes.now c.tail.result.now c.register_over.result _ c.told.result (Ok c.in-Ok.field-0)
+    (λ k. omega (arith, c.type_inv.bytes k)) (omega arith) c.tail.ensures.value c.told.ensures.answer c.in-Ok.is c.register_over.ensures
+    (ne_eqb _ _ c.if-register_over-ne0.true)
 
-pub returns-else-summary-crc_due : goal.returns-else-summary-crc_due
-returns-else-summary-crc_due c =
-    sym (parsed_right c.args.bytes.now c.tail.result.now c.payload_of.result.now c.told.result c.in-Ok.summary c.crc_due.result
-    (omega arith)
-    c.tail.ensures.value c.told.ensures.answer c.in-Ok.is c.crc_due.ensures c.if-summary-crc_due.false c.payload_of.ensures)
+pub returns-in-Ok-2 : goal.returns-in-Ok-2
+returns-in-Ok-2 c =
+    let s = c.in-Ok.field-0 in
+    ap (λ (p : List ℕ). Ok (record { payload = p; ids = s.ids; dfu = s.dfu; suffix = s.suffix })) c.payload_of.ensures
+    ∙ told_is_read c.args.bytes.now c.tail.result.now c.register_over.result _ c.told.result (Ok s)
+    (λ k. omega (arith, c.type_inv.bytes k)) (omega arith) c.tail.ensures.value c.told.ensures.answer c.in-Ok.is c.register_over.ensures
+    (eq-eqb _ _ c.if-register_over-ne0.false)

@@ -13,5 +13,6 @@ returns c =
     record {
       act = act;
       done = λ memory. act_done (host_of memory c.args.self.now) c.action.result (act memory);
-      cut = subst (λ (p : Parts). IsCut (payload_of p.goal) (begins_at p.transfer p.phase) c.action.result) c.self.view_is c.action.ensures.cut;
+      cut = subst (λ (p : Parts). IsCut (payload_of p.goal) (begins_at p.transfer p.phase) c.action.result)
+          c.self.view_is c.action.ensures.cut;
     }

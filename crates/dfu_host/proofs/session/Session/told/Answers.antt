@@ -23,7 +23,8 @@ returns-clause-takes c = λ memory memory' kept.
     let stored : Kept task.transfer p.phase seen c.args.refused memory memory' =
     subst (λ (z : Parts). Kept z.transfer z.phase seen c.args.refused memory memory') (sym c.self.view_is) kept in
     let same : now ≡ after before (heard_of part word) =
-    c.after-self-inside.ensures.state memory memory' part (c.hear-heard.ensures.keeps memory memory' stored) c.hear-heard.ensures.compares in
+    c.after-self-inside.ensures.state memory memory' part (c.hear-heard.ensures.keeps memory memory' stored)
+    c.hear-heard.ensures.compares in
     let step : HostRow before seen now =
     record {
       heard = heard_of part word;

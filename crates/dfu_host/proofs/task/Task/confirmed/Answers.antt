@@ -1,9 +1,14 @@
 use Rattle.std.proofs.Common.{◌∙◌}
 use Rattle.dfu_host.proofs.Steps.{confirmed_else}
 use Rattle.dfu_host.proofs.task.Task.confirmed.Goals as goal
+use Rattle.dfu_host.proofs.task.Task.confirmed.Goals.{in_default-via-in-DfuIdle+in_default, in_default-via-in_default}
 
 pub returns-in_default-clause-next : goal.returns-in_default-clause-next
 returns-in_default-clause-next c =
-    λ memory. c.troubled-in_default.ensures.next memory
-    ∙ rw (← c.state.ensures)
-    (confirmed_else _ _ _ c.state.result c.in_default.not-DfuIdle-0 c.in_default.not-ManifestSync-0 c.in_default.not-Manifest-0)
+    λ memory. c.troubled.ensures.next memory
+    ∙ rw (← c.state.ensures, ← c.code.ensures) (elim c.in_default.branch [
+      | in_default-via-in-DfuIdle+in_default w ↦
+          confirmed_else _ _ _ _ (λ idle ok. w.in_default.not-Ok-1 ok) w.in_default.not-ManifestSync-0 w.in_default.not-Manifest-0
+      | in_default-via-in_default w ↦
+          confirmed_else _ _ _ _ (λ idle ok. w.in_default.not-DfuIdle-0 idle) w.in_default.not-ManifestSync-0 w.in_default.not-Manifest-0
+    ])

@@ -1,0 +1,56 @@
+-- Laws of a host: what the table's rows keep, the budget and the restarts keep too, whatever is seen.
+use Rattle.std.proofs.Common.{◌≡◌, ℕ, zero, suc, pred, List, [], ◌∷◌, refl, sym, subst}
+use Rattle.dfu_host.specs.declared.report.Report.{Report}
+use Rattle.dfu_host.specs.declared.report.Report.TheVariants.{Aborted, GaveUp, RestartsSpent}
+use Rattle.dfu_host.specs.declared.seen.Seen.{Seen}
+use Rattle.dfu_host.specs.Phases.{Task, Phase, Find, GiveUp, Over, OverUploaded, Heard, Restarted}
+use Rattle.dfu_host.specs.Table.{row, task_after}
+use Rattle.dfu_host.specs.Host.{HostState, HostRows, budgeted, restarted, told, after_phase, after, seen_all, sees}
+
+-- The report is one with which a host ends by its budget, by its restarts, or by its caller.
+abbrev pub IsCutShort : Report → Type 0
+IsCutShort GaveUp = Unit {0}
+IsCutShort RestartsSpent = Unit {0}
+IsCutShort Aborted = Unit {0}
+IsCutShort report = ⊥
+
+-- A property of a host's task and phase that each row keeps, and that holds of the first phase and of an early end wherever it held.
+pub record RowsKeep (Q : Task → Phase → Type 0) : Type 0 where
+  pub next : (task : Task) (phase : Phase) (heard : Heard) → Q task phase → Q (task_after task phase heard) (row task phase heard)
+  pub anew : (task : Task) (phase : Phase) → Q task phase → Q task Find
+  pub short : (task : Task) (phase : Phase) (report : Report) → IsCutShort report → Q task phase → Q task (Over report)
+
+module _ (Q : Task → Phase → Type 0) (keep : RowsKeep Q) where
+  keeps_budget : (task : Task) (left : ℕ) (phase : Phase) → Q task phase → Q task (budgeted left phase)
+  keeps_budget task left (Over r) q = q
+  keeps_budget task left (OverUploaded kept) q = q
+  keeps_budget task zero phase q = keep.short task phase GaveUp tt q
+  keeps_budget task (suc left) phase q = q
+
+  keeps_restart : (h : HostState) (phase : Phase) (restarts : ℕ) → Q h.task phase
+      → let g = restarted h phase restarts in Q g.task g.phase
+  keeps_restart h GiveUp restarts q = keep.short h.task GiveUp Aborted tt q
+  keeps_restart h phase zero q = keep.short h.task phase RestartsSpent tt q
+  keeps_restart h phase (suc restarts) q = keeps_budget h.task (pred h.actions) Find (keep.anew h.task phase q)
+
+  keeps_told : (h : HostState) (phase : Phase) (heard : Heard) → Q h.task phase → let g = told h phase heard in Q g.task g.phase
+  keeps_told h phase Restarted q = keeps_restart h phase h.restarts q
+  keeps_told h phase heard q =
+      keeps_budget (task_after h.task phase heard) (pred h.actions) (row h.task phase heard) (keep.next h.task phase heard q)
+
+  keeps_phase : (h : HostState) (phase : Phase) (heard : Heard) → h.phase ≡ phase → Q h.task phase
+      → let g = after_phase h phase heard in Q g.task g.phase
+  keeps_phase h (Over r) heard same q = rw same q
+  keeps_phase h (OverUploaded kept) heard same q = rw same q
+  keeps_phase h Find heard same q = keeps_told h Find heard q
+  keeps_phase h phase heard same q = keeps_told h phase heard q
+
+  -- It holds after whatever is heard.
+  pub keeps_after : (h : HostState) (heard : Heard) → Q h.task h.phase → Q (after h heard).task (after h heard).phase
+  keeps_after h heard q = keeps_phase h h.phase heard refl q
+
+  -- It holds after all that is seen.
+  pub keeps_rows : (h h' : HostState) (seens : List Seen) → HostRows h seens h' → Q h.task h.phase → Q h'.task h'.phase
+  keeps_rows h h' [] seen_all q = q
+  keeps_rows h h' (seen ∷ more) (sees {mid = mid} step rows) q = keeps_rows mid h' more rows
+      (subst (λ (z : HostState). Q z.task z.phase) (sym step.same) (keeps_after h step.heard q))
