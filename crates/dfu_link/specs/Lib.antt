@@ -7,7 +7,7 @@ pub mod Play
 pub mod Agreement
 pub mod LinkAgreement
 pub mod Fact
-pub mod Headline
+pub mod Simulation
 pub mod CleanRun
 pub mod Bytes
 pub mod Understood
@@ -22,6 +22,7 @@ pub mod Following
 pub mod Acting
 pub mod Sure
 pub mod FollowingRun
+pub mod Headline
 pub mod CleanInstall
 pub mod Words
 pub mod Said
@@ -34,6 +35,7 @@ pub mod SetupView
 pub mod Falls
 pub mod Source
 pub mod ScriptLegal
+pub mod ScriptHeadline
 pub mod NextSession
 pub mod CleanSteps
 pub mod OneResult
