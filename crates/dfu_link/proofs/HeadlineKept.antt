@@ -15,13 +15,10 @@ use Rattle.dfu_link.specs.Following.{IsFollowed, AllFollow}
 use Rattle.dfu_link.specs.Headline.{Begun, WithOffer, AsUpload, begun, WasOffered, IsLastPayload, IsWaiting, IsGoalPayload, IsLivePayload, HeadlineHolds, StepKeepsHeadline, HoldsAfterEach, no_event, one_event, EventsKeepHeadline, HoldsAtRest}
 use Rattle.dfu_link.specs.ScriptHeadline.{begun_by}
 use Rattle.dfu_link.proofs.Offered.{IsOfPast, past_on, in_place_on}
+use Rattle.dfu_link.proofs.Agreeing.{closed_in, goal_in, session_in, closed_sound, live_offered, machine_with}
 use Rattle.dfu_link.proofs.Chains.{Chain, no_more, one_more}
 
 -- Lists of offers.
-
-one_right : (a b : List (List ℕ)) (x : List ℕ) → IsOneOf x b → IsOneOf x (a ++ b)
-one_right [] b x one = one
-one_right (y ∷ a) b x one = inr (one_right a b x one)
 
 one_apart : (a b : List (List ℕ)) (x : List ℕ) → IsOneOf x (a ++ b) → IsOneOf x a ⊎ IsOneOf x b
 one_apart [] b x one = inr one
@@ -44,37 +41,7 @@ last_was (AsUpload ∷ past) x last = absurd last
 
 -- What a device and a session hold, as offers.
 
-abbrev waiting_in : Stage → List (List ℕ)
-waiting_in (InManifestSync taken) = taken ∷ []
-waiting_in (InManifest taken passed) = taken ∷ []
-waiting_in stage = []
-
-abbrev goal_in : Goal → List (List ℕ)
-goal_in (ToLoad payload) = payload ∷ []
-goal_in ToFetch = []
-goal_in (ToVerify payload) = payload ∷ []
-goal_in (ToCompare payload) = payload ∷ []
-
-abbrev session_in : Session → List (List ℕ)
-session_in Nobody = []
-session_in (Hosted h) = goal_in h.task.goal
-
-waiting_sound : (stage : Stage) (rest : List (List ℕ)) → IsShutOffer (waiting_in stage ++ rest) (intake_of stage)
-waiting_sound (InManifestSync taken) rest = inl refl
-waiting_sound (InManifest taken passed) rest = inl refl
-waiting_sound stage rest = tt
-
-goal_offered : (goal : Goal) (a : List (List ℕ)) → IsLiveOffer (a ++ goal_in goal) (live_goal goal)
-goal_offered (ToLoad payload) a = one_right a (payload ∷ []) payload (inl refl)
-goal_offered ToFetch a = tt
-goal_offered (ToVerify payload) a = one_right a (payload ∷ []) payload (inl refl)
-goal_offered (ToCompare payload) a = one_right a (payload ∷ []) payload (inl refl)
-
-session_offered : (session : Session) (a : List (List ℕ)) → IsLiveOffer (a ++ session_in session) (live_of session)
-session_offered Nobody a = tt
-session_offered (Hosted h) a = goal_offered h.task.goal a
-
-waits_in : (stage : Stage) (x : List ℕ) → IsOneOf x (waiting_in stage) → IsWaiting stage x
+waits_in : (stage : Stage) (x : List ℕ) → IsOneOf x (closed_in stage) → IsWaiting stage x
 waits_in (InManifestSync taken) x one = the_one x taken one
 waits_in (InManifest taken passed) x one = the_one x taken one
 waits_in stage x one = absurd one
@@ -117,32 +84,26 @@ pub loads_session : (session : Session) (x : List ℕ) → IsLivePayload session
 loads_session Nobody x is = absurd is
 loads_session (Hosted h) x is = loads_goal h.task.goal x is
 
--- The session machine of a link of which the headline holds: its offers are what is still to be put in place, and the live payload.
-abbrev machine_of : LinkState → List ℕ → Machine
-machine_of w image = record {
-  cur = image;
-  offers = waiting_in w.bench.device.stage ++ session_in w.bench.session;
-  pending = pending_in (intake_of w.bench.device.stage);
-  live = live_of w.bench.session;
-  up = w.up;
-}
+-- The session machine of a link of which the headline holds.
+abbrev machine_at : LinkState → List ℕ → Machine
+machine_at w image = machine_with image w.bench.device.stage w.bench.session w.up
 
-machine_agrees : {factory : List ℕ} {past : List Begun} {before : Option Report} {w : LinkState}
-    (k : HeadlineHolds factory past before w.bench) → AgreesOn w.bench w.up (machine_of w k.image)
-machine_agrees {w = w} k = record {
+agrees_then : {factory : List ℕ} {past : List Begun} {before : Option Report} {w : LinkState}
+    (k : HeadlineHolds factory past before w.bench) → AgreesOn w.bench w.up (machine_at w k.image)
+agrees_then {w = w} k = record {
   active = k.active;
   pending = refl;
   live = refl;
   up_is = refl;
-  sound = waiting_sound w.bench.device.stage (session_in w.bench.session);
-  offered = session_offered w.bench.session (waiting_in w.bench.device.stage);
+  sound = closed_sound w.bench.device.stage (session_in w.bench.session);
+  offered = live_offered w.bench.session (closed_in w.bench.device.stage);
 }
 
-machine_of_past : {factory : List ℕ} {past : List Begun} {before : Option Report} {w : LinkState}
-    (k : HeadlineHolds factory past before w.bench) → IsOfPast factory past (machine_of w k.image)
-machine_of_past {past = past} {w = w} k = record {
+past_then : {factory : List ℕ} {past : List Begun} {before : Option Report} {w : LinkState}
+    (k : HeadlineHolds factory past before w.bench) → IsOfPast factory past (machine_at w k.image)
+past_then {past = past} {w = w} k = record {
   known = k.known;
-  offers = λ x one. elim (one_apart (waiting_in w.bench.device.stage) (session_in w.bench.session) x one) [
+  offers = λ x one. elim (one_apart (closed_in w.bench.device.stage) (session_in w.bench.session) x one) [
     | inl left ↦ k.waiting x (waits_in w.bench.device.stage x left)
     | inr right ↦ last_was past x (k.live x (lives_in w.bench.session x right))
   ];
@@ -184,7 +145,7 @@ keeps : {factory : List ℕ} {past : List Begun} {before : Option Report} {w w' 
     → HeadlineHolds factory (begun event past) report w'.bench
 keeps {factory = factory} {past = past} {w = w} {w' = w'} event {report = report} follow k =
     subst (λ (sessions : List Begun). HeadlineHolds factory sessions report w'.bench) (begun_same event past)
-    (holds_after (happening event) (machine_of_past k) (follow (machine_of w k.image) (machine_agrees k)))
+    (holds_after (happening event) (past_then k) (follow (machine_at w k.image) (agrees_then k)))
 
 -- An event that each session machine follows keeps the headline.
 pub step_keeps : (w w' : LinkState) (event : Event) (result : Result (Option Report) LinkFault) → AllFollow w (happening event) w' result

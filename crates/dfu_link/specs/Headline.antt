@@ -100,8 +100,8 @@ abbrev pub RunKeepsHeadline : LinkState → List Event → LinkState → Result 
 RunKeepsHeadline w events w' (Ok reports) = EventsKeepHeadline w events reports.items w'
 RunKeepsHeadline w events w' (Err stop) = EventsKeepHeadline w (take stop.at events) stop.reports.items w'
 
--- The headline holds at the start, when no session has begun: of a device with no session, where no complete image is still to be put in
--- place. The factory image is the one that is active then.
+-- The headline holds at the start. No session has begun, and no complete image waits to be put in place. The factory image is the one that
+-- is active then.
 abbrev pub HoldsAtRest : Type 0
 HoldsAtRest = (b : Bench) (factory : List ℕ) → Active b.device.slots.medium factory → b.session ≡ Nobody
     → ((x : List ℕ) → IsWaiting b.device.stage x → ⊥) → HeadlineHolds factory [] None b

@@ -19,7 +19,6 @@ pub mod Running
 pub mod OneAnswer
 pub mod Standing
 pub mod Following
-pub mod Acting
 pub mod Sure
 pub mod FollowingRun
 pub mod Headline
@@ -31,13 +30,10 @@ pub mod Lines
 pub mod Texts
 pub mod TextLimit
 pub mod ScriptRun
-pub mod SetupView
 pub mod Falls
-pub mod Source
 pub mod ScriptLegal
 pub mod ScriptHeadline
 pub mod NextSession
 pub mod CleanSteps
 pub mod OneResult
-pub mod Moving
-pub mod Forming
+pub mod inside
