@@ -28,6 +28,7 @@ use Rattle.dfu_link.proofs.Replies.{IsHosts, HostsDeed, plan_heard, served}
 pub armed_profile : (w : Shown) (fuse : Fuse) → profile (armed w fuse) ≡ profile w
 armed_profile w fuse = λ k. record (profile w) { capacity = room_fused w.slots fuse k }
 
+-- A medium that is armed leaves a device's situation as it is.
 pub armed_situation : (w : Shown) (fuse : Fuse) → situation (armed w fuse) ≡ situation w
 armed_situation w fuse = λ k. record { image = image_fused w.slots fuse k; stage = w.stage }
 
@@ -179,6 +180,7 @@ resets_go course w w' heard (e, h) = let y = slips_go course.handling (bus_was_r
       lucky = λ whole. (y.lucky whole, refl);
     }
 
+-- An action with its bytes goes as the table of its course has it.
 pub acts_go : (d : Deed) (course : Course) (w w' : Shown) (heard : Heard) → HostsDeed d → Acts d course w w' heard
     → Went w.slots.medium.fuse (profile w) (situation w) d course w' heard
 acts_go (Send q body) course w w' heard is (setup, asked, h) = sends_go q setup body is asked course w w' heard h

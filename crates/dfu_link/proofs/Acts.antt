@@ -2,6 +2,7 @@
 use Rattle.std.proofs.Common.{◌≡◌, ℕ, List, sym, subst}
 use Rattle.std.specs.Borrow.{Bor}
 use Rattle.dfu_slots.specs.Medium.Fuse.{Whole}
+use Rattle.dfu_wire.specs.declared.requests.Request.{Request as Asked}
 use Rattle.dfu_device.specs.Shown.{Shown}
 use Rattle.dfu_device.specs.Rows.{Elapses}
 use Rattle.dfu_host.specs.declared.action.Action.TheVariants as action
@@ -16,19 +17,18 @@ use Rattle.dfu_link.specs.declared.course.Harming.TheVariants.{NoWrite, CutsPowe
 use Rattle.dfu_link.specs.Course.{Course}
 use Rattle.dfu_link.specs.Happening.{Harm}
 use Rattle.dfu_link.specs.Play.{heard_over, waits_for}
-use Rattle.dfu_link.specs.Bytes.{fuse_of, armed, bus_was_reset, HearsBack, Reaches, came_back, ended_back, Waits, Slips, ResetsBus, Acts, left_by}
-use Rattle.dfu_link.specs.Acting.{seen_over, HasSent, HasWaited, HasReset, HasActed, HasGone}
+use Rattle.dfu_link.specs.Bytes.{fuse_of, armed, bus_was_reset, HearsBack, Reaches, came_back, ended_back, Sends, Waits, Slips, ResetsBus, Acts, left_by, HostActs, HostActsArmed}
+use Rattle.dfu_link.specs.inside.Acting.{seen_over}
 
 -- A request whose rows these are, and of which this comes back.
 pub sends_by : {setup body out : List ℕ} {w w' : Shown} (course : Course) {came b : Back} → Reaches setup body course.handling w came out w'
-    → b ≡ ended_back course.harming (came_back course.back came) → HasSent setup body course w b out w'
-sends_by {body = body} {out = out} course {came = came} h e = record {
-  sends = λ q heard r. record {
-    came = came;
-    out = out;
-    reaches = h;
-    hears = subst (λ (x : Back). HearsBack (Send q body) x out heard) e r;
-  };
+    → b ≡ ended_back course.harming (came_back course.back came) → (q : Asked) (heard : Heard) → HearsBack (Send q body) b out heard
+    → Sends q setup body course w w' heard
+sends_by {body = body} {out = out} course {came = came} h e q heard r = record {
+  came = came;
+  out = out;
+  reaches = h;
+  hears = subst (λ (x : Back). HearsBack (Send q body) x out heard) e r;
 }
 
 waited_heard : (harming : Harming) (d : Deed) (heard : Heard) → Hears d (seen_over harming seen.Waited) heard
@@ -46,35 +46,34 @@ reset_heard FailsWrite d heard h = h
 reset_heard LiesInWrite d heard h = h
 
 -- A wait in which this time passes, and of which this is seen.
-pub waits_by : {ms time : ℕ} {w w' : Shown} (course : Course) {seen_is : Seen} → Elapses time w w' → time ≡ waits_for course.handling ms
-    → seen_is ≡ seen_over course.harming seen.Waited → HasWaited ms course w seen_is w'
-waits_by {w = w} {w' = w'} course e t k = record {
-  waits = λ d heard h. (
-    subst (λ (n : ℕ). Elapses n w w') t e,
-    waited_heard course.harming d heard (subst (λ (x : Seen). Hears d x heard) k h),
-  );
-}
+pub waits_by : {time : ℕ} (ms : ℕ) (w w' : Shown) (course : Course) {seen_is : Seen} → Elapses time w w' → time ≡ waits_for course.handling ms
+    → seen_is ≡ seen_over course.harming seen.Waited → (d : Deed) (heard : Heard) → Hears d seen_is heard → Waits ms course w w' heard
+waits_by ms w w' course e t k d heard h = (
+  subst (λ (n : ℕ). Elapses n w w') t e,
+  waited_heard course.harming d heard (subst (λ (x : Seen). Hears d x heard) k h),
+)
 
 -- A reset of the bus after which time may slip in, and of which this is seen.
-pub resets_by : {w mid w' : Shown} (course : Course) {seen_is : Seen} → mid ≡ bus_was_reset w → Slips course.handling mid w'
-    → seen_is ≡ seen_over course.harming seen.WasReset → HasReset course w seen_is w'
-resets_by {w' = w'} course r e k = record {
-  resets = λ d heard h. (
-    subst (λ (x : Shown). Slips course.handling x w') r e,
-    reset_heard course.harming d heard (subst (λ (x : Seen). Hears d x heard) k h),
-  );
-}
+pub resets_by : {mid : Shown} (w w' : Shown) (course : Course) {seen_is : Seen} → mid ≡ bus_was_reset w → Slips course.handling mid w'
+    → seen_is ≡ seen_over course.harming seen.WasReset → (d : Deed) (heard : Heard) → Hears d seen_is heard
+    → ResetsBus course w w' heard
+resets_by w w' course r e k d heard h = (
+  subst (λ (x : Shown). Slips course.handling x w') r e,
+  reset_heard course.harming d heard (subst (λ (x : Seen). Hears d x heard) k h),
+)
 
 -- A request, a wait and a reset that a host asks for.
 
 -- What the code does as a request is a request of the table.
-pub acts_send : (d : Deed) (course : Course) (setup : List ℕ) (given : Bor (List ℕ)) (heard : Heard) {out last : List ℕ} {b : Back}
-    {w w' : Shown} → Spells d (action.Send setup given) → HasSent setup given.now course w b out w' → last ≡ out → HearsBack d b last heard
-    → Acts d course w w' heard
-acts_send (Send q body) course setup given heard {out = out} {b = b} {w = w} {w' = w'} e s same h =
-    let sent = subst (λ (x : List ℕ). HasSent setup x course w b out w') e.1 s in
-    (setup, e.0, sent.sends q heard (subst (λ (x : List ℕ). HearsBack (Send q body) b x heard) same h))
-acts_send d course setup given heard e s same h = elim e [ ]
+pub acts_send : (d : Deed) (course : Course) (setup : List ℕ) (given : Bor (List ℕ)) (heard : Heard) (b : Back) {out last : List ℕ}
+    {w w' : Shown} → Spells d (action.Send setup given)
+    → ((q : Asked) (heard : Heard) → HearsBack (Send q given.now) b out heard → Sends q setup given.now course w w' heard)
+    → last ≡ out → HearsBack d b last heard → Acts d course w w' heard
+acts_send (Send q body) course setup given heard b {out = out} {w = w} {w' = w'} e s same h =
+    let sent = subst (λ (x : List ℕ). (q : Asked) (heard : Heard) → HearsBack (Send q x) b out heard → Sends q setup x course w w' heard)
+        e.1 s in
+    (setup, e.0, sent q heard (subst (λ (x : List ℕ). HearsBack (Send q body) b x heard) same h))
+acts_send d course setup given heard b e s same h = elim e [ ]
 
 -- What the code does as a wait is a wait of the table.
 pub acts_wait : (d : Deed) (f : Course) (given : ℕ) (w w' : Shown) (heard : Heard) → Spells d (action.Wait given) → Waits given f w w' heard
@@ -96,7 +95,8 @@ unarmed_is w e = λ i. record w { slots = record w.slots { medium = record w.slo
 
 -- An action by the course of its fate, on a medium that is armed for it.
 pub gone_by : {course c : Course} {harm x : Harm} {h h' : HostState} {w start last w' : Shown} → c ≡ course → x ≡ harm
-    → start ≡ armed w (fuse_of c.harming x) → HasActed h c start last h' → w' ≡ left_by c.harming last → HasGone h course harm w w' h'
+    → start ≡ armed w (fuse_of c.harming x) → HostActs h c start last h' → w' ≡ left_by c.harming last
+    → HostActsArmed h course harm w w' h'
 gone_by {c = c} {harm = harm} {x = x} {h = h} {h' = h'} {w = w} {last = last} {w' = w'} e k start acted left =
-    subst (λ (d : Course). HasGone h d harm w w' h') e (subst (λ (y : Harm). HasGone h c y w w' h') k
-    (record { last = last; acted = subst (λ (z : Shown). HasActed h c z last h') start acted; device = left }))
+    subst (λ (d : Course). HostActsArmed h d harm w w' h') e (subst (λ (y : Harm). HostActsArmed h c y w w' h') k
+    (record { last = last; acted = subst (λ (z : Shown). HostActs h c z last h') start acted; device = left }))

@@ -1,66 +1,82 @@
 -- That some session machine agrees with each link, and when a bench agrees.
-use Rattle.std.proofs.Common.{ℕ, List, [], ◌∷◌, refl, sym, ap, ◌∙◌, subst, inl, inr}
+use Rattle.std.proofs.Common.{ℕ, List, [], ◌∷◌, ◌++◌, refl, sym, ap, ◌∙◌, subst, inl, inr}
 use Rattle.dfu_slots.specs.Medium.Fuse.{Whole}
 use Rattle.dfu_slots.specs.Image.{Active, active_fused}
 use Rattle.dfu_device.specs.Stage.{Stage, InManifestSync, InManifest}
 use Rattle.dfu_host.specs.Phases.{Goal, ToLoad, ToFetch, ToVerify, ToCompare}
-use Rattle.dfu_link.specs.Session.{Machine}
+use Rattle.dfu_link.specs.Session.{Machine, IsOneOf}
 use Rattle.dfu_link.specs.Play.{Link}
 use Rattle.dfu_link.specs.Bench.{Session, Nobody, Hosted, Bench}
-use Rattle.dfu_link.specs.LinkAgreement.{pending_of, IsSound, Agrees, NothingClosed, SomeAgrees, FreshAgrees, LinkAgreesOn}
-use Rattle.dfu_link.specs.Agreement.{live_goal, live_of, IsLiveOffer, AgreesOn}
+use Rattle.dfu_link.specs.LinkAgreement.{IsSound, Agrees, NothingClosed, SomeAgrees, FreshAgrees, LinkAgreesOn}
+use Rattle.dfu_link.specs.Agreement.{intake_of, pending_in, live_goal, live_of, IsShutOffer, IsLiveOffer, AgreesOn}
 use Rattle.dfu_link.specs.Bytes.{link_of}
 use Rattle.dfu_link.specs.NextSession.{SessionsGoOn}
 use Rattle.dfu_link.specs.Understood.{ImageShown}
 
 -- Some machine agrees with each link.
 
-abbrev closed_in : Stage → List ℕ
-closed_in (InManifestSync taken) = taken
-closed_in (InManifest taken passed) = taken
+-- An offer of the second of two lists is one of both.
+one_right : (a b : List (List ℕ)) (x : List ℕ) → IsOneOf x b → IsOneOf x (a ++ b)
+one_right [] b x one = one
+one_right (y ∷ a) b x one = inr (one_right a b x one)
+
+-- The bytes that were closed, where a device has any.
+abbrev pub closed_in : Stage → List (List ℕ)
+closed_in (InManifestSync taken) = taken ∷ []
+closed_in (InManifest taken passed) = taken ∷ []
 closed_in stage = []
 
-abbrev goal_bytes : Goal → List ℕ
-goal_bytes (ToLoad payload) = payload
-goal_bytes ToFetch = []
-goal_bytes (ToVerify payload) = payload
-goal_bytes (ToCompare payload) = payload
+-- The payload of a goal, where it has one.
+abbrev pub goal_in : Goal → List (List ℕ)
+goal_in (ToLoad payload) = payload ∷ []
+goal_in ToFetch = []
+goal_in (ToVerify payload) = payload ∷ []
+goal_in (ToCompare payload) = payload ∷ []
 
-abbrev payload_in : Session → List ℕ
-payload_in Nobody = []
-payload_in (Hosted h) = goal_bytes h.task.goal
+-- The payload of a live session, where there is one.
+abbrev pub session_in : Session → List (List ℕ)
+session_in Nobody = []
+session_in (Hosted h) = goal_in h.task.goal
 
-closed_sound : (stage : Stage) (rest : List (List ℕ)) → IsSound (closed_in stage ∷ rest) stage
+-- The bytes that were closed are one of these offers.
+pub closed_sound : (stage : Stage) (rest : List (List ℕ)) → IsShutOffer (closed_in stage ++ rest) (intake_of stage)
 closed_sound (InManifestSync taken) rest = inl refl
 closed_sound (InManifest taken passed) rest = inl refl
 closed_sound stage rest = tt
 
-goal_offered : (goal : Goal) (x : List ℕ) → IsLiveOffer (x ∷ goal_bytes goal ∷ []) (live_goal goal)
-goal_offered (ToLoad payload) x = inr (inl refl)
-goal_offered ToFetch x = tt
-goal_offered (ToVerify payload) x = inr (inl refl)
-goal_offered (ToCompare payload) x = inr (inl refl)
+goal_offered : (goal : Goal) (a : List (List ℕ)) → IsLiveOffer (a ++ goal_in goal) (live_goal goal)
+goal_offered (ToLoad payload) a = one_right a (payload ∷ []) payload (inl refl)
+goal_offered ToFetch a = tt
+goal_offered (ToVerify payload) a = one_right a (payload ∷ []) payload (inl refl)
+goal_offered (ToCompare payload) a = one_right a (payload ∷ []) payload (inl refl)
 
-live_offered : (session : Session) (x : List ℕ) → IsLiveOffer (x ∷ payload_in session ∷ []) (live_of session)
-live_offered Nobody x = tt
-live_offered (Hosted h) x = goal_offered h.task.goal x
+-- The payload of a live session is one of these offers.
+pub live_offered : (session : Session) (a : List (List ℕ)) → IsLiveOffer (a ++ session_in session) (live_of session)
+live_offered Nobody a = tt
+live_offered (Hosted h) a = goal_offered h.task.goal a
 
-abbrev pub machine_of : Link → List ℕ → Machine
-machine_of w up = record {
-  cur = w.device.image;
-  offers = closed_in w.device.stage ∷ payload_in w.session ∷ [];
-  pending = pending_of w.device.stage;
-  live = live_of w.session;
+-- The session machine with this active image and this last upload whose offers are what a device and a session hold.
+abbrev pub machine_with : List ℕ → Stage → Session → List ℕ → Machine
+machine_with image stage session up = record {
+  cur = image;
+  offers = closed_in stage ++ session_in session;
+  pending = pending_in (intake_of stage);
+  live = live_of session;
   up = up;
 }
 
+-- The session machine of a link.
+abbrev pub machine_of : Link → List ℕ → Machine
+machine_of w up = machine_with w.device.image w.device.stage w.session up
+
+-- The session machine of a link agrees with it.
 pub machine_agrees : (w : Link) (up : List ℕ) → Agrees w up (machine_of w up)
 machine_agrees w up = record {
   cur = refl;
   pending = refl;
   live = refl;
   up_is = refl;
-  sound = closed_sound w.device.stage (payload_in w.session ∷ []);
+  sound = closed_sound w.device.stage (session_in w.session);
   offered = live_offered w.session (closed_in w.device.stage);
 }
 

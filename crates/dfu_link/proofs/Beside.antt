@@ -8,7 +8,7 @@ use Rattle.dfu_host.specs.declared.report.Report.{Report}
 use Rattle.dfu_host.specs.declared.report.Report.TheVariants.{Uploaded}
 use Rattle.dfu_link.specs.declared.fault.LinkFault.{LinkFault}
 use Rattle.dfu_link.specs.Session.{Machine, IsOneOf, Kind, AnOffer, Step, Legal, stops, and_then, said}
-use Rattle.dfu_link.specs.Headline.{offers_after}
+use Rattle.dfu_link.specs.Simulation.{offers_after}
 use Rattle.dfu_link.specs.Play.{Answered, given}
 use Rattle.dfu_link.specs.Agreement.{AgreesOn}
 use Rattle.dfu_link.specs.Bytes.{link_of}

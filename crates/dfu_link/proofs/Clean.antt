@@ -32,7 +32,8 @@ counted_by b true false h = omega arith
 counted_by b false true h = omega arith
 counted_by b false false h = omega arith
 
-installs_last : (c : Profile) (p : List ℕ) (again left : ℕ) → PassesTo c (at c (ToLoad p) again p InDfuIdle (Last Installed) left) (resting p)
+installs_last : (c : Profile) (p : List ℕ) (again left : ℕ)
+    → PassesTo c (at c (ToLoad p) again p InDfuIdle (Last Installed) left) (resting p)
     (record { report = Some Installed; gave = None })
 installs_last c p again left other room = refl
 
@@ -134,8 +135,10 @@ clean_run c Install image payload limits tol can sized long least room parts bud
     let total = clean_is (length (blocks payload c.transfer)) c.busy c.manifest in
     let k : ℕ = clean (length (blocks payload c.transfer)) c.busy c.manifest in
     let same : suc (k - 1) ≡ k = omega (arith, total) in
-    subst (λ z. InstalledAfter c (at c (ToLoad payload) limits.restarts image InAppIdle Find (max 1 limits.actions)) z payload Installed) same
-    (installs c payload limits.restarts image (max 1 limits.actions) (downloads c payload limits.restarts image tol can sized some least room)
+    subst (λ z. InstalledAfter c (at c (ToLoad payload) limits.restarts image InAppIdle Find (max 1 limits.actions)) z payload Installed)
+    same
+    (installs c payload limits.restarts image (max 1 limits.actions)
+    (downloads c payload limits.restarts image tol can sized some least room)
     (omega (arith, budget, same)))
 clean_run c Verify image payload limits tol can sized long least room parts budget other memory =
     let some : 0 < length (blocks payload c.transfer) = block_counts payload c.transfer 0 sized (omega (arith, long)) in
@@ -143,6 +146,8 @@ clean_run c Verify image payload limits tol can sized long least room parts budg
     let k : ℕ = clean (length (blocks payload c.transfer)) c.busy c.manifest in
     let q : ℕ = length payload / c.transfer in
     let same : suc (k - 1 + suc (1 + (1 + (1 + (1 + (q + 1)))))) ≡ k + 6 + q = omega (arith, total) in
-    subst (λ z. InstalledAfter c (at c (ToVerify payload) limits.restarts image InAppIdle Find (max 1 limits.actions)) z payload Verified) same
-    (verifies c payload limits.restarts image (max 1 limits.actions) (downloads c payload limits.restarts image tol can.0 sized some least room)
+    subst (λ z. InstalledAfter c (at c (ToVerify payload) limits.restarts image InAppIdle Find (max 1 limits.actions)) z payload Verified)
+    same
+    (verifies c payload limits.restarts image (max 1 limits.actions)
+    (downloads c payload limits.restarts image tol can.0 sized some least room)
     (whole_comparison c payload limits.restarts can.1 sized parts) (omega (arith, budget, same)))

@@ -30,6 +30,7 @@ pub sure_chain : {w w' : LinkState} {hs : List Happening} {reports : List Report
 sure_chain no_more = no_step
 sure_chain (one_more s more) = one_step s.sure (sure_chain more)
 
+-- The host takes its next action, and it passes.
 abbrev pub pass : Happening
 pass = Goes Pass unharmed
 
@@ -64,6 +65,7 @@ pub record WasQuiet (c : Profile) (b' : Bench) (reports : List Report) (n : ℕ)
   pub rest : Quietly c (link_of b') n end
   pub fixed : profile b'.device ≡ c
 
+-- Of passes in which nothing is reported none is reported, and the rest of the run is left.
 pub quiet_passes : {b b' : Bench} {reports : List Report} {c : Profile} {end : Link} (k m : ℕ) → k ≤ m
     → SureSteps b (replicate k pass) reports b' → profile b.device ≡ c → Quietly c (link_of b) m end → WasQuiet c b' reports (m - k) end
 quiet_passes {b = b} {c = c} {end = end} zero m h no_step e q = record {
@@ -114,6 +116,7 @@ pub record HasBegun (b : Bench) (aim : Aim) (payload : List ℕ) (mid : Bench) (
   pub fixed : profile mid.device ≡ profile b.device
   pub told : report ≡ None
 
+-- After an offer that can be installed its session has begun, and nothing is reported.
 pub has_begun : (b mid : Bench) (report : Option Report) (aim : Aim) (file : List ℕ) (limits : Limits) (payload : List ℕ)
     → CanInstall b aim file limits payload
     → IsSure b (Offers aim file limits) mid report → HasBegun b aim payload mid report
@@ -166,7 +169,8 @@ clean_chain {b = b} {b' = b'} aim file limits payload count can most (one_step {
     }
 
 -- A run over all events of a clean run reports as it should.
-pub ran_clean : {w w' : LinkState} {hs : List Happening} {reports : List Report} (aim : Aim) (file : List ℕ) (limits : Limits) (payload : List ℕ)
+pub ran_clean : {w w' : LinkState} {hs : List Happening} {reports : List Report} (aim : Aim) (file : List ℕ) (limits : Limits)
+    (payload : List ℕ)
     (count : ℕ) → Chain w hs reports w' → CanInstall w.bench aim file limits payload
     → hs ≡ offer_and_passes aim file limits count → count ≤ clean_passes aim w.bench.device.config payload
     → InstallsCleanly w.bench aim payload count reports w'.bench

@@ -40,12 +40,14 @@ nobody_installs c w end r p e =
     absurd cc
 
 -- The offer is not refused.
-offer_stands : (b : Bench) (aim : Aim) (file : List ℕ) (limits : Limits) (payload : List ℕ) → CanInstall b aim file limits payload → (why : LinkFault)
+offer_stands : (b : Bench) (aim : Aim) (file : List ℕ) (limits : Limits) (payload : List ℕ) → CanInstall b aim file limits payload
+    → (why : LinkFault)
     → IsStop b (Offers aim file limits) why → why ≡ fault.NoMemory
 offer_stands b aim file limits payload can fault.NoMemory h = refl
 offer_stands b aim file limits payload can fault.HostBusy h = absurd (subst IsLive can.free h)
 offer_stands b aim file limits payload can fault.NoHost h = elim h [ ]
-offer_stands b aim file limits payload can (fault.BadOffer f) h = absurd (offered_not_bad b.device.config aim file payload f can.offered h.1)
+offer_stands b aim file limits payload can (fault.BadOffer f) h =
+    absurd (offered_not_bad b.device.config aim file payload f can.offered h.1)
 
 -- Nor is a pass, while a session is live.
 pass_stands : (b : Bench) → (b.session ≡ Nobody → ⊥) → (why : LinkFault) → IsStop b pass why → why ≡ fault.NoMemory
@@ -91,7 +93,8 @@ clean_stop {b = b} {b' = b'} {why = why} aim file limits payload count (suc k) c
     let q = quiet_passes k (n - 1) (omega (arith, y.0, most)) (subst (λ (hs : List Happening). SureSteps mid hs later b') cut more) x.fixed
     x.quiet in
     record {
-      fault = pass_stands b' (λ e. nobody_installs (profile b.device) x.before (resting payload) (report_of aim) x.last (nobody_stays q.rest e)) why
+      fault = pass_stands b' (λ e. nobody_installs (profile b.device) x.before (resting payload) (report_of aim) x.last
+          (nobody_stays q.rest e)) why
           (subst (λ (h : Happening). IsStop b' h why) y.1 stop);
       none = ap (λ (r : Option Report). said r ++ later) x.told ∙ q.none;
     }
@@ -99,7 +102,8 @@ clean_stop {b = b} {b' = b'} {why = why} aim file limits payload count (suc k) c
 -- A run that stops before the end of a clean run had no memory, and reported nothing.
 pub stopped_clean : {w w' : LinkState} {hs : List Happening} {why : LinkFault} {at : ℕ} {reports : List Report} (aim : Aim) (file : List ℕ)
     (limits : Limits) (payload : List ℕ) (count : ℕ) → Stopped w hs why at reports w'
-    → CanInstall w.bench aim file limits payload → hs ≡ offer_and_passes aim file limits count → count ≤ clean_passes aim w.bench.device.config payload
+    → CanInstall w.bench aim file limits payload → hs ≡ offer_and_passes aim file limits count
+    → count ≤ clean_passes aim w.bench.device.config payload
     → (why ≡ fault.NoMemory) × (reports ≡ [])
 stopped_clean {w = w} {w' = w'} {at = at} {reports = reports} aim file limits payload count s can is most =
     let x =

@@ -62,9 +62,9 @@ happens_config (Offers aim payload limits) b b' answer (e, f) = ap (λ (x : Benc
 happens_config (Uploads limits) b b' answer (e, f) = ap (λ (x : Bench). x.device.config) e
 happens_config Aborts b b' answer (e, f) = ap (λ (x : Bench). x.device.config) e
 happens_config (Goes fate harm) b b' answer g =
-    ap (λ (x : Shown). x.config) g.device ∙ after_config (course_of fate).harming g.last
-    ∙ acts_config (deed g.host.task g.host.phase) (course_of fate) (armed b.device (fuse_of (course_of fate).harming harm)) g.last g.heard
-    g.acts
+    ap (λ (x : Shown). x.config) g.gone.device ∙ after_config (course_of fate).harming g.gone.last
+    ∙ acts_config (deed g.host.task g.host.phase) (course_of fate) (armed b.device (fuse_of (course_of fate).harming harm)) g.gone.last
+    g.gone.acted.heard g.gone.acted.acts
 happens_config (Passes ms) b b' answer (e, s, n) = elapses_config ms b.device b'.device e
 happens_config Resets b b' answer (e, f) = ap (λ (x : Bench). x.device.config) e
 happens_config Cuts b b' answer (e, f) = ap (λ (x : Bench). x.device.config) e

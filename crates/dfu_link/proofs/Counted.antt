@@ -14,10 +14,9 @@ use Rattle.dfu_link.specs.Happening.{Happening, Offers, Uploads, Aborts, Goes, P
 use Rattle.dfu_link.specs.Play.{Answered, settled, took, told, aborted}
 use Rattle.dfu_link.specs.Bench.{Session, Nobody, Hosted, Bench}
 use Rattle.dfu_link.specs.Fact.{SessionFact}
-use Rattle.dfu_link.specs.Bytes.{Happens}
+use Rattle.dfu_link.specs.Bytes.{Happens, HostActs}
 use Rattle.dfu_device.specs.Shown.{Shown}
 use Rattle.dfu_link.specs.Comes.{ComesWith, GivesWithUploaded}
-use Rattle.dfu_link.specs.Acting.{HasActed}
 use Rattle.dfu_link.specs.Standing.{SendsBytes, IsCountedIn}
 
 -- Bytes are given with Uploaded alone, and then fewer than 65,535 blocks of them.
@@ -96,7 +95,7 @@ told_whole (Hosted h) some c = took_whole h Restarted some c
 
 -- A host that took the answer of its action.
 pub acted_counted : (course : Course) (w w' : Shown) (h h' : HostState) → SendsBytes (Hosted h) → IsCountedIn (Hosted h)
-    → HasActed h course w w' h' → IsCountedIn (Hosted h')
+    → HostActs h course w w' h' → IsCountedIn (Hosted h')
 acted_counted course w w' h h' some c acted = subst (λ (x : HostState). IsCountedIn (Hosted x)) (sym acted.same)
     (after_counted_in h acted.heard some c)
 
@@ -109,7 +108,7 @@ happens_counted (Offers aim payload limits) b b' answer some c (e, f) = subst (�
 happens_counted (Uploads limits) b b' answer some c (e, f) = subst (λ (x : Bench). IsCountedIn x.session) (sym e) tt
 happens_counted Aborts b b' answer some c (e, f) = subst (λ (x : Bench). IsCountedIn x.session) (sym e) (aborted_counted b.session c)
 happens_counted (Goes fate harm) b b' answer some c g = subst IsCountedIn (sym g.session)
-    (took_counted g.host g.heard (subst SendsBytes g.live some) (subst IsCountedIn g.live c))
+    (took_counted g.host g.gone.acted.heard (subst SendsBytes g.live some) (subst IsCountedIn g.live c))
 happens_counted (Passes ms) b b' answer some c (e, s, n) = subst IsCountedIn (sym s) c
 happens_counted Resets b b' answer some c (e, f) = subst (λ (x : Bench). IsCountedIn x.session) (sym e)
     (told_counted b.session some c)
@@ -123,8 +122,8 @@ happens_fits p s (Uploads limits) b b' answer f some c (e, a) = subst (Fits p.tr
 happens_fits p s Aborts b b' answer f some c (e, a) = subst (Fits p.transfer) (sym a) tt
 happens_fits p s (Goes fate harm) b b' answer f some c g =
     let fact = subst (SessionFact p s) g.live f in
-    subst (Fits p.transfer) (sym g.answered) (subst (λ (n : ℕ). Fits n (took g.host g.heard).answer) fact.task_is.transfer
-    (took_fits g.host g.heard (subst SendsBytes g.live some) (subst IsCountedIn g.live c)))
+    subst (Fits p.transfer) (sym g.answered) (subst (λ (n : ℕ). Fits n (took g.host g.gone.acted.heard).answer) fact.task_is.transfer
+    (took_fits g.host g.gone.acted.heard (subst SendsBytes g.live some) (subst IsCountedIn g.live c)))
 happens_fits p s (Passes ms) b b' answer f some c (e, k, a) = subst (Fits p.transfer) (sym a) tt
 happens_fits p s Resets b b' answer f some c (e, a) = subst (Fits p.transfer) (sym a) (told_fits p s b.session f some c)
 happens_fits p s Cuts b b' answer f some c (e, a) = subst (Fits p.transfer) (sym a) (told_fits p s b.session f some c)

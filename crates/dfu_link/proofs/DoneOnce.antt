@@ -53,7 +53,8 @@ pub record DoneOnce (p : Plan) (len : ℕ) (w w' v' : Shown) (a b : Answer) (out
   pub device : SameDevice w' v'
 
 -- The same calls with the same end leave the same device, where they leave the same of the rest.
-same_calls : (calls : List Call) (ending : Ending) (w w' v' : Shown) → IsKnown w.slots.medium.fuse → w'.config ≡ v'.config → w'.stage ≡ v'.stage
+same_calls : (calls : List Call) (ending : Ending) (w w' v' : Shown) → IsKnown w.slots.medium.fuse → w'.config ≡ v'.config
+    → w'.stage ≡ v'.stage
     → Called w.slots calls ending w'.slots → Called w.slots calls ending v'.slots → SameDevice w' v'
 same_calls calls ending w w' v' known config stage h k = record {
   config = config;

@@ -17,7 +17,7 @@ use Rattle.dfu_link.specs.Bench.{Session, Nobody, Hosted}
 use Rattle.dfu_link.specs.LinkAgreement.{pending_of, IsSound, Agrees}
 use Rattle.dfu_link.specs.Agreement.{live_goal, live_of, IsLiveOffer}
 use Rattle.dfu_link.specs.Fact.{HasBlocks, SessionFact}
-use Rattle.dfu_link.specs.Headline.{Follows}
+use Rattle.dfu_link.specs.Simulation.{Follows}
 use Rattle.dfu_link.proofs.CommonFacts.{goal_anywhere}
 use Rattle.dfu_link.proofs.Taking.{shown, restart_taken, restart_plain, goes_by}
 use Rattle.dfu_link.proofs.Saying.{step_live}

@@ -23,11 +23,11 @@ use Rattle.dfu_link.specs.Happening.{Fate, Harm, Offers, Goes, Passes, Resets, C
 use Rattle.dfu_link.specs.Opening.{goal_of}
 use Rattle.dfu_link.specs.Play.{given, silent, told, took, settled, IsAllowed}
 use Rattle.dfu_link.specs.Bench.{Session, Nobody, Hosted}
-use Rattle.dfu_link.specs.Bytes.{powered_up, bus_was_reset}
+use Rattle.dfu_link.specs.Bytes.{powered_up, bus_was_reset, HostActsArmed}
 use Rattle.dfu_link.specs.Refusing.{first_offer_fault, IsOffered, IsBadOffer}
 use Rattle.dfu_link.specs.Comes.{refuses, happens, HasCome, HasComeAlone}
 use Rattle.dfu_link.specs.Standing.{session_of, given_by, bench_of, link_state, SendsBytes, IsCountedIn}
-use Rattle.dfu_link.specs.Acting.{HasGone, ended, HasBegun}
+use Rattle.dfu_link.specs.inside.Acting.{ended, HasBegun}
 use Rattle.dfu_link.proofs.Counted.{took_whole, told_whole}
 
 time_allowed : (s : Session) (ms : ℕ) → IsAllowed s (Passes ms)
@@ -91,7 +91,7 @@ cut_comes w w' host host' gave gave' report sized counted e device session kept 
 
 -- The host's next action.
 pub go_comes : (fate : Fate) (harm : Harm) (w w' : Shown) (h h' : HostState) (host' gave gave' : Option HostState) (report : Option Report)
-    → SendsBytes (Hosted h) → IsCountedIn (Hosted h) → w.slots.medium.fuse ≡ Whole → HasGone h (course_of fate) harm w w' h'
+    → SendsBytes (Hosted h) → IsCountedIn (Hosted h) → w.slots.medium.fuse ≡ Whole → HostActsArmed h (course_of fate) harm w w' h'
     → session_of host' ≡ (ended (Hosted h')).session → given_by gave' ≡ given (ended (Hosted h')).answer.gave (given_by gave)
     → report ≡ (ended (Hosted h')).answer.report
     → HasCome (link_state w (Some h) gave) (Goes fate harm) (link_state w' host' gave') (Ok report)
@@ -105,11 +105,8 @@ go_comes fate harm w w' h h' host' gave gave' report sized counted e gone sessio
     happens = record {
       host = h;
       live = refl;
-      last = gone.last;
-      heard = gone.acted.heard;
-      acts = gone.acted.acts;
-      room = gone.acted.room;
-      device = gone.device;
+      next = h';
+      gone = gone;
       session = session ∙ ap (λ (x : HostState). (settled x x.phase).session) gone.acted.same;
       answered = refl;
     };
@@ -175,12 +172,15 @@ can_upload offered = (offered_so offered).gives refl
 -- An offer while a session is live.
 pub offer_busy : (aim : Aim) (file : List ℕ) (limits : Limits) (w : Shown) (host : Option HostState) → is_some host ≡ true
     → HasComeAlone (bench_of w host) (Offers aim file limits) (bench_of w host) (Err fault.HostBusy)
-offer_busy aim file limits w (Some h) e up = record { answer = Err fault.HostBusy; comes = refuses tt; whole = tt; up_is = refl; told = refl }
+offer_busy aim file limits w (Some h) e up =
+    record { answer = Err fault.HostBusy; comes = refuses tt; whole = tt; up_is = refl; told = refl }
 offer_busy aim file limits w None e up = absurd cc
 
 -- An offer of a file that is not taken.
-pub offer_refused : (aim : Aim) (file : List ℕ) (limits : Limits) (w : Shown) (host : Option HostState) (why : OfferFault) → is_some host ≡ false
-    → IsBadOffer w.config aim file why → HasComeAlone (bench_of w host) (Offers aim file limits) (bench_of w host) (Err (fault.BadOffer why))
+pub offer_refused : (aim : Aim) (file : List ℕ) (limits : Limits) (w : Shown) (host : Option HostState) (why : OfferFault)
+    → is_some host ≡ false
+    → IsBadOffer w.config aim file why → HasComeAlone (bench_of w host) (Offers aim file limits) (bench_of w host)
+    (Err (fault.BadOffer why))
 offer_refused aim file limits w None why e bad up = record {
   answer = Err (fault.BadOffer why);
   comes = refuses (refl, bad);
@@ -218,7 +218,8 @@ abbrev Found : List ℕ → Content → Type 0
 Found file content = (extra : List ℕ) × IsFile content.payload content.ids content.dfu extra file × (content.suffix ≡ 16 + length extra)
 
 -- A file that is read but not taken.
-pub offer_bad : (s : Setting) (aim : Aim) (file : List ℕ) (content : Content) (f : Functional) (ids : Ids) (why : HostFault) → f ≡ s.functional
+pub offer_bad : (s : Setting) (aim : Aim) (file : List ℕ) (content : Content) (f : Functional) (ids : Ids) (why : HostFault)
+    → f ≡ s.functional
     → ids ≡ s.ids → Found file content
     → first_offer_fault aim content f ids ≡ Some why → IsBadOffer s aim file (offer_fault.Host why)
 offer_bad s aim file content f ids why e k found h = (
@@ -235,7 +236,8 @@ none_of None h f = refl
 none_of (Some why) h f = let e : ◌≡◌ {A = Result HostState HostFault} (Ok h) (Err why) = (f why).1 refl in absurd cc
 
 -- A file that is read and taken.
-pub offer_begins : (s : Setting) (aim : Aim) (file : List ℕ) (limits : Limits) (content : Content) (f : Functional) (ids : Ids) (h : HostState)
+pub offer_begins : (s : Setting) (aim : Aim) (file : List ℕ) (limits : Limits) (content : Content) (f : Functional) (ids : Ids)
+    (h : HostState)
     → f ≡ s.functional → ids ≡ s.ids → Found file content
     → ((why : HostFault) → (◌≡◌ {A = Result HostState HostFault} (Ok h) (Err why)) ↔ (first_offer_fault aim content f ids ≡ Some why))
     → h ≡ started f (goal_of aim content.payload) limits → HasBegun s aim file limits h
@@ -245,6 +247,12 @@ offer_begins s aim file limits content f ids h e k found none is =
     (subst (λ (y : Ids). first_offer_fault aim content f y ≡ None) k (none_of (first_offer_fault aim content f ids) h none)) in
     record {
       content = content;
-      offered = record { ids = content.ids; dfu = content.dfu; extra = found.0; reads = found.1; taken = same_fault aim _ content s.functional s.ids refl refl ∙ taken };
+      offered = record {
+        ids = content.ids;
+        dfu = content.dfu;
+        extra = found.0;
+        reads = found.1;
+        taken = same_fault aim _ content s.functional s.ids refl refl ∙ taken;
+      };
       host = is ∙ ap (λ (x : Functional). started x (goal_of aim content.payload) limits) e;
     }

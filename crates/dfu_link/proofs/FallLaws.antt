@@ -11,8 +11,8 @@ use Rattle.dfu_link.specs.Bench.{Nobody}
 use Rattle.dfu_link.specs.Said.{EventLine, Offer, Does}
 use Rattle.dfu_link.specs.Falls.{HasBroken, in_events, for_file, for_tear, LineFalls, NextFalls}
 use Rattle.dfu_link.specs.TextLimit.{GoesOver, IsStopped, GivesNone}
-use Rattle.dfu_link.specs.Source.{SourceState, Takes, GivesLine, StopsSource}
-use Rattle.dfu_link.specs.Moving.{Moves, MovesAndFalls, FindsNoRoom, FindsNoTear}
+use Rattle.dfu_link.specs.inside.Source.{SourceState, Takes, GivesLine, StopsSource}
+use Rattle.dfu_link.specs.inside.Moving.{Moves, MovesAndFalls, FindsNoRoom, FindsNoTear}
 use Rattle.dfu_link.specs.declared.scripting.fault.ScriptFault.{ScriptFault}
 use Rattle.dfu_link.specs.declared.scripting.fault.ScriptFault.TheVariants.{BadLine, LateConfig, BadConfig, TooLarge, NoMemory, Read, Write}
 use Rattle.dfu_link.proofs.MoveLaws.{moves_trans}

@@ -3,7 +3,7 @@ use Rattle.std.proofs.Common.{◌≡◌, ℕ, ◌-◌, List, [], ◌++◌, lengt
 use Rattle.std.specs.Prelude.{IfSome}
 use Rattle.dfu_link.specs.Words.{lines_of}
 use Rattle.dfu_link.specs.TextLimit.{IsStopped, StopsAfter}
-use Rattle.dfu_link.specs.Source.{SourceState, Took, Takes, Gives}
+use Rattle.dfu_link.specs.inside.Source.{SourceState, Took, Takes, Gives}
 use Rattle.dfu_link.specs.declared.scripting.fault.ScriptFault.{ScriptFault}
 
 -- What holds for each value that may be there holds for the one that is.

@@ -84,7 +84,8 @@ module _ (c : Profile) (offers : List (List ℕ)) (p : List ℕ) (some : 0 < len
   -- Each phase of a host that compares and is not done goes quietly by each course.
   pub go_compare : (phase : Phase) (s : Situation) → IsOn phase → CompareFact c p phase s → IsSound offers s.stage → (course : Course)
       (l r : Luck)
-      → GoesQuietly c offers (ToCompare p) (row (task_for c (ToCompare p)) phase) s (acted c s (deed (task_for c (ToCompare p)) phase) course l r)
+      → GoesQuietly c offers (ToCompare p) (row (task_for c (ToCompare p)) phase) s
+      (acted c s (deed (task_for c (ToCompare p)) phase) course l r)
   go_compare (Compare k) s on h q course l r =
       let d = acted c s (deed (task_for c (ToCompare p)) (Compare k)) course l r in
       let x = go_fetch c offers k (front k) s.image s.stage h.0 h.1 q course l r in

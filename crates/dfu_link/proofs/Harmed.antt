@@ -136,13 +136,14 @@ action_once fate harm b c d x y harms g k =
     let harming = (course_of fate).harming in
     let w = armed b.device (fuse_of harming harm) in
     let same : k.host ≡ g.host = hosted_one g.host k.host (sym g.live ∙ k.live) in
-    let acts : Acts (deed g.host.task g.host.phase) (course_of fate) w k.last k.heard = subst
-    (λ (h : HostState). Acts (deed h.task h.phase) (course_of fate) w k.last k.heard) same k.acts in
-    let one = acts_once (deed g.host.task g.host.phase) fate w g.last k.last g.heard k.heard (hosts_deed g.host.task g.host.phase) harms
-    (fuse_known harming harm harms) g.acts acts in
+    let acts : Acts (deed g.host.task g.host.phase) (course_of fate) w k.gone.last k.gone.acted.heard = subst
+    (λ (h : HostState). Acts (deed h.task h.phase) (course_of fate) w k.gone.last k.gone.acted.heard) same k.gone.acted.acts in
+    let one = acts_once (deed g.host.task g.host.phase) fate w g.gone.last k.gone.last g.gone.acted.heard k.gone.acted.heard
+    (hosts_deed g.host.task g.host.phase) harms
+    (fuse_known harming harm harms) g.gone.acted.acts acts in
     record {
-      device = subst (λ (z : Shown). SameDevice z d.device) (sym g.device)
-          (subst (λ (z : Shown). SameDevice (left_by harming g.last) z) (sym k.device) (left_same harming one.device));
+      device = subst (λ (z : Shown). SameDevice z d.device) (sym g.gone.device)
+          (subst (λ (z : Shown). SameDevice (left_by harming g.gone.last) z) (sym k.gone.device) (left_same harming one.device));
       rule = λ room. took g.host (remembered one.hears room);
       first = (
         one.first.0,
@@ -155,9 +156,9 @@ action_once fate harm b c d x y harms g k =
         one.second.0,
         λ i. record {
           session = (ap (λ (z : Heard). (took g.host z).session) (sym one.second.1)
-              ∙ ap (λ (h : HostState). (took h k.heard).session) (sym same) ∙ sym k.session) i;
+              ∙ ap (λ (h : HostState). (took h k.gone.acted.heard).session) (sym same) ∙ sym k.session) i;
           answer = (ap (λ (z : Heard). (took g.host z).answer) (sym one.second.1)
-              ∙ ap (λ (h : HostState). (took h k.heard).answer) (sym same) ∙ sym k.answered) i;
+              ∙ ap (λ (h : HostState). (took h k.gone.acted.heard).answer) (sym same) ∙ sym k.answered) i;
         },
       );
     }

@@ -17,7 +17,8 @@ module _ (c : Profile) (i : List ℕ) where
 
   holds_status : (x : List ℕ) (stage : Stage) → BlockIn x stage → Then (λ s. BlockIn x s.stage) (plan c i stage GetStatus)
   holds_status x (InDownloadSync before block number) h =
-      either_way (Then (λ s. BlockIn x s.stage)) (c.busy == 0) _ _ (elim [ Works ↦ h | FailsOld fault ↦ tt | FailsNew fault ↦ tt ]) (λ luck. h)
+      either_way (Then (λ s. BlockIn x s.stage)) (c.busy == 0) _ _ (elim [ Works ↦ h | FailsOld fault ↦ tt | FailsNew fault ↦ tt ])
+      (λ luck. h)
   holds_status x (InDownloadSyncWritten taken number) h = λ luck. h
   holds_status x (InDownloadBusy before block number passed) h = λ luck. tt
   holds_status x (InDownloadIdle taken number) h = λ luck. h
@@ -37,7 +38,8 @@ module _ (c : Profile) (i : List ℕ) where
 
   managing_status : (p : List ℕ) (stage : Stage) → Managing p i stage → Then (λ s. Managing p s.image s.stage) (plan c i stage GetStatus)
   managing_status p (InManifestSync taken) h =
-      either_way (Then (λ s. Managing p s.image s.stage)) (c.manifest == 0) _ _ (elim [ Works ↦ h | FailsOld fault ↦ tt | FailsNew fault ↦ tt ])
+      either_way (Then (λ s. Managing p s.image s.stage)) (c.manifest == 0) _ _
+      (elim [ Works ↦ h | FailsOld fault ↦ tt | FailsNew fault ↦ tt ])
       (λ luck. h)
   managing_status p (InManifest taken passed) h = λ luck. tt
   managing_status p InManifestSyncComplete h = λ luck. h
@@ -97,7 +99,8 @@ module _ (c : Profile) (i : List ℕ) where
   whole_time p ms (InDownloadIdle taken number) h luck = h
   whole_time p ms stage h luck = elim h [ ]
 
-  idle_time : (p : List ℕ) (ms : ℕ) (stage : Stage) → (i ≡ p) × IsIdle stage → Then (λ s. (s.image ≡ p) × IsIdle s.stage) (time_plan c stage ms)
+  idle_time : (p : List ℕ) (ms : ℕ) (stage : Stage) → (i ≡ p) × IsIdle stage
+      → Then (λ s. (s.image ≡ p) × IsIdle s.stage) (time_plan c stage ms)
   idle_time p ms InDfuIdle h luck = h
   idle_time p ms stage h luck = elim h.1 [ ]
 
@@ -107,7 +110,8 @@ module _ (c : Profile) (i : List ℕ) where
   last_report_time p ms Verified stage h luck = idle_time p ms stage h luck
   last_report_time p ms report stage h luck = h
 
-  app_time : (p : List ℕ) (ms : ℕ) (stage : Stage) → (i ≡ p) × IsInApp stage → Then (λ s. (s.image ≡ p) × IsInApp s.stage) (time_plan c stage ms)
+  app_time : (p : List ℕ) (ms : ℕ) (stage : Stage) → (i ≡ p) × IsInApp stage
+      → Then (λ s. (s.image ≡ p) × IsInApp s.stage) (time_plan c stage ms)
   app_time p ms InAppIdle h luck = h
   app_time p ms stage h luck = elim h.1 [ ]
 

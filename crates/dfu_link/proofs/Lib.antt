@@ -35,6 +35,8 @@ pub mod Agreeing
 pub mod Steady
 pub mod Config
 pub mod Chains
+pub mod Offered
+pub mod HeadlineKept
 pub mod CleanRuns
 pub mod CleanStops
 pub mod WordLaws
@@ -49,6 +51,7 @@ pub mod RestLaws
 pub mod WholeLaws
 pub mod Beside
 pub mod LegalScripts
+pub mod ScriptsHold
 mod DoneOnce
 mod Harmed
 pub mod Refusals

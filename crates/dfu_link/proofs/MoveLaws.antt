@@ -24,8 +24,8 @@ use Rattle.dfu_link.specs.Said.{Said, Blank, LimitsTo, Does, Show, EventLine}
 use Rattle.dfu_link.specs.Lines.{line_of}
 use Rattle.dfu_link.specs.ScriptRun.{Settings, nothing, then_prepares, prepared, at_rest, AllCome, none_comes, then_comes, Point, point, events_of, skips, limits_to, plays, shows, LinesRun, stays, then_runs}
 use Rattle.dfu_link.specs.Falls.{HasBroken}
-use Rattle.dfu_link.specs.Source.{SourceState, GivesLine}
-use Rattle.dfu_link.specs.Moving.{HasPlayed, Steps, Moves, Ends, IsUnarmed, Prepared}
+use Rattle.dfu_link.specs.inside.Source.{SourceState, GivesLine}
+use Rattle.dfu_link.specs.inside.Moving.{HasPlayed, Steps, Moves, Ends, IsUnarmed, Prepared}
 use Rattle.dfu_link.proofs.GivenLaws.{gives_none, gives_trans}
 use Rattle.dfu_link.proofs.WriteLaws.{appends_none, appends_more, broke_after}
 
@@ -60,7 +60,8 @@ plays_one b c c' events e out r p h active =
     subst (λ (text : List ℕ). AllCome b (events ++ e ∷ []) (out ++ text) c'.bench) (sym same) (then_comes p h.comes active)
 
 -- An offer while a session is live.
-busy_offer : (b : Bench) (aim : Aim) (file : List ℕ) (limits : Limits) → IsLive b.session → Comes b (Offers aim file limits) b (Err HostBusy)
+busy_offer : (b : Bench) (aim : Aim) (file : List ℕ) (limits : Limits) → IsLive b.session
+    → Comes b (Offers aim file limits) b (Err HostBusy)
 busy_offer b aim file limits live = refuses live
 
 -- An offer while a session is live is refused, whatever its file is, and that is printed.

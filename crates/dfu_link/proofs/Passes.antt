@@ -78,7 +78,8 @@ module _ (c : Profile) (goal : Goal) (again : ℕ) where
   pub one_by : {i j : List ℕ} {s t : Stage} {phase next : Phase} (heard : Heard) (mid : Phase)
       → ((k : Luck) → acted c (record { image = i; stage = s }) (deed (task_for c goal) phase) (course_of Pass) Works k
       ≡ record { device = record { image = j; stage = t }; heard = heard })
-      → ((l : ℕ) (room : Bool) → took (host_at phase (suc (suc l))) (remembered heard (has_room phase room)) ≡ comes_to mid l) → mid ≡ next → IsOn next
+      → ((l : ℕ) (room : Bool) → took (host_at phase (suc (suc l))) (remembered heard (has_room phase room)) ≡ comes_to mid l)
+      → mid ≡ next → IsOn next
       → Leads i s phase 1 j t next
   one_by {j = j} {t = t} {phase = phase} {next = next} heard mid e f g on = one (λ l k room.
       ap (λ (d : Passed). let q = took (host_at phase (suc (suc l))) (remembered d.heard (has_room phase room)) in

@@ -38,7 +38,8 @@ module _ (c : Profile) (offers : List (List ℕ)) where
       × IsSound offers s.stage in
       either_way P (ms == 0) _ _ (passes, h)
       (either_way P (nat_le c.manifest (passed + ms)) _ _
-      (either_way (λ st. P (Commits taken Ack st (λ fault. Ack))) c.tolerant InManifestSyncComplete InManifestWaitReset (passes_installed refl h, tt)
+      (either_way (λ st. P (Commits taken Ack st (λ fault. Ack))) c.tolerant InManifestSyncComplete InManifestWaitReset
+      (passes_installed refl h, tt)
       (passes_installed refl h, tt))
       (passes, h))
   time_steps i ms stage live up h = (passes, h)

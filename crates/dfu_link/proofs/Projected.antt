@@ -77,11 +77,12 @@ goes_show : (fate : Fate) (harm : Harm) (b b' : Bench) (answer : Answered) → I
 goes_show fate harm b b' answer allowed g =
     let d = deed g.host.task g.host.phase in
     let course = course_of fate in
-    let x = armed_goes d course (fuse_of course.harming harm) b.device g.last g.heard
-    (acts_go d course (armed b.device (fuse_of course.harming harm)) g.last g.heard (hosts_deed g.host.task g.host.phase) g.acts) in
-    let hears = heard_in g.host.phase g.heard _ x.room x.hears g.room in
+    let x = armed_goes d course (fuse_of course.harming harm) b.device g.gone.last g.gone.acted.heard
+    (acts_go d course (armed b.device (fuse_of course.harming harm)) g.gone.last g.gone.acted.heard
+    (hosts_deed g.host.task g.host.phase) g.gone.acted.acts) in
+    let hears = heard_in g.host.phase g.gone.acted.heard _ x.room x.hears g.gone.acted.room in
     let there : (acted (profile b.device) (situation b.device) d course x.first x.second).device ≡ situation b'.device = x.device
-    ∙ sym (after_situation course.harming g.last) ∙ sym (ap situation g.device) in
+    ∙ sym (after_situation course.harming g.gone.last) ∙ sym (ap situation g.gone.device) in
     let same : played (profile b.device) (link_of b) (Goes fate harm) x.first x.second x.room
     ≡ record { link = link_of b'; answer = answer } =
     ap (λ (z : Session). gone (profile b.device) (link_of b) z fate x.first x.second x.room) g.live
@@ -92,8 +93,8 @@ goes_show fate harm b b' answer allowed g =
     record {
       shown = record {
         play = record { allowed = allowed; first = x.first; second = x.second; room = x.room; same = same };
-        fixed = ap profile g.device ∙ after_profile course.harming g.last ∙ x.fixed;
-        unarmed = ap (λ (w : Shown). w.slots.medium.fuse) g.device ∙ after_whole course.harming g.last;
+        fixed = ap profile g.gone.device ∙ after_profile course.harming g.gone.last ∙ x.fixed;
+        unarmed = ap (λ (w : Shown). w.slots.medium.fuse) g.gone.device ∙ after_whole course.harming g.gone.last;
       };
       sure = λ whole. (
         x.room,

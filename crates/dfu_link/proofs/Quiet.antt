@@ -127,7 +127,8 @@ module _ (c : Profile) (offers : List (List ℕ)) (i : List ℕ) where
       let P : Plan → Type 0 = λ p. IsQuiet offers (At s) (outcome i p luck).after in
       either_way P (ms == 0) _ _ (record { moves = stays; sound = h })
       (either_way P (nat_le c.manifest (passed + ms)) _ _
-      (either_way (λ st. IsQuiet offers (At s) (outcome i (Commits taken Ack st (λ fault. Ack)) luck).after) c.tolerant InManifestSyncComplete
+      (either_way (λ st. IsQuiet offers (At s) (outcome i (Commits taken Ack st (λ fault. Ack)) luck).after) c.tolerant
+      InManifestSyncComplete
       InManifestWaitReset
       (quiet_commit s taken Ack (λ fault. Ack) InManifestSyncComplete refl h refl tt luck)
       (quiet_commit s taken Ack (λ fault. Ack) InManifestWaitReset refl h refl tt luck))

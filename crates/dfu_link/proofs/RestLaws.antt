@@ -9,8 +9,8 @@ use Rattle.dfu_link.specs.Said.{event_line_of}
 use Rattle.dfu_link.specs.Texts.{image_line}
 use Rattle.dfu_link.specs.ScriptRun.{Point, point, at_rest, events_of}
 use Rattle.dfu_link.specs.Falls.{HasBroken, LineFalls}
-use Rattle.dfu_link.specs.Source.{SourceState, Next, GivesLine, StopsSource}
-use Rattle.dfu_link.specs.Moving.{HasPlayed, Steps, Moves, Ends, LinesDone, Plainly, MovesAndFalls, FindsNoRoom, FindsNoTear}
+use Rattle.dfu_link.specs.inside.Source.{SourceState, Next, GivesLine, StopsSource}
+use Rattle.dfu_link.specs.inside.Moving.{HasPlayed, Steps, Moves, Ends, LinesDone, Plainly, MovesAndFalls, FindsNoRoom, FindsNoTear}
 use Rattle.dfu_link.specs.declared.scripting.line.EventLine.{EventLine}
 use Rattle.dfu_link.specs.declared.scripting.fault.ScriptFault.{ScriptFault}
 use Rattle.dfu_link.specs.declared.scripting.fault.ScriptFault.TheVariants.{Write}

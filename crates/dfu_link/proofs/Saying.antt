@@ -3,14 +3,16 @@ use Rattle.std.proofs.Common.{◌≡◌, ◌⊎◌, ℕ, Bool, List, [], ◌∷�
 use Rattle.dfu_host.specs.declared.report.Report.{Report}
 use Rattle.dfu_host.specs.declared.report.Report.TheVariants.{Installed, Uploaded, Verified}
 use Rattle.dfu_link.specs.Session.{Machine, Loading, IsOneOf, Begins, begins_not, takes, installs, Ends, ends_not, drops, Says, says_not, says_installed, says_verified, says_uploaded, says_other, Kind, AnOffer, SaysInPlace, SaysNoPromise, Step, offered, uploads, aborts, passes, passes_installed, restarts, goes, stops, and_then}
-use Rattle.dfu_link.specs.Headline.{offers_after, OnlyOffered}
+use Rattle.dfu_link.specs.Simulation.{offers_after, OnlyOffered}
 
-begins_live : {t : ℕ} {m m' : Machine} → Begins t m m' → m'.live ≡ m.live
+-- Taking or installing leaves the live session as it is.
+pub begins_live : {t : ℕ} {m m' : Machine} → Begins t m m' → m'.live ≡ m.live
 begins_live begins_not = refl
 begins_live (takes n live b f) = refl
 begins_live (installs some h) = refl
 
-ends_live : {m m' : Machine} → Ends m m' → m'.live ≡ m.live
+-- Dropping what is pending leaves the live session as it is.
+pub ends_live : {m m' : Machine} → Ends m m' → m'.live ≡ m.live
 ends_live ends_not = refl
 ends_live drops = refl
 

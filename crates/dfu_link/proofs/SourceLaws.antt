@@ -9,7 +9,7 @@ use Rattle.std.specs.Io.KnownBytes.{Consumes, IsAtEnd, Keeps, prepend_known}
 use Rattle.dfu_link.specs.Words.{lines_of, endless, is_newline}
 use Rattle.dfu_link.specs.Lines.{line_of}
 use Rattle.dfu_link.specs.TextLimit.{GoesOver, IsStopped, GivesNone}
-use Rattle.dfu_link.specs.Source.{source_state, Takes, TakesPiece, Next, GivesLine, StopsSource}
+use Rattle.dfu_link.specs.inside.Source.{source_state, Takes, TakesPiece, Next, GivesLine, StopsSource}
 use Rattle.dfu_link.specs.declared.scripting.fault.ScriptFault.TheVariants.{BadLine}
 use Rattle.dfu_link.proofs.LineLaws.{endless_none, endless_before, endless_more, line_ended, line_last, line_long, ends_within}
 

@@ -16,7 +16,7 @@ use Rattle.dfu_link.specs.Happening.{Harm, Happening, Offers, Uploads, Goes, Pas
 use Rattle.dfu_link.specs.Bench.{Session, Nobody, Hosted, Bench, ShowsActive, LinkState, linked}
 use Rattle.dfu_link.specs.LinkAgreement.{Agrees}
 use Rattle.dfu_link.specs.Fact.{SessionFact}
-use Rattle.dfu_link.specs.Headline.{Follows}
+use Rattle.dfu_link.specs.Simulation.{Follows}
 use Rattle.dfu_link.specs.Bytes.{fuse_of, link_of, Happens, BytePlay}
 use Rattle.dfu_link.specs.Understood.{Shows, ImageShown}
 use Rattle.dfu_link.specs.Comes.{Means, Comes, refuses, happens, shown_as, gave_of, HasCome}

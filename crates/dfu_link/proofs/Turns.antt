@@ -172,5 +172,7 @@ module _ (c : Profile) (p : List ℕ) (again : ℕ) where
         (Last Installed)
     whole_run i n e tol least =
         leads_on c (ToLoad p) again (find_app c (ToLoad p) again i) (leads_on c (ToLoad p) again (detach c (ToLoad p) again i)
-        (leads_on c (ToLoad p) again (enter c (ToLoad p) again i _) (leads_on c (ToLoad p) again (find_idle i) (leads_on c (ToLoad p) again (all_turns i n e)
-        (leads_on c (ToLoad p) again (close i (first p c.transfer (suc n)) (suc n % 65536) least) (manifest i (first p c.transfer (suc n)) tol))))))
+        (leads_on c (ToLoad p) again (enter c (ToLoad p) again i _) (leads_on c (ToLoad p) again (find_idle i)
+        (leads_on c (ToLoad p) again (all_turns i n e)
+        (leads_on c (ToLoad p) again (close i (first p c.transfer (suc n)) (suc n % 65536) least)
+        (manifest i (first p c.transfer (suc n)) tol))))))

@@ -20,7 +20,7 @@ use Rattle.dfu_link.specs.Happening.{Uploads, Aborts}
 use Rattle.dfu_link.specs.Refusing.{CanGive}
 use Rattle.dfu_link.specs.Comes.{Comes, refuses, happens, HasCome, HasComeAlone}
 use Rattle.dfu_link.specs.Standing.{session_of, bench_of, link_state}
-use Rattle.dfu_link.specs.Acting.{abort_told}
+use Rattle.dfu_link.specs.inside.Acting.{abort_told}
 use Rattle.dfu_link.proofs.Events.{not_first, none_of}
 
 -- A device that gives its image has blocks of some bytes.

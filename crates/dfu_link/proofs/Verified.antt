@@ -151,7 +151,8 @@ module _ (c : Profile) (p : List ℕ) where
       by_session : (session : Session) → w.session ≡ session → IsDownload session → Alike w w'
       by_session Nobody at e =
           let x : Link = record { device = w.device; session = Nobody } in
-          let none : PassesTo c x w' silent = subst (λ (z : Session). PassesTo c (record { device = w.device; session = z }) w' silent) at f in
+          let none : PassesTo c x w' silent =
+          subst (λ (z : Session). PassesTo c (record { device = w.device; session = z }) w' silent) at f in
           let same : x ≡ w' = ap (λ (q : Played). q.link) (none Works true) in
           subst (λ (z : Session). Alike (record { device = w.device; session = z }) w') (sym at)
           (record {

@@ -9,8 +9,8 @@ use Rattle.dfu_link.specs.Texts.{image_line}
 use Rattle.dfu_link.specs.TextLimit.{IsStopped, GivesNone}
 use Rattle.dfu_link.specs.ScriptRun.{Settings, beginning, Prepares, Starts, at_rest, point, IsReady, SetsUp, LinesRun, WroteRun}
 use Rattle.dfu_link.specs.Falls.{NextFalls, RunFalls, StartFalls, Falls, no_memory, in_setting, at_start, in_run}
-use Rattle.dfu_link.specs.Source.{SourceState, Took, Gives}
-use Rattle.dfu_link.specs.Moving.{Ends, MovesAndFalls, Configured, StopsSetting, CannotConfigure}
+use Rattle.dfu_link.specs.inside.Source.{SourceState, Took, Gives}
+use Rattle.dfu_link.specs.inside.Moving.{Ends, MovesAndFalls, Configured, StopsSetting, CannotConfigure}
 use Rattle.dfu_link.specs.declared.scripting.fault.ScriptFault.{ScriptFault}
 use Rattle.dfu_link.specs.declared.scripting.fault.ScriptFault.TheVariants.{BadLine, LateConfig, BadConfig, TooLarge, NoMemory, Read, Write}
 use Rattle.dfu_link.proofs.GivenLaws.{of_some, took, took_trans, stops_after}

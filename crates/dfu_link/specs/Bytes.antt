@@ -12,7 +12,7 @@ use Rattle.dfu_device.specs.Shown.{Shown, profile, situation}
 use Rattle.dfu_device.specs.Rows.{Handles, Elapses}
 use Rattle.dfu_host.specs.Phases.{ToFetch, Deed, Send, Wait, Reset, Done, Heard, Acked, NoRoom, Stalled, Nothing, Waited, WasReset, Restarted}
 use Rattle.dfu_host.specs.Table.{deed}
-use Rattle.dfu_host.specs.Host.{HostState, wants_memory}
+use Rattle.dfu_host.specs.Host.{HostState, after, wants_memory}
 use Rattle.dfu_host.specs.Wire.{IsAsked, HearsBytes}
 use Rattle.dfu_link.specs.declared.back.Back.{Back}
 use Rattle.dfu_link.specs.declared.back.Back.TheVariants as back
@@ -118,17 +118,27 @@ left_by LiesInWrite w = armed w Whole
 abbrev pub link_of : Bench → Link
 link_of b = record { device = situation b.device; session = b.session }
 
--- The host's next action on a bench. It finds no memory only where its phase wants some.
+-- A host's action goes by its course, and the host takes what it hears. It finds no memory only where its phase wants some.
+pub record HostActs (h : HostState) (course : Course) (w w' : Shown) (h' : HostState) : Type 0 where
+  pub heard : Heard
+  pub acts : Acts (deed h.task h.phase) course w w' heard
+  pub room : heard ≡ NoRoom → IsTrue (wants_memory h.phase)
+  pub same : h' ≡ after h heard
+
+-- A host's action goes by its course on a medium that is armed for it, and then the device is left as it has to be.
+pub record HostActsArmed (h : HostState) (course : Course) (harm : Harm) (w w' : Shown) (h' : HostState) : Type 0 where
+  pub last : Shown
+  pub acted : HostActs h course (armed w (fuse_of course.harming harm)) last h'
+  pub device : w' ≡ left_by course.harming last
+
+-- The host's next action on a bench. Where the host is done then, its session is over with its report.
 pub record NextAction (h : Session) (fate : Fate) (harm : Harm) (b b' : Bench) (answer : Answered) : Type 0 where
   pub host : HostState
   pub live : h ≡ Hosted host
-  pub last : Shown
-  pub heard : Heard
-  pub acts : Acts (deed host.task host.phase) (course_of fate) (armed b.device (fuse_of (course_of fate).harming harm)) last heard
-  pub room : heard ≡ NoRoom → IsTrue (wants_memory host.phase)
-  pub device : b'.device ≡ left_by (course_of fate).harming last
-  pub session : b'.session ≡ (took host heard).session
-  pub answered : answer ≡ (took host heard).answer
+  pub next : HostState
+  pub gone : HostActsArmed host (course_of fate) harm b.device b'.device next
+  pub session : b'.session ≡ (took host gone.acted.heard).session
+  pub answered : answer ≡ (took host gone.acted.heard).answer
 
 -- Each event on a bench.
 abbrev pub Happens : Happening → Bench → Bench → Answered → Type 0

@@ -25,8 +25,10 @@ StepsInstall = (b b' : Bench) (aim : Aim) (file : List ℕ) (limits : Limits) (p
 
 -- And none of these steps is refused.
 abbrev pub StepsStand : Type 0
-StepsStand = (b b' : Bench) (aim : Aim) (file : List ℕ) (limits : Limits) (payload : List ℕ) (count at : ℕ) (reports : List Report) (next : Happening)
+StepsStand = (b b' : Bench) (aim : Aim) (file : List ℕ) (limits : Limits) (payload : List ℕ) (count at : ℕ) (reports : List Report)
+    (next : Happening)
     (more : List Happening) (fault : LinkFault)
     → CanInstall b aim file limits payload → count ≤ clean_passes aim b.device.config payload
-    → SureSteps b (take at (offer_and_passes aim file limits count)) reports b' → drop at (offer_and_passes aim file limits count) ≡ next ∷ more
+    → SureSteps b (take at (offer_and_passes aim file limits count)) reports b'
+    → drop at (offer_and_passes aim file limits count) ≡ next ∷ more
     → ¬ IsRefused b' next fault

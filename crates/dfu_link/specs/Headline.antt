@@ -1,35 +1,107 @@
--- The laws of plays, as statements.
-use Rattle.std.specs.Prelude.{◌≡◌, ◌⊎◌, ℕ, ◌<◌, Bool, List, [], ◌∷◌, Option}
-use Rattle.dfu_device.specs.Stage.{Profile, InAppIdle}
+-- The headline: which image is active after any events, and what a report of Installed or Verified means.
+use Rattle.std.specs.Prelude.{◌≡◌, ◌⊎◌, ℕ, List, [], ◌∷◌, ◌++◌, take, Option, None, Result, Ok, Err}
+use Rattle.std.specs.declared.vec.Vec.{Vec}
+use Rattle.std.specs.declared.alloc.Global.{Global}
+use Rattle.dfu_wire.specs.declared.ids.Ids.{Ids}
+use Rattle.dfu_suffix.specs.Grammar.{IsFile}
+use Rattle.dfu_slots.specs.Image.{Active}
+use Rattle.dfu_device.specs.Stage.{Stage, InAppIdle, InManifestSync, InManifest}
+use Rattle.dfu_host.specs.Phases.{Goal, ToLoad, ToFetch, ToVerify, ToCompare}
 use Rattle.dfu_host.specs.declared.report.Report.{Report}
-use Rattle.dfu_link.specs.Session.{Machine, Loading, IsOneOf, SaysInPlace, Kind, AnOffer, Step, Legal}
-use Rattle.dfu_link.specs.Happening.{Happening}
-use Rattle.dfu_link.specs.Play.{kind_of, Link, Answered, given, Play}
-use Rattle.dfu_link.specs.LinkAgreement.{Agrees}
-use Rattle.dfu_link.specs.Fact.{SessionFact}
+use Rattle.dfu_link.specs.declared.event.Event.{Event}
+use Rattle.dfu_link.specs.declared.event.Event.TheVariants.{Offer, OfferVerified, Upload, Abort, Go, Time, Reset, Cut}
+use Rattle.dfu_link.specs.declared.fault.LinkFault.{LinkFault}
+use Rattle.dfu_link.specs.declared.running.Stop.{Stop}
+use Rattle.dfu_link.specs.Session.{SaysInPlace, said}
+use Rattle.dfu_link.specs.Bench.{Session, Nobody, Hosted, Bench, LinkState}
 
--- The session machine follows an event: it makes one legal step, agreement and the phase fact hold again, and where Installed or
--- Verified is reported the device is in appIDLE, and the payload of the session that was live is the active image.
-pub record Follows (c : Profile) (m : Machine) (event : Happening) (w' : Link) (up' : List ℕ) (report : Option Report) : Type 0 where
-  pub after : Machine
-  pub step : Step c.tolerant c.transfer (kind_of event) m report after
-  pub agrees : Agrees w' up' after
-  pub fact : SessionFact c w'.device w'.session
-  pub in_place : SaysInPlace report → (w'.device.stage ≡ InAppIdle) × (m.live ≡ Loading w'.device.image)
+-- How a session began: with the offer of a file, or as an upload of the active image.
+pub data Begun : Type 0 where
+  WithOffer : (file : List ℕ) → Begun
+  AsUpload : Begun
 
--- Each play is one legal step of every session machine that the link agrees with.
-abbrev pub Simulation : Type 0
-Simulation = (c : Profile) (w w' : Link) (up : List ℕ) (m : Machine) (event : Happening) (answer : Answered) → 0 < c.transfer
-    → SessionFact c w.device w.session → Agrees w up m → Play c w event w' answer
-    → Follows c m event w' (given answer.gave up) answer.report
+-- The sessions that have begun once this event has come too; the last one comes first.
+abbrev pub begun : Event → List Begun → List Begun
+begun (Offer file limits) past = WithOffer file.now ∷ past
+begun (OfferVerified file limits) past = WithOffer file.now ∷ past
+begun (Upload limits) past = AsUpload ∷ past
+begun Abort past = past
+begun (Go fate) past = past
+begun (Time ms) past = past
+begun Reset past = past
+begun Cut past = past
 
--- The offers after events of these kinds: each payload that was offered is added.
-abbrev pub offers_after : List Kind → List (List ℕ) → List (List ℕ)
-offers_after [] offers = offers
-offers_after (AnOffer payload ∷ kinds) offers = offers_after kinds (payload ∷ offers)
-offers_after (kind ∷ kinds) offers = offers_after kinds offers
+-- These bytes are the whole payload of the file, by the grammar of DFU files.
+abbrev pub IsPayload : List ℕ → (file : List ℕ) → Type 0
+IsPayload x file = (ids : Ids) × (dfu : ℕ) × (extra : List ℕ) × IsFile x ids dfu extra file
 
--- After a legal run the active image is the one before it, or a whole payload that was offered so far.
-abbrev pub OnlyOffered : Type 0
-OnlyOffered = (tolerant : Bool) (t : ℕ) (m m' : Machine) (kinds : List Kind) (reports : List Report) → Legal tolerant t m kinds reports m'
-    → (m'.offers ≡ offers_after kinds m.offers) × ((m'.cur ≡ m.cur) ⊎ IsOneOf m'.cur (offers_after kinds m.offers))
+-- These bytes are the whole payload of one of the files offered so far.
+abbrev pub WasOffered : (past : List Begun) → List ℕ → Type 0
+WasOffered [] x = ⊥
+WasOffered (WithOffer file ∷ past) x = IsPayload x file ⊎ WasOffered past x
+WasOffered (AsUpload ∷ past) x = WasOffered past x
+
+-- The last session began with the offer of a file, and these bytes are its whole payload.
+abbrev pub IsLastPayload : (past : List Begun) → List ℕ → Type 0
+IsLastPayload [] x = ⊥
+IsLastPayload (WithOffer file ∷ past) x = IsPayload x file
+IsLastPayload (AsUpload ∷ past) x = ⊥
+
+-- The device has all bytes of an image, these, and has not put it in place yet.
+abbrev pub IsWaiting : Stage → List ℕ → Type 0
+IsWaiting (InManifestSync taken) x = x ≡ taken
+IsWaiting (InManifest taken passed) x = x ≡ taken
+IsWaiting stage x = ⊥
+
+-- A session with this goal installs this payload or compares it.
+abbrev pub IsGoalPayload : Goal → List ℕ → Type 0
+IsGoalPayload (ToLoad payload) x = x ≡ payload
+IsGoalPayload ToFetch x = ⊥
+IsGoalPayload (ToVerify payload) x = x ≡ payload
+IsGoalPayload (ToCompare payload) x = x ≡ payload
+
+-- A session is live, and this is its payload.
+abbrev pub IsLivePayload : Session → List ℕ → Type 0
+IsLivePayload Nobody x = ⊥
+IsLivePayload (Hosted host) x = IsGoalPayload host.task.goal x
+
+-- The headline holds of a device and its session, when these sessions have begun and this was reported last. The active image is the
+-- factory image or the whole payload of a file offered so far. Where Installed or Verified was reported, the device is in appIDLE, and the
+-- active image is the payload of the last session. The last two facts keep it so: what is still to be put in place was offered.
+pub record HeadlineHolds (factory : List ℕ) (past : List Begun) (report : Option Report) (b : Bench) : Type 0 where
+  pub image : List ℕ
+  pub active : Active b.device.slots.medium image
+  pub known : (image ≡ factory) ⊎ WasOffered past image
+  pub in_place : SaysInPlace report → (b.device.stage ≡ InAppIdle) × IsLastPayload past image
+  pub waiting : (x : List ℕ) → IsWaiting b.device.stage x → WasOffered past x
+  pub live : (x : List ℕ) → IsLivePayload b.session x → IsLastPayload past x
+
+-- Where the headline holds before an event, it holds after it, with what the event reports. A refused event changes nothing.
+abbrev pub StepKeepsHeadline : LinkState → Event → LinkState → Result (Option Report) LinkFault → Type 0
+StepKeepsHeadline w event w' (Ok report) = (factory : List ℕ) (past : List Begun) (before : Option Report)
+    → HeadlineHolds factory past before w.bench → HeadlineHolds factory (begun event past) report w'.bench
+StepKeepsHeadline w event w' (Err fault) = w' ≡ w
+
+-- The headline holds after each of these events, with what that event reports. These are the reports in order, and the link at the end.
+pub data HoldsAfterEach (factory : List ℕ) : (past : List Begun) → LinkState → List Event → List Report → LinkState → Type 0 where
+  no_event : {past : List Begun} {w : LinkState} → HoldsAfterEach factory past w [] [] w
+  one_event : {past : List Begun} {w mid w' : LinkState} {event : Event} {events : List Event} {report : Option Report}
+      {reports : List Report}
+      → HeadlineHolds factory (begun event past) report mid.bench → HoldsAfterEach factory (begun event past) mid events reports w'
+      → HoldsAfterEach factory past w (event ∷ events) (said report ++ reports) w'
+
+-- Where the headline holds before these events, it holds after each of them.
+abbrev pub EventsKeepHeadline : LinkState → List Event → List Report → LinkState → Type 0
+EventsKeepHeadline w events reports w' = (factory : List ℕ) (past : List Begun) (before : Option Report)
+    → HeadlineHolds factory past before w.bench → HoldsAfterEach factory past w events reports w'
+
+-- A run keeps the headline through all of its events, or through those before the one at which it stopped.
+abbrev pub RunKeepsHeadline : LinkState → List Event → LinkState → Result (Vec Report Global) Stop → Type 0
+RunKeepsHeadline w events w' (Ok reports) = EventsKeepHeadline w events reports.items w'
+RunKeepsHeadline w events w' (Err stop) = EventsKeepHeadline w (take stop.at events) stop.reports.items w'
+
+-- The headline holds at the start. No session has begun, and no complete image waits to be put in place. The factory image is the one that
+-- is active then.
+abbrev pub HoldsAtRest : Type 0
+HoldsAtRest = (b : Bench) (factory : List ℕ) → Active b.device.slots.medium factory → b.session ≡ Nobody
+    → ((x : List ℕ) → IsWaiting b.device.stage x → ⊥) → HeadlineHolds factory [] None b

@@ -7,7 +7,7 @@ pub mod Play
 pub mod Agreement
 pub mod LinkAgreement
 pub mod Fact
-pub mod Headline
+pub mod Simulation
 pub mod CleanRun
 pub mod Bytes
 pub mod Understood
@@ -19,9 +19,9 @@ pub mod Running
 pub mod OneAnswer
 pub mod Standing
 pub mod Following
-pub mod Acting
 pub mod Sure
 pub mod FollowingRun
+pub mod Headline
 pub mod CleanInstall
 pub mod Words
 pub mod Said
@@ -30,12 +30,10 @@ pub mod Lines
 pub mod Texts
 pub mod TextLimit
 pub mod ScriptRun
-pub mod SetupView
 pub mod Falls
-pub mod Source
 pub mod ScriptLegal
+pub mod ScriptHeadline
 pub mod NextSession
 pub mod CleanSteps
 pub mod OneResult
-pub mod Moving
-pub mod Forming
+pub mod inside

@@ -30,7 +30,8 @@ IsFirst p t n (Some taken) = (0 < n) × (taken ≡ first p t n)
 
 -- The steps.
 
--- Take, Install, or neither. A block is taken only of the live payload, as the next one; only a whole payload that was offered is installed.
+-- Take, Install, or neither. A block is taken only of the live payload, as the next one; only a whole payload that was offered is
+-- installed.
 pub data Begins (t : ℕ) : Machine → Machine → Type 0 where
   begins_not : {m : Machine} → Begins t m m
   takes : {m : Machine} {p : List ℕ} (n : ℕ) → m.live ≡ Loading p → n < length (blocks p t) → IsFirst p t n m.pending

@@ -3,8 +3,11 @@
 ghost use Rattle.std.specs.Prelude.{◌≡◌};
 ghost use Rattle.dfu_host.specs.Host.{IsOn};
 ghost use Rattle.dfu_link.specs.Play.{waits_for};
-ghost use Rattle.dfu_link.specs.Bytes.{Reaches, Slips, came_back, ended_back};
-ghost use Rattle.dfu_link.specs.Acting.{course_in, seen_over, HasSent, HasWaited, HasReset, HasHeard, HasActed};
+ghost use Rattle.dfu_host.specs.Wire.{Hears};
+ghost use Rattle.dfu_host.specs.Phases.{Deed, Send, Heard};
+ghost use Rattle.dfu_wire.specs.declared.requests.Request.{Request as Asked};
+ghost use Rattle.dfu_link.specs.Bytes.{Reaches, Slips, came_back, ended_back, HearsBack, Sends, Waits, ResetsBus, HostActs};
+ghost use Rattle.dfu_link.specs.inside.Acting.{course_in, seen_over, HasHeard};
 
 use crate::back::Back;
 use crate::course::{Course, Handling, Harming};
@@ -58,7 +61,8 @@ fn send<M: Faulty>(
     course: Course<'_>,
     out: &mut ArrayVec<u8, 4096>,
 ) -> Back
-    ensures { HasSent setup.now body.now (course_in course.entry) device.old result out.new.items device.new }
+    ensures { (q : Asked) (heard : Heard) → HearsBack (Send q body.now) result out.new.items heard
+        → Sends q setup.now body.now (course_in course.entry) device.old device.new heard }
 {
     let back = reach(device, setup, body, course.handling, out);
     come_back(course, back)
@@ -86,7 +90,8 @@ fn seen_after(harming: Harming, seen: Seen<'static>) -> Seen<'static>
 
 /// A wait of the host: where a time slips in it passes in its place.
 fn wait<M: Faulty>(device: &mut Device<M>, ms: u32, course: Course<'_>) -> Seen<'static>
-    ensures { HasWaited ms (course_in course.entry) device.old result device.new }
+    ensures { (d : Deed) (heard : Heard) → Hears d result heard
+        → Waits ms (course_in course.entry) device.old device.new heard }
 {
     device.elapse(time_of(course.handling, ms));
     seen_after(course.harming, Seen::Waited)
@@ -104,7 +109,8 @@ fn slip<M: Faulty>(device: &mut Device<M>, handling: Handling)
 
 /// A reset of the bus by the host, and the time that slips in after it.
 fn reset_bus<M: Faulty>(device: &mut Device<M>, course: Course<'_>) -> Seen<'static>
-    ensures { HasReset (course_in course.entry) device.old result device.new }
+    ensures { (d : Deed) (heard : Heard) → Hears d result heard
+        → ResetsBus (course_in course.entry) device.old device.new heard }
 {
     device.usb_reset();
     slip(device, course.handling);
@@ -133,7 +139,7 @@ pub(crate) fn act<M: Faulty>(
     out: &mut ArrayVec<u8, 4096>,
 )
     requires { IsOn host.old.phase }
-    ensures { HasActed host.old (course_in course.entry) device.old device.new host.new }
+    ensures { HostActs host.old (course_in course.entry) device.old device.new host.new }
 {
     match host.next() {
         Action::Send { setup, body } => {

@@ -3,7 +3,7 @@
 ghost use Rattle.std.specs.Prelude.{◌≡◌};
 ghost use Rattle.dfu_link.specs.Happening.{fate_of, harm_in};
 ghost use Rattle.dfu_link.specs.Course.{course_of};
-ghost use Rattle.dfu_link.specs.Acting.{course_in, harm_at};
+ghost use Rattle.dfu_link.specs.inside.Acting.{course_in, harm_at};
 
 use crate::fate::Fate;
 

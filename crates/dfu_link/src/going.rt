@@ -3,10 +3,10 @@
 ghost use Rattle.std.specs.Prelude.{◌≡◌};
 ghost use Rattle.dfu_host.specs.Host.{IsOn};
 ghost use Rattle.dfu_slots.specs.Medium.Fuse.{Whole};
-ghost use Rattle.dfu_link.specs.Bytes.{fuse_of, armed, left_by};
+ghost use Rattle.dfu_link.specs.Bytes.{fuse_of, armed, left_by, HostActsArmed};
 ghost use Rattle.dfu_link.specs.Course.{course_of};
 ghost use Rattle.dfu_link.specs.Happening.{fate_of, harm_in};
-ghost use Rattle.dfu_link.specs.Acting.{harm_at, HasGone};
+ghost use Rattle.dfu_link.specs.inside.Acting.{harm_at};
 
 use crate::acting::act;
 use crate::course::{Course, Harming, course_by};
@@ -50,7 +50,7 @@ pub(crate) fn carry_out<M: Faulty>(
 )
     requires on { IsOn host.old.phase }
     requires unarmed { device.old.slots.medium.fuse ≡ Whole }
-    ensures { HasGone host.old (course_of (fate_of fate.entry)) (harm_in fate.entry) device.old device.new host.new }
+    ensures { HostActsArmed host.old (course_of (fate_of fate.entry)) (harm_in fate.entry) device.old device.new host.new }
 {
     let course = course_by(fate);
     arm(device, course);

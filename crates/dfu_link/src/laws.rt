@@ -1,12 +1,13 @@
 //! Laws of plays. Each is the contract of a function that does nothing, which is proved and not to
 //! be called by programs. `World::step` calls `image_shown`, for its law alone.
 
+ghost use Rattle.dfu_link.specs.Headline.{HoldsAtRest};
 ghost use Rattle.dfu_link.specs.LinkAgreement.{SomeAgrees, FreshAgrees, LinkAgreesOn};
 ghost use Rattle.dfu_link.specs.CleanRun.{CleanRun};
 ghost use Rattle.dfu_link.specs.CleanSteps.{StepsInstall, StepsStand};
 ghost use Rattle.dfu_link.specs.NextSession.{SessionsGoOn};
 ghost use Rattle.dfu_link.specs.Giving.{UploadsGive, RestIsSteady};
-ghost use Rattle.dfu_link.specs.Headline.{OnlyOffered, Simulation};
+ghost use Rattle.dfu_link.specs.Simulation.{OnlyOffered, Simulation};
 ghost use Rattle.dfu_link.specs.OneAnswer.{OneEvent, OneRefusal, RefusedIsNoPlay};
 ghost use Rattle.dfu_link.specs.OneResult.{OneResult};
 ghost use Rattle.dfu_link.specs.Power.{PowerComesBack};
@@ -100,3 +101,9 @@ pub fn power_comes_back()
 {
     refused_has_no_image();
 }
+
+/// The headline holds of a device with no session that has no image to put in place: its factory
+/// image is the one that is active then.
+pub fn headline_at_rest()
+    ensures { HoldsAtRest }
+{}

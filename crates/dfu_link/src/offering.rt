@@ -3,7 +3,7 @@
 ghost use Rattle.std.specs.Prelude.{◌≡◌, ◌↔◌, Some, Err, IfOk, IfErr};
 ghost use Rattle.dfu_host.specs.Host.{started};
 ghost use Rattle.dfu_link.specs.Opening.{goal_of};
-ghost use Rattle.dfu_link.specs.Acting.{HasBegun};
+ghost use Rattle.dfu_link.specs.inside.Acting.{HasBegun};
 ghost use Rattle.dfu_link.specs.Refusing.{first_offer_fault, IsBadOffer};
 
 use crate::aim::Aim;

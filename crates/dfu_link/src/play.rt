@@ -5,7 +5,7 @@ ghost use Rattle.dfu_link.specs.Play.{given, told, aborted};
 ghost use Rattle.dfu_link.specs.Standing.{session_of, given_by, bench_of, link_state, IsOnIn, SendsBytes, IsCountedIn, IsSteady};
 ghost use Rattle.dfu_link.specs.Happening.{Offers, Goes, fate_of, harm_in, happening};
 ghost use Rattle.dfu_link.specs.Comes.{HasCome, HasComeAlone};
-ghost use Rattle.dfu_link.specs.Acting.{report_of, ended, abort_told};
+ghost use Rattle.dfu_link.specs.inside.Acting.{report_of, ended, abort_told};
 
 use crate::aim::Aim;
 use crate::event::Event;

@@ -4,6 +4,7 @@ ghost use Rattle.std.specs.Prelude.{◌≡◌, ◌++◌, ◌<◌, vec_len, vec_c
 ghost use Rattle.dfu_link.specs.Session.{said};
 ghost use Rattle.dfu_link.specs.Running.{happenings, HasRun};
 ghost use Rattle.dfu_link.specs.FollowingRun.{AllFollowRun};
+ghost use Rattle.dfu_link.specs.Headline.{RunKeepsHeadline};
 ghost use Rattle.dfu_link.specs.CleanInstall.{RunsCleanly};
 
 use crate::event::Event;
@@ -35,6 +36,10 @@ fn note(reports: &mut Vec<Report>, report: Option<Report>)
 /// Lets events come one after the other, up to the first that is refused, and answers their
 /// reports. Room for a report is made before each event.
 ///
+/// By `headline` the headline holds after each of the events, where it held before the first: the
+/// active image is the factory image or the payload of a file offered so far, and where the event
+/// reports Installed or Verified, the device is in appIDLE with the payload of the last session.
+///
 /// # Errors
 ///
 /// `Stop` where an event is refused, with its fault, or where there is no memory for a report,
@@ -46,6 +51,7 @@ pub fn run<'f, M: Faulty>(
 ) -> Result<Vec<Report>, Stop>
     ensures runs { HasRun world.old (happenings events.now) world.new result }
     ensures legal { AllFollowRun world.old (happenings events.now) world.new result }
+    ensures headline { RunKeepsHeadline world.old events.now world.new result }
     ensures clean { RunsCleanly world.old.bench (happenings events.now) world.new.bench result }
 {
     let mut reports = Vec::new(alloc);

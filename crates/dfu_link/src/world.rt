@@ -9,6 +9,7 @@ ghost use Rattle.dfu_link.specs.Happening.{happening};
 ghost use Rattle.dfu_link.specs.Refusing.{IsLive};
 ghost use Rattle.dfu_link.specs.Comes.{HasCome};
 ghost use Rattle.dfu_link.specs.Following.{AllFollow};
+ghost use Rattle.dfu_link.specs.Headline.{StepKeepsHeadline};
 ghost use Rattle.dfu_link.specs.Sure.{AllSure};
 ghost use Rattle.dfu_link.specs.Giving.{Gives};
 
@@ -72,6 +73,11 @@ impl<'f, M: Faulty> World<'f, M> {
     /// It takes memory for the parts of an upload alone; where that is refused, the session ends
     /// with the report NoMemory.
     ///
+    /// By `headline` the headline holds after the event with the report that is answered, where it
+    /// held before: the active image is the factory image or the payload of a file offered so far.
+    /// Where the report is Installed or Verified, the device is in appIDLE at this very moment, and
+    /// the payload of the session that reports is the active image.
+    ///
     /// # Errors
     ///
     /// A refused event changes nothing. The faults, in the order in which they are looked for:
@@ -83,6 +89,7 @@ impl<'f, M: Faulty> World<'f, M> {
     pub fn step(&mut self, event: Event<'f, '_>) -> Result<Option<Report>, LinkFault>
         ensures play { HasCome self.old (happening event.entry) self.new result }
         ensures legal { AllFollow self.old (happening event.entry) self.new result }
+        ensures headline { StepKeepsHeadline self.old event.entry self.new result }
         ensures sure { AllSure self.old.bench (happening event.entry) self.new.bench result }
         ensures gives { Gives self.old self.new result }
         ensures active { ShowsActive self.new.bench }

@@ -7,8 +7,8 @@ ghost use Rattle.std.specs.Prelude.{◌≡◌, ◌≤◌, OnOk, IfOk, IfErr, IfS
 ghost use Rattle.dfu_link.specs.Refusing.{IsLive};
 ghost use Rattle.dfu_link.specs.ScriptRun.{at_rest, point};
 ghost use Rattle.dfu_link.specs.Falls.{LineFalls};
-ghost use Rattle.dfu_link.specs.Source.{Next, GivesLine, SourceState};
-ghost use Rattle.dfu_link.specs.Moving.{Steps, Ends, LinesDone, IsUnarmed, Plainly, PlainlyFalls, MovesAndFalls};
+ghost use Rattle.dfu_link.specs.inside.Source.{Next, GivesLine, SourceState};
+ghost use Rattle.dfu_link.specs.inside.Moving.{Steps, Ends, LinesDone, IsUnarmed, Plainly, PlainlyFalls, MovesAndFalls};
 
 use crate::scripting::fault::ScriptFault;
 use crate::scripting::line::{EventLine, Line};

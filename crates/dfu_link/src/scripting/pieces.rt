@@ -25,7 +25,7 @@ pub(crate) struct Pieces<R: Read + Drop> {
 impl<R: Read + Drop> Model for Pieces<R> {
     ghost use Rattle.std.specs.Prelude.{◌≡◌, ◌≤◌, slice_range, true};
     ghost use Rattle.std.specs.Io.KnownBytes.{IsAtEnd};
-    ghost use Rattle.dfu_link.specs.Source.{PiecesState, pieces_state};
+    ghost use Rattle.dfu_link.specs.inside.Source.{PiecesState, pieces_state};
 
     ghost Value = { PiecesState };
 

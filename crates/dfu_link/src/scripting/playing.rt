@@ -6,7 +6,7 @@ ghost use Rattle.dfu_link.specs.Refusing.{IsLive};
 ghost use Rattle.dfu_link.specs.Said.{EventLine, harm_fate, event_line_of, tear_bytes};
 ghost use Rattle.dfu_link.specs.ScriptRun.{events_of};
 ghost use Rattle.dfu_link.specs.Falls.{HasBroken};
-ghost use Rattle.dfu_link.specs.Moving.{HasPlayed, file_bytes, FindsNoRoom, FindsNoTear};
+ghost use Rattle.dfu_link.specs.inside.Moving.{HasPlayed, file_bytes, FindsNoRoom, FindsNoTear};
 
 use crate::aim::Aim;
 use crate::event::Event;

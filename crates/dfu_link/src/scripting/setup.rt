@@ -3,7 +3,7 @@
 ghost use Rattle.std.specs.Prelude.{◌≡◌, OnOk, IfErr};
 ghost use Rattle.dfu_link.specs.Said.{config_line_of};
 ghost use Rattle.dfu_link.specs.ScriptRun.{set, beginning};
-ghost use Rattle.dfu_link.specs.SetupView.{settings_of};
+ghost use Rattle.dfu_link.specs.inside.SetupView.{settings_of};
 
 use crate::scripting::fault::ScriptFault;
 use crate::scripting::line::{ConfigLine, Room};

@@ -4,7 +4,7 @@ ghost use Rattle.std.specs.Prelude.{◌≡◌, ◌≤◌, ◌<◌, ◌+◌, ◌+
 ghost use Rattle.std.specs.Io.KnownBytes.{prepend_known};
 ghost use Rattle.std.specs.List.{position};
 ghost use Rattle.dfu_link.specs.Words.{is_newline};
-ghost use Rattle.dfu_link.specs.Source.{Next, StopsSource, TakesPiece, source_state};
+ghost use Rattle.dfu_link.specs.inside.Source.{Next, StopsSource, TakesPiece, source_state};
 
 use crate::scripting::fault::ScriptFault;
 use crate::scripting::pieces::Pieces;
@@ -31,7 +31,7 @@ pub(crate) struct Source<R: Read + Drop> {
 
 impl<R: Read + Drop> Model for Source<R> {
     ghost use Rattle.std.specs.Prelude.{◌≤◌, ◌+◌, vec_capacity};
-    ghost use Rattle.dfu_link.specs.Source.{SourceState};
+    ghost use Rattle.dfu_link.specs.inside.Source.{SourceState};
 
     ghost Value = { SourceState };
 

@@ -5,9 +5,9 @@ ghost use Rattle.dfu_slots.specs.Units.{gate_size, IsMultiple};
 ghost use Rattle.dfu_link.specs.Said.{hex_bytes};
 ghost use Rattle.dfu_link.specs.ScriptRun.{Starts};
 ghost use Rattle.dfu_link.specs.Falls.{StartFalls};
-ghost use Rattle.dfu_link.specs.Moving.{IsUnarmed};
-ghost use Rattle.dfu_link.specs.SetupView.{settings_of, image_bytes};
-ghost use Rattle.dfu_link.specs.Forming.{Formed, FormFalls};
+ghost use Rattle.dfu_link.specs.inside.Moving.{IsUnarmed};
+ghost use Rattle.dfu_link.specs.inside.SetupView.{settings_of, image_bytes};
+ghost use Rattle.dfu_link.specs.inside.Forming.{Formed, FormFalls};
 
 use crate::scripting::fault::ScriptFault;
 use crate::scripting::hex_text::HexText;

@@ -4,8 +4,9 @@ ghost use Rattle.std.specs.Prelude.{◌≤◌, OnOk, OnErr, IfOk, IfErr, IfSome}
 ghost use Rattle.dfu_link.specs.ScriptRun.{WroteRun};
 ghost use Rattle.dfu_link.specs.Falls.{Falls};
 ghost use Rattle.dfu_link.specs.ScriptLegal.{WroteLegal, StopsLegally};
-ghost use Rattle.dfu_link.specs.Moving.{Configured, CannotConfigure};
-ghost use Rattle.dfu_link.specs.SetupView.{settings_of};
+ghost use Rattle.dfu_link.specs.ScriptHeadline.{WroteHeadline, StopsWithHeadline};
+ghost use Rattle.dfu_link.specs.inside.Moving.{Configured, CannotConfigure};
+ghost use Rattle.dfu_link.specs.inside.SetupView.{settings_of};
 
 use crate::laws::image_shown;
 use crate::scripting::after_start::run_on;
@@ -89,6 +90,13 @@ pub fn script<R: Read + Drop, W: Write>(
     // It does so as far as a script goes that stops.
     ensures stopped { IfSome (R.remaining reader)
         (λ text. OnErr result (StopsLegally text (W.contents writer.old) (W.contents writer.new))) }
+    // The headline: each image that is printed is the factory image or a payload offered so far, and where `report installed` or
+    // `report verified` is printed, the device is in appIDLE and exactly the payload of the last session is active.
+    ensures headline { IfSome (R.remaining reader)
+        (λ text. OnOk result (WroteHeadline text (W.contents writer.old) (W.contents writer.new))) }
+    // The same as far as a script goes that stops.
+    ensures headline_so_far { IfSome (R.remaining reader)
+        (λ text. OnErr result (StopsWithHeadline text (W.contents writer.old) (W.contents writer.new))) }
 {
     // Called for its law, which `legal` needs: no image but the one that is shown is active.
     image_shown();

@@ -1,5 +1,5 @@
 use Rattle.dfu_host.specs.Table.{deed}
-use Rattle.dfu_link.specs.Acting.{course_in}
+use Rattle.dfu_link.specs.inside.Acting.{course_in}
 use Rattle.dfu_link.proofs.Acts.{acts_send, acts_wait, acts_reset}
 use Rattle.dfu_link.proofs.acting.act.Goals as goal
 
@@ -8,8 +8,8 @@ returns-in-Send g c =
     let h = c.args.host.now in
     record {
       heard = c.tell.ensures.heard;
-      acts = acts_send (deed h.task h.phase) (course_in c.args.course) _ c.in-Send.body c.tell.ensures.heard c.in-Send.ensures.act
-          c.send-back.ensures c.as_slice.ensures.value c.tell.ensures.hears;
+      acts = acts_send (deed h.task h.phase) (course_in c.args.course) _ c.in-Send.body c.tell.ensures.heard c.send-back.result
+          c.in-Send.ensures.act c.send-back.ensures c.as_slice.ensures.value c.tell.ensures.hears;
       room = c.tell.ensures.room;
       same = c.tell.ensures.same;
     }
@@ -21,7 +21,7 @@ returns-in-Wait g c =
     record {
       heard = row.heard;
       acts = acts_wait (deed h.task h.phase) (course_in c.args.course) c.in-Wait.ms c.args.device.now c.wait-seen.new.device row.heard
-          c.in-Wait.ensures.act (c.wait-seen.ensures.waits _ _ row.hears);
+          c.in-Wait.ensures.act (c.wait-seen.ensures _ _ row.hears);
       room = row.room;
       same = row.same;
     }
@@ -33,7 +33,7 @@ returns-in-Reset g c =
     record {
       heard = row.heard;
       acts = acts_reset (deed h.task h.phase) (course_in c.args.course) c.args.device.now c.reset_bus-seen.new.device row.heard
-          c.in-Reset.ensures.act (c.reset_bus-seen.ensures.resets _ _ row.hears);
+          c.in-Reset.ensures.act (c.reset_bus-seen.ensures _ _ row.hears);
       room = row.room;
       same = row.same;
     }

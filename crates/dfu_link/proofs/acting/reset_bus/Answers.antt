@@ -1,6 +1,6 @@
-use Rattle.dfu_link.specs.Acting.{course_in}
+use Rattle.dfu_link.specs.inside.Acting.{course_in}
 use Rattle.dfu_link.proofs.Acts.{resets_by}
 use Rattle.dfu_link.proofs.acting.reset_bus.Goals as goal
 
 pub returns : goal.returns
-returns g c = resets_by (course_in c.args.course) c.usb_reset.ensures c.slip.ensures c.seen_after.ensures
+returns g c = resets_by _ _ (course_in c.args.course) c.usb_reset.ensures c.slip.ensures c.seen_after.ensures

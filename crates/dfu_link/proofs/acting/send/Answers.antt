@@ -1,4 +1,4 @@
-use Rattle.dfu_link.specs.Acting.{course_in}
+use Rattle.dfu_link.specs.inside.Acting.{course_in}
 use Rattle.dfu_link.proofs.Acts.{sends_by}
 use Rattle.dfu_link.proofs.acting.send.Goals as goal
 

@@ -7,7 +7,8 @@ returns-in-Err-clause-err g c = (c.in-Err.ensures.fault c.in-Err.fault).0 refl
 
 pub returns-in-Ok-open-clause-ok : goal.returns-in-Ok-open-clause-ok
 returns-in-Ok-open-clause-ok g c =
-    offer_begins c.args.device.now.config c.args.aim c.args.file.now c.args.limits c.in-Ok.file c.functional.result c.ids.result c.in-Ok-open.host
+    offer_begins c.args.device.now.config c.args.aim c.args.file.now c.args.limits c.in-Ok.file c.functional.result c.ids.result
+    c.in-Ok-open.host
     c.functional.ensures c.ids.ensures
     c.in-Ok.ensures.found c.in-Ok-open.ensures.refused c.in-Ok-open.ensures.started
 

@@ -1,6 +1,7 @@
 use Rattle.std.proofs.Common.{arith}
 use Rattle.dfu_link.proofs.Reserved.{on_fine}
 use Rattle.dfu_link.proofs.Chains.{no_more, chain_runs, chain_follows, ran_on, stopped_full, stopped_refused, ran_all}
+use Rattle.dfu_link.proofs.HeadlineKept.{chain_keeps, stopped_keeps}
 use Rattle.dfu_link.proofs.CleanRuns.{ran_clean}
 use Rattle.dfu_link.proofs.CleanStops.{stopped_clean}
 use Rattle.dfu_link.proofs.running.run.Goals as goal
@@ -14,6 +15,7 @@ returns-then-is_err g c =
     rw c.reserve.ensures.items (record {
       runs = s.runs;
       legal = λ m a. chain_follows s.chain m a;
+      headline = λ factory past before k. stopped_keeps c.loop-i.i c.args.events.now s.chain factory past before k;
       clean = λ aim file limits payload count can is most. stopped_clean aim file limits payload count s can is most;
     })
 
@@ -23,6 +25,7 @@ returns-in-Err g c =
     rw c.reserve.ensures.items (record {
       runs = s.runs;
       legal = λ m a. chain_follows s.chain m a;
+      headline = λ factory past before k. stopped_keeps c.loop-i.i c.args.events.now s.chain factory past before k;
       clean = λ aim file limits payload count can is most. stopped_clean aim file limits payload count s can is most;
     })
 
@@ -38,6 +41,7 @@ returns g c =
     record {
       runs = chain_runs chain;
       legal = λ m a. chain_follows chain m a;
+      headline = λ factory past before k. chain_keeps c.args.events.now chain factory past before k;
       clean = λ aim file limits payload count can is most. ran_clean aim file limits payload count chain can is most;
     }
 

@@ -4,7 +4,7 @@ use Rattle.dfu_link.specs.Bench.{Bench, LinkState}
 use Rattle.dfu_link.specs.Said.{event_line_of}
 use Rattle.dfu_link.specs.ScriptRun.{point, at_rest, events_of}
 use Rattle.dfu_link.specs.Falls.{HasBroken}
-use Rattle.dfu_link.specs.Moving.{HasPlayed, Plainly}
+use Rattle.dfu_link.specs.inside.Moving.{HasPlayed, Plainly}
 use Rattle.dfu_link.specs.declared.scripting.line.EventLine.{EventLine}
 use Rattle.dfu_link.proofs.MoveLaws.{rest_starts}
 use Rattle.dfu_link.proofs.RestLaws.{moved_none, moved_falls, moved_then, went_to, went_and_fell, no_room, no_tear, events_break, events_play}

@@ -6,9 +6,9 @@ use Rattle.dfu_device.specs.Shown.{Shown}
 use Rattle.dfu_link.specs.Bench.{Bench, LinkState}
 use Rattle.dfu_link.specs.Texts.{image_line}
 use Rattle.dfu_link.specs.ScriptRun.{at_rest, point}
-use Rattle.dfu_link.specs.Source.{Next}
+use Rattle.dfu_link.specs.inside.Source.{Next}
 use Rattle.dfu_link.specs.Falls.{LineFalls}
-use Rattle.dfu_link.specs.Moving.{Moves, Steps}
+use Rattle.dfu_link.specs.inside.Moving.{Moves, Steps}
 use Rattle.dfu_link.proofs.MoveLaws.{moves_none, moves_then, ends_now}
 use Rattle.dfu_link.proofs.FallLaws.{given_falls, image_falls, source_falls}
 use Rattle.dfu_link.proofs.scripting.after_start.follow.Goals as goal

@@ -1,6 +1,6 @@
 use Rattle.std.proofs.Common.{◌≤◌}
 use Rattle.dfu_link.specs.ScriptRun.{point}
-use Rattle.dfu_link.specs.Moving.{Moves}
+use Rattle.dfu_link.specs.inside.Moving.{Moves}
 use Rattle.dfu_link.proofs.scripting.after_start.follow.Given as goal
 
 abbrev pub invariant-lines : goal.invariant-lines

@@ -6,8 +6,8 @@ use Rattle.dfu_suffix.specs.Writing.{IsOutInPart}
 use Rattle.dfu_device.specs.Shown.{Shown}
 use Rattle.dfu_link.specs.Texts.{image_line}
 use Rattle.dfu_link.specs.ScriptRun.{point, at_rest}
-use Rattle.dfu_link.specs.Source.{SourceState, Next, GivesLine}
-use Rattle.dfu_link.specs.Moving.{Ends, Moves, MovesAndFalls, LinesDone, IsUnarmed}
+use Rattle.dfu_link.specs.inside.Source.{SourceState, Next, GivesLine}
+use Rattle.dfu_link.specs.inside.Moving.{Ends, Moves, MovesAndFalls, LinesDone, IsUnarmed}
 use Rattle.dfu_link.specs.declared.scripting.fault.ScriptFault.TheVariants.{Write}
 use Rattle.dfu_link.proofs.WriteLaws.{on_ok_map, if_err_map, if_err_both}
 use Rattle.dfu_link.proofs.RestLaws.{HasMoved, moved_none, moved_on, moved_to_the_end, moved_and_fell, went_and_stopped, went_next, moved_ends, moved_breaks}

@@ -1,6 +1,6 @@
 use Rattle.std.proofs.Common.{ℕ, ◌+◌, Bool, true, false}
 use Rattle.dfu_link.specs.ScriptRun.{point, at_rest}
-use Rattle.dfu_link.specs.Moving.{IsUnarmed}
+use Rattle.dfu_link.specs.inside.Moving.{IsUnarmed}
 use Rattle.dfu_link.proofs.RestLaws.{HasMoved}
 use Rattle.dfu_link.proofs.scripting.after_start.run_on.Given as goal
 

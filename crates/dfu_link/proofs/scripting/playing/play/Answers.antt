@@ -4,7 +4,7 @@ use Rattle.dfu_link.specs.Happening.{happening, Happening}
 use Rattle.dfu_link.specs.Texts.{told_line}
 use Rattle.dfu_link.specs.ScriptRun.{none_comes}
 use Rattle.dfu_link.specs.Falls.{HasBroken}
-use Rattle.dfu_link.specs.Moving.{HasPlayed}
+use Rattle.dfu_link.specs.inside.Moving.{HasPlayed}
 use Rattle.dfu_link.proofs.WriteLaws.{appends_none, appends_more, on_err}
 use Rattle.dfu_link.proofs.MoveLaws.{replicate_more, plays_one, broken}
 use Rattle.dfu_link.proofs.scripting.playing.play.Goals as goal

@@ -1,6 +1,6 @@
 use Rattle.std.specs.Prelude.{replicate}
 use Rattle.dfu_link.specs.Happening.{happening}
-use Rattle.dfu_link.specs.Moving.{HasPlayed}
+use Rattle.dfu_link.specs.inside.Moving.{HasPlayed}
 use Rattle.dfu_link.proofs.scripting.playing.play.Given as goal
 
 abbrev pub invariant-loop-turn : goal.invariant-loop-turn

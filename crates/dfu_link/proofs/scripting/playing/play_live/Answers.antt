@@ -5,7 +5,7 @@ use Rattle.dfu_suffix.specs.Writing.{IsOutInPart}
 use Rattle.dfu_link.specs.Texts.{answer_line}
 use Rattle.dfu_link.specs.ScriptRun.{events_of}
 use Rattle.dfu_link.specs.Falls.{HasBroken}
-use Rattle.dfu_link.specs.Moving.{HasPlayed}
+use Rattle.dfu_link.specs.inside.Moving.{HasPlayed}
 use Rattle.dfu_link.specs.declared.scripting.line.EventLine.{EventLine}
 use Rattle.dfu_link.specs.declared.fault.LinkFault.TheVariants.{HostBusy}
 use Rattle.dfu_link.proofs.WriteLaws.{on_ok_map, on_err_map}

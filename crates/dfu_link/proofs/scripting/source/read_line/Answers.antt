@@ -1,5 +1,5 @@
 use Rattle.std.proofs.Common.{◌≡◌, ◌∙◌, sym, ap, subst, arith, not, Bool, ℕ, ◌==◌, length, vec_len}
-use Rattle.dfu_link.specs.Source.{TakesPiece}
+use Rattle.dfu_link.specs.inside.Source.{TakesPiece}
 use Rattle.dfu_link.proofs.SourceLaws.{so_far_filled, so_far_more, text_ended, line_given, line_too_long, nil_of_length}
 use Rattle.dfu_link.proofs.scripting.source.read_line.Goals as goal
 

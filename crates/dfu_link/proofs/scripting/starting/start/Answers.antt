@@ -1,7 +1,7 @@
 use Rattle.std.proofs.Common.{◌≡◌, List, ℕ, subst, refl}
 use Rattle.dfu_link.specs.Falls.{refused}
-use Rattle.dfu_link.specs.Forming.{Formed}
-use Rattle.dfu_link.specs.SetupView.{image_bytes}
+use Rattle.dfu_link.specs.inside.Forming.{Formed}
+use Rattle.dfu_link.specs.inside.SetupView.{image_bytes}
 use Rattle.dfu_link.proofs.scripting.starting.start.Goals as goal
 
 pub returns-in_default-clause-fault : goal.returns-in_default-clause-fault

@@ -2,8 +2,8 @@ use Rattle.std.proofs.Common.{◌≡◌, ◌∙◌, ap, sym, subst, refl, arith,
 use Rattle.dfu_link.specs.Said.{said_of, config_line_of, Blank, Sets, LimitsTo}
 use Rattle.dfu_link.specs.Lines.{line_of}
 use Rattle.dfu_link.specs.ScriptRun.{Settings}
-use Rattle.dfu_link.specs.SetupView.{settings_of}
-use Rattle.dfu_link.specs.Source.{Next, GivesLine}
+use Rattle.dfu_link.specs.inside.SetupView.{settings_of}
+use Rattle.dfu_link.specs.inside.Source.{Next, GivesLine}
 use Rattle.dfu_link.specs.declared.scripting.line.Line.{Line}
 use Rattle.dfu_link.proofs.MoveLaws.{prepared_none, prepared_then}
 use Rattle.dfu_link.proofs.scripting.whole.configure.Goals as goal

@@ -1,5 +1,5 @@
-use Rattle.dfu_link.specs.Moving.{Prepared}
-use Rattle.dfu_link.specs.SetupView.{settings_of}
+use Rattle.dfu_link.specs.inside.Moving.{Prepared}
+use Rattle.dfu_link.specs.inside.SetupView.{settings_of}
 use Rattle.dfu_link.proofs.scripting.whole.configure.Given as goal
 
 abbrev pub invariant-settings : goal.invariant-settings

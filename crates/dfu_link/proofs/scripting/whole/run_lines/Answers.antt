@@ -2,9 +2,9 @@ use Rattle.std.proofs.Common.{sym, subst, refl}
 use Rattle.std.proofs.lemmas.Result.{err_from_is_err_and}
 use Rattle.dfu_link.specs.ScriptRun.{at_rest, point, WroteRun}
 use Rattle.dfu_link.specs.Falls.{Falls, no_memory}
-use Rattle.dfu_link.specs.Source.{SourceState, Next}
-use Rattle.dfu_link.specs.Moving.{Ends, MovesAndFalls}
-use Rattle.dfu_link.specs.SetupView.{settings_of}
+use Rattle.dfu_link.specs.inside.Source.{SourceState, Next}
+use Rattle.dfu_link.specs.inside.Moving.{Ends, MovesAndFalls}
+use Rattle.dfu_link.specs.inside.SetupView.{settings_of}
 use Rattle.dfu_link.specs.declared.scripting.fault.ScriptFault.{ScriptFault}
 use Rattle.dfu_link.proofs.GivenLaws.{if_some}
 use Rattle.dfu_link.proofs.WriteLaws.{on_ok_map, if_err_map}

@@ -1,4 +1,5 @@
 use Rattle.dfu_link.proofs.LegalScripts.{wrote_legal, stops_legal}
+use Rattle.dfu_link.proofs.ScriptsHold.{wrote_headline, stopped_headline}
 use Rattle.dfu_link.proofs.scripting.whole.script.Goals as goal
 
 pub returns-clause-legal : goal.returns-clause-legal
@@ -8,3 +9,15 @@ returns-clause-legal g c = wrote_legal c.image_shown.ensures (g.R.Read.remaining
 pub returns-clause-stopped : goal.returns-clause-stopped
 returns-clause-stopped g c = stops_legal c.image_shown.ensures (g.R.Read.remaining c.args.reader) (g.W.Write.contents c.args.writer.now)
     (g.W.Write.contents c.run_lines.new.writer) c.run_lines.result c.run_lines.ensures.fault
+
+pub returns-clause-headline : goal.returns-clause-headline
+returns-clause-headline g c = wrote_headline (g.R.Read.remaining c.args.reader) (g.W.Write.contents c.args.writer.now)
+    (g.W.Write.contents c.run_lines.new.writer) c.run_lines.result
+    (wrote_legal c.image_shown.ensures (g.R.Read.remaining c.args.reader) (g.W.Write.contents c.args.writer.now)
+    (g.W.Write.contents c.run_lines.new.writer) c.run_lines.result c.run_lines.ensures.ok)
+
+pub returns-clause-headline_so_far : goal.returns-clause-headline_so_far
+returns-clause-headline_so_far g c = stopped_headline (g.R.Read.remaining c.args.reader) (g.W.Write.contents c.args.writer.now)
+    (g.W.Write.contents c.run_lines.new.writer) c.run_lines.result
+    (stops_legal c.image_shown.ensures (g.R.Read.remaining c.args.reader) (g.W.Write.contents c.args.writer.now)
+    (g.W.Write.contents c.run_lines.new.writer) c.run_lines.result c.run_lines.ensures.fault)

@@ -1,4 +1,5 @@
 use Rattle.dfu_link.proofs.Steady.{come_steady, come_follow, come_sure, come_gives}
+use Rattle.dfu_link.proofs.HeadlineKept.{step_keeps}
 use Rattle.dfu_link.proofs.world.World.step.Goals as goal
 
 pub invariant_of-self : goal.invariant_of-self
@@ -16,3 +17,7 @@ returns-clause-sure g c = rw (← c.self.view_is) (come_sure c.play-told.ensures
 
 pub returns-clause-gives : goal.returns-clause-gives
 returns-clause-gives g c = rw (← c.self.view_is) (come_gives c.self.invariant.steady c.play-told.ensures)
+
+pub returns-clause-headline : goal.returns-clause-headline
+returns-clause-headline g c = rw (← c.self.view_is) (step_keeps _ _ _ _ (come_follow c.image_shown.ensures c.self.invariant.steady
+    (rw (← c.slots.ensures.slots) c.capacity.ensures.image) c.play-told.ensures))

@@ -1,5 +1,5 @@
 use Rattle.std.proofs.Common.{◌≡◌, ◌∙◌, ◌+◌, ap, length, drop, slice_range, arith}
-use Rattle.dfu_link.specs.Source.{PiecesState}
+use Rattle.dfu_link.specs.inside.Source.{PiecesState}
 use Rattle.dfu_link.proofs.SourceLaws.{ready_advanced, front_consumed}
 use Rattle.dfu_link.proofs.scripting.pieces.Pieces.advance.Goals as goal
 

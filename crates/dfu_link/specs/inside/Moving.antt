@@ -13,7 +13,7 @@ use Rattle.dfu_link.specs.Lines.{line_of}
 use Rattle.dfu_link.specs.ScriptRun.{Settings, Prepares, IsReady, at_rest, AllCome, Point, point, LineActs, LinesRun}
 use Rattle.dfu_link.specs.Falls.{LineFalls, NextFalls}
 use Rattle.dfu_link.specs.TextLimit.{GoesOver, IsStopped}
-use Rattle.dfu_link.specs.Source.{SourceState, Gives, Next, StopsSource}
+use Rattle.dfu_link.specs.inside.Source.{SourceState, Gives, Next, StopsSource}
 use Rattle.dfu_link.specs.declared.scripting.line.EventLine.{EventLine as EventLineRead}
 use Rattle.dfu_link.specs.declared.scripting.fault.ScriptFault.{ScriptFault}
 use Rattle.dfu_link.specs.declared.scripting.fault.ScriptFault.TheVariants.{NoMemory}

@@ -1,17 +1,14 @@
 -- What the link's small functions do, each as its part of a play.
 use Rattle.std.specs.Prelude.{◌≡◌, ℕ, IsTrue, List, Option, Some, None, Result, Ok, Err}
 use Rattle.dfu_suffix.specs.Grammar.{Content}
-use Rattle.dfu_wire.specs.declared.requests.Request.{Request as Asked}
 use Rattle.dfu_device.specs.Setting.{Setting}
-use Rattle.dfu_device.specs.Shown.{Shown}
 use Rattle.dfu_host.specs.declared.limits.Limits.{Limits}
 use Rattle.dfu_host.specs.declared.report.Report.{Report}
 use Rattle.dfu_host.specs.declared.report.Report.TheVariants.{Uploaded}
 use Rattle.dfu_host.specs.declared.seen.Seen.{Seen}
 use Rattle.dfu_host.specs.declared.seen.Seen.TheVariants as seen
 use Rattle.dfu_host.specs.Host.{HostState, after, started, wants_memory}
-use Rattle.dfu_host.specs.Wire.{Hears}
-use Rattle.dfu_host.specs.Phases.{Phase, Over, OverUploaded, Deed, Send, Heard, NoRoom}
+use Rattle.dfu_host.specs.Phases.{Phase, Over, OverUploaded, Heard, NoRoom}
 use Rattle.dfu_host.specs.Table.{deed}
 use Rattle.dfu_link.specs.declared.aim.Aim.{Aim}
 use Rattle.dfu_link.specs.declared.back.Back.{Back}
@@ -25,7 +22,7 @@ use Rattle.dfu_link.specs.Happening.{Harm, harmed}
 use Rattle.dfu_link.specs.Bench.{Session, Nobody, Hosted}
 use Rattle.dfu_link.specs.Opening.{goal_of}
 use Rattle.dfu_link.specs.Play.{silent, Took, settled}
-use Rattle.dfu_link.specs.Bytes.{fuse_of, armed, HearsBack, Sends, Waits, ResetsBus, Acts, left_by}
+use Rattle.dfu_link.specs.Bytes.{HearsBack}
 use Rattle.dfu_link.specs.Refusing.{IsOffered}
 
 -- The course that the code goes by.
@@ -43,37 +40,12 @@ seen_over CutsPower s = seen.Restarted
 seen_over FailsWrite s = s
 seen_over LiesInWrite s = s
 
--- A request went by its course, and this comes back: whatever it asks for, and whatever is heard of that.
-pub record HasSent (setup body : List ℕ) (course : Course) (w : Shown) (b : Back) (out : List ℕ) (w' : Shown) : Type 0 where
-  pub sends : (q : Asked) (heard : Heard) → HearsBack (Send q body) b out heard → Sends q setup body course w w' heard
-
--- A wait went by its course, and the host sees this of it.
-pub record HasWaited (ms : ℕ) (course : Course) (w : Shown) (seen : Seen) (w' : Shown) : Type 0 where
-  pub waits : (d : Deed) (heard : Heard) → Hears d seen heard → Waits ms course w w' heard
-
--- A reset of the bus by the host went by its course, and the host sees this of it.
-pub record HasReset (course : Course) (w : Shown) (seen : Seen) (w' : Shown) : Type 0 where
-  pub resets : (d : Deed) (heard : Heard) → Hears d seen heard → ResetsBus course w w' heard
-
 -- A host took what it heard of what came back. It finds no memory only where its phase wants some.
 pub record HasHeard (h : HostState) (b : Back) (out : List ℕ) (h' : HostState) : Type 0 where
   pub heard : Heard
   pub hears : HearsBack (deed h.task h.phase) b out heard
   pub room : heard ≡ NoRoom → IsTrue (wants_memory h.phase)
   pub same : h' ≡ after h heard
-
--- A host's action went by its course, and the host took what it heard.
-pub record HasActed (h : HostState) (course : Course) (w w' : Shown) (h' : HostState) : Type 0 where
-  pub heard : Heard
-  pub room : heard ≡ NoRoom → IsTrue (wants_memory h.phase)
-  pub acts : Acts (deed h.task h.phase) course w w' heard
-  pub same : h' ≡ after h heard
-
--- A host's action went by its course on a medium that was armed for it, and then the device was left as it has to be.
-pub record HasGone (h : HostState) (course : Course) (harm : Harm) (w w' : Shown) (h' : HostState) : Type 0 where
-  pub last : Shown
-  pub acted : HasActed h course (armed w (fuse_of course.harming harm)) last h'
-  pub device : w' ≡ left_by course.harming last
 
 -- The report of a host that is done.
 abbrev pub report_of : Phase → Option Report

@@ -1,0 +1,5 @@
+pub mod Acting
+pub mod Source
+pub mod SetupView
+pub mod Moving
+pub mod Forming
