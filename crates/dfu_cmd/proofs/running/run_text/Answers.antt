@@ -1,9 +1,0 @@
-use Rattle.dfu_cmd.specs.RunText.{stops, to_the_stop}
-use Rattle.dfu_cmd.proofs.running.run_text.Goals as goal
-
-pub returns-in-Err-clause-run : goal.returns-in-Err-clause-run
-returns-in-Err-clause-run g c = stops (g.W.Write.contents c.script.new.writer) c.in-Err.fault c.in-Err.ensures.fault c.stop_text.ensures
-
-pub returns-in-Err-clause-legal : goal.returns-in-Err-clause-legal
-returns-in-Err-clause-legal g c =
-    to_the_stop (g.W.Write.contents c.script.new.writer) c.in-Err.fault c.in-Err.ensures.stopped c.stop_text.ensures

@@ -1,4 +1,0 @@
-use Rattle.dfu_cmd.proofs.running.stop_text.Goals as goal
-
-pub returns-in-LateConfig : goal.returns-in-LateConfig
-returns-in-LateConfig g c = rw c.in-LateConfig.is c.number_text-in-LateConfig.ensures

@@ -1,0 +1,38 @@
+-- What `dfu run` writes.
+use Rattle.std.specs.Prelude.{◌≡◌, ℕ, List, Option, IfSome, codes}
+use Rattle.dfu_suffix.specs.declared.fault.SuffixFault.TheVariants as suffix
+use Rattle.dfu_link.specs.declared.scripting.fault.ScriptFault.{ScriptFault}
+use Rattle.dfu_link.specs.declared.scripting.fault.ScriptFault.TheVariants.{BadLine, LateConfig, BadConfig, TooLarge, NoMemory, Read, Write}
+use Rattle.dfu_link.specs.ScriptRun.{WroteRun}
+use Rattle.dfu_link.specs.Falls.{Falls}
+use Rattle.dfu_link.specs.ScriptLegal.{WroteLegal, StopsLegally}
+use Rattle.dfu_text.specs.declared.exit.Exit.{Exit}
+use Rattle.dfu_text.specs.declared.exit.Exit.TheVariants.{Done, Refused, Fault}
+use Rattle.dfu_text.specs.AnswerLines.{fault_line}
+use Rattle.dfu_text.specs.NumberText.{WritesNumber}
+use Rattle.dfu_text.specs.Output.{Wrote}
+
+-- What is written of a script that stopped, behind what it wrote, is the line of its fault, and nothing more where the
+-- writer failed.
+abbrev pub WritesStop : ScriptFault → Option (List ℕ) → Option (List ℕ) → Exit → Type 0
+WritesStop (BadLine n) old new result = WritesNumber (codes "refused BadLine ") n old new result
+WritesStop (LateConfig n) old new result = WritesNumber (codes "refused LateConfig ") n old new result
+WritesStop BadConfig old new result = Wrote old new (codes "refused BadConfig\n") Refused result
+WritesStop TooLarge old new result = Wrote old new (fault_line suffix.TooLarge) Refused result
+WritesStop NoMemory old new result = Wrote old new (fault_line suffix.NoMemory) Refused result
+WritesStop Read old new result = Wrote old new (fault_line suffix.Read) Fault result
+WritesStop Write old new result = (new ≡ old) × (result ≡ Fault)
+
+-- A script ran to its end and that is all that is written, or it stopped and the line of its fault is written behind what
+-- it wrote.
+pub data WritesRun (given old new : Option (List ℕ)) (result : Exit) : Type 0 where
+  runs : IfSome given (λ text. WroteRun text old new) → result ≡ Done → WritesRun given old new result
+  stops : (mid : Option (List ℕ)) (fault : ScriptFault) →
+      IfSome given (λ text. Falls text old mid fault) → WritesStop fault mid new result → WritesRun given old new result
+
+-- The session machine goes along with what is written: to the end of the script, and that is all; or to where it stopped, and
+-- behind that the line of its fault is written.
+pub data WritesLegally (given old new : Option (List ℕ)) (result : Exit) : Type 0 where
+  to_the_end : IfSome given (λ text. WroteLegal text old new) → result ≡ Done → WritesLegally given old new result
+  to_the_stop : (mid : Option (List ℕ)) (fault : ScriptFault) →
+      IfSome given (λ text. StopsLegally text old mid) → WritesStop fault mid new result → WritesLegally given old new result

@@ -1,0 +1,31 @@
+//! `dfu run` through a buffer.
+
+ghost use Rattle.std.specs.Io.Buffered.{writer_contents};
+ghost use Rattle.dfu_commands.specs.Buffering.{RunsBuffered};
+
+use crate::running::run_text;
+use dfu_text::Exit;
+use std::alloc::Global;
+use std::io::{BufWriter, Read, Write};
+
+/// Runs the script as `run_text` does, into the buffer, and then writes what the buffer still
+/// holds. It answers how the script ended, and hands back the writer behind the buffer.
+///
+/// Where that writer fails it answers Fault, and a front of the text is out.
+pub fn run_buffered<R: Read + Drop, W: Write + Drop>(
+    alloc: Global,
+    reader: R,
+    mut buffer: BufWriter<W>,
+) -> (Exit, W)
+    ensures { RunsBuffered (R.remaining reader) (writer_contents W.contents buffer) (W.contents result.1) result.0 }
+{
+    let exit = run_text(alloc, reader, &mut buffer);
+    match buffer.into_inner() {
+        Ok(writer) => (exit, writer),
+        Err(error) => {
+            // Taken apart, since a buffer that is dropped is written once more.
+            let (writer, _) = error.into_inner().into_parts();
+            (Exit::Fault, writer)
+        }
+    }
+}

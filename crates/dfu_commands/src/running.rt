@@ -1,0 +1,44 @@
+//! `dfu run`: what a script prints, and the line for one that stopped.
+
+ghost use Rattle.dfu_commands.specs.RunText.{WritesStop, WritesRun, WritesLegally};
+
+use dfu_link::{ScriptFault, script};
+use dfu_suffix::SuffixFault;
+use dfu_text::{Exit, fault_text, number_text, write_out};
+use std::alloc::Global;
+use std::io::{Read, Write};
+
+/// Writes the line for a script that stopped. Where the writer failed nothing more is written.
+fn stop_text<W: Write>(alloc: Global, fault: ScriptFault, writer: &mut W) -> Exit
+    ensures { WritesStop fault (W.contents writer.old) (W.contents writer.new) result }
+{
+    match fault {
+        ScriptFault::BadLine(number) => number_text(alloc, "refused BadLine ", number, writer),
+        ScriptFault::LateConfig(number) => {
+            number_text(alloc, "refused LateConfig ", number, writer)
+        }
+        ScriptFault::BadConfig => write_out(writer, b"refused BadConfig\n", Exit::Refused),
+        ScriptFault::TooLarge => fault_text(SuffixFault::TooLarge, writer),
+        ScriptFault::NoMemory => fault_text(SuffixFault::NoMemory, writer),
+        ScriptFault::Read => fault_text(SuffixFault::Read, writer),
+        ScriptFault::Write => Exit::Fault,
+    }
+}
+
+/// Runs the script that the reader gives, and writes what it prints; with Done the last line is
+/// that of the active image. For a script that stopped the line is `refused NAME` with Refused, for
+/// BadLine and LateConfig with the number of the line behind it, or `fault Read` with Fault; what
+/// the lines before printed stands before it. Where the line with a number finds no memory it is
+/// `refused NoMemory`.
+///
+/// Where the writer fails it answers Fault; a front of the text is out, not all of it, and nothing
+/// more is written.
+pub fn run_text<R: Read + Drop, W: Write>(alloc: Global, reader: R, writer: &mut W) -> Exit
+    ensures run { WritesRun (R.remaining reader) (W.contents writer.old) (W.contents writer.new) result }
+    ensures legal { WritesLegally (R.remaining reader) (W.contents writer.old) (W.contents writer.new) result }
+{
+    match script(alloc, reader, writer) {
+        Ok(()) => Exit::Done,
+        Err(fault) => stop_text(alloc, fault, writer),
+    }
+}

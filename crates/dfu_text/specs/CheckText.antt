@@ -1,0 +1,16 @@
+-- What `dfu check` writes.
+use Rattle.std.specs.Prelude.{◌⊎◌, ℕ, List, Option, IfSome, Result, IsOk}
+use Rattle.dfu_suffix.specs.Checking.{Checks, UnlessRead}
+use Rattle.dfu_suffix.specs.declared.summary.Summary.{Summary}
+use Rattle.dfu_suffix.specs.declared.fault.SuffixFault.{SuffixFault}
+use Rattle.dfu_suffix.specs.declared.fault.SuffixFault.TheVariants.{NoMemory}
+use Rattle.dfu_text.specs.declared.exit.Exit.{Exit}
+use Rattle.dfu_text.specs.declared.exit.Exit.TheVariants.{Refused}
+use Rattle.dfu_text.specs.AnswerLines.{exit_of, fault_line, line_of}
+use Rattle.dfu_text.specs.Output.{Wrote}
+
+-- The line is that of the answer for all that the reader gave; or, of a file, it says that there was no memory for it.
+abbrev pub WritesCheck : Option (List ℕ) → Option (List ℕ) → Option (List ℕ) → Exit → Type 0
+WritesCheck given old new result =
+    (answer : Result Summary SuffixFault) × IfSome given (λ all. UnlessRead answer (Checks all answer))
+    × (Wrote old new (line_of answer) (exit_of answer) result ⊎ (IsOk answer × Wrote old new (fault_line NoMemory) Refused result))

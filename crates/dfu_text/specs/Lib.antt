@@ -1,0 +1,9 @@
+pub mod Exits
+pub mod Output
+pub mod AnswerLines
+pub mod CheckText
+pub mod Identifiers
+pub mod ShowLines
+pub mod ShowText
+pub mod AddText
+pub mod NumberText

@@ -1,0 +1,50 @@
+//! `dfu add`: a file with a suffix, and the line for it.
+
+ghost use Rattle.std.specs.Prelude.{◌≡◌, IfOk};
+ghost use Rattle.std.specs.String.{string_bytes};
+ghost use Rattle.dfu_text.specs.AddText.{WritesAdd, wrote_line};
+
+use crate::exit::Exit;
+use crate::faults::fault_text;
+use crate::numbers::{made_field, push};
+use crate::output::write_out;
+use dfu_suffix::{SuffixFault, add};
+use dfu_wire::Ids;
+use std::alloc::{AllocError, Global};
+use std::io::{Read, Write};
+
+#[tactic(auto, unfolding(crate::specs::AddText::wrote_line))]
+fn wrote_line(alloc: Global, count: u32) -> Result<String, AllocError>
+    ensures { IfOk result (λ t. string_bytes t ≡ wrote_line count) }
+{
+    let mut line = String::from_str(alloc, "wrote")?;
+    made_field(&mut line, " ", count.to_string(alloc)?)?;
+    push(&mut line, "\n")?;
+    Ok(line)
+}
+
+/// Writes to `file` what the reader gives and a suffix for it, and one line to `out`: `wrote N`
+/// with Done, N being the number of bytes in `file`; `refused NAME` with Refused; `fault Read` or
+/// `fault Write`, of `file`, with Fault. After `fault Write` a front of the text is in `file`, not
+/// all of it, and after any other line but `wrote N` nothing is. Where the line can't be made for
+/// want of memory it is `refused NoMemory`, and `file` may be whole.
+///
+/// Where `out` fails it answers Fault, and a front of the line is out, not all of it.
+pub fn add_text<R: Read + Drop, F: Write, W: Write>(
+    alloc: Global,
+    reader: R,
+    ids: Ids,
+    file: &mut F,
+    out: &mut W,
+) -> Exit
+    ensures { WritesAdd (R.remaining reader) ids (F.contents file.old) (F.contents file.new) (W.contents out.old)
+        (W.contents out.new) result }
+{
+    match add(alloc, reader, ids, file) {
+        Ok(count) => match wrote_line(alloc, count) {
+            Ok(line) => write_out(out, line.as_bytes(), Exit::Done),
+            Err(_) => fault_text(SuffixFault::NoMemory, out),
+        },
+        Err(fault) => fault_text(fault, out),
+    }
+}

@@ -1,0 +1,53 @@
+//! `dfu check`: the line for a file.
+
+ghost use Rattle.std.specs.Prelude.{◌≡◌, IfOk};
+ghost use Rattle.std.specs.String.{string_bytes};
+ghost use Rattle.dfu_text.specs.AnswerLines.{ok_line};
+ghost use Rattle.dfu_text.specs.CheckText.{WritesCheck};
+
+use crate::exit::Exit;
+use crate::faults::fault_text;
+use crate::numbers::{hex4, hex8, made_field, push};
+use crate::output::write_out;
+use dfu_suffix::{SuffixFault, Summary, check};
+use std::alloc::{AllocError, Global};
+use std::io::{Read, Write};
+
+#[tactic(auto, unfolding(crate::specs::AnswerLines::ok_line))]
+fn ok_line(alloc: Global, summary: &Summary) -> Result<String, AllocError>
+    ensures { IfOk result (λ t. string_bytes t ≡ ok_line summary.now) }
+{
+    let mut line = String::from_str(alloc, "ok")?;
+    made_field(&mut line, " payload ", summary.payload.to_string(alloc)?)?;
+    made_field(
+        &mut line,
+        " suffix ",
+        u32::from(summary.suffix).to_string(alloc)?,
+    )?;
+    made_field(&mut line, " device ", hex4(alloc, summary.ids.device)?)?;
+    made_field(&mut line, " product ", hex4(alloc, summary.ids.product)?)?;
+    made_field(&mut line, " vendor ", hex4(alloc, summary.ids.vendor)?)?;
+    made_field(&mut line, " dfu ", hex4(alloc, summary.dfu)?)?;
+    made_field(&mut line, " crc ", hex8(alloc, summary.crc)?)?;
+    push(&mut line, "\n")?;
+    Ok(line)
+}
+
+/// Checks what the reader gives, and writes one line: `ok payload P suffix S device DDDD product
+/// PPPP vendor VVVV dfu BBBB crc CCCCCCCC` with Done, `refused NAME` with Refused, or
+/// `fault Read` with Fault. Memory is taken for the line of a file alone: where that is refused,
+/// the line is `refused NoMemory`.
+///
+/// Where the writer fails it answers Fault; a front of the line is out, not all of it, and nothing
+/// more is written.
+pub fn check_text<R: Read + Drop, W: Write>(alloc: Global, reader: R, writer: &mut W) -> Exit
+    ensures { WritesCheck (R.remaining reader) (W.contents writer.old) (W.contents writer.new) result }
+{
+    match check(reader) {
+        Ok(summary) => match ok_line(alloc, &summary) {
+            Ok(line) => write_out(writer, line.as_bytes(), Exit::Done),
+            Err(_) => fault_text(SuffixFault::NoMemory, writer),
+        },
+        Err(fault) => fault_text(fault, writer),
+    }
+}

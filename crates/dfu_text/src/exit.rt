@@ -1,0 +1,31 @@
+//! How a command ended.
+
+ghost use Rattle.std.specs.Prelude.{◌≡◌};
+ghost use Rattle.dfu_text.specs.Exits.{status_of};
+
+/// How a command ended, which is the exit status of the program.
+#[derive(Clone, Copy, Debug, PartialEq, Eq)]
+pub enum Exit {
+    /// It did what was asked: status 0.
+    Done,
+    /// The input was refused by name: status 1.
+    Refused,
+    /// The words of the command line weren't understood: status 2.
+    BadWords,
+    /// A file, standard input or standard output failed: status 3.
+    Fault,
+}
+
+impl Exit {
+    /// The exit status, from 0 to 3.
+    pub fn status(self) -> u8
+        ensures { result ≡ status_of self }
+    {
+        match self {
+            Exit::Done => 0,
+            Exit::Refused => 1,
+            Exit::BadWords => 2,
+            Exit::Fault => 3,
+        }
+    }
+}

@@ -1,0 +1,10 @@
+use Rattle.dfu_words.specs.CommandLine.{dfu_app}
+use Rattle.dfu_words.proofs.command_line.dfu_command.Goals as goal
+
+pub returns-clause-app : goal.returns-clause-app
+unfolding dfu_app
+returns-clause-app c =
+    let e1 = c.with_sub-command.ensures.app _ _ c.top_command.ensures.app c.check_command.ensures.app in
+    let e2 = c.with_sub-command-2.ensures.app _ _ e1 c.add_command.ensures.app in
+    let e3 = c.with_sub-command-3.ensures.app _ _ e2 c.show_command.ensures.app in
+    c.with_sub.ensures.app _ _ e3 c.run_command.ensures.app

@@ -1,0 +1,53 @@
+-- The command line of the program, in clap's own words.
+use Rattle.std.specs.Prelude.{◌≡◌, true, List, [], ◌∷◌, Option, Some, None, codes}
+use Rattle.std.specs.String.{string_bytes}
+use Rattle.clap.specs.Words.{App, Row, Rule, Text, first_of, new_app, new_rule, with_rule, with_subcommand}
+use Rattle.clap.specs.declared.builder.ArgAction.TheVariants.{Set}
+use Rattle.dfu_words.specs.declared.task.Job.{Job}
+use Rattle.dfu_words.specs.declared.task.Job.TheVariants.{Check, Add, Show, Run}
+
+-- A positional argument that is needed has to be there, with one value.
+abbrev pub needed : Text → Rule
+needed id = record (new_rule id) { required = true; action = Some Set; value_names = 1 }
+
+-- An option `--ID` has a value, and a default where it isn't given.
+abbrev pub option : Text → Text → Rule
+option id default = record (new_rule id) { long = Some id; action = Some Set; defaults = default ∷ [] }
+
+-- The command `check` takes FILE.
+abbrev pub check_app : App
+check_app = with_rule (new_app (codes "check")) (needed (codes "file"))
+
+-- The command `add` takes FILE, OUT and the options `--vid`, `--pid` and `--did`, each `ffff` by default.
+abbrev pub add_app : App
+add_app =
+    with_rule (with_rule (with_rule (with_rule (with_rule (new_app (codes "add")) (needed (codes "file"))) (needed (codes "to")))
+    (option (codes "vid") (codes "ffff"))) (option (codes "pid") (codes "ffff"))) (option (codes "did") (codes "ffff"))
+
+-- The command `show` takes KIND and HEX.
+abbrev pub show_app : App
+show_app = with_rule (with_rule (new_app (codes "show")) (needed (codes "kind"))) (needed (codes "hex"))
+
+-- The command `run` takes SCRIPT.
+abbrev pub run_app : App
+run_app = with_rule (new_app (codes "run")) (needed (codes "script"))
+
+-- The command `dfu` with no subcommand yet has to get one.
+abbrev pub top_app : App
+top_app = record (new_app (codes "dfu")) { top = record (new_app (codes "dfu")).top { subcommand_required = true } }
+
+-- The whole command `dfu` has the subcommands `check`, `add`, `show` and `run`.
+unfoldable pub dfu_app : App
+dfu_app = with_subcommand (with_subcommand (with_subcommand (with_subcommand top_app check_app.top) add_app.top) show_app.top) run_app.top
+
+-- The job is what the subcommand and its arguments state, each text in its own place.
+abbrev pub States : Option (Text × List Row) → Job → Type 0
+States None job = ⊥
+States (Some p) (Check file) = (p.0 ≡ codes "check") × (first_of (codes "file") p.1 ≡ Some (string_bytes file))
+States (Some p) (Add file to vid pid did) =
+    (p.0 ≡ codes "add") × (first_of (codes "file") p.1 ≡ Some (string_bytes file)) × (first_of (codes "to") p.1 ≡ Some (string_bytes to))
+    × (first_of (codes "vid") p.1 ≡ Some (string_bytes vid)) × (first_of (codes "pid") p.1 ≡ Some (string_bytes pid))
+    × (first_of (codes "did") p.1 ≡ Some (string_bytes did))
+States (Some p) (Show kind hex) = (p.0 ≡ codes "show") × (first_of (codes "kind") p.1 ≡ Some (string_bytes kind))
+    × (first_of (codes "hex") p.1 ≡ Some (string_bytes hex))
+States (Some p) (Run script) = (p.0 ≡ codes "run") × (first_of (codes "script") p.1 ≡ Some (string_bytes script))

@@ -1,0 +1,136 @@
+//! The command line, as clap has it. What is called often isn't inlined, which keeps the program
+//! small.
+
+ghost use Rattle.std.specs.Prelude.{◌≡◌, IfOk, false, true};
+ghost use Rattle.clap.specs.Words.{App, Rule, app_of, new_app, rule_of, with_rule, with_subcommand};
+ghost use Rattle.clap.specs.declared.builder.Command.TheViews.{out-Command};
+ghost use Rattle.dfu_words.specs.CommandLine.{needed, option, check_app, add_app, show_app, run_app, top_app, dfu_app};
+
+use crate::help;
+use clap::{Arg, ArgAction, Command};
+use std::alloc::{AllocError, Global};
+
+/// A positional argument that has to be there.
+#[inline(never)]
+fn needed<'a>(alloc: Global, id: &'a str, name: &'a str, help: &'a str) -> Arg<'a>
+    ensures rule { rule_of result ≡ needed id.entry.now }
+    ensures local { result.global ≡ false }
+{
+    Arg::new(alloc, id)
+        .required(true)
+        .action(ArgAction::Set)
+        .value_name(name)
+        .help(help)
+}
+
+/// An option with a value, which has a default.
+#[inline(never)]
+fn option<'a>(alloc: Global, id: &'a str, default: &'a str, help: &'a str) -> Arg<'a>
+    ensures rule { rule_of result ≡ option id.entry.now default.entry.now }
+    ensures local { result.global ≡ false }
+{
+    Arg::new(alloc, id)
+        .long(id)
+        .action(ArgAction::Set)
+        .default_value(default)
+        .help(help)
+}
+
+/// A command with one argument more, where there was memory for the command.
+// One step in a function of its own, here and in `with_sub`: what is left of a command where a step fails is looked at once.
+#[inline(never)]
+fn with<'a>(
+    command: Result<Command<'a>, AllocError>,
+    arg: Arg<'a>,
+) -> Result<Command<'a>, AllocError>
+    requires plain { IfOk command (λ c. (out-Command c).has_globals ≡ false) }
+    requires here { arg.global ≡ false }
+    ensures app { (a : App) (r : Rule) → IfOk command.entry (λ c. app_of c ≡ a) → rule_of arg.entry ≡ r
+        → IfOk result (λ c. app_of c ≡ with_rule a r) }
+    ensures local { IfOk result (λ c. (out-Command c).has_globals ≡ false) }
+{
+    command?.arg(arg)
+}
+
+/// A command with one subcommand more, where there was memory for both.
+#[inline(never)]
+fn with_sub<'a>(
+    command: Result<Command<'a>, AllocError>,
+    sub: Result<Command<'a>, AllocError>,
+) -> Result<Command<'a>, AllocError>
+    requires plain { IfOk command (λ c. (out-Command c).has_globals ≡ false) }
+    requires here { IfOk sub (λ c. (out-Command c).has_globals ≡ false) }
+    ensures app { (a b : App) → IfOk command.entry (λ c. app_of c ≡ a) → IfOk sub.entry (λ c. app_of c ≡ b)
+        → IfOk result (λ c. app_of c ≡ with_subcommand a b.top) }
+    ensures local { IfOk result (λ c. (out-Command c).has_globals ≡ false) }
+{
+    command?.subcommand(sub?)
+}
+
+/// A command with no arguments yet.
+#[inline(never)]
+fn described<'a>(alloc: Global, name: &'a str, about: &'a str, example: &'a str) -> Command<'a>
+    ensures app { app_of result ≡ new_app name.entry.now }
+    ensures local { (out-Command result).has_globals ≡ false }
+{
+    Command::new(alloc, name).about(about).after_help(example)
+}
+
+fn check_command<'a>(alloc: Global) -> Result<Command<'a>, AllocError>
+    ensures app { IfOk result (λ c. app_of c ≡ check_app) }
+    ensures local { IfOk result (λ c. (out-Command c).has_globals ≡ false) }
+{
+    let command = described(alloc, "check", help::CHECK, help::CHECK_EXAMPLE);
+    with(Ok(command), needed(alloc, "file", "FILE", help::CHECK_FILE))
+}
+
+fn add_command<'a>(alloc: Global) -> Result<Command<'a>, AllocError>
+    ensures app { IfOk result (λ c. app_of c ≡ add_app) }
+    ensures local { IfOk result (λ c. (out-Command c).has_globals ≡ false) }
+{
+    let command = described(alloc, "add", help::ADD, help::ADD_EXAMPLE);
+    let command = with(Ok(command), needed(alloc, "file", "FILE", help::ADD_FILE));
+    let command = with(command, needed(alloc, "to", "OUT", help::ADD_OUT));
+    let command = with(command, option(alloc, "vid", "ffff", help::ADD_VID));
+    let command = with(command, option(alloc, "pid", "ffff", help::ADD_PID));
+    with(command, option(alloc, "did", "ffff", help::ADD_DID))
+}
+
+fn show_command<'a>(alloc: Global) -> Result<Command<'a>, AllocError>
+    ensures app { IfOk result (λ c. app_of c ≡ show_app) }
+    ensures local { IfOk result (λ c. (out-Command c).has_globals ≡ false) }
+{
+    let command = described(alloc, "show", help::SHOW, help::SHOW_EXAMPLE);
+    let command = with(Ok(command), needed(alloc, "kind", "KIND", help::SHOW_KIND));
+    with(command, needed(alloc, "hex", "HEX", help::SHOW_HEX))
+}
+
+fn run_command<'a>(alloc: Global) -> Result<Command<'a>, AllocError>
+    ensures app { IfOk result (λ c. app_of c ≡ run_app) }
+    ensures local { IfOk result (λ c. (out-Command c).has_globals ≡ false) }
+{
+    let command = described(alloc, "run", help::RUN, help::RUN_EXAMPLE);
+    with(Ok(command), needed(alloc, "script", "SCRIPT", help::RUN_SCRIPT))
+}
+
+/// The command before its subcommands: it has to get one of them.
+fn top_command<'a>(alloc: Global) -> Result<Command<'a>, AllocError>
+    ensures app { IfOk result (λ c. app_of c ≡ top_app) }
+    ensures local { IfOk result (λ c. (out-Command c).has_globals ≡ false) }
+{
+    described(alloc, "dfu", help::DFU, help::DFU_EXAMPLE)
+        .subcommand_required(true)
+        .bin_name("dfu")
+}
+
+/// The whole command.
+#[tactic(auto, unfolding(crate::specs::CommandLine::dfu_app))]
+pub(crate) fn dfu_command<'a>(alloc: Global) -> Result<Command<'a>, AllocError>
+    ensures app { IfOk result (λ c. app_of c ≡ dfu_app) }
+    ensures local { IfOk result (λ c. (out-Command c).has_globals ≡ false) }
+{
+    let command = with_sub(top_command(alloc), check_command(alloc));
+    let command = with_sub(command, add_command(alloc));
+    let command = with_sub(command, show_command(alloc));
+    with_sub(command, run_command(alloc))
+}

@@ -1,0 +1,12 @@
+//! The words of the command line of `dfu`: what they ask for, or why they are refused.
+//!
+//! `job` takes them apart. The crate opens no file and prints nothing.
+#![tactic(auto)]
+
+mod command_line;
+mod help;
+mod task;
+mod words;
+
+pub use task::{Job, JobFault};
+pub use words::job;

@@ -1,0 +1,147 @@
+//! From the words of a command line to a job.
+
+ghost use Rattle.std.specs.Prelude.{◌≡◌, IfErr, IfOk, IfSome, Some, codes, is_some, map, true};
+ghost use Rattle.std.specs.String.{string_bytes};
+ghost use Rattle.clap.specs.Words.{HasKind, Kinds, first_of, found_of, has_subcommand, rows_of, subcommand_of, subcommand_rows_of};
+ghost use Rattle.dfu_words.specs.CommandLine.{dfu_app, States};
+ghost use Rattle.dfu_words.specs.Complete.{HasTexts, IsComplete, arguments_of};
+ghost use Rattle.dfu_words.specs.Refusals.{EndsBy, Tells, word_faults};
+
+use crate::command_line::dfu_command;
+use crate::task::{Job, JobFault};
+use clap::ArgMatches;
+use clap::error::ErrorKind;
+use std::alloc::Global;
+
+/// The text of an argument.
+// Nine calls have it: once in the program is enough.
+#[inline(never)]
+fn text_of(alloc: Global, found: &ArgMatches<'_>, id: &str) -> Result<String, JobFault>
+    requires there { is_some (first_of id.now (rows_of (found_of found.now))) ≡ true }
+    ensures memory { IfErr result (λ f. f ≡ JobFault.NoMemory) }
+    ensures text { IfOk result (λ t. first_of id.now (rows_of (found_of found.now)) ≡ Some (string_bytes t)) }
+{
+    let Some(text) = found.get_str(id) else {
+        unreachable!()
+    };
+    match String::from_str(alloc, text) {
+        Ok(text) => Ok(text),
+        Err(_) => Err(JobFault::NoMemory),
+    }
+}
+
+/// What clap makes of the words.
+fn matches_of<'a>(alloc: Global, words: &'a [String]) -> Result<ArgMatches<'a>, JobFault>
+    ensures rows { IfOk result (λ m. subcommand_rows_of m ≡ subcommand_of dfu_app (map string_bytes words.now)) }
+    ensures named { IfOk result (λ m. has_subcommand m ≡ true) }
+    ensures complete { IfOk result (λ m. IfSome (subcommand_rows_of m) (λ p. IsComplete p.0 p.1)) }
+    ensures faults { EndsBy (word_faults (map string_bytes words.now)) result }
+{
+    let command = match dfu_command(alloc) {
+        Ok(command) => command,
+        Err(_) => return Err(JobFault::NoMemory),
+    };
+    match command.try_get_matches_from(words) {
+        Ok(matches) => Ok(matches),
+        Err(error) => Err(fault_of(error)),
+    }
+}
+
+/// The parser's want of memory is our own.
+fn fault_of(error: clap::Error) -> JobFault
+    ensures { (kinds : Kinds) → HasKind kinds error → Tells kinds result }
+{
+    match error.kind() {
+        ErrorKind::OutOfMemory => JobFault::NoMemory,
+        _ => JobFault::Words(error),
+    }
+}
+
+fn check_job(alloc: Global, found: &ArgMatches<'_>) -> Result<Job, JobFault>
+    requires texts { HasTexts (arguments_of (codes "check")) (rows_of (found_of found.now)) }
+    ensures job { IfOk result (λ j. States (Some (codes "check", rows_of (found_of found.now))) j) }
+    ensures memory { IfErr result (λ f. f ≡ JobFault.NoMemory) }
+{
+    let file = text_of(alloc, found, "file")?;
+    Ok(Job::Check { file })
+}
+
+fn add_job(alloc: Global, found: &ArgMatches<'_>) -> Result<Job, JobFault>
+    requires texts { HasTexts (arguments_of (codes "add")) (rows_of (found_of found.now)) }
+    ensures job { IfOk result (λ j. States (Some (codes "add", rows_of (found_of found.now))) j) }
+    ensures memory { IfErr result (λ f. f ≡ JobFault.NoMemory) }
+{
+    let file = text_of(alloc, found, "file")?;
+    let to = text_of(alloc, found, "to")?;
+    let vid = text_of(alloc, found, "vid")?;
+    let pid = text_of(alloc, found, "pid")?;
+    let did = text_of(alloc, found, "did")?;
+    Ok(Job::Add {
+        file,
+        to,
+        vid,
+        pid,
+        did,
+    })
+}
+
+fn show_job(alloc: Global, found: &ArgMatches<'_>) -> Result<Job, JobFault>
+    requires texts { HasTexts (arguments_of (codes "show")) (rows_of (found_of found.now)) }
+    ensures job { IfOk result (λ j. States (Some (codes "show", rows_of (found_of found.now))) j) }
+    ensures memory { IfErr result (λ f. f ≡ JobFault.NoMemory) }
+{
+    let kind = text_of(alloc, found, "kind")?;
+    let hex = text_of(alloc, found, "hex")?;
+    Ok(Job::Show { kind, hex })
+}
+
+fn run_job(alloc: Global, found: &ArgMatches<'_>) -> Result<Job, JobFault>
+    requires texts { HasTexts (arguments_of (codes "run")) (rows_of (found_of found.now)) }
+    ensures job { IfOk result (λ j. States (Some (codes "run", rows_of (found_of found.now))) j) }
+    ensures memory { IfErr result (λ f. f ≡ JobFault.NoMemory) }
+{
+    let script = text_of(alloc, found, "script")?;
+    Ok(Job::Run { script })
+}
+
+fn named_job(alloc: Global, name: &str, found: &ArgMatches<'_>) -> Result<Job, JobFault>
+    requires complete { IsComplete name.now (rows_of (found_of found.now)) }
+    ensures job { IfOk result (λ j. States (Some (name.now, rows_of (found_of found.now))) j) }
+    ensures memory { IfErr result (λ f. f ≡ JobFault.NoMemory) }
+{
+    match name {
+        "check" => check_job(alloc, found),
+        "add" => add_job(alloc, found),
+        "show" => show_job(alloc, found),
+        "run" => run_job(alloc, found),
+        _ => unreachable!(),
+    }
+}
+
+fn chosen(alloc: Global, matches: &ArgMatches<'_>) -> Result<Job, JobFault>
+    requires named { has_subcommand matches.now ≡ true }
+    requires complete { IfSome (subcommand_rows_of matches.now) (λ p. IsComplete p.0 p.1) }
+    ensures job { IfOk result (λ j. States (subcommand_rows_of matches.now) j) }
+    ensures memory { IfErr result (λ f. f ≡ JobFault.NoMemory) }
+{
+    match matches.subcommand() {
+        Some((name, found)) => named_job(alloc, name, found),
+        None => unreachable!(),
+    }
+}
+
+/// The job that the words ask for; the first word is the program's name.
+///
+/// # Errors
+///
+/// Words where the parser refuses the words, as where they have no subcommand, and where they ask
+/// for help; NoMemory where an allocation was refused.
+pub fn job(alloc: Global, words: &[String]) -> Result<Job, JobFault>
+    // The subcommand and its texts are those that clap states for these words and this command.
+    ensures job { IfOk result (λ j. States (subcommand_of dfu_app (map string_bytes words.now)) j) }
+    // A job comes only where clap states no fault for them, and Words only with a kind that it states.
+    ensures faults { EndsBy (word_faults (map string_bytes words.now)) result }
+{
+    let matches = matches_of(alloc, words)?;
+    chosen(alloc, &matches)
+}
