@@ -32,10 +32,10 @@ for tool in sh find readlink cksum sort cat touch rm cp mv mktemp mkdir sed tr w
     case $where in /*) ln -s "$where" "tools/$tool" ;; esac
 done
 cp -R tools/* kit
-# The stand-ins: a second passes quickly, and the files `processors` and `memory` (in kB) say what the machine has.
+# The stand-ins: a second passes in the time that the file `pause` has; `processors` and `memory` (in kB) say what the machine has.
 rm kit/sleep kit/nproc kit/sed
 cp "$top/tests/kit/rt" kit/rt
-printf '#!/bin/sh\nexec "${0%%/*}/../tools/sleep" 0.1\n' > kit/sleep
+printf '#!/bin/sh\nexec "${0%%/*}/../tools/sleep" "$(cat "${0%%/*}/../pause")"\n' > kit/sleep
 printf '#!/bin/sh\nexec cat "${0%%/*}/../processors"\n' > kit/nproc
 cat > kit/sed << 'SED'
 #!/bin/sh
@@ -47,6 +47,7 @@ case "$*" in
 esac
 SED
 chmod +x kit/*
+echo 0.1 > pause
 echo 4 > processors
 echo 23000000 > memory
 echo "rattle-kit-0 $(cat "$top/KIT")" > version
