@@ -6,6 +6,7 @@ use Rattle.dfu_link.specs.declared.scripting.fault.ScriptFault.TheVariants.{BadL
 use Rattle.dfu_link.specs.ScriptRun.{WroteRun}
 use Rattle.dfu_link.specs.Falls.{Falls}
 use Rattle.dfu_link.specs.ScriptLegal.{WroteLegal, StopsLegally}
+use Rattle.dfu_link.specs.ScriptHeadline.{WroteHeadline, StopsWithHeadline}
 use Rattle.dfu_text.specs.declared.exit.Exit.{Exit}
 use Rattle.dfu_text.specs.declared.exit.Exit.TheVariants.{Done, Refused, Fault}
 use Rattle.dfu_text.specs.AnswerLines.{fault_line}
@@ -36,3 +37,11 @@ pub data WritesLegally (given old new : Option (List ℕ)) (result : Exit) : Typ
   to_the_end : IfSome given (λ text. WroteLegal text old new) → result ≡ Done → WritesLegally given old new result
   to_the_stop : (mid : Option (List ℕ)) (fault : ScriptFault) →
       IfSome given (λ text. StopsLegally text old mid) → WritesStop fault mid new result → WritesLegally given old new result
+
+-- The headline holds of what is written: to the end of the script, and that is all; or to where it stopped, and behind that the
+-- line of its fault is written.
+pub data WritesWithHeadline (given old new : Option (List ℕ)) (result : Exit) : Type 0 where
+  whole_holds : IfSome given (λ text. WroteHeadline text old new) → result ≡ Done → WritesWithHeadline given old new result
+  start_holds : (mid : Option (List ℕ)) (fault : ScriptFault) →
+      IfSome given (λ text. StopsWithHeadline text old mid) → WritesStop fault mid new result →
+      WritesWithHeadline given old new result

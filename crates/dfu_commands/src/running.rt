@@ -1,6 +1,6 @@
 //! `dfu run`: what a script prints, and the line for one that stopped.
 
-ghost use Rattle.dfu_commands.specs.RunText.{WritesStop, WritesRun, WritesLegally};
+ghost use Rattle.dfu_commands.specs.RunText.{WritesStop, WritesRun, WritesLegally, WritesWithHeadline};
 
 use dfu_link::{ScriptFault, script};
 use dfu_suffix::SuffixFault;
@@ -36,6 +36,7 @@ fn stop_text<W: Write>(alloc: Global, fault: ScriptFault, writer: &mut W) -> Exi
 pub fn run_text<R: Read + Drop, W: Write>(alloc: Global, reader: R, writer: &mut W) -> Exit
     ensures run { WritesRun (R.remaining reader) (W.contents writer.old) (W.contents writer.new) result }
     ensures legal { WritesLegally (R.remaining reader) (W.contents writer.old) (W.contents writer.new) result }
+    ensures headline { WritesWithHeadline (R.remaining reader) (W.contents writer.old) (W.contents writer.new) result }
 {
     match script(alloc, reader, writer) {
         Ok(()) => Exit::Done,

@@ -17,6 +17,7 @@ returns-in-Ok g c = record {
   end = c.run_text-exit.result;
   run = c.run_text-exit.ensures.run;
   legal = c.run_text-exit.ensures.legal;
+  headline = c.run_text-exit.ensures.headline;
   comes_out = inl (c.in-Ok.ensures.ok, refl);
 }
 
@@ -31,5 +32,6 @@ returns-in-Err g c =
       end = c.run_text-exit.result;
       run = c.run_text-exit.ensures.run;
       legal = c.run_text-exit.ensures.legal;
+      headline = c.run_text-exit.ensures.headline;
       comes_out = inr (subst (λ x. IfSome written (λ w. HasFront w (g.W.Write.contents x))) (sym behind) front, refl);
     }
