@@ -109,7 +109,8 @@ committed config s now next block n ready d image room three = record {
 
 -- A commit that failed is what the table says of it.
 pub not_committed : (fault : WriteFault) (config : Setting) (s now : SlotsState) (block : List ℕ) (n : ℕ) → IsReady s n
-    → DidCall s (Commit n) (BrokenBy fault) now → (image_of now ≡ image_of s) ⊎ (image_of now ≡ take n (spare_of s)) → room_of now ≡ room_of s
+    → DidCall s (Commit n) (BrokenBy fault) now
+    → (image_of now ≡ image_of s) ⊎ (image_of now ≡ take n (spare_of s)) → room_of now ≡ room_of s
     → FailedCommit fault (take n (spare_of s)) config s (shows config now (mode.Error (commit_code fault)) block)
 not_committed fault config s now block n ready d image room = record {
   config_is = refl;

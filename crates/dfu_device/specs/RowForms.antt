@@ -135,7 +135,7 @@ upload_form c image st place expected number size is =
     (cond_both (nat_lt c.transfer size) _ _ P (λ large. fails c image st _ ErrStalledPkt (λ y. y)) (λ small.
     either_way P (not (number == expected)) _ _ (fails c image st _ ErrAddress (λ y. y))
     (cond_both (nat_lt (length (take size (drop place image))) size) _ _ P
-    (λ short. ends place size is (ltb-false c.transfer size small) short) (λ whole. sends place size is (ltb-false c.transfer size small)))))
+    (λ short. ends place size is (ltb-false c.transfer size small) short) (λ full. sends place size is (ltb-false c.transfer size small)))))
 
 -- Each row has a form; those not named here take nothing, send nothing and call nothing.
 -- GETSTATE is named, as one of these, so that the last line is checked for each request.
