@@ -1,10 +1,9 @@
 -- What a device answers fits the request, and is heard as it was meant.
-use Rattle.std.proofs.Common.{◌≡◌, ℕ, ◌+◌, ◌==◌, nat_lt, nat_le, not, Bool, true, false, List, [], ◌∷◌, length, take, drop, refl, sym, ap, ◌∙◌, subst, arith, inl, inr}
+use Rattle.std.proofs.Common.{◌≡◌, ℕ, ◌==◌, Bool, true, false, List, [], ◌∷◌, length, take, refl, sym, ap, ◌∙◌, subst, arith, inl, inr}
 use Rattle.std.proofs.lemmas.Bool.Decides.{nat_tests}
-use Rattle.dfu_slots.specs.declared.fault.WriteFault.{WriteFault}
-use Rattle.dfu_device.specs.Stage.{Request, Dnload, Upload, GetStatus, ClrStatus, GetState, Reply, Ack, StatusOf, StateOf, Data, Stall, Profile, Stage, InAppIdle, InAppDetach, InDfuIdle, InDownloadSync, InDownloadSyncWritten, InDownloadBusy, InDownloadIdle, InManifestSync, InManifestSyncComplete, InManifest, InManifestWaitReset, InUploadIdle, InError, Detach as AskDetach}
-use Rattle.dfu_device.specs.Table.{Plan, Sure, Writes, Commits, plan, block_plan, upload_plan, is_empty, next_number}
-use Rattle.dfu_device.specs.Outcome.{Luck, Works, FailsOld, FailsNew, outcome}
+use Rattle.dfu_device.specs.Stage.{Reply, Ack, StatusOf, StateOf, Data, Stall, Profile, Stage}
+use Rattle.dfu_device.specs.Table.{plan}
+use Rattle.dfu_device.specs.Outcome.{Luck, outcome}
 use Rattle.dfu_device.specs.Cases.{either_way}
 use Rattle.dfu_host.specs.Phases.{Task, Phase, Find, FindAgain, Detach, Enter, Clear, Quit, Block, Ask, Poll, Close, AskLast, Manifest, Trouble, Fetch, Compare, GiveUp, Deed, Send, Heard, Acked, Part, Stalled}
 use Rattle.dfu_host.specs.Table.{deed}
@@ -19,92 +18,11 @@ use Rattle.dfu_device.specs.declared.answer.Answer.{Answer}
 use Rattle.dfu_device.specs.declared.answer.Answer.TheVariants as answer
 use Rattle.dfu_device.specs.Rows.{meant, asked_length, Answers, body_length, is_served}
 use Rattle.dfu_device.specs.Came.{status_whole}
+use Rattle.dfu_device.specs.RowForms.{given, Fits, row_form, row_fits}
 use Rattle.dfu_host.specs.Wire.{HearsBytes, ReadsState}
 use Rattle.dfu_host.specs.WireLaws.{status_understood, state_understood}
 use Rattle.dfu_link.specs.Bytes.{HearsAnswer}
 use Rattle.dfu_link.specs.Understood.{Understood}
-
--- A reply of the kind that a request has.
-abbrev pub Fitting : Request → Reply → Type 0
-Fitting GetStatus (StatusOf code poll state) = Unit {0}
-Fitting GetStatus Stall = Unit {0}
-Fitting GetStatus reply = ⊥
-Fitting GetState (StateOf state) = Unit {0}
-Fitting GetState Stall = Unit {0}
-Fitting GetState reply = ⊥
-Fitting (Upload number size) (Data bytes) = Unit {0}
-Fitting (Upload number size) Stall = Unit {0}
-Fitting (Upload number size) reply = ⊥
-Fitting r Ack = Unit {0}
-Fitting r Stall = Unit {0}
-Fitting r reply = ⊥
-
-abbrev FitsPlan : Request → Plan → Type 0
-FitsPlan r (Sure reply stage) = Fitting r reply
-FitsPlan r (Writes before block reply stage bad) = Fitting r reply × ((fault : WriteFault) → Fitting r (bad fault))
-FitsPlan r (Commits taken reply stage bad) = Fitting r reply × ((fault : WriteFault) → Fitting r (bad fault))
-
-fits_outcome : (r : Request) (i : List ℕ) (p : Plan) (luck : Luck) → FitsPlan r p → Fitting r (outcome i p luck).reply
-fits_outcome r i (Sure reply stage) luck f = f
-fits_outcome r i (Writes before block reply stage bad) Works f = f.0
-fits_outcome r i (Writes before block reply stage bad) (FailsOld fault) f = f.1 fault
-fits_outcome r i (Writes before block reply stage bad) (FailsNew fault) f = f.1 fault
-fits_outcome r i (Commits taken reply stage bad) Works f = f.0
-fits_outcome r i (Commits taken reply stage bad) (FailsOld fault) f = f.1 fault
-fits_outcome r i (Commits taken reply stage bad) (FailsNew fault) f = f.1 fault
-
-block_fits : (c : Profile) (before : List ℕ) (expected number : ℕ) (body : List ℕ)
-    → FitsPlan (Dnload number body) (block_plan c before expected number body)
-block_fits c before expected number body =
-    let P : Plan → Type 0 = FitsPlan (Dnload number body) in
-    either_way P (nat_lt c.transfer (length body)) _ _ tt (either_way P (not (number == expected)) _ _ tt
-    (either_way P (nat_lt c.capacity (length before + length body)) _ _ tt tt))
-
-upload_fits : (c : Profile) (i : List ℕ) (place expected number size : ℕ)
-    → FitsPlan (Upload number size) (upload_plan c i place expected number size)
-upload_fits c i place expected number size =
-    let P : Plan → Type 0 = FitsPlan (Upload number size) in
-    let part = take size (drop place i) in
-    either_way P (size == 0) _ _ tt (either_way P (nat_lt c.transfer size) _ _ tt (either_way P (not (number == expected)) _ _ tt
-    (either_way P (nat_lt (length part) size) (Sure (Data part) InDfuIdle)
-    (Sure (Data part) (InUploadIdle (place + size) (next_number expected))) tt
-    tt)))
-
--- Each row by state and request.
-fits_plan : (c : Profile) (i : List ℕ) (st : Stage) (r : Request) → FitsPlan r (plan c i st r)
-fits_plan c i InAppIdle (AskDetach timeout) = tt
-fits_plan c i InAppIdle GetStatus = tt
-fits_plan c i InAppIdle r = tt
-fits_plan c i (InAppDetach timer passed) GetStatus = tt
-fits_plan c i (InAppDetach timer passed) r = tt
-fits_plan c i InDfuIdle (Dnload number body) =
-    let P : Plan → Type 0 = FitsPlan (Dnload number body) in
-    either_way P (not c.can_download) _ _ tt (either_way P (is_empty body) _ _ tt (block_fits c [] 0 number body))
-fits_plan c i InDfuIdle (Upload number size) = either_way (FitsPlan (Upload number size)) c.can_upload _ _
-    (upload_fits c i 0 0 number size) tt
-fits_plan c i InDfuIdle r = tt
-fits_plan c i (InDownloadSync before block number) GetStatus = either_way (FitsPlan GetStatus) (c.busy == 0) _ _ (tt, λ fault. tt) tt
-fits_plan c i (InDownloadSync before block number) r = tt
-fits_plan c i (InDownloadSyncWritten taken number) GetStatus = tt
-fits_plan c i (InDownloadSyncWritten taken number) r = tt
-fits_plan c i (InDownloadBusy before block number passed) GetStatus = tt
-fits_plan c i (InDownloadBusy before block number passed) r = tt
-fits_plan c i (InDownloadIdle taken number) (Dnload k body) =
-    let P : Plan → Type 0 = FitsPlan (Dnload k body) in
-    either_way P (is_empty body) _ _ (either_way P (nat_le c.least (length taken)) _ _ tt tt) (block_fits c taken number k body)
-fits_plan c i (InDownloadIdle taken number) r = tt
-fits_plan c i (InManifestSync taken) GetStatus = either_way (FitsPlan GetStatus) (c.manifest == 0) _ _ (tt, λ fault. tt) tt
-fits_plan c i (InManifestSync taken) r = tt
-fits_plan c i InManifestSyncComplete GetStatus = tt
-fits_plan c i InManifestSyncComplete r = tt
-fits_plan c i (InManifest taken passed) GetStatus = tt
-fits_plan c i (InManifest taken passed) r = tt
-fits_plan c i InManifestWaitReset GetStatus = tt
-fits_plan c i InManifestWaitReset r = tt
-fits_plan c i (InUploadIdle place number) (Upload k size) = upload_fits c i place number k size
-fits_plan c i (InUploadIdle place number) r = tt
-fits_plan c i (InError code) ClrStatus = tt
-fits_plan c i (InError code) r = tt
 
 -- A request as a host sends it.
 abbrev pub IsHosts : Asked → List ℕ → Type 0
@@ -159,49 +77,50 @@ abbrev HeardAs : Reply → Heard → Type 0
 HeardAs reply heard = (room : Bool) × (heard ≡ remembered (heard_as reply) room)
 
 -- A reply that fits, as its bytes.
-pub reply_heard : (q : Asked) (body : List ℕ) (reply : Reply) (a : Answer) (out : List ℕ) (heard : Heard) → IsHosts q body
-    → Fitting (meant q body) reply
+pub reply_heard : (most : ℕ) (q : Asked) (body : List ℕ) (reply : Reply) (a : Answer) (out : List ℕ) (heard : Heard) → IsHosts q body
+    → Fits most reply (meant q body)
     → Answers (asked_length q) reply a out → HearsAnswer (Send q body) a out heard → HeardAs reply heard
-reply_heard (request.GetStatus len) body (StatusOf code poll state) a out heard i f says h =
+reply_heard most (request.GetStatus len) body (StatusOf code poll state) a out heard i f says h =
     let whole : (a ≡ answer.Bytes) × IsStatus (record { code = code; poll_ms = poll; state = state }) out = status_whole len code poll state
     a out (omega (arith, i.0)) says in (
       true,
       status_understood (record { code = code; poll_ms = poll; state = state }) out heard whole.1
           (heard_bytes (Send (request.GetStatus len) body) a out heard whole.0 h),
     )
-reply_heard (request.GetStatus len) body Stall a out heard i f says h =
+reply_heard most (request.GetStatus len) body Stall a out heard i f says h =
     (true, heard_stall (Send (request.GetStatus len) body) a out heard says.0 h)
-reply_heard (request.GetStatus len) body reply a out heard i f says h = elim f [ ]
-reply_heard (request.GetState len) body (StateOf state) a out heard i f says h =
+reply_heard most (request.GetStatus len) body reply a out heard i f says h = elim f [ ]
+reply_heard most (request.GetState len) body (StateOf state) a out heard i f says h =
     let whole : out ≡ state_byte state ∷ [] = says.1 ∙ ap (λ n. take n (state_byte state ∷ [])) i.0 in (
       true,
       state_understood state heard (subst (λ l. ReadsState l heard) whole
           (heard_bytes (Send (request.GetState len) body) a out heard says.0 h)),
     )
-reply_heard (request.GetState len) body Stall a out heard i f says h =
+reply_heard most (request.GetState len) body Stall a out heard i f says h =
     (true, heard_stall (Send (request.GetState len) body) a out heard says.0 h)
-reply_heard (request.GetState len) body reply a out heard i f says h = elim f [ ]
-reply_heard (request.Upload block len) body (Data bytes) a out heard i f says h =
+reply_heard most (request.GetState len) body reply a out heard i f says h = elim f [ ]
+reply_heard most (request.Upload block len) body (Data bytes) a out heard i f says h =
     elim (heard_bytes (Send (request.Upload block len) body) a out heard says.0 h) [
       | inl part ↦ (true, part ∙ ap Part says.1)
       | inr (none, needs) ↦ (false, none)
     ]
-reply_heard (request.Upload block len) body Stall a out heard i f says h =
+reply_heard most (request.Upload block len) body Stall a out heard i f says h =
     (true, heard_stall (Send (request.Upload block len) body) a out heard says.0 h)
-reply_heard (request.Upload block len) body reply a out heard i f says h = elim f [ ]
-reply_heard request.OtherClass body reply a out heard i f says h = elim i [ ]
-reply_heard request.NotDfu body reply a out heard i f says h = elim i [ ]
-reply_heard q body Ack a out heard i f says h = (true, heard_ack (Send q body) a out heard says.0 h)
-reply_heard q body Stall a out heard i f says h = (true, heard_stall (Send q body) a out heard says.0 h)
-reply_heard q body reply a out heard i f says h = elim f [ ]
+reply_heard most (request.Upload block len) body reply a out heard i f says h = elim f [ ]
+reply_heard most request.OtherClass body reply a out heard i f says h = elim i [ ]
+reply_heard most request.NotDfu body reply a out heard i f says h = elim i [ ]
+reply_heard most q body Ack a out heard i f says h = (true, heard_ack (Send q body) a out heard says.0 h)
+reply_heard most q body Stall a out heard i f says h = (true, heard_stall (Send q body) a out heard says.0 h)
+reply_heard most q body reply a out heard i f says h = elim f [ ]
 
 -- What a plan of the table answers.
 pub plan_heard : (q : Asked) (body : List ℕ) (c : Profile) (i : List ℕ) (st : Stage) (luck : Luck) (a : Answer) (out : List ℕ)
     (heard : Heard) → IsHosts q body → let reply = (outcome i (plan c i st (meant q body)) luck).reply in
     Answers (asked_length q) reply a out → HearsAnswer (Send q body) a out heard → HeardAs reply heard
 plan_heard q body c i st luck a out heard is says h =
-    reply_heard q body _ a out heard is (fits_outcome (meant q body) i (plan c i st (meant q body)) luck (fits_plan c i st (meant q body)))
-    says h
+    let r = meant q body in
+    reply_heard c.transfer q body _ a out heard is
+    (given (λ reply. Fits c.transfer reply r) i (plan c i st r) luck (row_fits c i st r (plan c i st r) (row_form c i st r))) says h
 
 -- What a device answers is heard as what it meant.
 pub understood : Understood
