@@ -71,7 +71,7 @@ pub acts_send : (d : Deed) (course : Course) (setup : List ℕ) (given : Bor (Li
     → last ≡ out → HearsBack d b last heard → Acts d course w w' heard
 acts_send (Send q body) course setup given heard b {out = out} {w = w} {w' = w'} e s same h =
     let sent = subst (λ (x : List ℕ). (q : Asked) (heard : Heard) → HearsBack (Send q x) b out heard → Sends q setup x course w w' heard)
-        e.1 s in
+    e.1 s in
     (setup, e.0, sent q heard (subst (λ (x : List ℕ). HearsBack (Send q body) b x heard) same h))
 acts_send d course setup given heard b e s same h = elim e [ ]
 

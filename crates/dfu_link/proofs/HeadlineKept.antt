@@ -8,11 +8,11 @@ use Rattle.dfu_link.specs.declared.event.Event.{Event}
 use Rattle.dfu_link.specs.declared.event.Event.TheVariants.{Offer, OfferVerified, Upload, Abort, Go, Time, Reset, Cut}
 use Rattle.dfu_link.specs.declared.fault.LinkFault.{LinkFault}
 use Rattle.dfu_link.specs.Session.{Machine, Loading, IsOneOf, SaysInPlace}
-use Rattle.dfu_link.specs.Agreement.{AgreesOn, intake_of, pending_in, live_of, live_goal, IsShutOffer, IsLiveOffer}
+use Rattle.dfu_link.specs.Agreement.{AgreesOn, intake_of, live_of, live_goal, IsShutOffer}
 use Rattle.dfu_link.specs.Bench.{Session, Nobody, Hosted, Bench, LinkState}
 use Rattle.dfu_link.specs.Happening.{Happening, happening}
 use Rattle.dfu_link.specs.Following.{IsFollowed, AllFollow}
-use Rattle.dfu_link.specs.Headline.{Begun, WithOffer, AsUpload, begun, WasOffered, IsLastPayload, IsWaiting, IsGoalPayload, IsLivePayload, HeadlineHolds, StepKeepsHeadline, HoldsAfterEach, no_event, one_event, EventsKeepHeadline, HoldsAtRest}
+use Rattle.dfu_link.specs.Headline.{Begun, WithOffer, AsUpload, begun, WasOffered, IsLastPayload, IsWaiting, IsGoalPayload, IsLivePayload, HeadlineHolds, StepKeepsHeadline, no_event, one_event, EventsKeepHeadline, HoldsAtRest}
 use Rattle.dfu_link.specs.ScriptHeadline.{begun_by}
 use Rattle.dfu_link.proofs.Offered.{IsOfPast, past_on, in_place_on}
 use Rattle.dfu_link.proofs.Agreeing.{closed_in, goal_in, session_in, closed_sound, live_offered, machine_with}

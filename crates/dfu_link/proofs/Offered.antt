@@ -1,5 +1,5 @@
 -- What a session machine has was offered by the sessions that have begun.
-use Rattle.std.proofs.Common.{◌≡◌, ◌⊎◌, inl, inr, ℕ, Bool, List, [], ◌∷◌, ◌++◌, Option, refl, sym, ◌∙◌, subst}
+use Rattle.std.proofs.Common.{◌≡◌, ◌⊎◌, inl, inr, ℕ, Bool, List, [], ◌∷◌, ◌++◌, Option, sym, ◌∙◌, subst}
 use Rattle.dfu_host.specs.declared.report.Report.{Report}
 use Rattle.dfu_link.specs.Session.{Machine, Loading, IsOneOf, Says, says_not, says_installed, says_verified, says_uploaded, says_other, Kind, AnOffer, AnUpload, SaysInPlace, Step, offered, uploads, aborts, passes, passes_installed, restarts, goes, stops, and_then, said}
 use Rattle.dfu_link.specs.Simulation.{offers_after}

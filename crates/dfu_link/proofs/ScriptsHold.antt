@@ -4,7 +4,6 @@ use Rattle.std.specs.Prelude.{OnOk, OnErr, IfSome, Bool}
 use Rattle.std.specs.Io.KnownBytes.{Appends}
 use Rattle.dfu_host.specs.declared.report.Report.{Report}
 use Rattle.dfu_host.specs.declared.report.Report.TheVariants.{Uploaded}
-use Rattle.dfu_link.specs.declared.fault.LinkFault.{LinkFault}
 use Rattle.dfu_link.specs.declared.scripting.fault.ScriptFault.{ScriptFault}
 use Rattle.dfu_link.specs.Session.{Machine, Kind, Step}
 use Rattle.dfu_link.specs.Bench.{Bench}
@@ -42,7 +41,7 @@ events_held {factory = factory} {past = past} {b = b} {b' = b'} {m' = m'} of_pas
     (legal.one_event {hs = hs} {out = out} h (Ok report) more (f, same) vouches) =
     let held = events_held of_past more in
     let line : told_line (Ok report) f.after.cur ≡ told_line (Ok report) m'.up = line_shows report f.step
-        ∙ ap (λ (x : Machine). told_line (Ok report) x.up) (sym same) in
+    ∙ ap (λ (x : Machine). told_line (Ok report) x.up) (sym same) in
     record {
       past' = begun_by h held.past';
       of_past = subst (λ (x : Machine). IsOfPast factory (begun_by h held.past') x) (sym same) (past_on h held.of_past f);
@@ -169,7 +168,7 @@ stops_held (legal.before_start e) = before_start e
 stops_held {new = new} (legal.after_start {rest = rest} {end = end} {m = m} {mid = mid} runs split told out) =
     let held = run_held runs in
     after_start held.holds split told (subst (λ (s : Settings). PartHolds s.image held.past end m.cur rest mid new) (sym held.same)
-        (part_held held.of_past out))
+    (part_held held.of_past out))
 
 -- And so does one that stopped.
 pub stopped_headline : (given : Option (List ℕ)) (old new : Option (List ℕ)) (r : Result Unit ScriptFault)

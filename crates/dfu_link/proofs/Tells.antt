@@ -64,7 +64,7 @@ module _ (c : Profile) (i : List ℕ) where
   status_told (InManifestSync taken) luck =
       either_way (λ p. ToldBy (heard_as (outcome i p luck).reply) (outcome i p luck).after.stage) (c.manifest == 0) _ _
       (elim luck as (λ l. let o = outcome i
-          (Commits taken (status_of c InDfuIdle) InDfuIdle (λ fault. status_of c (InError (commit_code fault)))) l in
+      (Commits taken (status_of c InDfuIdle) InDfuIdle (λ fault. status_of c (InError (commit_code fault)))) l in
       ToldBy (heard_as o.reply) o.after.stage) [ Works ↦ tt | FailsOld fault ↦ tt | FailsNew fault ↦ tt ])
       tt
   status_told stage luck = tt
