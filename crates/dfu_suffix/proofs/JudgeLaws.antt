@@ -1,4 +1,4 @@
--- What the last 16 bytes, a count and the register over all bytes say of the bytes: for `read`, and for `check`, which has them in a window.
+-- What the last 16 bytes, a count and the register over all bytes say of the bytes: for `read`, and for `check`, which keeps a window.
 use Rattle.std.proofs.Common.{Option, ◌≡◌, ◌↔◌, ℕ, ◌+◌, ◌-◌, ◌≤◌, ◌||◌, Bool, true, false, not, cond, eqb, ltb, List, [], ◌∷◌, length, take, drop, get_or, Some, None, Result, Ok, Err, IfOk, refl, sym, ap, ◌∙◌, arith}
 use Rattle.std.specs.Prelude.{find}
 use Rattle.std.proofs.lemmas.Bool.{eqb-true, eq-eqb, ltb-false}
