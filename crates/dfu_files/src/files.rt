@@ -6,9 +6,8 @@ use crate::replacing::Replacement;
 use dfu_suffix::SuffixFault;
 use dfu_text::{Exit, add_text, check_text, fault_text, write_out};
 use dfu_wire::Ids;
-use std::fs;
-use std::io;
 use std::rt::Files;
+use std::{fs, io};
 
 /// Checks a file, or standard input where the name is `-`.
 pub fn run_check<R: Files + Input + Print + AllocGlobal>(rt: &R, file: &str) -> Exit {
@@ -20,12 +19,7 @@ pub fn run_check<R: Files + Input + Print + AllocGlobal>(rt: &R, file: &str) -> 
 }
 
 /// Adds a suffix to a file, and makes the other file only where that succeeded.
-pub fn run_add<R: Files + Print + AllocGlobal>(
-    rt: &R,
-    file: &str,
-    to: &str,
-    ids: Ids,
-) -> Exit
+pub fn run_add<R: Files + Print + AllocGlobal>(rt: &R, file: &str, to: &str, ids: Ids) -> Exit
 where
     R::File: Owned,
 {

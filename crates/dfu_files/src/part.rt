@@ -1,8 +1,8 @@
 //! A new file beside the one that it is to replace.
 
-use dfu_text::push;
 use crate::owner::Owned;
 use crate::place::{Place, beside, place_of};
+use dfu_text::push;
 use std::alloc::{AllocError, Global};
 use std::fs::{self, Metadata, OpenFile, OpenOptions, Permissions};
 use std::io::{self, ErrorKind};

@@ -110,7 +110,10 @@ fn run_command<'a>(alloc: Global) -> Result<Command<'a>, AllocError>
     ensures local { IfOk result (λ c. (out-Command c).has_globals ≡ false) }
 {
     let command = described(alloc, "run", help::RUN, help::RUN_EXAMPLE);
-    with(Ok(command), needed(alloc, "script", "SCRIPT", help::RUN_SCRIPT))
+    with(
+        Ok(command),
+        needed(alloc, "script", "SCRIPT", help::RUN_SCRIPT),
+    )
 }
 
 /// The command before its subcommands: it has to get one of them.
