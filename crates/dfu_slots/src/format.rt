@@ -52,7 +52,7 @@ fn close_gates<M: Medium>(medium: &mut M) -> Result<(), WriteFault>
 }
 
 /// Makes this the active image of the medium.
-pub fn write_image<M: Medium>(medium: &mut M, image: &[u8]) -> Result<(), WriteFault>
+pub(crate) fn write_image<M: Medium>(medium: &mut M, image: &[u8]) -> Result<(), WriteFault>
     requires { CanFormat (M.state medium.old) image.now }
     ensures { Series (M.state medium.old) (format_series (M.state medium.old) image.now) result (M.state medium.new) }
 {

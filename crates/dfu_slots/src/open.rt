@@ -17,7 +17,7 @@ fn is_multiple(unit: Unit, len: u32) -> bool
 }
 
 /// Whether the medium has a length that two slots can have, with whole units of data each.
-pub fn is_sized<M: Medium>(medium: &M) -> bool
+pub(crate) fn is_sized<M: Medium>(medium: &M) -> bool
     ensures { IsTrue result ↔ IsSized (M.state medium.now) }
 {
     let unit = medium.unit();
@@ -30,7 +30,7 @@ pub fn is_sized<M: Medium>(medium: &M) -> bool
 }
 
 /// Where the slots of a medium stand that has an active image, or else the first fault of it.
-pub fn check<M: Medium>(medium: &M) -> Result<Places, OpenFault>
+pub(crate) fn check<M: Medium>(medium: &M) -> Result<Places, OpenFault>
     ensures ok { OnOk result (HasImage (M.state medium.now)) }
     ensures active { IfOk result (λ p. p.active ≡ active_at (gate_of (M.state medium.now)) (M.state medium.now).bytes) }
     ensures spare { IfOk result (λ p. p.spare ≡ spare_at (gate_of (M.state medium.now)) (M.state medium.now).bytes) }

@@ -3,14 +3,10 @@
 
 ghost use Rattle.dfu_suffix.specs.Laws.{EachFileOrFault, LastFour, OneReading};
 
-/// Bytes have a reading or a first fault, and never both.
-pub fn file_or_fault()
-    ensures { EachFileOrFault }
-{}
-
-/// No bytes have two readings.
+/// Bytes have a reading or a first fault, never both, and never two readings.
 pub fn one_reading()
-    ensures { OneReading }
+    ensures either { EachFileOrFault }
+    ensures one { OneReading }
 {}
 
 /// The register over four bytes or more is 0 exactly where the last four are the register over

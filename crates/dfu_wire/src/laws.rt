@@ -14,14 +14,10 @@ pub fn one_functional()
     ensures one_fault { OneFunctionalFault }
 {}
 
-/// No bytes are two setups.
+/// No bytes are two setups, and no setup asks for two things.
 pub fn one_setup()
-    ensures { OneSetup }
-{}
-
-/// No setup asks for two things.
-pub fn one_request()
-    ensures { OneRequest }
+    ensures one { OneSetup }
+    ensures request { OneRequest }
 {}
 
 /// No bytes are two statuses, none are a status and have a fault, and none have two first faults.
