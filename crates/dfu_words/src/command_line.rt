@@ -2,7 +2,7 @@
 //! small.
 
 ghost use Rattle.std.specs.Prelude.{◌≡◌, IfOk, false, true};
-ghost use Rattle.clap.specs.Words.{app_of, new_app, rule_of, with_rule, with_subcommand};
+ghost use Rattle.clap.specs.Words.{App, Rule, app_of, new_app, rule_of, with_rule, with_subcommand};
 ghost use Rattle.clap.specs.declared.builder.Command.TheViews.{out-Command};
 ghost use Rattle.dfu_words.specs.CommandLine.{needed, option, check_app, add_app, show_app, run_app, top_app, dfu_app};
 
@@ -36,26 +36,35 @@ fn option<'a>(alloc: Global, id: &'a str, default: &'a str, help: &'a str) -> Ar
         .help(help)
 }
 
-/// A command with one argument more.
+/// A command with one argument more, where there was memory for the command.
+// One step in a function of its own, here and in `with_sub`: what is left of a command where a step fails is looked at once.
 #[inline(never)]
-fn with<'a>(command: Command<'a>, arg: Arg<'a>) -> Result<Command<'a>, AllocError>
-    requires plain { (out-Command command).has_globals ≡ false }
+fn with<'a>(
+    command: Result<Command<'a>, AllocError>,
+    arg: Arg<'a>,
+) -> Result<Command<'a>, AllocError>
+    requires plain { IfOk command (λ c. (out-Command c).has_globals ≡ false) }
     requires here { arg.global ≡ false }
-    ensures app { IfOk result (λ c. app_of c ≡ with_rule (app_of command.entry) (rule_of arg.entry)) }
+    ensures app { (a : App) (r : Rule) → IfOk command.entry (λ c. app_of c ≡ a) → rule_of arg.entry ≡ r
+        → IfOk result (λ c. app_of c ≡ with_rule a r) }
     ensures local { IfOk result (λ c. (out-Command c).has_globals ≡ false) }
 {
-    command.arg(arg)
+    command?.arg(arg)
 }
 
-/// A command with one subcommand more.
+/// A command with one subcommand more, where there was memory for both.
 #[inline(never)]
-fn with_sub<'a>(command: Command<'a>, sub: Command<'a>) -> Result<Command<'a>, AllocError>
-    requires plain { (out-Command command).has_globals ≡ false }
-    requires here { (out-Command sub).has_globals ≡ false }
-    ensures app { IfOk result (λ c. app_of c ≡ with_subcommand (app_of command.entry) (app_of sub.entry).top) }
+fn with_sub<'a>(
+    command: Result<Command<'a>, AllocError>,
+    sub: Result<Command<'a>, AllocError>,
+) -> Result<Command<'a>, AllocError>
+    requires plain { IfOk command (λ c. (out-Command c).has_globals ≡ false) }
+    requires here { IfOk sub (λ c. (out-Command c).has_globals ≡ false) }
+    ensures app { (a b : App) → IfOk command.entry (λ c. app_of c ≡ a) → IfOk sub.entry (λ c. app_of c ≡ b)
+        → IfOk result (λ c. app_of c ≡ with_subcommand a b.top) }
     ensures local { IfOk result (λ c. (out-Command c).has_globals ≡ false) }
 {
-    command.subcommand(sub)
+    command?.subcommand(sub?)
 }
 
 /// A command with no arguments yet.
@@ -72,7 +81,7 @@ fn check_command<'a>(alloc: Global) -> Result<Command<'a>, AllocError>
     ensures local { IfOk result (λ c. (out-Command c).has_globals ≡ false) }
 {
     let command = described(alloc, "check", help::CHECK, help::CHECK_EXAMPLE);
-    with(command, needed(alloc, "file", "FILE", help::CHECK_FILE))
+    with(Ok(command), needed(alloc, "file", "FILE", help::CHECK_FILE))
 }
 
 fn add_command<'a>(alloc: Global) -> Result<Command<'a>, AllocError>
@@ -80,10 +89,10 @@ fn add_command<'a>(alloc: Global) -> Result<Command<'a>, AllocError>
     ensures local { IfOk result (λ c. (out-Command c).has_globals ≡ false) }
 {
     let command = described(alloc, "add", help::ADD, help::ADD_EXAMPLE);
-    let command = with(command, needed(alloc, "file", "FILE", help::ADD_FILE))?;
-    let command = with(command, needed(alloc, "to", "OUT", help::ADD_OUT))?;
-    let command = with(command, option(alloc, "vid", "ffff", help::ADD_VID))?;
-    let command = with(command, option(alloc, "pid", "ffff", help::ADD_PID))?;
+    let command = with(Ok(command), needed(alloc, "file", "FILE", help::ADD_FILE));
+    let command = with(command, needed(alloc, "to", "OUT", help::ADD_OUT));
+    let command = with(command, option(alloc, "vid", "ffff", help::ADD_VID));
+    let command = with(command, option(alloc, "pid", "ffff", help::ADD_PID));
     with(command, option(alloc, "did", "ffff", help::ADD_DID))
 }
 
@@ -92,7 +101,7 @@ fn show_command<'a>(alloc: Global) -> Result<Command<'a>, AllocError>
     ensures local { IfOk result (λ c. (out-Command c).has_globals ≡ false) }
 {
     let command = described(alloc, "show", help::SHOW, help::SHOW_EXAMPLE);
-    let command = with(command, needed(alloc, "kind", "KIND", help::SHOW_KIND))?;
+    let command = with(Ok(command), needed(alloc, "kind", "KIND", help::SHOW_KIND));
     with(command, needed(alloc, "hex", "HEX", help::SHOW_HEX))
 }
 
@@ -101,7 +110,10 @@ fn run_command<'a>(alloc: Global) -> Result<Command<'a>, AllocError>
     ensures local { IfOk result (λ c. (out-Command c).has_globals ≡ false) }
 {
     let command = described(alloc, "run", help::RUN, help::RUN_EXAMPLE);
-    with(command, needed(alloc, "script", "SCRIPT", help::RUN_SCRIPT))
+    with(
+        Ok(command),
+        needed(alloc, "script", "SCRIPT", help::RUN_SCRIPT),
+    )
 }
 
 /// The command before its subcommands: it has to get one of them.
@@ -120,8 +132,8 @@ pub(crate) fn dfu_command<'a>(alloc: Global) -> Result<Command<'a>, AllocError>
     ensures app { IfOk result (λ c. app_of c ≡ dfu_app) }
     ensures local { IfOk result (λ c. (out-Command c).has_globals ≡ false) }
 {
-    let command = with_sub(top_command(alloc)?, check_command(alloc)?)?;
-    let command = with_sub(command, add_command(alloc)?)?;
-    let command = with_sub(command, show_command(alloc)?)?;
-    with_sub(command, run_command(alloc)?)
+    let command = with_sub(top_command(alloc), check_command(alloc));
+    let command = with_sub(command, add_command(alloc));
+    let command = with_sub(command, show_command(alloc));
+    with_sub(command, run_command(alloc))
 }

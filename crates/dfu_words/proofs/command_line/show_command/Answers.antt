@@ -1,0 +1,5 @@
+use Rattle.dfu_words.proofs.command_line.show_command.Goals as goal
+
+pub returns-clause-app : goal.returns-clause-app
+returns-clause-app c = c.with.ensures.app _ _
+    (c.with-command.ensures.app _ _ c.described-command.ensures.app c.needed.ensures.rule) c.needed-2.ensures.rule
