@@ -15,4 +15,3 @@ pub use files::{run_add, run_check};
 pub use given::{Given, open};
 pub use owner::Owned;
 pub use part::rights_after;
-pub use place::beside;

@@ -1,8 +1,9 @@
 //! A new file beside the one that it is to replace.
 
+ghost use Rattle.std.specs.Prelude.{◌≡◌, ◌*◌, true, false, bit_and, bit_or};
+
 use crate::owner::Owned;
 use crate::place::{Place, beside, place_of};
-use dfu_text::push;
 use std::alloc::{AllocError, Global};
 use std::fs::{self, Metadata, OpenFile, OpenOptions, Permissions};
 use std::io::{self, ErrorKind};
@@ -32,7 +33,7 @@ fn first_rights(place: &Place) -> u32 {
 /// The name of a part for the file with this name.
 fn part_name(alloc: Global, name: &str, number: u32) -> Result<String, AllocError> {
     let mut part = beside(alloc, name, ".dfu-part-")?;
-    push(&mut part, &number.to_string(alloc)?)?;
+    part.push_str(&number.to_string(alloc)?)?;
     Ok(part)
 }
 
@@ -55,13 +56,16 @@ fn new_part<R: Files + AllocGlobal>(rt: &R, place: Place) -> io::Result<Part<R::
 }
 
 /// The rights that a file has in place of one with this mode: the same; where it has another owner
-/// and group, that group has those of all others.
-pub fn rights_after(mode: u32, is_kept: bool) -> u32 {
+/// and group, that group has those of all others. In octal, the masks of the clauses are 777, 707 and 7.
+pub fn rights_after(mode: u32, is_kept: bool) -> u32
+    ensures kept { is_kept ≡ true → result ≡ bit_and mode 511 }
+    ensures given { is_kept ≡ false → result ≡ bit_or (bit_and mode 455) (bit_and mode 7 * 8) }
+{
     if is_kept {
         return mode & 0o777;
     }
     let others = mode & 0o007;
-    (mode & 0o707) | (others << 3)
+    (mode & 0o707) | (others * 8)
 }
 
 /// Gives the new file the owner, the group and the rights of the old one; the owner and the group

@@ -1,6 +1,5 @@
 //! Where OUT leads: the file that is to be made or replaced.
 
-use dfu_text::{field, push};
 use std::alloc::{AllocError, Global};
 use std::fs::{self, Metadata};
 use std::io::{self, ErrorKind};
@@ -22,12 +21,13 @@ pub(crate) struct Place {
 }
 
 /// The name of another file in the folder of the one with this name.
-pub fn beside(alloc: Global, name: &str, other: &str) -> Result<String, AllocError> {
+pub(crate) fn beside(alloc: Global, name: &str, other: &str) -> Result<String, AllocError> {
     let mut text = String::new(alloc);
     if let Some((folder, _)) = name.rsplit_once('/') {
-        field(&mut text, folder, "/")?;
+        text.push_str(folder)?;
+        text.push_str("/")?;
     }
-    push(&mut text, other)?;
+    text.push_str(other)?;
     Ok(text)
 }
 

@@ -20,6 +20,5 @@ pub use exit::Exit;
 pub use faults::{bad_words, fault_text};
 pub use identifiers::{IdTexts, ids_said};
 pub use numbering::number_text;
-pub use numbers::{field, push};
 pub use output::write_out;
 pub use showing::show_text;

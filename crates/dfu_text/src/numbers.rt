@@ -22,7 +22,7 @@ pub(crate) fn hex8(alloc: Global, n: u32) -> Result<String, AllocError>
 
 /// Adds a text to a line.
 #[inline(never)]
-pub fn push(line: &mut String, text: &str) -> Result<(), AllocError>
+pub(crate) fn push(line: &mut String, text: &str) -> Result<(), AllocError>
     ensures { OnOk result (string_bytes line.new ≡ string_bytes line.old ++ text.now) }
 {
     line.push_str(text)
@@ -30,7 +30,7 @@ pub fn push(line: &mut String, text: &str) -> Result<(), AllocError>
 
 /// Adds a label and a value to a line.
 #[inline(never)]
-pub fn field(line: &mut String, label: &str, value: &str) -> Result<(), AllocError>
+pub(crate) fn field(line: &mut String, label: &str, value: &str) -> Result<(), AllocError>
     ensures { OnOk result (string_bytes line.new ≡ string_bytes line.old ++ (label.now ++ value.now)) }
 {
     push(line, label)?;

@@ -3,7 +3,6 @@
 use crate::tests::machine::{Kind, Machine, entry_in};
 use crate::tests::opened::Opened;
 use crate::tests::typed::Typed;
-use dfu_files::beside;
 use std::alloc::{Allocator, Global};
 use std::fmt::Display;
 use std::fs::{FileTimes, Metadata, OpenOptions, Permissions};
@@ -101,8 +100,14 @@ impl<'m> Host<'m> {
         if target.as_path().as_str().starts_with('/') {
             return Ok(target);
         }
-        let name = beside(self.machine.alloc, link, target.as_path().as_str())?;
-        Ok(PathBuf::from_str(self.machine.alloc, &name)?)
+        match link.rsplit_once('/') {
+            Some((folder, _)) => {
+                let next = target.as_path().as_str();
+                let name = format!(in self.machine.alloc; "{folder}/{next}")?;
+                Ok(PathBuf::from_str(self.machine.alloc, &name)?)
+            }
+            None => Ok(target),
+        }
     }
 
     /// The end of the links that begin with this name.
