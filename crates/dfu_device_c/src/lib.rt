@@ -11,5 +11,3 @@ mod power;
 mod record;
 mod refusal;
 mod tells;
-#[cfg(test)]
-mod tests;
