@@ -13,7 +13,8 @@ use dfu_device::Mode;
 /// The state of the device, bState: 0 to 10; -4 where the record has no mode.
 #[unsafe(no_mangle)]
 pub extern "C" fn dfu_device_state(device: &DfuDevice) -> i32
-    ensures state { (m : Mode) (spare block : List ℕ) → HasMode device.now m → result ≡ pos (state_byte (state_of (stage_of m spare block))) }
+    ensures state { (m : Mode) (spare block : List ℕ) → HasMode device.now m
+        → result ≡ pos (state_byte (state_of (stage_of m spare block))) }
     ensures refused { result ≡ NO_DEVICE → (m : Mode) → ¬ HasMode device.now m }
     ensures only { ((m : Mode) → ¬ HasMode device.now m) → result ≡ NO_DEVICE }
 {

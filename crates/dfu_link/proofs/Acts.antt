@@ -46,7 +46,8 @@ reset_heard FailsWrite d heard h = h
 reset_heard LiesInWrite d heard h = h
 
 -- A wait in which this time passes, and of which this is seen.
-pub waits_by : {time : ℕ} (ms : ℕ) (w w' : Shown) (course : Course) {seen_is : Seen} → Elapses time w w' → time ≡ waits_for course.handling ms
+pub waits_by : {time : ℕ} (ms : ℕ) (w w' : Shown) (course : Course) {seen_is : Seen}
+    → Elapses time w w' → time ≡ waits_for course.handling ms
     → seen_is ≡ seen_over course.harming seen.Waited → (d : Deed) (heard : Heard) → Hears d seen_is heard → Waits ms course w w' heard
 waits_by ms w w' course e t k d heard h = (
   subst (λ (n : ℕ). Elapses n w w') t e,

@@ -9,7 +9,9 @@ static TEARS: [&'static [u8]; 4] = [&[], &[0x00], &[0xa5], &[0xa5; 64]];
 // Installs an image over another, on a medium on which so many writes work; `gate` of them come before the last one, which
 // opens the gate. What `open` finds then is the new image, or else the old one.
 #[rattlefmt::skip]
-fn try_tear(rt: &impl Abort, mut slots: Slots<SimMedium>, image: &[u8], (writes, gate): (u32, u32), tear: &[u8], stop: bool) -> Result<(), Fail> {
+fn try_tear(
+    rt: &impl Abort, mut slots: Slots<SimMedium>, image: &[u8], (writes, gate): (u32, u32), tear: &[u8], stop: bool,
+) -> Result<(), Fail> {
     assert!(rt; image.len() <= 64 && install(&mut slots, &[0xff; 4]).is_ok());
     slots.arm(writes, tear, stop);
     let installed = install(&mut slots, image).is_ok();

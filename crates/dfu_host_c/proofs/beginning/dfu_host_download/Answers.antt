@@ -24,7 +24,8 @@ returns-in-Err-download c = record {
       fault = c.in-Err-download.fault;
       is_content = c.in-Ok.ensures.file;
       is_functional = c.in-Ok.ensures.functional;
-      refused = subst (λ (device : Ids). first_download_fault c.in-Ok.wanted.file c.in-Ok.wanted.functional device ≡ Some c.in-Err-download.fault)
+      refused = subst (λ (device : Ids). first_download_fault c.in-Ok.wanted.file c.in-Ok.wanted.functional device
+          ≡ Some c.in-Err-download.fault)
           c.ids.ensures ((c.download.ensures.refused c.in-Err-download.fault).0 c.in-Err-download.is);
       number_is = search rules;
     },

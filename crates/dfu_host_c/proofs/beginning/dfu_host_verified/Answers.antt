@@ -24,7 +24,8 @@ returns-in-Err-download_verified c = record {
       fault = c.in-Err-download_verified.fault;
       is_content = c.in-Ok.ensures.file;
       is_functional = c.in-Ok.ensures.functional;
-      refused = subst (λ (device : Ids). first_verify_fault c.in-Ok.wanted.file c.in-Ok.wanted.functional device ≡ Some c.in-Err-download_verified.fault)
+      refused = subst (λ (device : Ids). first_verify_fault c.in-Ok.wanted.file c.in-Ok.wanted.functional device
+          ≡ Some c.in-Err-download_verified.fault)
           c.ids.ensures ((c.download_verified.ensures.refused c.in-Err-download_verified.fault).0 c.in-Err-download_verified.is);
       number_is = search rules;
     },
