@@ -1,0 +1,19 @@
+/* What a program may send to which device, and what it may report. */
+#ifndef FUZZ_CHECK_H
+#define FUZZ_CHECK_H
+
+#include "usb.h"
+
+/* A request of the class: it has to go to the device, the interface and the setting that was chosen. */
+void check_request(const struct libusb_device_handle *handle, const uint8_t setup[8], uint16_t index);
+
+/* A reset of a device. */
+void check_reset(const struct libusb_device_handle *handle);
+
+/* The status that the program ends with. */
+void check_status(int status);
+
+/* What it printed. */
+void check_printed(int status);
+
+#endif
