@@ -41,8 +41,15 @@ static void make_model(struct model *model)
         model->images[at].length = chance(8) ? 0 : below(600);
         any_bytes(model->images[at].bytes, model->images[at].length);
     }
+}
+
+/* One whose application can't be asked to leave it stands in DFU mode. */
+static void make_state(struct board *board)
+{
+    struct model *model = &board->model;
+    bool has_dfu_in_app = !board->has_no_usb_in_app && board_function(&board->faces[RUN_TIME])->settings[0].class == 0xfe;
     model_power(model);
-    if (chance(2))
+    if (!has_dfu_in_app || chance(2))
         model->state = chance(4) ? (enum state)between(DFU_IDLE, ERROR) : DFU_IDLE;
     if (model->state == ERROR)
         model->code = (uint8_t)below(16);
@@ -69,6 +76,7 @@ void board_make(struct board *board, unsigned number)
     board->address = (uint8_t)(2 + number);
     face_make(&board->faces[RUN_TIME], board, RUN_TIME);
     face_make(&board->faces[UPGRADE], board, UPGRADE);
+    make_state(board);
 }
 
 void place_path(const struct place *place, char path[64])

@@ -11,7 +11,7 @@ int64_t clock_now(void);
 /* They pass, on the boards too. */
 void clock_pass(uint64_t ms);
 
-/* One of the signals that the program may get. Where it catches none, that ends it. */
+/* One of the signals that the program may get. */
 void signal_comes(void);
 
 /* When the first signal came that the program caught, or -1. */

@@ -75,7 +75,7 @@ static void say_device(void)
         return;
     if (chance(4))
         say_ids(face);
-    if (chance(4))
+    if (chance(bus.count > 1 ? 2 : 4))
         say_path(board);
     if (chance(5))
         say_serial(face);
