@@ -11,12 +11,14 @@
 
    Of a reset:
      0                                  WasReset    once its interface is in its setting again, where that is another than 0
-     LIBUSB_ERROR_NOT_FOUND             WasReset    once it is back: libusb says this where the device has other descriptors
-                                                    after the reset, and comes as a new one, whose enumeration is a reset
+     LIBUSB_ERROR_NOT_FOUND             WasReset    at once: libusb says this where the device has other descriptors after the
+                                                    reset, and comes as a new one, whose enumeration is a reset
      LIBUSB_ERROR_NO_DEVICE             Restarted   it left before: told once it is back
      any other                          Nothing     the host asks for it again
    NOT_FOUND is also what Linux says of a device that left before the reset. It comes back reset then too; and behind a reset
-   the host is done, or begins anew with asking for the device's state, as it does behind a restart.
+   the host is done, or begins anew with asking for the device's state, as it does behind a restart. A device that is to be
+   asked again is waited for before that request; one whose session is over need not come back, as where its application has
+   no USB.
 
    Of a wait: Waited, once the time has passed.
 
@@ -121,19 +123,14 @@ struct answer answer_reset(struct wire *wire)
 {
     struct answer answer = told(wire, DFU_WAS_RESET);
     int error;
-    if (wire->device->handle == NULL) {
-        /* It left before this reset. */
-        answer.seen = wire->is_leaving ? DFU_WAS_RESET : DFU_RESTARTED;
-        answer.is_gone = !device_reopen(wire->device);
-        return answer;
-    }
+    if (wire->device->handle == NULL) /* it left before this reset */
+        return wire->is_leaving ? answer : restarted(wire);
     error = reset(wire->device);
     if (error == 0)
         return answer;
-    if (error == LIBUSB_ERROR_NOT_FOUND || (error == LIBUSB_ERROR_NO_DEVICE && wire->is_leaving)) {
+    if (error == LIBUSB_ERROR_NOT_FOUND || (error == LIBUSB_ERROR_NO_DEVICE && wire->is_leaving))
         device_close(wire->device);
-        answer.is_gone = !device_await(wire->device);
-    } else if (error == LIBUSB_ERROR_NO_DEVICE)
+    else if (error == LIBUSB_ERROR_NO_DEVICE)
         return restarted(wire);
     else
         answer.seen = DFU_NOTHING;

@@ -14,7 +14,8 @@ enum status {
     STATUS_UNCONFIRMED = 8, /* the device can't tell whether the image is in place */
     STATUS_DIFFERENT = 9,   /* the device gave back another image */
     STATUS_GONE = 10,       /* the device left and did not come back, or answers no more */
-    STATUS_ABORTED = 11     /* given up by Ctrl-C or a signal */
+    STATUS_ABORTED = 11,    /* given up by Ctrl-C or a signal */
+    STATUS_STALLED = 15     /* the device could not be brought to DFU mode */
 };
 
 #endif
