@@ -14,7 +14,7 @@
 static struct {
     struct board *board;
     char path[64];
-    bool has_mode[2], has_downloaded;
+    bool has_mode[2], has_tried, has_downloaded;
     struct {
         uint16_t vendor, product;
         uint8_t interface, alternate;
@@ -22,9 +22,9 @@ static struct {
     unsigned requests, resets, setting;
 } chosen;
 
-static bool is_any(uint16_t wanted, uint16_t is)
+static bool has_ids(const struct face *face, uint16_t vendor, uint16_t product)
 {
-    return wanted == 0xffff || wanted == is;
+    return (vendor == 0xffff || vendor == face->vendor) && (product == 0xffff || product == face->product);
 }
 
 /* The first request: the device is the one that the words name. */
@@ -35,7 +35,8 @@ static void check_choice(const struct libusb_device *device)
     place_path(&device->place, chosen.path);
     if (!asked.is_sound)
         return;
-    if (asked.has_ids && !(is_any(asked.vendor, face->vendor) && is_any(asked.product, face->product)))
+    if (asked.has_ids && !has_ids(face, asked.vendor, asked.product)
+        && !(asked.has_pair && has_ids(face, asked.dfu_vendor, asked.dfu_product)))
         fault("a request of DFU goes to %04x:%04x", face->vendor, face->product);
     if (temper.is_fair && asked.serial[0] != '\0' && !face_says(face, face->serial, asked.serial))
         fault("a request of DFU goes to a device with another serial number");
@@ -89,6 +90,9 @@ static void check_again(const struct libusb_device *device, uint16_t interface, 
 void check_request(const struct libusb_device_handle *handle, const uint8_t setup[8], uint16_t index)
 {
     const struct setting *setting;
+    chosen.has_tried = chosen.has_tried || (setup[0] == 0x21 && setup[1] == 1);
+    if (chosen.board == NULL)
+        check_choice(handle->device);
     if (!handle_is_there(handle))
         return;
     if ((setup[0] & 0x7f) != 0x21 || setup[1] > 6)
@@ -120,6 +124,11 @@ void check_reset(const struct libusb_device_handle *handle)
     if (board->stalled_resets > FUZZ_STALLED_RESETS)
         fault("a device that stalls in run-time mode is reset %u times", board->stalled_resets);
 #endif
+}
+
+bool check_has_downloaded(void)
+{
+    return chosen.has_tried;
 }
 
 static bool is_in_place(void)
@@ -163,8 +172,10 @@ static void check_upload(int status)
 void check_status(int status)
 {
     bool is_silent = asked.is_sound && (asked.job == JOB_LIST || asked.is_dry);
-    if (status < 0 || status > 11)
+    if (status < 0 || status > 15)
         fault("the status is %d", status);
+    if (status == 14)
+        fault("the program says that it has a mistake");
     if (asked.is_sound && status == 2)
         fault("words are refused that are sound");
     if (is_silent && chosen.requests + chosen.resets > 0)

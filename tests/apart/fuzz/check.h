@@ -13,6 +13,9 @@ void check_reset(const struct libusb_device_handle *handle);
 /* The status that the program ends with. */
 void check_status(int status);
 
+/* Whether a block was sent, or was to be. */
+bool check_has_downloaded(void);
+
 /* What it printed. */
 void check_printed(int status);
 

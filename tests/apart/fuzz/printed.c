@@ -109,11 +109,21 @@ static void read_all(int stream, char *text)
         fault("a stream has a byte 00");
 }
 
+/* What the device may have is said only where a block was sent. */
+static void check_harm(const char *line)
+{
+    if (strstr(line, "no block was sent") != NULL && check_has_downloaded())
+        fault("a block was sent, and the report is: %s", line);
+    if (strstr(line, "may have the old image") != NULL && !check_has_downloaded())
+        fault("no block was sent, and the report is: %s", line);
+}
+
 static void check_out(const char *out, int status)
 {
     const char *line = last_line(out);
     if (!asked.is_sound)
         return;
+    check_harm(line);
     if (asked.is_json) {
         check_record(line, status);
         return;

@@ -1,4 +1,5 @@
 #include "words.h"
+#include "books.h"
 #include "bus.h"
 #include "firmware.h"
 #include "random.h"
@@ -11,27 +12,38 @@
 
 struct asked asked;
 
+/* Each word in memory of its own, so that a read past its end is seen. */
 static void say(const char *format, ...)
 {
-    static char room[MOST_WORDS][80];
+    char text[100];
     va_list values;
     if (asked.count == MOST_WORDS)
         return;
     va_start(values, format);
-    vsnprintf(room[asked.count], sizeof room[0], format, values);
+    vsnprintf(text, sizeof text, format, values);
     va_end(values);
-    asked.words[asked.count] = room[asked.count];
+    asked.words[asked.count] = take(strlen(text) + 1);
+    strcpy(asked.words[asked.count], text);
     asked.count++;
 }
 
-/* Which device, by the board that it is to be. */
-static void say_ids(const struct face *face)
+/* Which device, by the board that it is to be: its identifiers in the mode in which it is, or in both. */
+static void say_ids(const struct board *board)
 {
+    const struct face *face = &board->faces[board->mode], *upgrade = &board->faces[UPGRADE];
     asked.has_ids = true;
+    asked.has_pair = chance(3);
+    if (asked.has_pair)
+        face = &board->faces[RUN_TIME];
     asked.vendor = chance(5) ? 0xffff : face->vendor;
     asked.product = chance(5) ? 0xffff : chance(25) ? (uint16_t)below(3) : face->product;
+    asked.dfu_vendor = chance(5) ? 0xffff : upgrade->vendor;
+    asked.dfu_product = upgrade->product;
     say("--device");
-    say("%04x:%04x", asked.vendor, asked.product);
+    if (asked.has_pair)
+        say("%04x:%04x,%04x:%04x", asked.vendor, asked.product, asked.dfu_vendor, asked.dfu_product);
+    else
+        say("%04x:%04x", asked.vendor, asked.product);
 }
 
 static void say_path(const struct board *board)
@@ -74,7 +86,7 @@ static void say_device(void)
     if (bus.count == 0)
         return;
     if (chance(4))
-        say_ids(face);
+        say_ids(board);
     if (chance(bus.count > 1 ? 2 : 4))
         say_path(board);
     if (chance(5))
@@ -141,7 +153,7 @@ static void say_any(void)
     static const char *const some[] = {
         "--device", "1209:0001", "ffff:ffff", "1209:1", "--path", "1-1", "--serial", "S-A", "--interface", "0", "255", "256", "--alt",
         "boot", "", "--no-verify", "--upload", OUT_NAME, "--force", "--limits", "10", "4294967296", "-1", "--dry-run", "--quiet", "--json",
-        "--list", "--help", "-h", "--version", "-V", FILE_NAME, FILE_NAME, FILE_NAME, "--", "-", "--what", "--device=1209:0001", "--alt=1",
+        "--list", "--help", "-h", "--version", "-V", FILE_NAME, FILE_NAME, FILE_NAME, "--", "-", "--what", "--device=1209:0001", "1209:0001,1209:00ff", "1209:0001,", "1209:0001,1209:00", "12", "--alt=1",
         "--l", "--upload=", "--serial=\x1b[2J", "99999999999999999999"};
     for (uint32_t count = below(7); count > 0; count--)
         say("%s", some[below(sizeof some / sizeof some[0])]);

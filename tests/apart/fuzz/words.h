@@ -13,8 +13,8 @@ enum job { JOB_NONE, JOB_DOWNLOAD, JOB_UPLOAD, JOB_LIST };
 struct asked {
     bool is_sound;
     enum job job;
-    bool has_ids, is_forced, is_dry, is_json, is_quiet;
-    uint16_t vendor, product;
+    bool has_ids, has_pair, is_forced, is_dry, is_json, is_quiet;
+    uint16_t vendor, product, dfu_vendor, dfu_product; /* the last two where there is a pair, RUN,DFU */
     char path[64], serial[64], name[64]; /* empty where they weren't given */
     int interface, alternate;            /* -1 where they weren't given */
     int count;
