@@ -10,6 +10,9 @@
 #include <string.h>
 #include <unistd.h>
 
+#define MOST_STALLED_RESETS 3
+#define STOP_MS 60000 /* within which a signal ends a session: what is under way may take 5 s, and there is more than one request */
+
 /* The device that the first request went to, and what it was in each mode. */
 static struct {
     struct board *board;
@@ -115,15 +118,14 @@ void check_request(const struct libusb_device_handle *handle, const uint8_t setu
 
 void check_reset(const struct libusb_device_handle *handle)
 {
-    struct board *board = handle->device->board;
     check_place(handle->device);
     chosen.resets++;
-    if (board->model.is_deaf_in_app && board->mode == RUN_TIME && board->was_stalled)
-        board->stalled_resets++;
-#ifdef FUZZ_STALLED_RESETS
-    if (board->stalled_resets > FUZZ_STALLED_RESETS)
+}
+
+void check_stalled(struct board *board)
+{
+    if (board->was_stalled && ++board->stalled_resets > MOST_STALLED_RESETS && temper.is_fair)
         fault("a device that stalls in run-time mode is reset %u times", board->stalled_resets);
-#endif
 }
 
 bool check_has_downloaded(void)
@@ -169,6 +171,13 @@ static void check_upload(int status)
         fault("the status is 0, and OUT isn't the image of the device");
 }
 
+/* A signal, and an alarm, which is one, end the program soon. */
+static void check_time(void)
+{
+    if (temper.is_fair && signal_came() >= 0 && clock_now() - signal_came() > STOP_MS)
+        fault("the program ends %lld ms after a signal", (long long)(clock_now() - signal_came()));
+}
+
 void check_status(int status)
 {
     bool is_silent = asked.is_sound && (asked.job == JOB_LIST || asked.is_dry);
@@ -182,6 +191,7 @@ void check_status(int status)
         fault("requests are sent for a list or a dry run");
     if ((status == 1 || status == 2 || status == 4 || status == 5) && chosen.has_downloaded)
         fault("a block was sent, and the status is %d", status);
+    check_time();
     check_image(status);
     check_upload(status);
 }

@@ -10,6 +10,9 @@ void check_request(const struct libusb_device_handle *handle, const uint8_t setu
 /* A reset of a device. */
 void check_reset(const struct libusb_device_handle *handle);
 
+/* A reset of a device in run-time mode was told as done, behind a request that it stalled or not. */
+void check_stalled(struct board *board);
+
 /* The status that the program ends with. */
 void check_status(int status);
 

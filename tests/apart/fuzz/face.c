@@ -114,11 +114,11 @@ void face_make(struct face *face, const struct board *board, enum mode mode)
 
 static void spoil_extra(struct extra *extra)
 {
-    extra->length = chance(3) ? 0 : (int)below(MOST_EXTRA + 1);
-    if (chance(2))
+    extra->length = chance(6) ? 0 : (int)below(chance(2) ? 12 : MOST_EXTRA + 1);
+    if (chance(3))
         any_bytes(extra->bytes, sizeof extra->bytes);
-    else if (extra->length > 1) {
-        extra->bytes[0] = (uint8_t)below(20);
+    else {
+        extra->bytes[0] = (uint8_t)(chance(3) ? below(20) : chance(2) ? 9 : 7);
         extra->bytes[1] = 0x21;
     }
 }
@@ -135,14 +135,22 @@ static void spoil_function(struct function *function)
     }
 }
 
-void face_spoil(struct face *face)
+/* One thing of it. */
+static void spoil(struct face *face)
 {
-    switch (below(6)) {
+    switch (below(7)) {
     case 0: face->vendor = (uint16_t)below(65536); break;
     case 1: face->product = (uint16_t)below(4); break;
     case 2: face->count = (uint8_t)below(33); break;
     case 3: spoil_extra(chance(2) ? &face->extra : &face->asked); break;
     case 4: face->serial = (uint8_t)below(256); break;
+    case 5: spoil_extra(&face->functions[below(MOST_FUNCTIONS)].settings[0].extra); break;
     default: spoil_function(&face->functions[below(MOST_FUNCTIONS)]);
     }
+}
+
+void face_spoil(struct face *face)
+{
+    for (uint32_t times = between(1, 4); times > 0; times--)
+        spoil(face);
 }

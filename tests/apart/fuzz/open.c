@@ -127,6 +127,7 @@ static int reset(struct libusb_device_handle *handle)
 
 int libusb_reset_device(libusb_device_handle *handle)
 {
+    enum mode before;
     int error, result;
     call_begins("libusb_reset_device");
     error = call_fails();
@@ -136,7 +137,10 @@ int libusb_reset_device(libusb_device_handle *handle)
         return LIBUSB_ERROR_IO;
     if (error != 0 && chance(2))
         return error;
+    before = handle->device->mode;
     result = reset(handle);
+    if (before == RUN_TIME && error == 0)
+        check_stalled(handle->device->board);
     clock_pass(10);
     trace("a reset: %d", result);
     /* Where it is said to have failed, though it was carried out, the device is the same still. */

@@ -29,6 +29,9 @@ static int character(const unsigned char *at)
 static void check_text(const char *stream, const char *text, bool has_bar)
 {
     const unsigned char *at = (const unsigned char *)text;
+    /* Words that weren't understood are shown as they were given. */
+    if (!asked.is_sound)
+        return;
     while (*at != '\0') {
         int length = character(at);
         bool is_control = *at < 0x20 || *at == 0x7f || (*at == 0xc2 && at[1] < 0xa0);

@@ -89,7 +89,9 @@ int class_transfer(struct libusb_device_handle *handle, const uint8_t setup[8], 
     if (chance(temper.doubled))
         handled(handle, setup, data, length);
     result = handled(handle, setup, data, length);
-    board->was_stalled = result == LIBUSB_ERROR_PIPE;
+    board->was_stalled = result == LIBUSB_ERROR_PIPE && handle->device->mode == RUN_TIME;
+    if (!board->was_stalled)
+        board->stalled_resets = 0;
     bus_look(board);
     return result;
 }
