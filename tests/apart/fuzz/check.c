@@ -71,7 +71,7 @@ static void check_setting(const struct libusb_device *device, uint16_t interface
         fault("a request of DFU goes to setting %u, which has another name", setting->alternate);
 }
 
-/* In one mode it stays the same device; once a block was sent, one in run-time mode may be that of another image. */
+/* In one mode it stays the same device; once a block was sent, or may have been, one in run-time mode may be that of another image. */
 static void check_again(const struct libusb_device *device, uint16_t interface, const struct setting *setting)
 {
     int mode = setting->protocol == 2;
@@ -82,7 +82,7 @@ static void check_again(const struct libusb_device *device, uint16_t interface, 
         chosen.modes[mode].interface = (uint8_t)interface;
         chosen.modes[mode].alternate = setting->alternate;
     }
-    if (mode == 0 && chosen.has_downloaded)
+    if (mode == 0 && chosen.has_tried)
         return;
     if (chosen.modes[mode].vendor != device->face.vendor || chosen.modes[mode].product != device->face.product)
         fault("a request of DFU goes to %04x:%04x, another device than before", device->face.vendor, device->face.product);
