@@ -18,7 +18,7 @@
    NOT_FOUND is also what Linux says of a device that left before the reset. It comes back reset then too; and behind a reset
    the host is done, or begins anew with asking for the device's state, as it does behind a restart.
 
-   Of a wait: Waited, once the time has passed.
+   Of a wait: Waited, once the time has passed; Nothing, where a stop ended it (stop.h).
 
    A device that leaves behind an acknowledged DETACH does what it was asked to, up to the next request: that is no restart.
    Until it is found again, nothing is sent. A reset that another program makes in between isn't seen here: the interface is
@@ -29,10 +29,11 @@
 #include <string.h>
 
 #define TRANSFER_MS 5000 /* until a transfer counts as lost; what other programs for DFU take */
+#define STOPPED_MS 1000  /* the same of what is sent behind a stop */
 
 static struct answer told(struct wire *wire, uint32_t seen)
 {
-    return (struct answer){seen, wire->bytes, 0, false};
+    return (struct answer){seen, wire->bytes, 0, false, 0};
 }
 
 /* The device left: its restart is told once it can be asked again. */
@@ -49,12 +50,13 @@ static int transfer(struct wire *wire, const uint8_t setup[8], uint16_t length)
     uint16_t value = (uint16_t)(setup[2] | setup[3] << 8);
     wire->transfers++;
     return libusb_control_transfer(wire->device->handle, setup[0], setup[1], value, wire->device->is.interface, wire->bytes,
-                                   length, TRANSFER_MS);
+                                   length, *wire->device->is_stop ? STOPPED_MS : TRANSFER_MS);
 }
 
 static struct answer answer_of(struct wire *wire, bool is_in, uint16_t length, int result)
 {
     struct answer answer = told(wire, DFU_NOTHING);
+    answer.error = result < 0 ? result : 0;
     if (result == LIBUSB_ERROR_NO_DEVICE)
         return restarted(wire);
     if (result == LIBUSB_ERROR_PIPE)
@@ -102,11 +104,11 @@ static bool is_there(const struct wire *wire)
 
 struct answer answer_wait(struct wire *wire, uint32_t ms)
 {
-    clock_wait(ms);
+    bool has_passed = clock_wait(ms);
     /* With bitWillDetach it leaves by itself, and is opened again before the next request. */
     if (wire->is_leaving && !is_there(wire))
         device_close(wire->device);
-    return told(wire, DFU_WAITED);
+    return told(wire, has_passed ? DFU_WAITED : DFU_NOTHING);
 }
 
 /* A reset puts an interface into setting 0. libusb says that the system tries to put it back; that it stands there isn't left to
@@ -128,6 +130,7 @@ struct answer answer_reset(struct wire *wire)
         return answer;
     }
     error = reset(wire->device);
+    answer.error = error;
     if (error == 0)
         return answer;
     if (error == LIBUSB_ERROR_NOT_FOUND || (error == LIBUSB_ERROR_NO_DEVICE && wire->is_leaving)) {

@@ -1,5 +1,7 @@
 /* The loop: what the host asks for is carried out, and it is told what came of that. Nothing else is sent. */
 #include "session.h"
+#include "clock.h"
+#include "stop.h"
 
 #include <stdlib.h>
 #include <string.h>
@@ -38,19 +40,27 @@ static struct answer send_request(struct session *session, const struct dfu_acti
     struct answer answer;
     /* An aborted session asks a device that is away no more. */
     if (session->is_aborted && session->wire.device->handle == NULL)
-        return (struct answer){DFU_NOTHING, session->wire.bytes, 0, false};
+        return (struct answer){DFU_NOTHING, session->wire.bytes, 0, false, 0};
     session->has_sent = session->has_sent || (action->setup[0] == 0x21 && action->setup[1] == 1);
     answer = answer_send(&session->wire, action, session->file + action->from);
     show(session, action, &answer);
     return answer;
 }
 
+static struct answer wait_for(struct session *session, uint32_t ms)
+{
+    progress_wait(&session->progress, ms);
+    return answer_wait(&session->wire, ms);
+}
+
 static struct answer perform(struct session *session, const struct dfu_action *action)
 {
-    struct answer answer;
+    int64_t began_ms = clock_ms();
+    struct answer answer = action->what == DFU_WAIT ? wait_for(session, action->value)
+        : action->what == DFU_RESET ? answer_reset(&session->wire) : send_request(session, action);
+    trace_action(&session->trace, action, &answer, clock_ms() - began_ms);
     if (action->what == DFU_WAIT)
-        return answer_wait(&session->wire, action->value);
-    answer = action->what == DFU_RESET ? answer_reset(&session->wire) : send_request(session, action);
+        return answer;
     session->silent = answer.seen == DFU_NOTHING ? session->silent + 1 : 0;
     return answer;
 }
@@ -94,6 +104,13 @@ static bool tell(struct session *session, const struct answer *answer)
     return true;
 }
 
+static void trace_session(const struct session *session)
+{
+    if (session->refusal == 0)
+        trace_begin(&session->trace, goal_name(session->goal), &session->wire.device->is, session->host.transfer,
+                    session->host.actions, session->host.restarts);
+}
+
 /* One action. In DFU mode a device may have another functional descriptor than in run-time mode: then the session that brought it
    there, which has sent no block, is dropped, and another one begins, once. */
 static bool step(struct session *session, const struct dfu_action *action)
@@ -114,6 +131,7 @@ static bool step(struct session *session, const struct dfu_action *action)
         return end(session, END_OTHER);
     session->has_begun_anew = true;
     session->refusal = session_begin(session);
+    trace_session(session);
     return session->refusal == 0 || end(session, END_REFUSED);
 }
 
@@ -123,12 +141,20 @@ static int32_t stop(struct session *session)
     if (!*session->wire.device->is_stop || session->is_aborted)
         return 0;
     session->is_aborted = true;
+    trace_abort(&session->trace);
     return dfu_host_abort(&session->host, session->file, session->payload_length);
+}
+
+/* Whether the host gave up since the time is spent, and not for a signal. */
+static bool is_timed_out(const struct session *session)
+{
+    return session->done.value == DFU_ABORTED && *session->wire.device->is_stop == STOP_TIME;
 }
 
 void session_run(struct session *session)
 {
     struct dfu_action action;
+    trace_session(session);
     do {
         memset(&action, 0, sizeof action);
         if (stop(session) != 0 || dfu_host_next(&session->host, session->file, session->payload_length, &action) != 0) {
@@ -137,7 +163,7 @@ void session_run(struct session *session)
         }
         if (action.what == DFU_DONE) {
             session->done = action;
-            end(session, END_REPORT);
+            end(session, is_timed_out(session) ? END_TIMED_OUT : END_REPORT);
             return;
         }
     } while (step(session, &action));

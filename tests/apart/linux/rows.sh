@@ -73,7 +73,7 @@ for fate in 'lost-out 4' 'lost-back 4' 'lost-out 1' 'lost-back 13' 'leave 0' 'le
 done
 for fate in 'swap 4' 'swap 22'; do
     export USB_FATE="$fate"
-    row 10 - 'other: ' USB_ATTRIBUTES=07 ./dfu-flash new.dfu
+    row 13 - 'other: ' USB_ATTRIBUTES=07 ./dfu-flash new.dfu
 done
 unset USB_FATE
 row 11 old 'aborted: ' USB_BUSY=700 timeout 1 ./dfu-flash new.dfu
