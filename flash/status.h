@@ -17,7 +17,8 @@ enum status {
     STATUS_ABORTED = 11,    /* given up by Ctrl-C or a signal */
     STATUS_SEVERAL = 12,    /* more than one device, interface or setting: choose one */
     STATUS_OTHER = 13,      /* another device came back */
-    STATUS_BROKEN = 14      /* a mistake of this program */
+    STATUS_BROKEN = 14,     /* a mistake of this program */
+    STATUS_STALLED = 15     /* the device could not be brought to DFU mode */
 };
 
 #endif

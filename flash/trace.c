@@ -2,6 +2,7 @@
    the milliseconds), wLength, what the host is told, the state that the device reported in that, and the milliseconds that it took.
    What begins and ends a session has a line that begins with a word. Other programs read this: what stands stays. */
 #include "trace.h"
+#include "answer.h"
 
 #include <inttypes.h>
 #include <stdio.h>
@@ -34,7 +35,7 @@ static void print_bytes(const struct answer *answer)
 /* What was told, and of nothing the error of libusb. */
 static void print_answer(const struct answer *answer)
 {
-    static const char *const told[] = {"ack", "", "stall", "nothing", "waited", "reset", "restarted"};
+    static const char *const told[] = {"ack", "", "stall", "nothing", "waited", "reset", "restarted", "left"};
     static const char prefix[] = "LIBUSB_ERROR_";
     const char *error = answer->error < 0 ? libusb_error_name(answer->error) : "";
     if (answer->is_gone)
@@ -57,20 +58,37 @@ static const char *state_in(uint8_t request, const struct answer *answer)
     return "-";
 }
 
-void trace_action(struct trace *trace, const struct dfu_action *action, const struct answer *answer, int64_t ms)
+/* The first four words. */
+static void print_front(struct trace *trace, const char *what, uint32_t value, unsigned length)
 {
-    const uint8_t *setup = action->setup;
+    fprintf(stderr, "%" PRIu64 " %s%s %" PRIu32 " %u ", ++trace->number, trace->is_own ? "OWN-" : "", what, value, length);
+}
+
+void trace_request(struct trace *trace, const uint8_t setup[8], const struct answer *answer, int64_t ms)
+{
     if (!trace->is_on)
         return;
-    trace->number++;
-    if (action->what == DFU_SEND)
-        fprintf(stderr, "%" PRIu64 " %s %u %u ", trace->number, NAME(requests, setup[1]), (unsigned)(setup[2] | setup[3] << 8),
-                (unsigned)(setup[6] | setup[7] << 8));
-    else
-        fprintf(stderr, "%" PRIu64 " %s %" PRIu32 " 0 ", trace->number, action->what == DFU_WAIT ? "WAIT" : "RESET",
-                action->what == DFU_WAIT ? action->value : 0);
+    print_front(trace, NAME(requests, setup[1]), (uint32_t)(setup[2] | setup[3] << 8), (unsigned)(setup[6] | setup[7] << 8));
     print_answer(answer);
-    fprintf(stderr, " %s %" PRId64 "\n", action->what == DFU_SEND ? state_in(setup[1], answer) : "-", ms);
+    fprintf(stderr, " %s %" PRId64 "\n", state_in(setup[1], answer), ms);
+}
+
+void trace_wait(struct trace *trace, uint32_t asked, const struct answer *answer, int64_t ms)
+{
+    if (!trace->is_on)
+        return;
+    print_front(trace, "WAIT", asked, 0);
+    print_answer(answer);
+    fprintf(stderr, " - %" PRId64 "\n", ms);
+}
+
+void trace_reset(struct trace *trace, const struct answer *answer, int64_t ms)
+{
+    if (!trace->is_on)
+        return;
+    print_front(trace, "RESET", 0, 0);
+    print_answer(answer);
+    fprintf(stderr, " - %" PRId64 "\n", ms);
 }
 
 void trace_begin(const struct trace *trace, const char *goal, const struct found *is, unsigned transfer, uint32_t actions,

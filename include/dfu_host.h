@@ -22,9 +22,16 @@
      stalled                                                       DFU_STALLED
      not finished for any other reason, as a time that ran out     DFU_NOTHING
      the device left unasked, or somebody else reset it            DFU_RESTARTED, once it is back, before all else
+     the device left of itself behind the close                    DFU_LEFT in place of that, and before all else
    A device that leaves because of a DETACH that it acknowledged, or of DFU_RESET, does what it was asked to: that is no
    restart, and what comes next is asked for once it is open again; DFU_WAS_RESET is the answer to DFU_RESET then too. Each
    DFU_RESTARTED spends one of the session's restarts, and the host asks anew where the device stands.
+   DFU_LEFT is for a device that starts its new image by itself. The program tells it once, and only where all three hold:
+   the device acknowledged the DNLOAD of no bytes that closes the download; it answered a GETSTATUS behind that with
+   dfuMANIFEST-SYNC or dfuMANIFEST; and then it left, or came back reset, though nobody reset it or asked it to leave.
+   It stands for the last reset: a session of dfu_host_download is over with DFU_UNCONFIRMED, one of dfu_host_verified
+   begins to compare, and no restart is spent. It may be told before the device is back; the next request needs it back.
+   In any other phase it is as DFU_RESTARTED.
 
    What the program owes:
      - pointers to as many bytes as their lengths say, which do not overlap, and none of which is NULL, also where
@@ -88,12 +95,12 @@ struct dfu_action {
 enum { DFU_SEND, DFU_WAIT, DFU_RESET, DFU_DONE };
 
 /* What was seen of an action. */
-enum { DFU_ACK, DFU_BYTES, DFU_STALLED, DFU_NOTHING, DFU_WAITED, DFU_WAS_RESET, DFU_RESTARTED };
+enum { DFU_ACK, DFU_BYTES, DFU_STALLED, DFU_NOTHING, DFU_WAITED, DFU_WAS_RESET, DFU_RESTARTED, DFU_LEFT };
 
 /* Reports. Only DFU_INSTALLED and DFU_VERIFIED say that the payload is in place. */
 enum {
     DFU_INSTALLED = 1,       /* a tolerant device took all of it, said so, and was reset */
-    DFU_UNCONFIRMED = 2,     /* a device that can't tell took all of it, and was reset */
+    DFU_UNCONFIRMED = 2,     /* a device that can't tell took all of it, and was reset or left of itself */
     DFU_ABORTED = 3,         /* the program gave up */
     DFU_GAVE_UP = 4,         /* the actions are spent */
     DFU_REFUSED = 5,         /* the device stood in dfuERROR with a code */
@@ -123,7 +130,7 @@ enum {
     DFU_WRONG_LENGTH = -33,   /* .. neither 7 nor 9 as its first */
     DFU_WRONG_TYPE = -34,     /* .. not 21h as its second */
     DFU_NO_SESSION = -41,     /* the record is none of a session over that payload and buffer */
-    DFU_NO_SEEN = -42         /* `seen` is over 6 */
+    DFU_NO_SEEN = -42         /* `seen` is over 7 */
 };
 
 /* Reads a file, with its CRC: 0, or the first that holds of DFU_FILE_TOO_LARGE, DFU_FILE_TOO_SHORT,
