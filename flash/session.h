@@ -10,7 +10,7 @@
 #include <stdbool.h>
 #include <stdint.h>
 
-enum goal { GOAL_DOWNLOAD, GOAL_VERIFIED, GOAL_UPLOAD };
+enum goal { GOAL_DOWNLOAD, GOAL_VERIFIED, GOAL_UPLOAD, GOAL_DETACH };
 
 /* How it ended: with the host's report, or without one. */
 enum end {
