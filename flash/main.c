@@ -1,6 +1,6 @@
-/* dfu-flash: brings a DFU file to a device over USB, or fetches the image that it has. What is sent, and what a report says, is
-   decided by the proved host (dfu_host.h); this program finds the device, carries out what the host asks for and tells it what
-   came of it. docs/dfu-flash.1 says how it is used. */
+/* dfu-flash: brings a DFU file to a device over USB, or fetches the image that it has. What comes next, and what a session comes to,
+   is decided by the proved host (dfu_host.h); this program finds the device, carries out what the host asks for and tells it what
+   came of it. docs/dfu-flash.1 says how it is used, and flash/README.md what is this program's own. */
 #define _POSIX_C_SOURCE 200809L
 #include "device.h"
 #include "files.h"
@@ -8,39 +8,16 @@
 #include "say.h"
 #include "session.h"
 #include "status.h"
+#include "stop.h"
 #include "words.h"
 #include "clock.h"
 
-#include <signal.h>
 #include <stdio.h>
 #include <stdlib.h>
 
-static volatile sig_atomic_t is_stop;
 static struct device device;
 static struct session session;
 static uint8_t no_file[1], no_room[1]; /* the host's library wants pointers also where there are no bytes */
-
-/* The first signal ends the session well; a second one of its kind ends the program, since the handler stands for one alone. */
-static void on_stop(int number)
-{
-    (void)number;
-    is_stop = 1;
-}
-
-/* A terminal that is closed is no reason to stop where the program was told not to mind (nohup); and a reader that is gone, as
-   `head` in a pipe, never is. */
-static void catch_stops(void)
-{
-    static const int stops[] = {SIGINT, SIGTERM, SIGHUP};
-    struct sigaction action = {.sa_handler = on_stop, .sa_flags = (int)SA_RESETHAND}, before;
-    sigemptyset(&action.sa_mask);
-    for (size_t at = 0; at < sizeof stops / sizeof stops[0]; at++) {
-        sigaction(stops[at], NULL, &before);
-        if (stops[at] == SIGINT || before.sa_handler != SIG_IGN)
-            sigaction(stops[at], &action, NULL);
-    }
-    signal(SIGPIPE, SIG_IGN);
-}
 
 static int list_devices(libusb_context *usb, const struct wanted *wanted)
 {
@@ -94,6 +71,11 @@ static void print_plan(void)
 {
     const struct found *is = &device.is;
     static const char *const goals[] = {"download", "download and compare", "upload"};
+    if (session.odd != 0) {
+        fputs("dry-run: bring it to DFU mode, and look there how large blocks are: ", stdout);
+        say_found(stdout, is);
+        return;
+    }
     printf("dry-run: %s", goals[session.goal]);
     if (session.goal != GOAL_UPLOAD)
         printf(" %zu bytes", session.payload_length);
@@ -102,14 +84,28 @@ static void print_plan(void)
     say_found(stdout, is);
 }
 
+/* For which device the file has to be: the one that was found; or, where the identifiers of both modes were given, that of run-time
+   mode. */
+static struct dfu_ids target(const struct words *words)
+{
+    struct dfu_ids ids = {device.is.release, device.is.product, device.is.vendor};
+    if (words->has_dfu_ids && words->vendor != 0xffff)
+        ids.vendor = words->vendor;
+    if (words->has_dfu_ids && words->product != 0xffff)
+        ids.product = words->product;
+    return ids;
+}
+
 static void ask(const struct words *words)
 {
     session.is_upload = words->job == JOB_UPLOAD;
     session.wants_verified = words->verify;
-    session.ids = (struct dfu_ids){device.is.release, device.is.product, device.is.vendor};
+    session.ids = target(words);
     session.has_limits = words->has_limits;
     session.actions = words->actions;
     session.restarts = words->restarts;
+    session.transfer = words->transfer;
+    session.wire.trace.is_on = words->verbose;
     session.wire.device = &device;
 }
 
@@ -121,10 +117,11 @@ static int run_session(const struct words *words)
         device.is.access = error;
         return say_none(words, say_no_access(&device.is));
     }
-    catch_stops();
+    stop_catch(words->timeout);
     session.began_ms = clock_ms();
-    progress_begin(&session.progress, words->quiet, session.payload_length);
+    progress_begin(&session.progress, words->quiet, words->verbose, session.payload_length);
     session_run(&session);
+    stop_no_more();
     progress_end(&session.progress);
     if (session.end == END_REFUSED)
         return say_refused(words, session.refusal);
@@ -166,7 +163,8 @@ static int flash(const struct words *words, struct wanted *wanted)
 static int over_usb(const struct words *words)
 {
     struct wanted wanted = {words->has_ids, words->vendor, words->product, words->path, words->serial,
-                            {words->interface, words->alternate, words->setting}};
+                            {words->interface, words->alternate, words->setting}, words->has_dfu_ids, words->dfu_vendor,
+                            words->dfu_product};
     int error = libusb_init(&device.usb);
     int status;
     if (error != 0) {
@@ -175,7 +173,8 @@ static int over_usb(const struct words *words)
     }
     session.file = no_file;
     session.kept = no_room;
-    device.is_stop = &is_stop;
+    device.is_stop = &stop_cause;
+    device.patience = (struct patience){words->wait, words->patience, words->quiet};
     status = words->job == JOB_LIST ? list_devices(device.usb, &wanted) : flash(words, &wanted);
     device_drop(&device);
     libusb_exit(device.usb);
