@@ -3,6 +3,7 @@
 #define DFU_FLASH_ANSWER_H
 
 #include "device.h"
+#include "trace.h"
 
 #include <dfu_host.h>
 #include <stdbool.h>
@@ -14,6 +15,7 @@ struct answer {
     const uint8_t *bytes; /* of DFU_BYTES, as many as `count`; never NULL */
     size_t count;
     bool is_gone;         /* it left and did not come back: there is nothing to tell */
+    int error;            /* what libusb said to a transfer or a reset that failed, else 0; the host isn't told */
 };
 
 /* What comes between two actions. */
@@ -24,6 +26,7 @@ struct wire {
     bool is_manifesting;   /* and a GETSTATUS said dfuMANIFEST-SYNC or dfuMANIFEST: the device may start its image by itself */
     uint8_t bytes[65536];  /* of one transfer: wLength is under 65,536 */
     uint64_t transfers;    /* how many were tried */
+    struct trace trace;
 };
 
 /* Sends a request of the host with its body, `length` bytes. */

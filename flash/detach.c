@@ -21,9 +21,12 @@ struct answer detach_send(struct wire *wire)
     uint16_t ms = time_of(&wire->device->is);
     bool leaves = leaves_by_itself(&wire->device->is);
     const struct dfu_action action = {.what = DFU_SEND, .setup = {0x21, 0, (uint8_t)ms, (uint8_t)(ms >> 8), 0, 0, 0, 0}};
-    struct answer answer = answer_send(wire, &action, wire->bytes);
+    struct answer answer;
+    wire->trace.is_own = true;
+    answer = answer_send(wire, &action, wire->bytes);
     if (answer.seen == DFU_ACK && leaves)
         answer_wait(wire, ms > 0 ? ms : 1);
+    wire->trace.is_own = false;
     return answer;
 }
 

@@ -1,6 +1,7 @@
 /* The loop: what the host asks for is carried out, and it is told what came of that. Nothing else is sent, but for the DETACH of
    stalls.c. */
 #include "session.h"
+#include "stop.h"
 
 #include <stdlib.h>
 #include <string.h>
@@ -60,7 +61,7 @@ static bool is_ready(struct session *session, bool *is_gone)
 
 static struct answer send_request(struct session *session, const struct dfu_action *action)
 {
-    struct answer answer = {DFU_NOTHING, session->wire.bytes, 0, false};
+    struct answer answer = {DFU_NOTHING, session->wire.bytes, 0, false, 0};
     if (!is_ready(session, &answer.is_gone))
         return answer;
     session->has_sent = session->has_sent || is_download(action);
@@ -75,8 +76,10 @@ static struct answer send_request(struct session *session, const struct dfu_acti
 static struct answer perform(struct session *session, const struct dfu_action *action)
 {
     struct answer answer;
-    if (action->what == DFU_WAIT)
+    if (action->what == DFU_WAIT) {
+        progress_wait(&session->progress, action->value);
         return answer_wait(&session->wire, action->value);
+    }
     answer = action->what == DFU_RESET ? stalls_reset(&session->stalls, &session->wire) : send_request(session, action);
     session->silent = answer.seen == DFU_NOTHING ? session->silent + 1 : 0;
     return answer;
@@ -121,6 +124,13 @@ static bool tell(struct session *session, const struct answer *answer)
     return true;
 }
 
+static void trace_session(const struct session *session)
+{
+    if (session->refusal == 0)
+        trace_begin(&session->wire.trace, goal_name(session->goal), &session->wire.device->is, session->host.transfer,
+                    session->host.actions, session->host.restarts);
+}
+
 /* In DFU mode a device may have another functional descriptor than in run-time mode: then the session that brought it there, which
    has sent no block, is dropped, and another one begins, once. */
 static bool begin_anew(struct session *session)
@@ -129,6 +139,7 @@ static bool begin_anew(struct session *session)
         return end(session, END_OTHER);
     session->has_begun_anew = true;
     session->refusal = session_begin(session);
+    trace_session(session);
     return session->refusal == 0 || end(session, END_REFUSED);
 }
 
@@ -169,7 +180,14 @@ static int32_t stop(struct session *session)
     if (!*session->wire.device->is_stop || session->is_aborted)
         return 0;
     session->is_aborted = true;
+    trace_abort(&session->wire.trace);
     return dfu_host_abort(&session->host, session->file, session->payload_length);
+}
+
+/* Whether the host gave up since the time is spent, and not for a signal. */
+static bool is_timed_out(const struct session *session)
+{
+    return session->done.value == DFU_ABORTED && *session->wire.device->is_stop == STOP_TIME;
 }
 
 /* The last reset leads a device out of DFU mode. It need not come back, as where its application has no USB. */
@@ -182,6 +200,7 @@ static void settle(struct session *session)
 void session_run(struct session *session)
 {
     struct dfu_action action;
+    trace_session(session);
     do {
         memset(&action, 0, sizeof action);
         if (stop(session) != 0 || dfu_host_next(&session->host, session->file, session->payload_length, &action) != 0) {
@@ -190,7 +209,7 @@ void session_run(struct session *session)
         }
         if (action.what == DFU_DONE) {
             session->done = action;
-            end(session, END_REPORT);
+            end(session, is_timed_out(session) ? END_TIMED_OUT : END_REPORT);
             settle(session);
             return;
         }

@@ -10,7 +10,7 @@
 #include <stdbool.h>
 #include <stdint.h>
 
-enum goal { GOAL_DOWNLOAD, GOAL_VERIFIED, GOAL_UPLOAD };
+enum goal { GOAL_DOWNLOAD, GOAL_VERIFIED, GOAL_UPLOAD, GOAL_DETACH };
 
 /* How it ended: with the host's report, or without one. */
 enum end {
@@ -20,6 +20,7 @@ enum end {
     END_MANY,   /* it came back with more than one setting */
     END_OTHER,  /* what came back is another device, or has another functional descriptor */
     END_REFUSED, /* it came to DFU mode, and the host refused to begin with it there */
+    END_TIMED_OUT, /* the time of --timeout is spent, and the host gave up */
     END_BROKEN, /* the host's library refused its own record */
     END_STALLED /* it stays in run-time mode, and stalls what it is asked there */
 };
@@ -38,6 +39,7 @@ struct session {
     bool has_limits;
     uint32_t actions;             /* the limits: those that were asked for, or by the file's size */
     uint16_t restarts;
+    uint16_t transfer;            /* bytes of a block that were asked for; 0: as the device takes */
     struct dfu_session host;      /* the host's record */
     uint8_t known[9];             /* the device's functional descriptor when it was begun */
     size_t known_size;
@@ -57,6 +59,9 @@ struct session {
 
 /* The program's own refusal, beside the host's: the device speaks DfuSe. */
 #define REFUSED_DFUSE (-101)
+
+/* What it is for, in a word. */
+const char *goal_name(enum goal goal);
 
 /* Begins the session of the device that was found. 0, REFUSED_DFUSE, or the host's refusal. Nothing is sent. */
 int32_t session_begin(struct session *session);

@@ -4,11 +4,13 @@
  *                 bootloader, device_small.c)
  * USB_ATTRIBUTES  bmAttributes, hexadecimal: 01 download, 02 upload, 04 tolerant, 08 will detach (07; for small 09)
  * USB_TRANSFER    wTransferSize (8; for uboot 4096)     USB_DETACH    wDetachTimeOut in ms (1000)
+ * USB_SAID        wTransferSize in the functional descriptor, where that isn't so (USB_TRANSFER)
  * USB_BUSY        poll time of a block in ms (1)        USB_MANIFEST  poll time of the manifestation in ms (1)
  * USB_LEAST       fewest bytes of an image (1)          USB_CAPACITY  most bytes of an image (100000)
  * USB_IMAGE       a file with the old image (one byte, 00h)
  * USB_IDS         vendor:product:release in run-time mode (1209:0001:0100); USB_DFU_IDS in DFU mode (the same)
- * USB_SERIAL      serial number (F1)                    USB_PATH      bus and ports, as 1-2.3, or a bus alone (1-1)
+ * USB_SERIAL      serial number, with \uXXXX for any unit of UTF-16 (F1)
+ * USB_PATH        bus and ports, as 1-2.3, or a bus alone (1-1)
  * USB_SWAP_IDS    of the board that stands in the device's place once it was swapped: its ids, in either mode, its
  * USB_SWAP_INTERFACE  interface, and the name of its first setting in DFU mode (those of the device)
  * USB_SWAP_NAME
@@ -21,6 +23,7 @@
  * USB_DENIED      the number of the error that opening a device answers, as 3 for LIBUSB_ERROR_ACCESS (0: it is opened)
  * USB_OTHER_DENIED  the same of the other device alone (0)
  * USB_OPENS       so many opens go well before USB_DENIED holds (0)
+ * USB_DENIALS     only so many opens are denied then, and the rest go well (all are)
  * USB_CLAIMED     the number of the error that claiming the interface answers, as 6 for LIBUSB_ERROR_BUSY (0: it is claimed)
  * USB_ALTERNATES  alternate settings of the interface in DFU mode, up to 3, with the names boot, kernel and data (1)
  * USB_SETTING     the setting that each request of DFU mode has to be made in: one in another ends the program (any)
@@ -30,6 +33,8 @@
  * USB_DESCRIPTOR  bytes of the functional descriptor, 7 as in DFU 1.0, or 0 for none (9)
  * USB_VERSION     its bcdDFUVersion, hexadecimal (0110)
  * USB_AWAY        for how many lists of devices it is away when its mode changes, or when it leaves (0)
+ * USB_LATE        for how many lists of devices it is away at the start (0)
+ * USB_SLOW        how many ms a transfer takes on the program's clock (0)
  * USB_FATE        fates of transfers, with commas between: `lost-out N`, `lost-back N`, `twice N`, `short N BYTES`,
  *                 `leave N` (its power goes and comes back), `swap N` (the same, and another board, with the serial number
  *                 OTHER, stands in its place), `kill N` (the program is killed before it), `deaf N` (from N on
@@ -176,6 +181,7 @@ static void read_device(void)
     settings.restarts_in_app = is_first("USB_RESTARTS", "app", "dfu", "app");
     settings.attributes = (uint8_t)number("USB_ATTRIBUTES", is_proved ? 0x07 : kind == 1 ? 0x0f : 0x09, 16);
     settings.transfer = (uint16_t)number("USB_TRANSFER", kind == 1 ? 4096 : 8, 10);
+    settings.said = (uint16_t)number("USB_SAID", settings.transfer, 10);
     settings.detach_ms = (uint16_t)number("USB_DETACH", is_proved ? 1000 : 0, 10);
     settings.busy_ms = number("USB_BUSY", is_proved ? 1 : 0, 10);
     settings.manifest_ms = number("USB_MANIFEST", is_proved ? 1 : 0, 10);
@@ -200,6 +206,7 @@ void settings_read(void)
     settings.denied = -(int)number("USB_DENIED", 0, 10);
     settings.other_denied = -(int)number("USB_OTHER_DENIED", 0, 10);
     settings.opens = number("USB_OPENS", 0, 10);
+    settings.denials = number("USB_DENIALS", UINT32_MAX, 10);
     settings.claimed = -(int)number("USB_CLAIMED", 0, 10);
     settings.alternates = number("USB_ALTERNATES", 1, 10);
     settings.interface = (uint8_t)number("USB_INTERFACE", 0, 10);
@@ -215,6 +222,8 @@ void settings_read(void)
     if (settings.alternates < 1 || settings.alternates > MOST_ALTERNATES)
         fail_loudly("USB_ALTERNATES is 1 to %d", MOST_ALTERNATES);
     settings.away = number("USB_AWAY", 0, 10);
+    settings.late = number("USB_LATE", 0, 10);
+    settings.slow_ms = number("USB_SLOW", 0, 10);
     read_fates(text("USB_FATE", ""));
     settings.log = getenv("USB_LOG");
     settings.save = getenv("USB_SAVE");

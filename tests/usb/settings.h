@@ -25,6 +25,7 @@ struct settings {
     const char *device;                /* "proved", "uboot" or "small" */
     uint8_t attributes, app_attributes; /* bmAttributes, in DFU mode and in run-time mode */
     uint16_t transfer, detach_ms;      /* wTransferSize, wDetachTimeOut */
+    uint16_t said;                     /* wTransferSize as the functional descriptor has it */
     uint32_t busy_ms, manifest_ms, least, capacity;
     const char *image;                 /* a file with the old image, or NULL: one byte, 00h */
     struct ids app, dfu, swapped;      /* in run-time mode, in DFU mode, and of another board in its place */
@@ -45,8 +46,9 @@ struct settings {
     uint16_t version;                  /* bcdDFUVersion */
     int setting;                       /* the one that requests are to be made in, or -1: any */
     int denied, other_denied, claimed; /* the error of an open, of one of the other device, and of a claim, or 0 */
-    unsigned opens;                    /* so many opens go well before */
-    unsigned devices, away;
+    unsigned opens, denials;           /* so many opens go well before, and so many are denied */
+    unsigned devices, away, late;
+    unsigned slow_ms;                  /* what a transfer takes on the program's clock */
     struct fate fates[FATES];
     unsigned fate_count;
     const char *log, *save, *state;    /* files, or NULL */

@@ -1,0 +1,29 @@
+/* The trace of --verbose: what is done, and what comes of it, a line each on standard error. docs/dfu-flash.1 has the form. */
+#ifndef DFU_FLASH_TRACE_H
+#define DFU_FLASH_TRACE_H
+
+#include <stdbool.h>
+#include <stdint.h>
+
+struct answer;
+struct found;
+
+struct trace {
+    bool is_on;
+    bool is_own;     /* what is done is this program's own, and no action of the host */
+    uint64_t number; /* of the last line of an action */
+};
+
+/* A request was sent, a wait of `asked` ms was made, or the bus was reset; and it took `ms`. */
+void trace_request(struct trace *trace, const uint8_t setup[8], const struct answer *answer, int64_t ms);
+void trace_wait(struct trace *trace, uint32_t asked, const struct answer *answer, int64_t ms);
+void trace_reset(struct trace *trace, const struct answer *answer, int64_t ms);
+
+/* A session begins: what it is for, the device and its functional descriptor, the bytes of a block, and the limits. */
+void trace_begin(const struct trace *trace, const char *goal, const struct found *is, unsigned transfer, uint32_t actions,
+                 uint16_t restarts);
+
+/* The session is given up. */
+void trace_abort(const struct trace *trace);
+
+#endif
