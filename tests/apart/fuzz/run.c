@@ -52,7 +52,7 @@ static int stream(const char *name)
 static void streams_open(void)
 {
     int full = stream("/dev/full");
-    streams.out = chance(15) ? -1 : stream(NULL);
+    streams.out = chance(40) ? -1 : stream(NULL);
     streams.err = chance(100) ? -1 : stream(NULL);
     dup2(streams.out >= 0 ? streams.out : full, 1);
     dup2(streams.err >= 0 ? streams.err : full, 2);
@@ -136,6 +136,7 @@ static const char *run(uint64_t seed)
     if (process == 0) {
         sigprocmask(SIG_UNBLOCK, &child, NULL);
         play(seed);
+        temper = (struct temper){0};
         if (__gcov_dump)
             __gcov_dump();
         _exit(0);
