@@ -77,6 +77,8 @@ static int files_open(void)
 static void play(uint64_t seed)
 {
     int files;
+    /* Not that of the process that started it: it would be closed. */
+    __sanitizer_set_report_fd((void *)(intptr_t)trace_stream);
     random_begin(seed);
     temper_throw();
     outcome->is_fair = temper.is_fair;
@@ -180,7 +182,6 @@ static void set_up(void)
     trace_stream = fcntl(2, F_DUPFD_CLOEXEC, 100);
     if (outcome == MAP_FAILED || trace_stream < 0)
         exit(1);
-    __sanitizer_set_report_fd((void *)(intptr_t)trace_stream);
     sigemptyset(&child);
     sigaddset(&child, SIGCHLD);
     sigprocmask(SIG_BLOCK, &child, NULL);
