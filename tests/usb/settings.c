@@ -16,6 +16,7 @@
  * USB_APP         what the application has: dfu (an interface of run-time mode), plain (no DFU interface) or none (no USB) (dfu)
  * USB_APP_STALLS  what that interface stalls: nothing, status (GETSTATUS) or all (each request) (nothing)
  * USB_APP_DESCRIPTOR  bytes of the functional descriptor in run-time mode (USB_DESCRIPTOR)
+ * USB_APP_TRANSFER  its wTransferSize (USB_TRANSFER)    USB_APP_PROTOCOL  bInterfaceProtocol in run-time mode (1)
  * USB_RESTARTS    small: what it starts by itself behind a download: app, or dfu (DFU mode again) (app)
  * USB_DEVICES     1, or 2: another device, whose serial number is OTHER, stands on the bus (1)
  * USB_DENIED      the number of the error that opening a device answers, as 3 for LIBUSB_ERROR_ACCESS (0: it is opened)
@@ -164,6 +165,8 @@ static void read_app(void)
     settings.app_stalls_all = stalls == 2;
     settings.app_attributes = (uint8_t)number("USB_APP_ATTRIBUTES", settings.attributes, 16);
     settings.app_descriptor = (uint8_t)number("USB_APP_DESCRIPTOR", settings.descriptor, 10);
+    settings.app_transfer = (uint16_t)number("USB_APP_TRANSFER", settings.transfer, 10);
+    settings.app_protocol = (uint8_t)number("USB_APP_PROTOCOL", 1, 10);
     settings.starts_in_app = is_first("USB_START", "app", "dfu", "dfu");
 }
 
