@@ -40,6 +40,9 @@ for more in '' 'USB_ATTRIBUTES=0f USB_DETACH=5' 'USB_DFU_IDS=1209:00ff:0100 USB_
     row 0 new 'verified: ' "USB_START=app USB_APP_STALLS=status $more" new.dfu
     counted "$more: a DETACH before each" DETACH 2
 done
+# It takes its time.
+row 0 new 'verified: ' 'USB_DEVICE=small USB_ATTRIBUTES=03 USB_LATE=700 USB_START=app USB_APP_STALLS=status' new.dfu
+counted 'it takes its time: a reset before each, and the last one' '^reset' 3
 row 8 new 'unconfirmed: ' 'USB_START=app USB_APP_STALLS=status USB_ATTRIBUTES=01' new.dfu
 counted 'a reset behind DETACH, and the last one' '^reset' 2
 row 0 old 'uploaded: ' 'USB_START=app USB_APP_STALLS=status' --upload stalled
