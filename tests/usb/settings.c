@@ -20,7 +20,7 @@
  * USB_APP_DESCRIPTOR  bytes of the functional descriptor in run-time mode (USB_DESCRIPTOR)
  * USB_APP_TRANSFER  its wTransferSize (USB_TRANSFER)    USB_APP_PROTOCOL  bInterfaceProtocol in run-time mode (1)
  * USB_RESTARTS    small: what it starts by itself behind a download: app, or dfu (DFU mode again) (app)
- * USB_LATE        small: DETACH leads to DFU mode after so many ms, and no reset does (0: a reset does, or bitWillDetach)
+ * USB_LEAVES      small: DETACH leads to DFU mode after so many ms, and no reset does (0: a reset does, or bitWillDetach)
  * USB_DEVICES     1, or 2: another device, whose serial number is OTHER, stands on the bus (1)
  * USB_DENIED      the number of the error that opening a device answers, as 3 for LIBUSB_ERROR_ACCESS (0: it is opened)
  * USB_OTHER_DENIED  the same of the other device alone (0)
@@ -184,7 +184,7 @@ static void read_device(void)
     bool is_proved = kind == 0;
     settings.device = devices[kind];
     settings.restarts_in_app = is_first("USB_RESTARTS", "app", "dfu", "app");
-    settings.late_ms = number("USB_LATE", 0, 10);
+    settings.detaches_ms = number("USB_LEAVES", 0, 10);
     settings.attributes = (uint8_t)number("USB_ATTRIBUTES", is_proved ? 0x07 : kind == 1 ? 0x0f : 0x09, 16);
     settings.transfer = (uint16_t)number("USB_TRANSFER", kind == 1 ? 4096 : 8, 10);
     settings.detach_ms = (uint16_t)number("USB_DETACH", is_proved ? 1000 : 0, 10);

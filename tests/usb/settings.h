@@ -39,7 +39,7 @@ struct settings {
     uint16_t app_transfer;             /* its wTransferSize, */
     uint8_t app_protocol;              /* and bInterfaceProtocol there */
     bool restarts_in_app;              /* small: what it starts by itself, its application or itself again; */
-    uint32_t late_ms;                  /* and how long it takes to DFU mode */
+    uint32_t detaches_ms;              /* and how long it takes to DFU mode */
     uint8_t interface;                 /* its number; */
     uint8_t swapped_interface;         /* that of another board in its place, */
     const char *swapped_name;          /* and the name of that one's first setting, or NULL: the same */
