@@ -76,15 +76,16 @@ static bool is_odd(int32_t refusal)
    for it; session.c sees to it that no block is sent by that. */
 static int32_t begin_by_another(struct session *session, int32_t refusal)
 {
+    static const uint8_t another[9] = {9, 0x21, 3, 1000 & 0xff, 1000 >> 8, 64, 0, 0x10, 0x01};
     const struct found *is = &session->wire.device->is;
-    uint8_t another[9] = {9, 0x21, 3, 1000 & 0xff, 1000 >> 8, 64, 0, 0x10, 0x01};
     if (!is->says_runtime || !is_odd(refusal))
         return refusal;
     session->odd = refusal;
     /* With wTransferSize 0 the rest counts: bmAttributes and wDetachTimeOut. */
+    memcpy(session->another, another, sizeof another);
     if (refusal == DFU_BAD_DESCRIPTOR)
-        memcpy(another + 2, is->descriptor + 2, 3);
-    return begin(session, another, sizeof another);
+        memcpy(session->another + 2, is->descriptor + 2, 3);
+    return begin(session, session->another, sizeof session->another);
 }
 
 int32_t session_begin(struct session *session)

@@ -23,6 +23,7 @@ static int say_none(libusb_context *usb, const struct wanted *wanted)
     const struct wanted any = {.place = ANYWHERE};
     struct found list[FOUND_ROOM];
     int count = find_all(usb, &any, list, FOUND_ROOM);
+    bool is_upgrade = false;
     if (count <= 0) {
         fprintf(stderr, "dfu-flash: no device with DFU is there\n");
         return STATUS_NO_DEVICE;
@@ -31,8 +32,12 @@ static int say_none(libusb_context *usb, const struct wanted *wanted)
     if (wanted->has_ids)
         fprintf(stderr, " (vendor %04x, product %04x; ffff is any)", wanted->vendor, wanted->product);
     fprintf(stderr, "; there is:\n");
-    for (int at = 0; at < count; at++)
+    for (int at = 0; at < count; at++) {
         say_found(stderr, &list[at]);
+        is_upgrade = is_upgrade || list[at].is_upgrade;
+    }
+    if (wanted->has_ids && !wanted->has_dfu_ids && is_upgrade)
+        fputs("dfu-flash: in DFU mode a device may have another product: see --device RUN,DFU\n", stderr);
     found_drop(list, count);
     return STATUS_NO_DEVICE;
 }

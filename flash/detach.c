@@ -1,8 +1,11 @@
 /* The one request of DFU that is this program's own: DETACH (USB DFU 1.1, section 5.1). The host asks for the state first, and
    sends DETACH once it was told appIDLE; but many a device stalls GETSTATUS in run-time mode, and knows nothing but DETACH there. */
 #include "detach.h"
+#include "clock.h"
 
 #define NO_DESCRIPTOR_MS 1000 /* wDetachTimeOut where there is no functional descriptor to tell it */
+#define ARRIVAL_MS 5000       /* a device may stand in run-time mode still, and leave a while after the reset */
+#define LOOK_MS 200
 
 /* wDetachTimeOut, as the device wants it. */
 static uint16_t time_of(const struct found *is)
@@ -30,12 +33,26 @@ struct answer detach_send(struct wire *wire)
     return answer;
 }
 
+bool detach_await(struct wire *wire)
+{
+    const struct device *device = wire->device;
+    int64_t end = clock_ms() + ARRIVAL_MS;
+    while (device_reopen(wire->device)) {
+        if (device->is.is_upgrade || *device->is_stop || clock_ms() >= end)
+            return device->is.is_upgrade;
+        clock_wait(LOOK_MS);
+    }
+    return false;
+}
+
 bool detach(struct wire *wire)
 {
     struct answer answer = detach_send(wire);
     if (answer.is_gone || answer.seen == DFU_STALLED)
         return false;
-    if (!wire->device->is.is_upgrade || wire->device->handle == NULL)
+    wire->trace.is_own = true;
+    if (!wire->device->is.is_upgrade)
         answer_reset(wire);
-    return device_reopen(wire->device) && wire->device->is.is_upgrade;
+    wire->trace.is_own = false;
+    return detach_await(wire);
 }

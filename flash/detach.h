@@ -9,8 +9,10 @@
 /* Sends one DETACH to a device in run-time mode, waits where it detaches by itself, and tells what came of the request. */
 struct answer detach_send(struct wire *wire);
 
-/* Brings a device from run-time mode to DFU mode: DETACH, a reset unless it detaches by itself, and it is opened again. Whether it
-   is in DFU mode then. */
+/* Behind DETACH and the reset: waits for 5 seconds until the device is in DFU mode, and opens it. Whether it is. */
+bool detach_await(struct wire *wire);
+
+/* Brings a device from run-time mode to DFU mode: DETACH, a reset unless it left by itself, and the wait. Whether it is there. */
 bool detach(struct wire *wire);
 
 #endif

@@ -124,11 +124,20 @@ static bool tell(struct session *session, const struct answer *answer)
     return true;
 }
 
+/* With what the host has begun: its descriptor may stand in for the device's, and its identifiers be those of run-time mode. */
 static void trace_session(const struct session *session)
 {
+    struct found is = session->wire.device->is;
+    is.vendor = session->ids.vendor;
+    is.product = session->ids.product;
+    is.release = session->ids.device;
+    if (session->odd != 0) {
+        memcpy(is.descriptor, session->another, sizeof is.descriptor);
+        is.descriptor_size = sizeof is.descriptor;
+    }
     if (session->refusal == 0)
-        trace_begin(&session->wire.trace, goal_name(session->goal), &session->wire.device->is, session->host.transfer,
-                    session->host.actions, session->host.restarts);
+        trace_begin(&session->wire.trace, goal_name(session->goal), &is, session->host.transfer, session->host.actions,
+                    session->host.restarts);
 }
 
 /* In DFU mode a device may have another functional descriptor than in run-time mode: then the session that brought it there, which

@@ -43,7 +43,8 @@ struct session {
     struct dfu_session host;      /* the host's record */
     uint8_t known[9];             /* the device's functional descriptor when it was begun */
     size_t known_size;
-    int32_t odd;                  /* why the host refuses the functional descriptor of the run-time mode, or 0: another one stands in */
+    int32_t odd;                  /* why the host refuses the functional descriptor of the run-time mode, or 0; */
+    uint8_t another[9];           /* then another one stands in */
     bool has_sent, has_begun_anew, is_aborted;
     bool is_whole;                /* the device acknowledged the image's last block and its end, and no block was sent since */
     uint32_t silent;              /* transfers in a row of which nothing was heard */

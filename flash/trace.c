@@ -61,7 +61,11 @@ static const char *state_in(uint8_t request, const struct answer *answer)
 /* The first four words. */
 static void print_front(struct trace *trace, const char *what, uint32_t value, unsigned length)
 {
-    fprintf(stderr, "%" PRIu64 " %s%s %" PRIu32 " %u ", ++trace->number, trace->is_own ? "OWN-" : "", what, value, length);
+    if (trace->is_own)
+        fputs("own:", stderr);
+    else
+        fprintf(stderr, "%" PRIu64, ++trace->number);
+    fprintf(stderr, " %s %" PRIu32 " %u ", what, value, length);
 }
 
 void trace_request(struct trace *trace, const uint8_t setup[8], const struct answer *answer, int64_t ms)

@@ -10,8 +10,8 @@ struct found;
 
 struct trace {
     bool is_on;
-    bool is_own;     /* what is done is this program's own, and no action of the host */
-    uint64_t number; /* of the last line of an action */
+    bool is_own;     /* what is done is this program's own, and no action of the host: it has no number */
+    uint64_t number; /* of the last action */
 };
 
 /* A request was sent, a wait of `asked` ms was made, or the bus was reset; and it took `ms`. */

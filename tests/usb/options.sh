@@ -11,9 +11,9 @@ expect 'it detaches by itself: no reset' test "$(grep -c reset log)" -eq 0
 row 0 old 'detached: ' 'USB_START=app USB_DESCRIPTOR=0' --detach
 row 0 old 'detached: ' '' --detach
 expect 'in DFU mode: nothing is sent' is_silent
-row 0 old '{"status":0,"report":"detached","words":"the device is in DFU mode","goal":"detach","vendor":"1209",' USB_START=app \
-    --detach --json
-row 0 old 'detached: ' 'USB_START=app USB_LATE=3' --detach --wait --quiet
+record='{"status":0,"report":"detached","words":"the device is in DFU mode","goal":"detach","vendor":"1209",'
+row 0 old "$record" USB_START=app --detach --json
+row 0 old 'detached: ' 'USB_START=app USB_ABSENT=3' --detach --wait --quiet
 row 4 old '' 'USB_START=app USB_DEVICES=0' --detach
 row 12 old '' 'USB_START=app USB_DEVICES=2' --detach
 row 5 old '' 'USB_START=app USB_CLAIMED=6' --detach
@@ -24,7 +24,7 @@ fate='lost-out 0'
 row 15 old 'not-detached: ' 'USB_START=app' --detach
 fate=
 row 0 old 'detached: ' 'USB_START=app' --detach --verbose
-expect 'a trace' grep -q '^1 OWN-DETACH 1000 0 ack - ' err
+expect 'a trace' grep -q '^own: DETACH 1000 0 ack - [0-9]*$' err
 for words in '--detach new.dfu' '--detach --upload never' '--upload never --detach' '--detach --list' '--list --detach' \
     '--detach --dry-run' '--detach --limits 1 1' '--detach --force' '--detach --no-verify' '--detach --transfer-size 8'; do
     # shellcheck disable=SC2086
@@ -96,7 +96,8 @@ named 'S\u0000F' S S
 row 4 old '' 'USB_SERIAL=S\u00e9' --serial 'S?' new.dfu
 row 0 new '{"status":0,"report":"verified",' 'USB_SERIAL=S\u00e9\u001b\u0022\ud800' --json --quiet new.dfu
 if command -v python3 > /dev/null; then
-    expect 'a record' python3 -c 'import json; assert json.load(open("out", encoding="utf-8"))["serial"] == "S\u00e9\x1b\"\ufffd\ufffd\ufffd"'
+    expect 'a record' python3 -c 'import json
+assert json.load(open("out", encoding="utf-8"))["serial"] == "S\u00e9\x1b\"\ufffd\ufffd\ufffd"'
 fi
 name=$(printf 'a\033[2J\302\233\303\251\377b')
 row 3 old '' '' "$name"
