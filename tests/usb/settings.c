@@ -35,7 +35,7 @@
  * USB_DESCRIPTOR  bytes of the functional descriptor, 7 as in DFU 1.0, or 0 for none (9)
  * USB_VERSION     its bcdDFUVersion, hexadecimal (0110)
  * USB_AWAY        for how many lists of devices it is away when its mode changes, or when it leaves (0)
- * USB_LATE        for how many lists of devices it is away at the start (0)
+ * USB_ABSENT      for how many lists of devices it is away at the start (0)
  * USB_SLOW        how many ms a transfer takes on the program's clock (0)
  * USB_FATE        fates of transfers, with commas between: `lost-out N`, `lost-back N`, `twice N`, `short N BYTES`,
  *                 `leave N` (its power goes and comes back), `swap N` (the same, and another board, with the serial number
@@ -227,7 +227,7 @@ void settings_read(void)
     if (settings.alternates < 1 || settings.alternates > MOST_ALTERNATES)
         fail_loudly("USB_ALTERNATES is 1 to %d", MOST_ALTERNATES);
     settings.away = number("USB_AWAY", 0, 10);
-    settings.late = number("USB_LATE", 0, 10);
+    settings.absent = number("USB_ABSENT", 0, 10);
     settings.slow_ms = number("USB_SLOW", 0, 10);
     read_fates(text("USB_FATE", ""));
     settings.log = getenv("USB_LOG");

@@ -50,7 +50,7 @@ struct settings {
     int setting;                       /* the one that requests are to be made in, or -1: any */
     int denied, other_denied, claimed; /* the error of an open, of one of the other device, and of a claim, or 0 */
     unsigned opens, denials;           /* so many opens go well before, and so many are denied */
-    unsigned devices, away, late;
+    unsigned devices, away, absent;
     unsigned slow_ms;                  /* what a transfer takes on the program's clock */
     struct fate fates[FATES];
     unsigned fate_count;
