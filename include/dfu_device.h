@@ -1,48 +1,47 @@
 /* A device of USB device firmware upgrade (USB DFU 1.1) for a program in C, as a bootloader runs it.
  *
- * The program owns all there is: what the device is set up with, the record of what it keeps between two calls, and the
- * medium, which is plain memory. The library has no state, takes no memory, and calls at most memcpy, memmove and memset:
- * it needs nothing of the C library beside them. It is for 64-bit processors; of x86-64 for those of level v2, with SSE4.1.
+ * The program owns everything: the configuration, the record of what is kept between two calls, and the medium, which is
+ * plain memory. The library has no state and takes no memory. Of a C library it wants at most memcpy, memmove and memset.
+ * It is for 64-bit processors; of x86-64 for those of level v2, with SSE4.1.
  *
- * Return values: 0 or more is an answer; a negative number is DFU_STALL or a refusal. After a refusal nothing changed:
- * not the record, not the medium, and not the buffer of the answer.
+ * Return values: 0 or more is an answer; a negative number is DFU_STALL or a refusal. A refusal changes nothing: not the
+ * record, not the medium, and not the buffer of the answer.
  *
  * What the program owes, always:
- * - No pointer is NULL, also where its length is 0, and each points to as much as its length or its type says.
+ * - No pointer is NULL, also where its length is 0. Each points to as much as its length or its type says.
  * - Nothing that is handed in overlaps anything else that is.
- * - One call at a time for a record or a medium; and enough stack: up to 9,000 bytes below a call (tests/c-device).
- * What it owes so that the device goes on as it stood:
- * - The configuration is the same in every call, and the record and the medium are as the last call left them. A record
- *   is begun by dfu_device_power_on.
- * Then each call is a row of the device table (crates/dfu_device/specs/Table.antt). Where a program does not keep the record
- * or the medium, whatever they hold, a call still answers for the device that they are now, or refuses: no call fails
- * in another way.
+ * - One call at a time for a record or a medium, and up to 9,000 bytes of stack below a call.
+ * What it owes so that the device goes on from where it was:
+ * - The configuration is the same in every call.
+ * - The record and the medium are as the last call left them. A record begins with dfu_device_power_on.
+ * Then each call is a row of Fustrelan's device table. Where a program keeps the record or the medium otherwise, a call
+ * takes the device that they are now, or refuses. No call fails in another way, whatever they hold.
  *
  * The loop of a bootloader:
  *
- *     on power:            dfu_device_power_on; and for a device that is to begin in dfuIDLE a DETACH and a reset of its own
- *     on a bus reset:      dfu_device_usb_reset, once an enumeration
+ *     on power:            dfu_device_power_on; for a device that is to begin in dfuIDLE, then a DETACH and a reset of its own
+ *     on a bus reset:      dfu_device_usb_reset, once per enumeration
  *     on a request of this class (bmRequestType 21h or A1h) to the interface of this standard:
  *                          set wIndex, bytes 4 and 5 of the setup, to 0, whatever number the interface has
- *                          take in the whole data stage, wLength bytes, where the host sends; none where it reads
+ *                          where the host sends, receive the whole data stage first, wLength bytes
  *                          n = dfu_device_handle(..)
  *                          0 or more: answer with the n bytes of out, or acknowledge where the host sent
- *                          DFU_STALL: stall endpoint 0; the device goes on from the state that it is in then
- *     as time passes:      dfu_device_elapse where dfu_device_state says 1, 4 or 7: the other states count no time
- *                          with bit 3 it leads from 1 to 2: then leave the bus and come back, and tell no reset of that
+ *                          DFU_STALL: stall endpoint 0; the device may be in another state now
+ *     as time passes:      dfu_device_elapse where dfu_device_state is 1, 4 or 7; no other state counts time
+ *                          bitWillDetach, and the state went from 1 to 2: leave the bus and come back; report no reset for that
  *     then:                dfu_device_state says what runs: the application in 0 and 1, the upgrade elsewhere
  *
- * - Other requests, as SET_INTERFACE, are the program's own: a call stalls them.
- * - Tell the time that has passed before a request is handed in: in state 4 or 7 each request, GETSTATUS too, is an error, and
- *   drops what was taken.
- * - A body that is longer than the program's buffer must not be cut: stall it, without a call.
- * - A second reset of the bus ends the upgrade mode: one in dfuIDLE goes to appIDLE, as the table has it. So tell no reset that
- *   belongs to the same enumeration, nor that of the first one where the device was brought to dfuIDLE as it got power.
- * - The medium is written within the dfu_device_elapse that comes to the end of the busy or the manifestation time; and where
- *   that time is 0, within the dfu_device_handle that answers GETSTATUS. A DNLOAD alone writes nothing.
- * - Each call that is given a medium reads the whole active image, for its register; and until the next download writes its
- *   first block, the image before it too. The one that puts an image in place reads the new one, and then both again. So tell the
- *   time in few calls: one with busy_ms, when it has passed, will do. */
+ * - Other requests, as SET_INTERFACE, are the program's own: dfu_device_handle stalls them.
+ * - Report the time that has passed before you hand in a request. In state 4 or 7 each request, GETSTATUS too, is an error
+ *   and drops what was taken.
+ * - Do not cut a body that is longer than your buffer: stall it, without a call.
+ * - Report one bus reset per enumeration; skip the first one if you started in dfuIDLE. Another reset ends the upgrade: by
+ *   the table, one in dfuIDLE leads to appIDLE.
+ * - The medium is written in the dfu_device_elapse that ends the busy or the manifestation time. Where that time is 0, it
+ *   is written in the dfu_device_handle that answers GETSTATUS. A DNLOAD writes nothing.
+ * - Each call that is given a medium reads the whole active image, to check it. Until the next download writes its first
+ *   block, it reads the image before it too. The call that puts an image in place reads the new one, and then both again.
+ *   So report time in few calls: one with busy_ms, when it has passed, will do. */
 #ifndef DFU_DEVICE_H
 #define DFU_DEVICE_H
 
@@ -53,7 +52,7 @@
 extern "C" {
 #endif
 
-/* What a device is set up with. */
+/* The configuration: what a device is set up with. */
 struct dfu_config {
     uint16_t device;      /* bcdDevice */
     uint16_t product;     /* idProduct */
@@ -66,7 +65,8 @@ struct dfu_config {
     uint32_t least;       /* the fewest bytes of an image, 1 to 16,777,216: with more than a slot holds no download can end */
 };
 
-/* What is kept of a device between two calls. A program reads it by dfu_device_state and dfu_device_code, and writes nothing in it.
+/* The record: what is kept of a device between two calls. A program reads it by dfu_device_state and dfu_device_code, and
+ * writes nothing in it.
  *
  * mode  state (bState)                         first            second  number
  *  0    appIDLE (0)
@@ -83,8 +83,8 @@ struct dfu_config {
  * 11    dfuUPLOAD-IDLE (9)                     bytes sent       -       of the next block
  * 12    dfuERROR (10)                          -                -       the status code, 0 to 15
  *
- * ms: how many milliseconds passed in the state. put_end: how many bytes were put in the spare slot. block: its first
- * length bytes are the block that is not written, in modes 3 and 5. */
+ * ms: how many milliseconds passed in the state. put_end: how many bytes were put in the spare slot. block: in modes 3 and
+ * 5 its first length bytes are the block that is not written yet. */
 struct dfu_device {
     uint32_t mode, first, second, put_end;
     uint16_t number, length;
@@ -96,46 +96,50 @@ struct dfu_place {
     uint32_t at, length;
 };
 
-#define DFU_STALL (-1)      /* the request is stalled: an answer, after which the device may be in another state */
-#define DFU_NO_CONFIG (-2)  /* a number of the configuration is out of its range */
-#define DFU_NO_MEDIUM (-3)  /* the medium has no active image, or 2^32 bytes or more */
-#define DFU_NO_DEVICE (-4)  /* the record is none of a device on that medium */
-#define DFU_NO_ROOM (-5)    /* out has less room than an answer may need: 6 bytes, or the transfer size where that is more */
-#define DFU_WRONG_SIZE (-6) /* the medium has no length that two slots can have */
-#define DFU_TOO_LARGE (-7)  /* the image is longer than a slot's data */
+/* Negative return values: the first is an answer, all others are refusals. */
+enum {
+    DFU_STALL = -1,      /* stall the request; the device may be in another state now */
+    DFU_NO_CONFIG = -2,  /* a number of the configuration is out of its range */
+    DFU_NO_MEDIUM = -3,  /* the medium has no active image, or 2^32 bytes or more */
+    DFU_NO_DEVICE = -4,  /* the record is none of a device on that medium */
+    DFU_NO_ROOM = -5,    /* out has less room than an answer may need: 6 bytes, or the transfer size where that is more */
+    DFU_WRONG_SIZE = -6, /* the medium has no length that two slots can have */
+    DFU_TOO_LARGE = -7   /* the image is longer than a slot's data */
+};
 
-/* Writes an image into the first slot and makes it the active one, whatever stood on the medium: 0; or DFU_NO_MEDIUM
- * (2^32 bytes or more), DFU_WRONG_SIZE, DFU_TOO_LARGE, looked for in this order. A medium has 2 * (32 + C) bytes, for images of
- * at most C bytes, C from 1 to 16,777,216. It is for when a board is made: a loss of power within it may leave no image. */
+/* Writes an image into the first slot and makes it the active one, whatever stood on the medium: 0; or the first that
+ * holds of DFU_NO_MEDIUM (2^32 bytes or more), DFU_WRONG_SIZE, DFU_TOO_LARGE. A medium for images of at most C bytes has
+ * 2 * (32 + C) bytes, C from 1 to 16,777,216. It is for when a board is made: a loss of power within it may leave no image. */
 int32_t dfu_device_format(uint8_t *medium, size_t size, const uint8_t *image, size_t length);
 
-/* The device gets power: 0, and the record is that of a device in appIDLE, whatever it held. It writes nothing on the
- * medium. DFU_NO_CONFIG, DFU_NO_MEDIUM, looked for in this order. Also after each loss of power: the medium alone must last. One
- * within a call was tried after each instruction on x86-64, and isn't proved here: the writes are plain stores, which caches and
- * memory have to let through in the processor's order, what opens the new slot last. */
+/* The device gets power: 0, and the record is that of a device in appIDLE, whatever it held; or the first that holds of
+ * DFU_NO_CONFIG, DFU_NO_MEDIUM. It writes nothing on the medium. Call it after each loss of power: only the medium has to
+ * last through one. A loss of power within a call was tried after each instruction on x86-64, and isn't proved here. The
+ * writes are plain stores. Caches and memory have to let them through in the processor's order: what opens the new slot
+ * comes last. */
 int32_t dfu_device_power_on(const struct dfu_config *config, struct dfu_device *device, uint8_t *medium, size_t size);
 
-/* Answers a setup with its body: how many bytes the answer has, which stand at the front of out; 0 where it is acknowledged
- * or has none; or DFU_STALL. DFU_NO_ROOM, DFU_NO_CONFIG, DFU_NO_MEDIUM, DFU_NO_DEVICE, looked for in this order. */
+/* Answers a setup with its body. The number is how many bytes of out are the answer: 0 where it is acknowledged, or has
+ * none; or DFU_STALL; or the first that holds of DFU_NO_ROOM, DFU_NO_CONFIG, DFU_NO_MEDIUM, DFU_NO_DEVICE. */
 int32_t dfu_device_handle(const struct dfu_config *config, struct dfu_device *device, uint8_t *medium, size_t size,
                           const uint8_t setup[8], const uint8_t *body, size_t length, uint8_t *out, size_t room);
 
-/* So many milliseconds pass: 0. They count in appDETACH, dfuDNBUSY and dfuMANIFEST. At most one change comes of a call; the
- * rest of its time is dropped. DFU_NO_CONFIG, DFU_NO_MEDIUM, DFU_NO_DEVICE, looked for in this order. */
+/* So many milliseconds pass: 0; or the first that holds of DFU_NO_CONFIG, DFU_NO_MEDIUM, DFU_NO_DEVICE. They count in
+ * appDETACH, dfuDNBUSY and dfuMANIFEST. A call changes the state at most once; the rest of its time is dropped. */
 int32_t dfu_device_elapse(const struct dfu_config *config, struct dfu_device *device, uint8_t *medium, size_t size, uint32_t ms);
 
-/* The bus is reset: 0; appDETACH goes to dfuIDLE, every other state to appIDLE. DFU_NO_CONFIG, DFU_NO_MEDIUM, DFU_NO_DEVICE,
- * looked for in this order. */
+/* The bus is reset: 0; or the first that holds of DFU_NO_CONFIG, DFU_NO_MEDIUM, DFU_NO_DEVICE. appDETACH leads to dfuIDLE,
+ * every other state to appIDLE. */
 int32_t dfu_device_usb_reset(const struct dfu_config *config, struct dfu_device *device, uint8_t *medium, size_t size);
 
 /* The state, bState: 0 to 10; or DFU_NO_DEVICE where mode, or number in mode 12, is out of its range. */
 int32_t dfu_device_state(const struct dfu_device *device);
 
-/* The status code, bStatus: 0 to 15, 0 in every state but dfuERROR; or DFU_NO_DEVICE as dfu_device_state. */
+/* The status code, bStatus: 0 to 15, and 0 in every state but dfuERROR; or DFU_NO_DEVICE as dfu_device_state. */
 int32_t dfu_device_code(const struct dfu_device *device);
 
-/* Where the active image stands, for a program that runs it in place: 0; or DFU_NO_MEDIUM, and place is as it was. It writes
- * nothing. The place holds until the next image is put in place. */
+/* Where the active image stands, for a program that runs it in place: 0; or DFU_NO_MEDIUM, and place is as it was. It
+ * writes nothing. The place holds until the next image is put in place. */
 int32_t dfu_device_image(uint8_t *medium, size_t size, struct dfu_place *place);
 
 #ifdef __cplusplus

@@ -1,48 +1,54 @@
-/* The host of USB device firmware upgrade (USB DFU 1.1): which request, wait or reset comes next.
-
-   The library sends nothing, takes no memory and keeps nothing between two calls. The program keeps the record
-   of the session, does what dfu_host_next says, and tells dfu_host_take what came of it. It links with
-   crates/dfu_host_c/out/libdfu_host_c.a, which wants at most memcpy, memmove and memset of the program's C library. It
-   is for 64-bit processors; of x86-64 for those of level v2, with SSE4.1.
-
-       struct dfu_session s; struct dfu_action a; struct dfu_file f; uint8_t answer[65535];
-       if (dfu_host_file(file, length, &f) < 0) ..
-       if (dfu_host_download(&s, file, length, descriptor, size, &device, 100000, 3) < 0) ..
-       while (dfu_host_next(&s, file, f.payload, &a) == 0 && a.what != DFU_DONE) {
-           if (a.what == DFU_WAIT) { sleep for a.value ms; seen = DFU_WAITED; }
-           else if (a.what == DFU_RESET) { reset the bus; seen = DFU_WAS_RESET; }
-           else { a control transfer with a.setup; seen = what came of it; }
-           if (dfu_host_take(&s, file, f.payload, buffer, room, seen, answer, count) != 0) break;
-       }
-       a.what is DFU_DONE, and a.value the report; or a call was refused, which is a mistake of the program
-
-   What came of a transfer, by its outcome:
-     acknowledged, where a.setup[0] is 21h (the host sends)        DFU_ACK
-     answered, where a.setup[0] is A1h (the device answers)        DFU_BYTES, with the bytes, of any count from 0 on
-     stalled                                                       DFU_STALLED
-     not finished for any other reason, as a time that ran out     DFU_NOTHING
-     the device left unasked, or somebody else reset it            DFU_RESTARTED, once it is back, before all else
-   A device that leaves because of a DETACH that it acknowledged, or of DFU_RESET, does what it was asked to: that is no
-   restart, and what comes next is asked for once it is open again; DFU_WAS_RESET is the answer to DFU_RESET then too. Each
-   DFU_RESTARTED spends one of the session's restarts, and the host asks anew where the device stands.
-
-   What the program owes:
-     - pointers to as many bytes as their lengths say, which do not overlap, and none of which is NULL, also where
-       its length is 0; `answer` has room for the count in a.setup[6], a.setup[7] (the low byte first);
-     - the record as the last call left it, from the beginning to the end of a session;
-     - the same payload for the whole session: the first `dfu_file.payload` bytes of the file that it began with,
-       and for an upload any pointer with length 0;
-     - the same buffer for the whole upload, of which it changes nothing;
-     - calls of one session come from one thread at a time.
-
-   What is proved of programs that do:
-     - a session begins as its file, its descriptor and its limits say, each dfu_host_take is a row of the host's table
-       (docs/PROFILE.md), each action is the one of its phase, with its body cut from the payload, and a session is
-       over after as many calls of dfu_host_take as it had actions;
-     - DFU_INSTALLED, DFU_VERIFIED and DFU_UPLOADED come only as the laws of dfu_host say.
-   What is proved also where the record, the payload or the buffer are others: a call is answered or refused, it
-   ends, and it touches nothing but what its pointers say. A refusal changes nothing. */
-
+/* The host of USB device firmware upgrade (USB DFU 1.1) for a program in C: which request, wait or reset comes next.
+ *
+ * The library sends nothing, takes no memory and has no state. The program keeps the record of the session, does what
+ * dfu_host_next says, and reports to dfu_host_take what came of it. Of a C library it wants at most memcpy, memmove and
+ * memset. It is for 64-bit processors; of x86-64 for those of level v2, with SSE4.1.
+ *
+ * Return values: 0 or more is an answer; a negative number is a refusal. A refusal changes nothing.
+ *
+ * The loop of a flashing tool:
+ *
+ *     struct dfu_session s; struct dfu_action a; struct dfu_file f; uint8_t answer[65535];
+ *     if (dfu_host_file(file, length, &f) != 0) refused
+ *     if (dfu_host_download(&s, file, length, descriptor, size, &device, 100000, 3) != 0) refused
+ *     for (;;) {
+ *         uint32_t seen; size_t count = 0;
+ *         if (dfu_host_next(&s, file, f.payload, &a) != 0) a mistake of the program
+ *         if (a.what == DFU_DONE) a.value is the report
+ *         if (a.what == DFU_WAIT) { sleep for a.value ms; seen = DFU_SEEN_WAIT; }
+ *         else if (a.what == DFU_RESET) { reset the bus; seen = DFU_SEEN_RESET; }
+ *         else { a control transfer with a.setup, and a.length bytes from file + a.from; seen = what came of it; }
+ *         if (dfu_host_take(&s, file, f.payload, buffer, room, seen, answer, count) != 0) a mistake of the program
+ *     }
+ *
+ * What came of a transfer, by its outcome:
+ *     acknowledged, where a.setup[0] is 21h (the host sends)   DFU_SEEN_ACK
+ *     answered, where a.setup[0] is A1h (the device answers)   DFU_SEEN_BYTES, with the bytes, of any count from 0 on
+ *     stalled                                                  DFU_SEEN_STALL
+ *     not finished for any other reason, as a timeout          DFU_SEEN_NOTHING
+ *     the device left unasked, or somebody else reset it       DFU_SEEN_RESTART, once it is back, before all else
+ * - A device that leaves because of DFU_RESET, or of a DETACH that it acknowledged, does what it was asked to: that is no
+ *   restart. The next action is for the device once it is open again. DFU_SEEN_RESET is the answer to DFU_RESET then too.
+ * - Each DFU_SEEN_RESTART spends one of the session's restarts, and the host asks anew where the device stands.
+ *
+ * What the program owes, always:
+ * - No pointer is NULL, also where its length is 0. Each points to as many bytes as its length says.
+ * - Nothing that is handed in overlaps anything else that is.
+ * - answer has room for as many bytes as a.setup[6] and a.setup[7] ask for (the low byte first).
+ * - Calls of one session come from one thread at a time.
+ * What it owes so that the session goes on from where it was:
+ * - The record is as the last call left it, from the beginning to the end of a session.
+ * - The payload is the same for the whole session: the first dfu_file.payload bytes of the file that it began with. For an
+ *   upload it is any pointer with length 0.
+ * - The buffer is the same for the whole upload, and the program changes nothing in it.
+ *
+ * What is proved of programs that do:
+ * - A session begins as its file, its descriptor and its limits say.
+ * - Each dfu_host_take is a row of Fustrelan's host table. Each action is the one of its phase, with its body cut from the
+ *   payload. A session is over after as many calls of dfu_host_take as it had actions.
+ * - DFU_INSTALLED, DFU_VERIFIED and DFU_UPLOADED come only as the laws of dfu_host say.
+ * What is proved also where the record, the payload or the buffer are others: a call answers or refuses, it ends, and it
+ * touches nothing but what its pointers say. */
 #ifndef DFU_HOST_H
 #define DFU_HOST_H
 
@@ -65,7 +71,7 @@ struct dfu_file {
     uint16_t device, product, vendor, dfu; /* bcdDevice, idProduct, idVendor (FFFFh: of any), bcdDFU */
 };
 
-/* A session between two calls. Only `kept` is for the program's eyes. */
+/* The record: a session between two calls. A program reads kept, and writes nothing in it. */
 struct dfu_session {
     uint64_t number;                        /* the block, the part or the report of the phase */
     uint64_t kept;                          /* how many bytes of the buffer count; all that came, once DFU_UPLOADED */
@@ -82,13 +88,35 @@ struct dfu_action {
     uint64_t length;  /* DFU_SEND: how many bytes the body has, 0 to 65,535; 0 where the device answers */
     uint32_t code;    /* DFU_DONE with DFU_REFUSED: the device's bStatus, 0 to 15 */
     uint8_t setup[8]; /* DFU_SEND: the setup of a control transfer; its wIndex, bytes 4 and 5, is 0: send the number of the
-                         device's DFU interface there, and change nothing else */
+                       * device's DFU interface there, and change nothing else */
 };
 
-enum { DFU_SEND, DFU_WAIT, DFU_RESET, DFU_DONE };
+/* Actions. */
+enum {
+    DFU_SEND = 0,  /* make a control transfer */
+    DFU_WAIT = 1,  /* let time pass */
+    DFU_RESET = 2, /* reset the bus of the device */
+    DFU_DONE = 3   /* the session is over */
+};
 
 /* What was seen of an action. */
-enum { DFU_ACK, DFU_BYTES, DFU_STALLED, DFU_NOTHING, DFU_WAITED, DFU_WAS_RESET, DFU_RESTARTED };
+enum {
+    DFU_SEEN_ACK = 0,     /* DFU_SEND: the device acknowledged what the host sent */
+    DFU_SEEN_BYTES = 1,   /* DFU_SEND: the device answered */
+    DFU_SEEN_STALL = 2,   /* DFU_SEND: the device stalled */
+    DFU_SEEN_NOTHING = 3, /* the action was not finished */
+    DFU_SEEN_WAIT = 4,    /* DFU_WAIT: the time has passed */
+    DFU_SEEN_RESET = 5,   /* DFU_RESET: the bus was reset */
+    DFU_SEEN_RESTART = 6, /* the device was restarted unasked */
+    /* Their names in programs written before. */
+    DFU_ACK = DFU_SEEN_ACK,
+    DFU_BYTES = DFU_SEEN_BYTES,
+    DFU_STALLED = DFU_SEEN_STALL,
+    DFU_NOTHING = DFU_SEEN_NOTHING,
+    DFU_WAITED = DFU_SEEN_WAIT,
+    DFU_WAS_RESET = DFU_SEEN_RESET,
+    DFU_RESTARTED = DFU_SEEN_RESTART
+};
 
 /* Reports. Only DFU_INSTALLED and DFU_VERIFIED say that the payload is in place. */
 enum {
@@ -98,72 +126,72 @@ enum {
     DFU_GAVE_UP = 4,         /* the actions are spent */
     DFU_REFUSED = 5,         /* the device stood in dfuERROR with a code */
     DFU_RESTARTS_SPENT = 6,  /* the device was restarted too often */
-    DFU_UPLOADED = 7,        /* the whole image came: the first `kept` bytes of the buffer */
+    DFU_UPLOADED = 7,        /* the whole image came: the first kept bytes of the buffer */
     DFU_TOO_MANY_BLOCKS = 8, /* 65,535 full parts came */
     DFU_NO_MEMORY = 9,       /* a part found no room in the buffer */
     DFU_VERIFIED = 10,       /* after its reset the device gave the whole payload back */
     DFU_DIFFERENT = 11       /* after its reset the device gave other bytes back */
 };
 
-/* Refusals. */
+/* Negative return values: refusals. */
 enum {
-    DFU_FILE_TOO_SHORT = -1,       /* the file has under 16 bytes */
-    DFU_FILE_NO_SIGNATURE = -2,    /* .. no 'UFD' in its suffix */
-    DFU_FILE_BAD_LENGTH = -3,      /* .. a bLength under 16 or over the file's length */
-    DFU_FILE_DFUSE = -4,           /* .. bcdDFU 011Ah */
-    DFU_FILE_BAD_CRC = -5,         /* .. a dwCRC that is not that of its bytes */
-    DFU_FILE_TOO_LARGE = -7,       /* .. over 16,777,216 bytes */
-    DFU_EMPTY_PAYLOAD = -21,  /* nothing to install */
-    DFU_WRONG_TARGET = -22,   /* the file is for another device */
-    DFU_CANNOT_DOWNLOAD = -23,
-    DFU_CANNOT_UPLOAD = -24,
-    DFU_BAD_DESCRIPTOR = -25, /* wTransferSize is 0 */
-    DFU_SHORT = -31,          /* the descriptor has fewer bytes than its first says */
-    DFU_LONG = -32,           /* .. more */
-    DFU_WRONG_LENGTH = -33,   /* .. neither 7 nor 9 as its first */
-    DFU_WRONG_TYPE = -34,     /* .. not 21h as its second */
-    DFU_NO_SESSION = -41,     /* the record is none of a session over that payload and buffer */
-    DFU_NO_SEEN = -42         /* `seen` is over 6 */
+    DFU_FILE_TOO_SHORT = -1,    /* the file has under 16 bytes */
+    DFU_FILE_NO_SIGNATURE = -2, /* the file has no 'UFD' in its suffix */
+    DFU_FILE_BAD_LENGTH = -3,   /* the file has a bLength under 16, or over its own length */
+    DFU_FILE_DFUSE = -4,        /* the file has bcdDFU 011Ah */
+    DFU_FILE_BAD_CRC = -5,      /* the file has a dwCRC that is not that of its bytes */
+    DFU_FILE_TOO_LARGE = -7,    /* the file has over 16,777,216 bytes */
+    DFU_EMPTY_PAYLOAD = -21,    /* the file has nothing to install */
+    DFU_WRONG_TARGET = -22,     /* the file is for another device */
+    DFU_CANNOT_DOWNLOAD = -23,  /* the descriptor has no bitCanDnload */
+    DFU_CANNOT_UPLOAD = -24,    /* the descriptor has no bitCanUpload */
+    DFU_BAD_DESCRIPTOR = -25,   /* the descriptor has wTransferSize 0 */
+    DFU_SHORT = -31,            /* the descriptor has fewer bytes than its first says */
+    DFU_LONG = -32,             /* the descriptor has more bytes than its first says */
+    DFU_WRONG_LENGTH = -33,     /* the descriptor has neither 7 nor 9 as its first byte */
+    DFU_WRONG_TYPE = -34,       /* the descriptor has not 21h as its second byte */
+    DFU_NO_SESSION = -41,       /* the record is none of a session over that payload and buffer */
+    DFU_NO_SEEN = -42           /* seen is over 6 */
 };
 
-/* Reads a file, with its CRC: 0, or the first that holds of DFU_FILE_TOO_LARGE, DFU_FILE_TOO_SHORT,
-   DFU_FILE_NO_SIGNATURE, DFU_FILE_BAD_LENGTH, DFU_FILE_DFUSE, DFU_FILE_BAD_CRC. */
+/* Reads a file, with its CRC: 0; or the first that holds of DFU_FILE_TOO_LARGE, DFU_FILE_TOO_SHORT, DFU_FILE_NO_SIGNATURE,
+ * DFU_FILE_BAD_LENGTH, DFU_FILE_DFUSE, DFU_FILE_BAD_CRC. */
 int32_t dfu_host_file(const uint8_t *file, size_t length, struct dfu_file *out);
 
-/* Begins a session that installs a file: 0, or the file's refusal, or the descriptor's, or the first of
-   DFU_EMPTY_PAYLOAD, DFU_WRONG_TARGET, DFU_CANNOT_DOWNLOAD, DFU_BAD_DESCRIPTOR. `descriptor` is the functional
-   descriptor, of 9 bytes, or 7 in DFU 1.0. The session takes `actions` calls of dfu_host_take (0 counts as 1) and
-   `restarts` of the device. It reads the file once. */
+/* Begins a session that installs a file: 0; or the file's refusal; or the descriptor's; or the first that holds of
+ * DFU_EMPTY_PAYLOAD, DFU_WRONG_TARGET, DFU_CANNOT_DOWNLOAD, DFU_BAD_DESCRIPTOR. The descriptor is the functional one, of
+ * 9 bytes, or 7 in DFU 1.0. The session takes so many actions, calls of dfu_host_take (0 counts as 1), and so many restarts
+ * of the device. The file is read once. */
 int32_t dfu_host_download(struct dfu_session *session, const uint8_t *file, size_t length,
                           const uint8_t *descriptor, size_t size, const struct dfu_ids *device,
                           uint32_t actions, uint16_t restarts);
 
-/* The same, and after the last reset the image is asked for and compared. A device without bitCanUpload is refused
-   with DFU_CANNOT_UPLOAD, looked for before DFU_BAD_DESCRIPTOR. */
+/* The same, and after the last reset the image is uploaded and compared. A device without bitCanUpload is refused with
+ * DFU_CANNOT_UPLOAD, looked for before DFU_BAD_DESCRIPTOR. */
 int32_t dfu_host_verified(struct dfu_session *session, const uint8_t *file, size_t length,
                           const uint8_t *descriptor, size_t size, const struct dfu_ids *device,
                           uint32_t actions, uint16_t restarts);
 
-/* Begins a session that fetches the image: 0, or the descriptor's refusal, or the first of DFU_CANNOT_UPLOAD,
-   DFU_BAD_DESCRIPTOR. */
+/* Begins a session that fetches the image: 0; or the descriptor's refusal; or the first that holds of DFU_CANNOT_UPLOAD,
+ * DFU_BAD_DESCRIPTOR. */
 int32_t dfu_host_upload(struct dfu_session *session, const uint8_t *descriptor, size_t size,
                         uint32_t actions, uint16_t restarts);
 
-/* What the session wants done next: 0 or DFU_NO_SESSION. It changes nothing but `action`. */
+/* What the session wants done next: 0; or DFU_NO_SESSION. It writes nothing but the action. */
 int32_t dfu_host_next(const struct dfu_session *session, const uint8_t *payload, size_t length,
                       struct dfu_action *action);
 
-/* Tells the session what came of its action: 0, DFU_NO_SESSION or DFU_NO_SEEN. `kept` with `room` is the buffer of
-   an upload, and any pointer with 0 for a download; `bytes` with `count` is what came with DFU_BYTES. */
+/* Reports to the session what came of its action: 0; or DFU_NO_SESSION; or DFU_NO_SEEN. kept with room is the buffer of an
+ * upload, and any pointer with 0 for a download. bytes with count is what came with DFU_SEEN_BYTES. */
 int32_t dfu_host_take(struct dfu_session *session, const uint8_t *payload, size_t length, uint8_t *kept, size_t room,
                       uint32_t seen, const uint8_t *bytes, size_t count);
 
-/* Gives the session up: 0 or DFU_NO_SESSION. What it wants next is ABORT, and its report is DFU_ABORTED. One that
-   is over stays as it is. */
+/* Gives the session up: 0; or DFU_NO_SESSION. What it wants next is ABORT, and its report is DFU_ABORTED. One that is over
+ * stays as it is. */
 int32_t dfu_host_abort(struct dfu_session *session, const uint8_t *payload, size_t length);
 
-/* Writes a report's name, as `gave-up`, with no end mark: how many bytes it has, at most 15, or 0 where there is no
-   such report or `out` has no room for it. */
+/* Writes a report's name, as gave-up, with no end mark: how many bytes it has, at most 15. The number is 0 where there is
+ * no such report, or out has no room for it. */
 int32_t dfu_host_name(uint32_t report, uint8_t *out, size_t room);
 
 #ifdef __cplusplus

@@ -1,5 +1,5 @@
-/* The smallest flasher: it installs a file on a device, verifies it, and prints the report. `transfer` stands for a USB
- * stack: here it hands each request to the device library, in the same program. */
+/* The smallest flasher: it installs a file on a device, verifies it, and prints the report. `act` stands for a USB stack: here
+ * it hands each action to the device library, in the same program. */
 #include <stdio.h>
 #include <string.h>
 
@@ -15,16 +15,26 @@ static const struct dfu_ids ids = {0x0100, 1, 0x1209};
 static uint8_t medium[2 * (32 + 65536)], file[65536 + 255], answer[65535];
 static struct dfu_device device;
 
-/* A control transfer: what was seen of it, and how many bytes came. */
-static uint32_t transfer(const struct dfu_action *a, size_t *count) {
+/* Does one action: 0, and what was seen of it, with how many bytes came; or a refusal of the device library. */
+static int32_t act(const struct dfu_action *a, uint32_t *seen, size_t *count) {
+    *count = 0;
+    if (a->what == DFU_WAIT) {
+        *seen = DFU_SEEN_WAIT;
+        return dfu_device_elapse(&config, &device, medium, sizeof medium, a->value);
+    }
+    if (a->what == DFU_RESET) {
+        *seen = DFU_SEEN_RESET;
+        return dfu_device_usb_reset(&config, &device, medium, sizeof medium);
+    }
     int32_t sent = dfu_device_handle(&config, &device, medium, sizeof medium, a->setup, file + a->from, a->length,
                                      answer, sizeof answer);
+    if (sent == DFU_STALL) {
+        *seen = DFU_SEEN_STALL;
+        return 0;
+    }
+    *seen = a->setup[0] & 0x80 ? DFU_SEEN_BYTES : DFU_SEEN_ACK;
     *count = sent > 0 ? (size_t)sent : 0;
-    if (sent == DFU_STALL)
-        return DFU_STALLED;
-    if (sent < 0)
-        return DFU_NOTHING;
-    return a->setup[0] & 0x80 ? DFU_BYTES : DFU_ACK;
+    return sent < 0 ? sent : 0;
 }
 
 int main(int words, char **word) {
@@ -33,33 +43,30 @@ int main(int words, char **word) {
         return 2;
     size_t length = fread(file, 1, sizeof file, in);
     fclose(in);
-    if (dfu_device_format(medium, sizeof medium, (const uint8_t *)"", 1) != 0
-        || dfu_device_power_on(&config, &device, medium, sizeof medium) != 0)
-        return 2;
+
     struct dfu_file said;
     struct dfu_session session;
-    int32_t fault = dfu_host_file(file, length, &said);
-    if (fault == 0)
-        fault = dfu_host_verified(&session, file, length, descriptor, sizeof descriptor, &ids, 100000, 3);
-    if (fault != 0) {
-        printf("refused %d\n", (int)fault);
-        return 1;
-    }
-    struct dfu_action a;
+    struct dfu_action a = {0};
     uint8_t name[16];
     int steps = 0;
-    while (dfu_host_next(&session, file, said.payload, &a) == 0 && a.what != DFU_DONE) {
-        size_t count = 0;
-        uint32_t seen = DFU_WAS_RESET;
-        if (a.what == DFU_SEND)
-            seen = transfer(&a, &count);
-        else if (a.what == DFU_WAIT) {
-            dfu_device_elapse(&config, &device, medium, sizeof medium, a.value);
-            seen = DFU_WAITED;
-        } else
-            dfu_device_usb_reset(&config, &device, medium, sizeof medium);
-        dfu_host_take(&session, file, said.payload, name, 0, seen, answer, count);
+    int32_t refusal = dfu_device_format(medium, sizeof medium, (const uint8_t *)"", 1);
+    if (refusal == 0)
+        refusal = dfu_device_power_on(&config, &device, medium, sizeof medium);
+    if (refusal == 0)
+        refusal = dfu_host_file(file, length, &said);
+    if (refusal == 0)
+        refusal = dfu_host_verified(&session, file, length, descriptor, sizeof descriptor, &ids, 100000, 3);
+    while (refusal == 0 && (refusal = dfu_host_next(&session, file, said.payload, &a)) == 0 && a.what != DFU_DONE) {
+        uint32_t seen;
+        size_t count;
+        refusal = act(&a, &seen, &count);
+        if (refusal == 0)
+            refusal = dfu_host_take(&session, file, said.payload, name, 0, seen, answer, count);
         steps++;
+    }
+    if (refusal != 0) {
+        printf("refused %d\n", (int)refusal);
+        return 1;
     }
     int32_t letters = dfu_host_name(a.value, name, sizeof name);
     printf("%.*s after %d actions\n", (int)letters, (const char *)name, steps);

@@ -11,7 +11,7 @@ fi
 work=$(mktemp -d)
 trap 'rm -rf "$work"' EXIT
 chmod 755 "$work"
-"$top/flash/build" "$work" > /dev/null
+CFLAGS=-Werror "$top/flash/build" "$work" > /dev/null
 "$top/tests/usb/build" "$work"
 cd "$work" || exit
 passed=0
