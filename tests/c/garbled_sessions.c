@@ -32,7 +32,7 @@ int main(int words, char **word) {
             printf("a body behind the payload\n");
             return 1;
         }
-        int32_t answer = call % 8 ? dfu_host_take(&s, payload, length, room, size, (uint32_t)(any() % 8), bytes, count)
+        int32_t answer = call % 8 ? dfu_host_take(&s, payload, length, room, size, (uint32_t)(any() % 9), bytes, count)
                                   : dfu_host_abort(&s, payload, length);
         if (answer < 0 && memcmp(&s, &old, sizeof s)) {
             printf("a refusal changed a record\n");

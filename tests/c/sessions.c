@@ -1,5 +1,5 @@
-/* Sessions of the host library against the device library: downloads, with and without losses, uploads into buffers of
- * several sizes, refusals, and what is given up. */
+/* Sessions of the host library against the device library: downloads, with and without losses, to a device that leaves of
+ * itself, uploads into buffers of several sizes, refusals, and what is given up. */
 #include <stdio.h>
 #include <stdlib.h>
 #include <string.h>
@@ -30,25 +30,53 @@ static void start(const char *image, size_t length) {
     is("power on", dfu_device_power_on(&config, &device, medium, sizeof medium), 0);
 }
 
+/* Does what the session wants: what was seen of it, and in `sent` how many bytes were answered. */
+static uint32_t act(const struct dfu_action *a, int32_t *sent) {
+    *sent = 0;
+    if (a->what == DFU_RESET) {
+        dfu_device_usb_reset(&config, &device, medium, sizeof medium);
+        return DFU_WAS_RESET;
+    }
+    if (a->what == DFU_WAIT) {
+        dfu_device_elapse(&config, &device, medium, sizeof medium, a->value);
+        return DFU_WAITED;
+    }
+    *sent = dfu_device_handle(&config, &device, medium, sizeof medium, a->setup, ones + a->from, a->length, answer, sizeof answer);
+    return *sent < 0 ? DFU_STALLED : a->setup[0] & 0x80 ? DFU_BYTES : DFU_ACK;
+}
+
+/* Goes on until the session is over, with a device that resets itself in the first wait behind the close: the report. */
+static uint32_t run_left(struct dfu_session *s) {
+    struct dfu_action a;
+    int closed = 0;
+    while (dfu_host_next(s, ones, 4, &a) == 0 && a.what != DFU_DONE) {
+        int32_t sent;
+        uint32_t seen = act(&a, &sent);
+        if (seen == DFU_ACK && a.setup[1] == 1 && a.length == 0)
+            closed = 1;
+        if (seen == DFU_WAITED && closed == 1) {
+            dfu_device_usb_reset(&config, &device, medium, sizeof medium);
+            seen = DFU_LEFT;
+            closed = 2;
+        }
+        is("take", dfu_host_take(s, ones, 4, buffer, 0, seen, answer, sent > 0 ? (size_t)sent : 0), 0);
+    }
+    is("left", closed, 2);
+    return a.value;
+}
+
 /* Goes on until the session is over, with one answer lost and the rest given up at an action: the report. */
 static uint32_t run(struct dfu_session *s, size_t payload, size_t room, int lost, int given_up) {
     struct dfu_action a;
     for (int step = 0; dfu_host_next(s, ones, payload, &a) == 0 && a.what != DFU_DONE; step++) {
-        int32_t sent = 0;
-        uint32_t seen = DFU_WAITED;
         if (step == given_up) {
             is("abort", dfu_host_abort(s, ones, payload), 0);
             continue;
         }
-        if (a.what == DFU_RESET) {
-            dfu_device_usb_reset(&config, &device, medium, sizeof medium);
-            seen = DFU_WAS_RESET;
-        } else if (a.what == DFU_WAIT)
-            dfu_device_elapse(&config, &device, medium, sizeof medium, a.value);
-        else {
-            sent = dfu_device_handle(&config, &device, medium, sizeof medium, a.setup, ones + a.from, a.length, answer, sizeof answer);
-            seen = step == lost ? DFU_NOTHING : sent < 0 ? DFU_STALLED : a.setup[0] & 0x80 ? DFU_BYTES : DFU_ACK;
-        }
+        int32_t sent;
+        uint32_t seen = act(&a, &sent);
+        if (step == lost && a.what == DFU_SEND)
+            seen = DFU_NOTHING;
         is("take", dfu_host_take(s, ones, payload, buffer, room, seen, answer, sent > 0 ? (size_t)sent : 0), 0);
     }
     return a.value;
@@ -99,6 +127,14 @@ int main(void) {
         dfu_host_download(&s, ones, 20, descriptor, 9, &ids, 1000, 0);
         is("aborted", run(&s, 4, 0, -1, step), DFU_ABORTED);
     }
+    start("\x11", 1);
+    is("download", dfu_host_download(&s, ones, 20, descriptor, 9, &ids, 1000, 0), 0);
+    is("unconfirmed", run_left(&s), DFU_UNCONFIRMED);
+    is("image", has(ones, 4), 1);
+    start("\x11", 1);
+    is("verified", dfu_host_verified(&s, ones, 20, descriptor, 9, &ids, 1000, 0), 0);
+    is("is compared", run_left(&s), DFU_VERIFIED);
+    is("image", has(ones, 4), 1);
     is("whole", upload(64), DFU_UPLOADED);
     is("exactly full", upload(17), DFU_UPLOADED);
     is("one byte short", upload(16), DFU_NO_MEMORY);
@@ -111,7 +147,7 @@ int main(void) {
     is("narrow", dfu_host_upload(&s, narrow, 7, 1, 0), DFU_BAD_DESCRIPTOR);
     dfu_host_download(&s, ones, 20, descriptor, 9, &ids, 1000, 0);
     old = s;
-    is("no seen", dfu_host_take(&s, ones, 4, buffer, 0, 7, answer, 0), DFU_NO_SEEN);
+    is("no seen", dfu_host_take(&s, ones, 4, buffer, 0, 8, answer, 0), DFU_NO_SEEN);
     is("no payload", dfu_host_take(&s, ones, 0, buffer, 0, DFU_ACK, answer, 0), DFU_NO_SESSION);
     is("as it was", memcmp(&s, &old, sizeof s), 0);
     s.goal = 9;

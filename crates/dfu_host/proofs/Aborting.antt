@@ -1,7 +1,7 @@
 -- A session that its caller gives up ends as Aborted, and the abort spends no action.
 use Rattle.std.proofs.Common.{◌≡◌, refl, sym, ap, ◌∙◌, subst}
 use Rattle.dfu_host.specs.declared.report.Report.TheVariants as report
-use Rattle.dfu_host.specs.Phases.{Phase, Over, OverUploaded, GiveUp, Heard, Restarted}
+use Rattle.dfu_host.specs.Phases.{Phase, Over, OverUploaded, GiveUp, Heard, Restarted, Left}
 use Rattle.dfu_host.specs.Host.{HostState, IsOn, after_phase, aborted_in, aborted}
 use Rattle.dfu_host.specs.Budget.{takes_in, takes_left}
 use Rattle.dfu_host.specs.Aborting.{EndsAborted, SpendsNothing}
@@ -13,6 +13,7 @@ gives_up h phase on = refl
 
 then_ends : (h : HostState) (heard : Heard) → (after_phase h GiveUp heard).phase ≡ Over report.Aborted
 then_ends h Restarted = refl
+then_ends h Left = refl
 then_ends h heard = refl
 
 -- A session that is given up ends as Aborted.

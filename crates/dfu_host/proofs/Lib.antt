@@ -5,3 +5,4 @@ pub mod Aborting
 pub mod Budget
 pub mod Installing
 pub mod Verifying
+pub mod Leaving

@@ -8,12 +8,9 @@ use Rattle.dfu_host.specs.declared.report.Report.{Report}
 use Rattle.dfu_host.specs.declared.report.Report.TheVariants as report
 use Rattle.dfu_host.specs.declared.phase.Phase.{Phase}
 use Rattle.dfu_host.specs.declared.phase.Phase.TheVariants as phase
-use Rattle.dfu_host.specs.declared.heard.Heard.{Heard}
-use Rattle.dfu_host.specs.declared.heard.Heard.TheVariants as heard
 use Rattle.dfu_host.specs.Table as table
 use Rattle.dfu_host.specs.Host.{HostState, budgeted, spent, restarted, told, after_phase}
 use Rattle.dfu_host.specs.InParts.{phase_of}
-use Rattle.dfu_host.specs.inside.View.{heard_of}
 
 -- A tolerant device's status that neither confirms an install nor asks for a wait is trouble.
 pub confirmed_else : (start : table.Phase) (c : Code) (poll : ℕ) (s : State) → (s ≡ state.DfuIdle → c ≡ code.Ok → ⊥)
@@ -68,10 +65,3 @@ pub after_told : (h : HostState) (memory : List ℕ) (p : Phase) (heard : table.
 after_told h memory (phase.Over r) heard never on = absurd (never r refl)
 after_told h memory phase.OverUploaded heard never on = absurd (on refl)
 after_told h memory p heard never on = refl
-
--- What is no restart goes by the table.
-pub told_row : (h : HostState) (p : table.Phase) (part : List ℕ) (word : Heard) → (word ≡ heard.Restarted → ⊥)
-    → spent (record h { task = table.task_after h.task p (heard_of part word) }) (table.row h.task p (heard_of part word)) h.restarts
-    ≡ told h p (heard_of part word)
-told_row h p part heard.Restarted never = absurd (never refl)
-told_row h p part word never = refl

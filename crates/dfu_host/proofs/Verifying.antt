@@ -1,8 +1,9 @@
 -- A session that verifies what it installs goes on with its payload, and is over only with a report of its own.
-use Rattle.std.proofs.Common.{◌≡◌, ◌⊎◌, ℕ, List, refl, sym, subst, inl, inr}
+use Rattle.std.proofs.Common.{◌≡◌, ◌⊎◌, ℕ, IsTrue, List, refl, sym, subst, inl, inr}
 use Rattle.dfu_host.specs.declared.report.Report.{Report}
 use Rattle.dfu_host.specs.declared.report.Report.TheVariants as report
-use Rattle.dfu_host.specs.Phases.{Goal, ToVerify, ToCompare, Task, Phase, Find, Fetch, LastUploaded, Compare, Last, Over, OverUploaded, Heard, WasReset}
+use Rattle.dfu_host.specs.Phases.{Goal, ToVerify, ToCompare, Task, Phase, Find, Manifest, WaitManifest, WaitLast, Fetch, LastUploaded, Compare, Last, Over, OverUploaded, Heard, WasReset}
+use Rattle.dfu_host.specs.BehindClose.{is_behind_close}
 use Rattle.dfu_host.specs.Table.{start_of, on_reset, after_last, goal_after, row}
 use Rattle.dfu_host.specs.CommonPhases.{Any, IsCommon, IsDownloading, CommonHolds, DownloadHolds}
 use Rattle.dfu_host.specs.RowLaws.{after_compared, after_common, after_download}
@@ -78,6 +79,13 @@ module _ (p : List ℕ) (task : Task) (is : task.goal ≡ ToCompare p) where
   compares_row phase heard h = inr (is, after_common task IsComparing Any compares_common phase heard h (λ x. tt))
 
 module _ (p : List ℕ) where
+  -- What compares stands in no phase behind the close.
+  never_compares : (from : Phase) → IsTrue (is_behind_close (ToCompare p) from) → IsComparing from → ⊥
+  never_compares Manifest behind c = c
+  never_compares (WaitManifest poll) behind c = c
+  never_compares (WaitLast poll) behind c = c
+  never_compares from behind c = absurd cc
+
   row_fits : (task : Task) (phase : Phase) (heard : Heard) → Fits p task.goal phase
       → Fits p (goal_after task.goal phase heard) (row task phase heard)
   row_fits task phase heard (inl h) = installs_row p task h.0 phase heard h.1
@@ -97,11 +105,17 @@ module _ (p : List ℕ) where
   over_fits g from r own (inl h) = inl (h.0, own)
   over_fits g from r own (inr h) = inr (h.0, own)
 
+  -- Behind the close it still installs.
+  last_fits : (g : Goal) (from : Phase) → IsTrue (is_behind_close g from) → Fits p g from → Fits p g (Last report.Unconfirmed)
+  last_fits g from behind (inl h) = inl (h.0, tt)
+  last_fits g from behind (inr h) = absurd (never_compares from (subst (λ (x : Goal). IsTrue (is_behind_close x from)) h.0 behind) h.1)
+
   rows_fit : RowsKeep (λ task phase. Fits p task.goal phase)
   rows_fit = record {
     next = row_fits;
     anew = λ task phase f. find_fits task.goal phase f;
     short = λ task phase report is f. over_fits task.goal phase report (short_own report is) f;
+    leaves = λ task phase behind f. last_fits task.goal phase behind f;
   }
 
 -- A session that verifies reports its own.

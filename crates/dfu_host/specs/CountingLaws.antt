@@ -83,6 +83,7 @@ rows_count = record {
   next = λ task phase heard c. (c.0, row_counted task phase heard c.0 c.1);
   anew = λ task phase c. (c.0, tt);
   short = λ task phase report is c. (c.0, short_counted report is);
+  leaves = λ task phase behind c. (c.0, tt);
 }
 
 -- What is kept is counted, whatever is heard.

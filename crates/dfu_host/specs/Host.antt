@@ -5,8 +5,9 @@ use Rattle.dfu_host.specs.declared.limits.Limits.{Limits}
 use Rattle.dfu_host.specs.declared.report.Report.TheVariants as report
 use Rattle.dfu_host.specs.declared.action.Action.{Action}
 use Rattle.dfu_host.specs.declared.seen.Seen.{Seen}
-use Rattle.dfu_host.specs.Phases.{Goal, Task, Phase, Find, Fetch, GiveUp, Over, OverUploaded, Heard, NoRoom, Restarted}
+use Rattle.dfu_host.specs.Phases.{Goal, Task, Phase, Find, Fetch, Last, GiveUp, Over, OverUploaded, Heard, NoRoom, WasReset, Restarted, Left}
 use Rattle.dfu_host.specs.PhaseClasses.{Common, Sending, Closing, Manifesting, Fetching, Comparing, Ending, EndingUpload, Ended, EndedUpload, class_of}
+use Rattle.dfu_host.specs.BehindClose.{is_behind_close}
 use Rattle.dfu_host.specs.Table.{deed, row, task_after}
 use Rattle.dfu_host.specs.Wire.{Hears, Spells}
 
@@ -78,10 +79,20 @@ restarted h GiveUp restarts = spent h (Over report.Aborted) restarts
 restarted h phase zero = spent h (Over report.RestartsSpent) zero
 restarted h phase (suc restarts) = spent h Find restarts
 
--- What is heard: a restart, or else what the table's row takes, with the task that the table has beside it.
+-- One action of which the table's row takes what is heard, with the task that the table has beside it.
+abbrev pub by_row : HostState → Phase → Heard → HostState
+by_row h phase heard = spent (record h { task = task_after h.task phase heard }) (row h.task phase heard) h.restarts
+
+-- The device left of itself. Behind the close that is the last reset, which confirms nothing; in every other phase it is a restart.
+abbrev pub left_by : HostState → Phase → (behind_close : Bool) → HostState
+left_by h phase true = by_row h (Last report.Unconfirmed) WasReset
+left_by h phase false = restarted h phase h.restarts
+
+-- What is heard: a restart, or that the device left of itself, or else what the table's row takes.
 abbrev pub told : HostState → Phase → Heard → HostState
 told h phase Restarted = restarted h phase h.restarts
-told h phase heard = spent (record h { task = task_after h.task phase heard }) (row h.task phase heard) h.restarts
+told h phase Left = left_by h phase (is_behind_close h.task.goal phase)
+told h phase heard = by_row h phase heard
 
 -- A host that is done stays as it is, and every other takes what it is told.
 abbrev pub after_phase : HostState → Phase → Heard → HostState

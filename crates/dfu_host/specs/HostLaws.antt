@@ -1,11 +1,12 @@
 -- Laws of a host: what the table's rows keep, the budget and the restarts keep too, whatever is seen.
-use Rattle.std.proofs.Common.{◌≡◌, ℕ, zero, suc, pred, List, [], ◌∷◌, refl, sym, subst}
+use Rattle.std.proofs.Common.{◌≡◌, ℕ, zero, suc, pred, Bool, true, false, IsTrue, List, [], ◌∷◌, refl, sym, subst}
 use Rattle.dfu_host.specs.declared.report.Report.{Report}
-use Rattle.dfu_host.specs.declared.report.Report.TheVariants.{Aborted, GaveUp, RestartsSpent}
+use Rattle.dfu_host.specs.declared.report.Report.TheVariants.{Aborted, GaveUp, RestartsSpent, Unconfirmed}
 use Rattle.dfu_host.specs.declared.seen.Seen.{Seen}
-use Rattle.dfu_host.specs.Phases.{Task, Phase, Find, GiveUp, Over, OverUploaded, Heard, Restarted}
+use Rattle.dfu_host.specs.Phases.{Task, Phase, Find, Last, GiveUp, Over, OverUploaded, Heard, WasReset, Restarted, Left}
+use Rattle.dfu_host.specs.BehindClose.{is_behind_close}
 use Rattle.dfu_host.specs.Table.{row, task_after}
-use Rattle.dfu_host.specs.Host.{HostState, HostRows, budgeted, restarted, told, after_phase, after, seen_all, sees}
+use Rattle.dfu_host.specs.Host.{HostState, HostRows, budgeted, restarted, by_row, left_by, told, after_phase, after, seen_all, sees}
 
 -- The report is one with which a host ends by its budget, by its restarts, or by its caller.
 abbrev pub IsCutShort : Report → Type 0
@@ -14,11 +15,13 @@ IsCutShort RestartsSpent = Unit {0}
 IsCutShort Aborted = Unit {0}
 IsCutShort report = ⊥
 
--- A property of a host's task and phase that each row keeps, and that holds of the first phase and of an early end wherever it held.
+-- A property of a host's task and phase that each row keeps, and that holds of the first phase and of an early end wherever it held,
+-- and of the last reset that confirms nothing where it held behind the close.
 pub record RowsKeep (Q : Task → Phase → Type 0) : Type 0 where
   pub next : (task : Task) (phase : Phase) (heard : Heard) → Q task phase → Q (task_after task phase heard) (row task phase heard)
   pub anew : (task : Task) (phase : Phase) → Q task phase → Q task Find
   pub short : (task : Task) (phase : Phase) (report : Report) → IsCutShort report → Q task phase → Q task (Over report)
+  pub leaves : (task : Task) (phase : Phase) → IsTrue (is_behind_close task.goal phase) → Q task phase → Q task (Last Unconfirmed)
 
 module _ (Q : Task → Phase → Type 0) (keep : RowsKeep Q) where
   keeps_budget : (task : Task) (left : ℕ) (phase : Phase) → Q task phase → Q task (budgeted left phase)
@@ -33,10 +36,19 @@ module _ (Q : Task → Phase → Type 0) (keep : RowsKeep Q) where
   keeps_restart h phase zero q = keep.short h.task phase RestartsSpent tt q
   keeps_restart h phase (suc restarts) q = keeps_budget h.task (pred h.actions) Find (keep.anew h.task phase q)
 
+  keeps_row : (h : HostState) (phase : Phase) (heard : Heard) → Q h.task phase → let g = by_row h phase heard in Q g.task g.phase
+  keeps_row h phase heard q =
+      keeps_budget (task_after h.task phase heard) (pred h.actions) (row h.task phase heard) (keep.next h.task phase heard q)
+
+  keeps_left : (h : HostState) (phase : Phase) (behind : Bool) → is_behind_close h.task.goal phase ≡ behind → Q h.task phase
+      → let g = left_by h phase behind in Q g.task g.phase
+  keeps_left h phase true e q = keeps_row h (Last Unconfirmed) WasReset (keep.leaves h.task phase e q)
+  keeps_left h phase false e q = keeps_restart h phase h.restarts q
+
   keeps_told : (h : HostState) (phase : Phase) (heard : Heard) → Q h.task phase → let g = told h phase heard in Q g.task g.phase
   keeps_told h phase Restarted q = keeps_restart h phase h.restarts q
-  keeps_told h phase heard q =
-      keeps_budget (task_after h.task phase heard) (pred h.actions) (row h.task phase heard) (keep.next h.task phase heard q)
+  keeps_told h phase Left q = keeps_left h phase (is_behind_close h.task.goal phase) refl q
+  keeps_told h phase heard q = keeps_row h phase heard q
 
   keeps_phase : (h : HostState) (phase : Phase) (heard : Heard) → h.phase ≡ phase → Q h.task phase
       → let g = after_phase h phase heard in Q g.task g.phase

@@ -31,3 +31,4 @@ Kept t phase seen.Nothing refused memory memory' = memory' ≡ memory
 Kept t phase seen.Waited refused memory memory' = memory' ≡ memory
 Kept t phase seen.WasReset refused memory memory' = memory' ≡ memory
 Kept t phase seen.Restarted refused memory memory' = memory' ≡ memory
+Kept t phase seen.Left refused memory memory' = memory' ≡ memory

@@ -4,6 +4,7 @@ pub mod Phases
 pub mod PhaseClasses
 pub mod Table
 pub mod Clean
+pub mod BehindClose
 pub mod Wire
 pub mod Host
 pub mod Goals
@@ -12,6 +13,7 @@ pub mod Download
 pub mod Installing
 pub mod Verifying
 pub mod Budget
+pub mod Leaving
 pub mod Aborting
 pub mod WireLaws
 pub mod Uploading

@@ -56,7 +56,7 @@ pub data Deed : Type 0 where
   Reset : Deed
   Done : Report → Deed
 
--- What a host understands of what it sees. NoRoom is a part of an upload that found no memory.
+-- What a host understands of what it sees. NoRoom is a part of an upload that found no memory; Left, that the device left of itself.
 pub data Heard : Type 0 where
   Acked : Heard
   Status : Code → (poll : ℕ) → State → Heard
@@ -68,3 +68,4 @@ pub data Heard : Type 0 where
   Waited : Heard
   WasReset : Heard
   Restarted : Heard
+  Left : Heard

@@ -9,7 +9,7 @@ use Rattle.dfu_wire.specs.declared.requests.Request.TheVariants as request
 use Rattle.dfu_host.specs.declared.report.Report.{Report}
 use Rattle.dfu_host.specs.declared.report.Report.TheVariants as report
 use Rattle.dfu_host.specs.Blocks.{blocks}
-pub use Rattle.dfu_host.specs.Phases.{Goal, ToLoad, ToFetch, ToVerify, ToCompare, Task, Phase, Find, FindAgain, Detach, Enter, Clear, Quit, WaitFind, ResetFind, Block, Ask, Poll, WaitPoll, Close, AskLast, Manifest, WaitManifest, WaitLast, Trouble, Fetch, LastUploaded, Compare, Last, GiveUp, Over, OverUploaded, Deed, Send, Wait, Reset, Done, Heard, Acked, Status, StateIs, Part, NoRoom, Stalled, Nothing, Waited, WasReset, Restarted}
+pub use Rattle.dfu_host.specs.Phases.{Goal, ToLoad, ToFetch, ToVerify, ToCompare, Task, Phase, Find, FindAgain, Detach, Enter, Clear, Quit, WaitFind, ResetFind, Block, Ask, Poll, WaitPoll, Close, AskLast, Manifest, WaitManifest, WaitLast, Trouble, Fetch, LastUploaded, Compare, Last, GiveUp, Over, OverUploaded, Deed, Send, Wait, Reset, Done, Heard, Acked, Status, StateIs, Part, NoRoom, Stalled, Nothing, Waited, WasReset, Restarted, Left}
 
 -- The phase in which the work begins once the device is in dfuIDLE.
 abbrev pub start_of : Goal → Phase
@@ -182,7 +182,7 @@ abbrev pub on_compared : (t k : ℕ) → (block : List ℕ) → Heard → Phase
 on_compared t k block (Part bytes) = compared t k block bytes
 on_compared t k block heard = Find
 
--- The table, but for a restart of the device and the budget: the phase that follows.
+-- The table, but for a restart of the device, one that left of itself, and the budget: the phase that follows.
 abbrev pub row : Task → Phase → Heard → Phase
 row task Find heard = on_status heard (λ c poll s. listed (start_of task.goal) s poll) FindAgain Find
 row task FindAgain heard = on_status heard (λ c poll s. listed (start_of task.goal) s poll) ResetFind FindAgain

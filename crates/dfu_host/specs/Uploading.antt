@@ -37,6 +37,7 @@ TakesAsPart h k seen.Nothing h' = Unit {0}
 TakesAsPart h k seen.Waited h' = Unit {0}
 TakesAsPart h k seen.WasReset h' = Unit {0}
 TakesAsPart h k seen.Restarted h' = Unit {0}
+TakesAsPart h k seen.Left h' = Unit {0}
 
 -- What is seen where a part is fetched is taken as that part. Of the phases that fetch none nothing is said here.
 abbrev pub TakesPart : HostState → Phase → Seen → HostState → Type 0

@@ -12,7 +12,7 @@ use Rattle.dfu_host.specs.declared.action.Action.{Action}
 use Rattle.dfu_host.specs.declared.action.Action.TheVariants as action
 use Rattle.dfu_host.specs.declared.seen.Seen.{Seen}
 use Rattle.dfu_host.specs.declared.seen.Seen.TheVariants as seen
-use Rattle.dfu_host.specs.Phases.{Deed, Send, Wait, Reset, Done, Heard, Acked, Status, StateIs, Part, NoRoom, Stalled, Nothing, Waited, WasReset, Restarted}
+use Rattle.dfu_host.specs.Phases.{Deed, Send, Wait, Reset, Done, Heard, Acked, Status, StateIs, Part, NoRoom, Stalled, Nothing, Waited, WasReset, Restarted, Left}
 
 -- The eight bytes are a setup that asks for this, with 0 where its value has no meaning.
 pub record IsAsked (q : Request) (bytes : List ℕ) : Type 0 where
@@ -74,3 +74,4 @@ Hears deed seen.Nothing heard = heard ≡ Nothing
 Hears deed seen.Waited heard = heard ≡ Waited
 Hears deed seen.WasReset heard = heard ≡ WasReset
 Hears deed seen.Restarted heard = heard ≡ Restarted
+Hears deed seen.Left heard = heard ≡ Left

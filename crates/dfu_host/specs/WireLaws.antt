@@ -119,3 +119,4 @@ one_meaning d seen.Nothing x y o a b = a ∙ sym b
 one_meaning d seen.Waited x y o a b = a ∙ sym b
 one_meaning d seen.WasReset x y o a b = a ∙ sym b
 one_meaning d seen.Restarted x y o a b = a ∙ sym b
+one_meaning d seen.Left x y o a b = a ∙ sym b

@@ -1,6 +1,7 @@
 //! The rows of the phases that follow the last block, and of the one that follows a refusal.
 
 ghost use Rattle.std.specs.Prelude.{◌≡◌, true, false, List, ℕ};
+ghost use Rattle.dfu_host.specs.BehindClose.{is_behind_close};
 ghost use Rattle.dfu_host.specs.Goals.{goal_of};
 ghost use Rattle.dfu_host.specs.Table as table;
 ghost use Rattle.dfu_host.specs.InParts.{IsWithin, phase_of};
@@ -75,6 +76,17 @@ impl Task<'_> {
             Heard::Told(status) => self.troubled(status),
             Heard::Stalled => Phase::FindAgain,
             _ => Phase::Trouble,
+        }
+    }
+
+    /// Whether a session in this phase stands behind the close.
+    pub(crate) fn is_behind_close(&self, phase: Phase) -> bool
+        ensures { (memory : List ℕ) → result ≡ is_behind_close (goal_of self.now.goal) (phase_of memory phase) }
+    {
+        match phase {
+            Phase::Manifest | Phase::WaitManifest(_) | Phase::WaitLast(_) => true,
+            Phase::Last(_) => self.goal.installs(),
+            _ => false,
         }
     }
 

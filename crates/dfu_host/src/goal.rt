@@ -1,7 +1,8 @@
 //! What a session is for.
 
 ghost use Rattle.std.specs.Prelude.{◌≡◌, IsTrue, false};
-ghost use Rattle.dfu_host.specs.Goals.{IsFetch, payload_of};
+ghost use Rattle.dfu_host.specs.BehindClose.{installs};
+ghost use Rattle.dfu_host.specs.Goals.{IsFetch, goal_of, payload_of};
 
 /// What a session is for. It takes no memory: what an upload keeps is its caller's.
 #[derive(Clone, Copy)]
@@ -24,6 +25,16 @@ impl<'f> Goal<'f> {
         match self {
             Goal::Load(payload) | Goal::Verify(payload) | Goal::Compare(payload) => payload,
             Goal::Fetch => &[],
+        }
+    }
+
+    /// Whether a payload is still to be installed.
+    pub(crate) fn installs(&self) -> bool
+        ensures { result ≡ installs (goal_of self.now) }
+    {
+        match self {
+            Goal::Load(_) | Goal::Verify(_) => true,
+            Goal::Fetch | Goal::Compare(_) => false,
         }
     }
 

@@ -33,6 +33,7 @@ pub(crate) enum Heard {
     Waited,
     WasReset,
     Restarted,
+    Left,
 }
 
 impl Task<'_> {
@@ -56,6 +57,7 @@ impl Task<'_> {
             Seen::Waited => Heard::Waited,
             Seen::WasReset => Heard::WasReset,
             Seen::Restarted => Heard::Restarted,
+            Seen::Left => Heard::Left,
         }
     }
 

@@ -6,6 +6,7 @@ ghost use Rattle.dfu_host.specs.BlockLaws.{OneCut};
 ghost use Rattle.dfu_host.specs.Budget.{DoneInTime, StaysDone};
 ghost use Rattle.dfu_host.specs.Counting.{StaysCounted};
 ghost use Rattle.dfu_host.specs.Installing.{OnlyConfirmed, OnlyMatched};
+ghost use Rattle.dfu_host.specs.Leaving.{BeginsToCompare, EndsUnconfirmed, IsRestartElsewhere};
 ghost use Rattle.dfu_host.specs.Verifying.{ReportsItsOwn};
 ghost use Rattle.dfu_host.specs.WireLaws.{OneMeaning, StateUnderstood, StatusUnderstood};
 
@@ -54,6 +55,15 @@ pub fn verified_once_compared()
 /// Unconfirmed.
 pub fn verified_reports_its_own()
     ensures { ReportsItsOwn }
+{}
+
+/// A device that left of itself did the last reset: behind the close a download is over as
+/// Unconfirmed, and one that is verified begins to compare, with the restarts that it had. In every
+/// other phase it is a restart.
+pub fn left_is_the_last_reset()
+    ensures ends { EndsUnconfirmed }
+    ensures compares { BeginsToCompare }
+    ensures elsewhere { IsRestartElsewhere }
 {}
 
 /// Whatever is seen, an upload that fetches part k has kept k full parts, and one that ends as

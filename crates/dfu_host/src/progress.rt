@@ -9,7 +9,8 @@ ghost use Rattle.dfu_host.specs.InParts.{IsWithin, phase_of};
 ghost use Rattle.dfu_host.specs.inside.View.{heard_of, state_with, task_of};
 ghost use Rattle.dfu_host.specs.declared.task.Task.{Task};
 ghost use Rattle.std.specs.Borrow.{Bor};
-ghost use Rattle.dfu_host.specs.Goals.{Carries};
+ghost use Rattle.dfu_host.specs.BehindClose.{is_behind_close};
+ghost use Rattle.dfu_host.specs.Goals.{Carries, goal_of};
 
 use crate::heard::Heard;
 use crate::limits::Limits;
@@ -53,13 +54,44 @@ impl Progress {
         if let Phase::Over(_) | Phase::OverUploaded = self.phase {
             return self;
         }
-        if let Heard::Restarted = heard {
-            return self.restarted();
+        match heard {
+            Heard::Restarted => self.restarted(),
+            Heard::Left => self.left(task),
+            _ => self.by_row(task, heard),
         }
+    }
+
+    /// After one action of which the table's row takes what was heard.
+    fn by_row(self, task: &mut Task<'_>, heard: Heard) -> Progress
+        requires { IsWithin task.old.goal task.old.transfer self.phase }
+        ensures state { (memory memory' part : List ℕ)
+            → Keeps task.old.transfer memory self.phase part heard memory'
+            → Compares (task_of task.old) self.phase part heard
+            → state_with memory' task.new result
+            ≡ host.by_row (state_with memory task.old self) (phase_of memory self.phase) (heard_of part heard) }
+        ensures payload { (payload : Bor (List ℕ)) → Carries payload task.old.goal → Carries payload task.new.goal }
+        ensures within { IsWithin task.new.goal task.new.transfer result.phase }
+    {
         let done = is_last_done(&self.phase, &heard);
         let next = task.row(self.phase, heard);
         task.go_on(done);
         self.spent(next, self.restarts)
+    }
+
+    /// After the device left of itself: behind the close that was the last reset, and confirms
+    /// nothing; in every other phase it is a restart.
+    fn left(self, task: &mut Task<'_>) -> Progress
+        ensures state { (memory old : List ℕ) → state_with memory task.new result
+            ≡ host.left_by (state_with old task.old self) (phase_of old self.phase)
+            (is_behind_close (goal_of task.old.goal) (phase_of old self.phase)) }
+        ensures payload { (payload : Bor (List ℕ)) → Carries payload task.old.goal → Carries payload task.new.goal }
+        ensures within { IsWithin task.new.goal task.new.transfer result.phase }
+    {
+        if !task.is_behind_close(self.phase) {
+            return self.restarted();
+        }
+        let phase = Phase::Last(Report::Unconfirmed);
+        Progress { phase, ..self }.by_row(task, Heard::WasReset)
     }
 
     /// After a restart of the device.

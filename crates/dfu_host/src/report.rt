@@ -15,7 +15,7 @@ pub enum Report {
     /// OK, and was reset.
     Installed,
     /// A device that isn't tolerant took the whole payload and was reset. It can't tell whether
-    /// the image is in place.
+    /// the image is in place. Or a device took it, and left of itself.
     Unconfirmed,
     /// The caller gave the session up.
     Aborted,

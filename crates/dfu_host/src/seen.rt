@@ -18,4 +18,8 @@ pub enum Seen<'s> {
     /// The device was restarted, or somebody else reset it. The host is told so before any later
     /// answer.
     Restarted,
+    /// The device left the bus of itself, or came back reset, behind the close: it acknowledged the
+    /// DNLOAD that closes the download, a GETSTATUS after that said dfuMANIFEST-SYNC or dfuMANIFEST,
+    /// and nobody reset it or asked it to leave. The host is told so once, before any later answer.
+    Left,
 }

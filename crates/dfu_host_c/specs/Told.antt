@@ -4,7 +4,7 @@ use Rattle.std.specs.Borrow.{Bor}
 use Rattle.dfu_host.specs.declared.seen.Seen.{Seen}
 use Rattle.dfu_host.specs.declared.seen.Seen.TheVariants as seen
 
--- What is seen by the number of C, 0 to 6, of which 1 has these bytes; none where there is none.
+-- What is seen by the number of C, 0 to 7, of which 1 has these bytes; none where there is none.
 abbrev pub seen_at : (number : ℕ) → (bytes : Bor (List ℕ)) → Option Seen
 seen_at number bytes =
     if number == 0 then Some seen.Ack
@@ -14,4 +14,5 @@ seen_at number bytes =
     else if number == 4 then Some seen.Waited
     else if number == 5 then Some seen.WasReset
     else if number == 6 then Some seen.Restarted
+    else if number == 7 then Some seen.Left
     else None

@@ -5,7 +5,7 @@ ghost use Rattle.dfu_host_c.specs.Told.{seen_at};
 
 use dfu_host::Seen;
 
-/// What is seen by its number, 0 to 6, of which 1 has these bytes; none where there is none.
+/// What is seen by its number, 0 to 7, of which 1 has these bytes; none where there is none.
 pub(crate) fn seen_at<'s>(number: u32, bytes: &'s [u8]) -> Option<Seen<'s>>
     ensures { result ≡ seen_at number bytes.entry }
 {
@@ -17,6 +17,7 @@ pub(crate) fn seen_at<'s>(number: u32, bytes: &'s [u8]) -> Option<Seen<'s>>
         4 => Some(Seen::Waited),
         5 => Some(Seen::WasReset),
         6 => Some(Seen::Restarted),
+        7 => Some(Seen::Left),
         _ => None,
     }
 }

@@ -4,6 +4,7 @@ mod dialogue;
 mod files;
 mod following;
 mod hostile;
+mod leaving;
 mod parting;
 mod played;
 mod rooms;

@@ -3,10 +3,11 @@ use Rattle.std.proofs.Common.{◌≡◌, ◌≢◌, ℕ, zero, suc, pred, Bool, 
 use Rattle.dfu_device.specs.Stage.{Profile, Stage, InAppIdle}
 use Rattle.dfu_device.specs.Outcome.{Situation}
 use Rattle.dfu_host.specs.declared.report.Report.{Report}
-use Rattle.dfu_host.specs.declared.report.Report.TheVariants.{Installed, Aborted, RestartsSpent, Uploaded, Verified}
-use Rattle.dfu_host.specs.Phases.{Goal, ToLoad, ToFetch, ToVerify, ToCompare, Task, Phase, Find, Fetch, GiveUp, Over, OverUploaded, Heard, Part, Restarted}
+use Rattle.dfu_host.specs.declared.report.Report.TheVariants.{Installed, Unconfirmed, Aborted, RestartsSpent, Uploaded, Verified}
+use Rattle.dfu_host.specs.Phases.{Goal, ToLoad, ToFetch, ToVerify, ToCompare, Task, Phase, Find, Fetch, GiveUp, Over, OverUploaded, Heard, Part, Restarted, Left}
+use Rattle.dfu_host.specs.BehindClose.{is_behind_close}
 use Rattle.dfu_host.specs.Table.{row, checked, goal_after}
-use Rattle.dfu_host.specs.Host.{HostState, IsOn, budgeted, restarted, after_phase, told as host_told}
+use Rattle.dfu_host.specs.Host.{HostState, IsOn, budgeted, restarted, left_by, after_phase, told as host_told}
 use Rattle.dfu_link.specs.Session.{Machine, Live, NoOne, Loading, Fetching, PromisesNothing, Says, says_not, says_installed, says_verified, says_uploaded, says_other, SaysInPlace, SaysNoPromise}
 use Rattle.dfu_link.specs.Bench.{Nobody}
 use Rattle.dfu_link.specs.Opening.{task_for}
@@ -168,6 +169,23 @@ module _ (c : Profile) (offers : List (List ℕ)) where
   lives_checked (ToVerify p) v = record { task_is = goes_by c (ToCompare p); offer = v.offer; some = v.some }
   lives_checked (ToCompare p) v = v
 
+  last_well : (s : Situation) (g : Goal) (up : List ℕ) (phase : Phase) (left again : ℕ) → Lives (task_for c g)
+      → let q = left_by (record { task = task_for c g; phase = phase; actions = left; restarts = again }) phase true in
+      TookWell s (live_goal g) up (settled q q.phase)
+  last_well s (ToLoad p) up phase left again v = plain_well s (ToLoad p) up Unconfirmed tt
+  last_well s ToFetch up phase left again v = plain_well s ToFetch up Unconfirmed tt
+  last_well s (ToVerify p) up phase left again v = budget_well s (task_for c (ToCompare p)) up Find (pred left) again
+      (lives_checked (ToVerify p) v) tt (goal_anywhere c (ToCompare p) s Find tt)
+  last_well s (ToCompare p) up phase left again v = plain_well s (ToCompare p) up Unconfirmed tt
+
+  -- No event of a link tells that its device left of itself. It would keep what holds.
+  left_well : (s : Situation) (g : Goal) (up : List ℕ) (phase : Phase) (left again : ℕ) (behind : Bool) → Lives (task_for c g)
+      → let q = left_by (record { task = task_for c g; phase = phase; actions = left; restarts = again }) phase behind in
+      TookWell s (live_goal g) up (settled q q.phase)
+  left_well s g up phase left again true v = last_well s g up phase left again v
+  left_well s g up phase left again false v =
+      restarted_well s (record { task = task_for c g; phase = phase; actions = left; restarts = again }) up phase again v
+
   -- Where a part of an upload finds no memory, the session is over.
   part_well : (g : Goal) (k : ℕ) (kept : List ℕ) (s d : Situation) (room : Bool) (heard : Heard) → GoalFact c g (Fetch k kept) s
       → IfHeard heard (Next c g d (Fetch k kept)) → IfHeard (remembered heard room) (Next c g d (Fetch k kept))
@@ -207,6 +225,7 @@ module _ (c : Profile) (offers : List (List ℕ)) where
         → IfHeard heard (Next c g s phase) → let q = host_told (At phase left again) phase heard in
         TookWell s (live_goal g) up (settled q q.phase)
     told_well s up phase left again Restarted v n = restarted_well s (At phase left again) up phase again v
+    told_well s up phase left again Left v n = left_well s g up phase left again (is_behind_close g phase) v
     told_well s up phase left again heard v n = row_well s up phase left again heard v n
 
     -- With or without memory for a part.

@@ -1,9 +1,11 @@
 -- A download that is to be verified goes as one that is not, up to its last reset.
-use Rattle.std.proofs.Common.{◌≡◌, ℕ, zero, suc, Bool, true, List, Some, None, refl, sym, ap, ◌∙◌, subst}
-use Rattle.dfu_device.specs.Stage.{Profile}
-use Rattle.dfu_device.specs.Outcome.{Situation, Luck, Works}
+use Rattle.std.proofs.Common.{◌≡◌, ℕ, zero, suc, Bool, true, false, List, Some, None, refl, sym, ap, ◌∙◌, subst}
+use Rattle.dfu_device.specs.Stage.{Profile, Reply, Ack, StatusOf, StateOf, Data, Stall}
+use Rattle.dfu_device.specs.Table.{plan}
+use Rattle.dfu_device.specs.Outcome.{Situation, Luck, Works, outcome}
+use Rattle.dfu_device.specs.Rows.{meant}
 use Rattle.dfu_host.specs.declared.report.Report.{Report}
-use Rattle.dfu_host.specs.Phases.{Goal, ToLoad, ToVerify, Task, Phase, Find, Last, GiveUp, Over, OverUploaded, Heard, WasReset, Restarted}
+use Rattle.dfu_host.specs.Phases.{Goal, ToLoad, ToVerify, Task, Phase, Find, Last, GiveUp, Over, OverUploaded, Deed, Send, Wait, Reset, Done, Heard, Part, WasReset, Restarted, Left}
 use Rattle.dfu_host.specs.Table.{deed, goal_after, row}
 use Rattle.dfu_host.specs.Host.{HostState, restarted, told, after_phase, after}
 use Rattle.dfu_host.specs.TaskLaws.{after_task}
@@ -11,7 +13,7 @@ use Rattle.dfu_link.specs.Happening.{Pass}
 use Rattle.dfu_link.specs.Course.{course_of}
 use Rattle.dfu_link.specs.Bench.{Session, Nobody, Hosted}
 use Rattle.dfu_link.specs.Opening.{task_for}
-use Rattle.dfu_link.specs.Play.{Link, silent, Took, settled, took, remembered, has_room, Played, acted, gone}
+use Rattle.dfu_link.specs.Play.{Link, silent, Took, settled, took, heard_as, remembered, has_room, Played, acted, gone}
 use Rattle.dfu_link.specs.CleanRun.{PassesTo, Quietly, here, there}
 
 -- Any phase but the one of the last reset.
@@ -19,7 +21,26 @@ abbrev IsBefore : Phase → Type 0
 IsBefore (Last r) = ⊥
 IsBefore phase = Unit {0}
 
+-- No reply is that the device left of itself.
+reply_stays : (r : Reply) → heard_as r ≡ Left → ⊥
+reply_stays Ack e = absurd cc
+reply_stays (StatusOf code poll state) e = absurd cc
+reply_stays (StateOf state) e = absurd cc
+reply_stays (Data bytes) e = absurd cc
+reply_stays Stall e = absurd cc
+
+room_stays : (heard : Heard) (room : Bool) → (heard ≡ Left → ⊥) → remembered heard room ≡ Left → ⊥
+room_stays (Part bytes) false never e = absurd cc
+room_stays heard room never e = never e
+
 module _ (c : Profile) (p : List ℕ) where
+  -- No pass tells a host that its device left of itself.
+  pass_stays : (s : Situation) (d : Deed) (l k : Luck) → (acted c s d (course_of Pass) l k).heard ≡ Left → ⊥
+  pass_stays s (Send q body) l k e = reply_stays (outcome s.image (plan c s.image s.stage (meant q body)) l).reply e
+  pass_stays s (Wait ms) l k e = absurd cc
+  pass_stays s Reset l k e = absurd cc
+  pass_stays s (Done report) l k e = absurd cc
+
   abbrev plain : Task
   plain = task_for c (ToLoad p)
 
@@ -52,18 +73,19 @@ module _ (c : Profile) (p : List ℕ) where
   restarted_alike phase left again zero = refl
   restarted_alike phase left again (suc restarts) = refl
 
-  told_alike : (phase : Phase) (heard : Heard) (left again : ℕ) → IsBefore phase
+  told_alike : (phase : Phase) (heard : Heard) (left again : ℕ) → IsBefore phase → (heard ≡ Left → ⊥)
       → told (host checked phase left again) phase heard ≡ verifying (told (host plain phase left again) phase heard)
-  told_alike phase Restarted left again b = restarted_alike phase left again again
-  told_alike phase heard left again b = rw (same_row phase heard b, stays_checked phase heard b) refl
+  told_alike phase Restarted left again b never = restarted_alike phase left again again
+  told_alike phase Left left again b never = absurd (never refl)
+  told_alike phase heard left again b never = rw (same_row phase heard b, stays_checked phase heard b) refl
 
-  after_alike : (phase : Phase) (heard : Heard) (left again : ℕ) → IsBefore phase
+  after_alike : (phase : Phase) (heard : Heard) (left again : ℕ) → IsBefore phase → (heard ≡ Left → ⊥)
       → after_phase (host checked phase left again) phase heard ≡ verifying (after_phase (host plain phase left again) phase heard)
-  after_alike (Over r) heard left again b = refl
-  after_alike (OverUploaded kept) heard left again b = refl
-  after_alike (Last r) heard left again b = elim b [ ]
-  after_alike Find heard left again b = told_alike Find heard left again tt
-  after_alike phase heard left again b = told_alike phase heard left again tt
+  after_alike (Over r) heard left again b never = refl
+  after_alike (OverUploaded kept) heard left again b never = refl
+  after_alike (Last r) heard left again b never = elim b [ ]
+  after_alike Find heard left again b never = told_alike Find heard left again tt never
+  after_alike phase heard left again b never = told_alike phase heard left again tt never
 
   -- The session of a download, as one that is to be verified.
   abbrev pub verified : Session → Session
@@ -79,10 +101,10 @@ module _ (c : Profile) (p : List ℕ) where
   settled_alike h Find = refl
   settled_alike h phase = refl
 
-  took_alike : (phase : Phase) (heard : Heard) (left again : ℕ) → IsBefore phase
+  took_alike : (phase : Phase) (heard : Heard) (left again : ℕ) → IsBefore phase → (heard ≡ Left → ⊥)
       → took (host checked phase left again) heard ≡ took_verified (took (host plain phase left again) heard)
-  took_alike phase heard left again b = let h = after_phase (host plain phase left again) phase heard in
-      ap (λ (z : HostState). settled z z.phase) (after_alike phase heard left again b) ∙ settled_alike h h.phase
+  took_alike phase heard left again b never = let h = after_phase (host plain phase left again) phase heard in
+      ap (λ (z : HostState). settled z z.phase) (after_alike phase heard left again b never) ∙ settled_alike h h.phase
 
   -- The link of a download, as of one that is to be verified.
   abbrev pub link_verified : Link → Link
@@ -104,7 +126,8 @@ module _ (c : Profile) (p : List ℕ) where
       let d = acted c s (deed plain phase) (course_of Pass) Works other in
       rw (deed_alike phase)
       (ap (λ (t : Took). record { link = record { device = d.device; session = t.session }; answer = t.answer })
-      (took_alike phase (remembered d.heard (has_room phase room)) left again b))
+      (took_alike phase (remembered d.heard (has_room phase room)) left again b
+      (room_stays d.heard (has_room phase room) (pass_stays s (deed plain phase) Works other))))
 
   -- Nobody, or this download.
   abbrev pub IsDownload : Session → Type 0
@@ -117,11 +140,12 @@ module _ (c : Profile) (p : List ℕ) where
   settled_download h Find e = e
   settled_download h phase e = e
 
-  took_download : (phase : Phase) (heard : Heard) (left again : ℕ) → IsDownload (took (host plain phase left again) heard).session
-  took_download phase heard left again =
+  took_download : (phase : Phase) (heard : Heard) (left again : ℕ) → (heard ≡ Left → ⊥)
+      → IsDownload (took (host plain phase left again) heard).session
+  took_download phase heard left again never =
       let h = host plain phase left again in
       settled_download (after h heard) (after h heard).phase
-      (after_task h heard ∙ ap (λ (g : Goal). task_for c g) (stays_plain phase heard))
+      (after_task h heard never ∙ ap (λ (g : Goal). task_for c g) (stays_plain phase heard))
 
   -- In its last phase a download ends with the next pass.
   never_silent : (s : Situation) (r : Report) (left again : ℕ) (w' : Link)
@@ -142,7 +166,8 @@ module _ (c : Profile) (p : List ℕ) where
       record {
         passes = λ other room. gone_alike s phase left again other room tt ∙ ap played_verified (f other room);
         stays = subst IsDownload (ap (λ (x : Played). x.link.session) (f Works true))
-            (took_download phase (remembered d.heard (has_room phase true)) left again);
+            (took_download phase (remembered d.heard (has_room phase true)) left again
+            (room_stays d.heard (has_room phase true) (pass_stays s (deed plain phase) Works Works)));
       }
 
   link_alike : (w w' : Link) → IsDownload w.session → PassesTo c w w' silent → Alike w w'

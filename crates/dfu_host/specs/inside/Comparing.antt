@@ -26,6 +26,7 @@ ComparesPart task k part heard.Nothing = Unit {0}
 ComparesPart task k part heard.Waited = Unit {0}
 ComparesPart task k part heard.WasReset = Unit {0}
 ComparesPart task k part heard.Restarted = Unit {0}
+ComparesPart task k part heard.Left = Unit {0}
 
 -- What is heard in a phase, where a part may be compared.
 abbrev pub Compares : Task → Phase → (part : List ℕ) → Heard → Type 0

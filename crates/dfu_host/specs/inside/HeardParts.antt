@@ -28,6 +28,7 @@ KeepsPart t k memory part heard.Nothing memory' = Unit {0}
 KeepsPart t k memory part heard.Waited memory' = Unit {0}
 KeepsPart t k memory part heard.WasReset memory' = Unit {0}
 KeepsPart t k memory part heard.Restarted memory' = Unit {0}
+KeepsPart t k memory part heard.Left memory' = Unit {0}
 
 -- The memory after this was heard in a phase. But for a part that was asked for, nothing in memory changes.
 abbrev pub Keeps : (t : ℕ) → (memory : List ℕ) → Phase → (part : List ℕ) → Heard → (memory' : List ℕ) → Type 0
@@ -52,3 +53,4 @@ RefusedRoom t phase part heard.Nothing = Unit {0}
 RefusedRoom t phase part heard.Waited = Unit {0}
 RefusedRoom t phase part heard.WasReset = Unit {0}
 RefusedRoom t phase part heard.Restarted = Unit {0}
+RefusedRoom t phase part heard.Left = Unit {0}

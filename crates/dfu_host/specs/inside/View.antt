@@ -25,6 +25,7 @@ heard_of part heard.Nothing = table.Nothing
 heard_of part heard.Waited = table.Waited
 heard_of part heard.WasReset = table.WasReset
 heard_of part heard.Restarted = table.Restarted
+heard_of part heard.Left = table.Left
 
 -- The bytes that are seen, which may be a part of an upload; what is no bytes has none.
 abbrev pub part_of : Seen → List ℕ
@@ -35,6 +36,7 @@ part_of seen.Nothing = []
 part_of seen.Waited = []
 part_of seen.WasReset = []
 part_of seen.Restarted = []
+part_of seen.Left = []
 
 -- The task of a session.
 abbrev pub task_of : Task → table.Task

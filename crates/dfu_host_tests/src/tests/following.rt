@@ -3,7 +3,7 @@
 use super::dialogue::DEVICE;
 use super::played::told;
 use super::rows::{Asks, FINDING, Row};
-use dfu_host::Seen::{Ack, Bytes, Nothing, Restarted, Stall, Waited, WasReset};
+use dfu_host::Seen::{Ack, Bytes, Left, Nothing, Restarted, Stall, Waited, WasReset};
 use dfu_host::{Action, Host, Limits, Report, Seen};
 use dfu_suffix::read;
 use dfu_wire::{Code, Functional};
@@ -71,7 +71,7 @@ fn answered(row: &Row, bytes: &[u8]) -> Option<u8> {
 
 /// The letter of the phase that follows.
 pub(crate) fn after(row: &Row, seen: Seen<'_>) -> u8 {
-    let [acked, stalled, lost, waited, was_reset] = *row.3;
+    let [acked, stalled, lost, waited, was_reset, left] = *row.3;
     match seen {
         Ack => acked,
         Bytes(bytes) => answered(row, bytes).unwrap_or(lost),
@@ -83,6 +83,7 @@ pub(crate) fn after(row: &Row, seen: Seen<'_>) -> u8 {
             Action::Done(_) => row.0,
             _ => b'F',
         },
+        Left => left,
     }
 }
 

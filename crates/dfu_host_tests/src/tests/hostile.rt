@@ -5,7 +5,7 @@ use super::files::NINE;
 use super::following::{Session, after, refusal};
 use super::played::{shows, told, wants};
 use super::rows::{COMPARING, ERROR, FETCHING, FINDING, Row, SENDING, SILENTLY, TOLERANTLY};
-use dfu_host::Seen::{Ack, Bytes, Nothing, Restarted, Stall, Waited, WasReset};
+use dfu_host::Seen::{Ack, Bytes, Left, Nothing, Restarted, Stall, Waited, WasReset};
 use dfu_host::{Action, Host, Report, Seen};
 use std::process::Abort;
 use std::test::Fail;
@@ -53,7 +53,7 @@ static NO_ANSWER: [u8; 4097] = [0xff; 4097];
 
 /// What is no status and no state.
 fn tell_words(rt: &impl Abort, session: &Session<'_>, row: &Row) -> Result<(), Fail> {
-    for seen in [Ack, Stall, Nothing, Waited, WasReset, Restarted] {
+    for seen in [Ack, Stall, Nothing, Waited, WasReset, Restarted, Left] {
         tell(rt, session, row, seen)?;
     }
     for len in 0..8usize {
@@ -114,7 +114,7 @@ fn give_up(rt: &impl Abort, session: &Session<'_>, row: &Row) -> Result<(), Fail
         wants(rt, &host, row.2);
         return Ok(());
     }
-    for seen in [Ack, WRITTEN, Stall, Nothing, Waited, WasReset, Restarted] {
+    for seen in [Ack, WRITTEN, Stall, Nothing, Waited, WasReset, Restarted, Left] {
         let mut host = session.host(row)?;
         host.abort();
         host.abort();
@@ -139,6 +139,19 @@ fn restart(rt: &impl Abort, session: &Session<'_>, row: &Row) -> Result<(), Fail
     Ok(())
 }
 
+/// A device that left of itself twice: elsewhere than behind the close these are two restarts.
+fn leave(rt: &impl Abort, session: &Session<'_>, row: &Row) -> Result<(), Fail> {
+    let mut host = session.host(row)?;
+    host.take(Left);
+    host.take(Left);
+    let wanted = match after(row, Left) {
+        b'F' => Some(Action::Done(Report::RestartsSpent)),
+        letter => session.action(letter, &[]),
+    };
+    wants_some(rt, &host, wanted);
+    Ok(())
+}
+
 /// All of this in each phase of a table.
 fn try_rows(rt: &impl Abort, session: &Session<'_>, rows: &[Row]) -> Result<(), Fail> {
     for row in rows {
@@ -149,6 +162,7 @@ fn try_rows(rt: &impl Abort, session: &Session<'_>, rows: &[Row]) -> Result<(), 
         tell_each_byte(rt, session, row)?;
         give_up(rt, session, row)?;
         restart(rt, session, row)?;
+        leave(rt, session, row)?;
     }
     Ok(())
 }

@@ -3,7 +3,7 @@
 use super::dialogue::{AMPLE, DEVICE, DFU_IDLE, SILENT, TOLERANT, WRITTEN};
 use super::files::NINE;
 use super::rows::{COMPARING, FETCHING, FINDING, Row, SENDING, SILENTLY, TOLERANTLY};
-use dfu_host::Seen::{Ack, Bytes, Nothing, Restarted, Stall, Waited, WasReset};
+use dfu_host::Seen::{Ack, Bytes, Left, Nothing, Restarted, Stall, Waited, WasReset};
 use dfu_host::{Action, Host, Parts, Report, Seen, Session};
 use dfu_suffix::{File, read};
 use dfu_wire::Functional;
@@ -16,13 +16,14 @@ static INSTALLED: [Seen<'static>; 8] = [
 ];
 
 /// What a session is told at the end of each path.
-static LAST: [Seen<'static>; 8] = [
+static LAST: [Seen<'static>; 9] = [
     Ack,
     Stall,
     Nothing,
     Waited,
     WasReset,
     Restarted,
+    Left,
     DFU_IDLE,
     Bytes(b"9"),
 ];

@@ -4,7 +4,7 @@
 use super::dialogue::{
     ABORT, APP_IDLE, BUSY, CLEAR, DETACH, DFU_IDLE, GET_STATE, GET_STATUS, OLD_ERROR, WRITTEN,
 };
-use dfu_host::Seen::{Ack, Bytes, Nothing, Stall, WasReset};
+use dfu_host::Seen::{Ack, Bytes, Left, Nothing, Stall, WasReset};
 use dfu_host::{Action, Report, Seen};
 use dfu_wire::Code;
 
@@ -25,12 +25,12 @@ pub(crate) enum Asks {
 }
 
 /// The letter of a phase, what is seen on the way to it, its action, what follows an Ack, a Stall,
-/// Nothing, Waited and WasReset, and what follows bytes.
+/// Nothing, Waited, WasReset and Left, and what follows bytes.
 pub(crate) type Row = (
     u8,
     &'static [Seen<'static>],
     Action<'static>,
-    &'static [u8; 5],
+    &'static [u8; 6],
     Asks,
     &'static [u8],
 );
@@ -83,41 +83,44 @@ const LATE: Seen<'static> = Bytes(&[0, 5, 0, 0, 7, 0]);
 /// Find, Find again, Detach, Clear, Quit, the wait before Find and the reset before it.
 #[rattlefmt::skip]
 pub(crate) static FINDING: [Row; 7] = [
-    (b'F', &[], GET_STATUS, b"FGFFF", Asks::Status, LIST),
-    (b'G', &[Stall], GET_STATUS, b"GRGGG", Asks::Status, LIST),
-    (b'D', &[APP_IDLE], DETACH, b"EFFFF", Asks::Nothing, b""),
-    (b'C', &[OLD_ERROR], CLEAR, b"FFFFF", Asks::Nothing, b""),
-    (b'Q', &[WRITTEN], ABORT, b"FFFFF", Asks::Nothing, b""),
-    (b'W', &[BUSY], WAIT, b"WWWFW", Asks::Nothing, b""),
-    (b'R', &[Stall, Stall], RESET, b"RRRRF", Asks::Nothing, b""),
+    (b'F', &[], GET_STATUS, b"FGFFFF", Asks::Status, LIST),
+    (b'G', &[Stall], GET_STATUS, b"GRGGGF", Asks::Status, LIST),
+    (b'D', &[APP_IDLE], DETACH, b"EFFFFF", Asks::Nothing, b""),
+    (b'C', &[OLD_ERROR], CLEAR, b"FFFFFF", Asks::Nothing, b""),
+    (b'Q', &[WRITTEN], ABORT, b"FFFFFF", Asks::Nothing, b""),
+    (b'W', &[BUSY], WAIT, b"WWWFWF", Asks::Nothing, b""),
+    (b'R', &[Stall, Stall], RESET, b"RRRRFF", Asks::Nothing, b""),
 ];
 
 /// Block, Ask, Poll and its wait, of block 0 and of block 1, which is the last; Close, Ask last,
 /// Trouble, and the end that is Refused.
 #[rattlefmt::skip]
 pub(crate) static SENDING: [Row; 12] = [
-    (b'B', &[DFU_IDLE], FIRST, b"PTAAA", Asks::Nothing, b""),
-    (b'A', &[DFU_IDLE, Nothing], GET_STATE, b"ATAAA", Asks::State, b"TTBPTTTTTTT"),
-    (b'P', &[DFU_IDLE, Ack], GET_STATUS, b"PTPPP", Asks::Status, b"DEBwwbWWRQC DEBwwbWWRQC DEBwwbWWRQX"),
-    (b'w', &[DFU_IDLE, Ack, BUSY], WAIT, b"wwwPw", Asks::Nothing, b""),
-    (b'b', &[DFU_IDLE, Ack, WRITTEN], SECOND, b"pTaaa", Asks::Nothing, b""),
-    (b'a', &[DFU_IDLE, Ack, WRITTEN, Nothing], GET_STATE, b"aTaaa", Asks::State, b"TTTpTbTTTTT"),
-    (b'p', &[DFU_IDLE, Ack, WRITTEN, Ack], GET_STATUS, b"pTppp", Asks::Status, b"DEBvvLWWRQC DEBvvLWWRQC DEBvvLWWRQX"),
-    (b'v', &[DFU_IDLE, Ack, WRITTEN, Ack, BUSY], WAIT, b"vvvpv", Asks::Nothing, b""),
-    (b'L', &[DFU_IDLE, Ack, WRITTEN, Ack, WRITTEN], CLOSE, b"MTKKK", Asks::Nothing, b""),
-    (b'K', &[DFU_IDLE, Ack, WRITTEN, Ack, WRITTEN, Nothing], GET_STATE, b"KTKKK", Asks::State, b"TTTTTLMTTTT"),
-    (b'T', &[DFU_IDLE, Stall], GET_STATUS, b"TGTTT", Asks::Status, b"DEBWWQWWRQC DEBWWQWWRQC DEBWWQWWRQX"),
-    (b'X', &[DFU_IDLE, Stall, ERROR], Action::Done(Report::Refused(Code::Address)), b"XXXXX", Asks::Nothing, b""),
+    (b'B', &[DFU_IDLE], FIRST, b"PTAAAF", Asks::Nothing, b""),
+    (b'A', &[DFU_IDLE, Nothing], GET_STATE, b"ATAAAF", Asks::State, b"TTBPTTTTTTT"),
+    (b'P', &[DFU_IDLE, Ack], GET_STATUS, b"PTPPPF", Asks::Status, b"DEBwwbWWRQC DEBwwbWWRQC DEBwwbWWRQX"),
+    (b'w', &[DFU_IDLE, Ack, BUSY], WAIT, b"wwwPwF", Asks::Nothing, b""),
+    (b'b', &[DFU_IDLE, Ack, WRITTEN], SECOND, b"pTaaaF", Asks::Nothing, b""),
+    (b'a', &[DFU_IDLE, Ack, WRITTEN, Nothing], GET_STATE, b"aTaaaF", Asks::State, b"TTTpTbTTTTT"),
+    (b'p', &[DFU_IDLE, Ack, WRITTEN, Ack], GET_STATUS, b"pTpppF", Asks::Status, b"DEBvvLWWRQC DEBvvLWWRQC DEBvvLWWRQX"),
+    (b'v', &[DFU_IDLE, Ack, WRITTEN, Ack, BUSY], WAIT, b"vvvpvF", Asks::Nothing, b""),
+    (b'L', &[DFU_IDLE, Ack, WRITTEN, Ack, WRITTEN], CLOSE, b"MTKKKF", Asks::Nothing, b""),
+    (b'K', &[DFU_IDLE, Ack, WRITTEN, Ack, WRITTEN, Nothing], GET_STATE, b"KTKKKF", Asks::State, b"TTTTTLMTTTT"),
+    (b'T', &[DFU_IDLE, Stall], GET_STATUS, b"TGTTTF", Asks::Status, b"DEBWWQWWRQC DEBWWQWWRQC DEBWWQWWRQX"),
+    (b'X', &[DFU_IDLE, Stall, ERROR], Action::Done(Report::Refused(Code::Address)), b"XXXXXX", Asks::Nothing, b""),
 ];
 
-/// Of a tolerant device: Enter, Manifest and its wait, Last with Installed, and that end.
+/// Of a tolerant device: Enter, Manifest and its wait, Last with Installed, that end, and the end of
+/// one that left of itself.
 #[rattlefmt::skip]
-pub(crate) static TOLERANTLY: [Row; 5] = [
-    (b'E', &[APP_IDLE, Ack], RESET, b"EEEEF", Asks::Nothing, b""),
-    (b'M', &[DFU_IDLE, Ack, WRITTEN, Ack, WRITTEN, Ack], GET_STATUS, b"MTMMM", Asks::Status, b"DEIWWQNNRQC DEBWWQNNRQC DEBWWQNNRQX"),
-    (b'N', &[DFU_IDLE, Ack, WRITTEN, Ack, WRITTEN, Ack, LATE], WAIT, b"NNNMN", Asks::Nothing, b""),
-    (b'I', &[DFU_IDLE, Ack, WRITTEN, Ack, WRITTEN, Ack, DFU_IDLE], RESET, b"IIIIi", Asks::Nothing, b""),
-    (b'i', &[DFU_IDLE, Ack, WRITTEN, Ack, WRITTEN, Ack, DFU_IDLE, WasReset], Action::Done(Report::Installed), b"iiiii",
+pub(crate) static TOLERANTLY: [Row; 6] = [
+    (b'E', &[APP_IDLE, Ack], RESET, b"EEEEFF", Asks::Nothing, b""),
+    (b'M', &[DFU_IDLE, Ack, WRITTEN, Ack, WRITTEN, Ack], GET_STATUS, b"MTMMMu", Asks::Status, b"DEIWWQNNRQC DEBWWQNNRQC DEBWWQNNRQX"),
+    (b'N', &[DFU_IDLE, Ack, WRITTEN, Ack, WRITTEN, Ack, LATE], WAIT, b"NNNMNu", Asks::Nothing, b""),
+    (b'I', &[DFU_IDLE, Ack, WRITTEN, Ack, WRITTEN, Ack, DFU_IDLE], RESET, b"IIIIiu", Asks::Nothing, b""),
+    (b'i', &[DFU_IDLE, Ack, WRITTEN, Ack, WRITTEN, Ack, DFU_IDLE, WasReset], Action::Done(Report::Installed), b"iiiiii",
+        Asks::Nothing, b""),
+    (b'u', &[DFU_IDLE, Ack, WRITTEN, Ack, WRITTEN, Ack, LATE, Left], Action::Done(Report::Unconfirmed), b"uuuuuu",
         Asks::Nothing, b""),
 ];
 
@@ -125,33 +128,33 @@ pub(crate) static TOLERANTLY: [Row; 5] = [
 /// Unconfirmed, and that end.
 #[rattlefmt::skip]
 pub(crate) static SILENTLY: [Row; 5] = [
-    (b'E', &[APP_IDLE, Ack], Action::Wait(255), b"EEEFE", Asks::Nothing, b""),
-    (b'M', &[DFU_IDLE, Ack, WRITTEN, Ack, WRITTEN, Ack], GET_STATUS, b"MTMMM", Asks::Status, b"DEUWWQVVUQC DEUWWQVVUQC DEUWWQVVUQX"),
-    (b'V', &[DFU_IDLE, Ack, WRITTEN, Ack, WRITTEN, Ack, LATE], WAIT, b"VVVUV", Asks::Nothing, b""),
-    (b'U', &[DFU_IDLE, Ack, WRITTEN, Ack, WRITTEN, Ack, DFU_IDLE], RESET, b"UUUUu", Asks::Nothing, b""),
-    (b'u', &[DFU_IDLE, Ack, WRITTEN, Ack, WRITTEN, Ack, DFU_IDLE, WasReset], Action::Done(Report::Unconfirmed), b"uuuuu",
+    (b'E', &[APP_IDLE, Ack], Action::Wait(255), b"EEEFEF", Asks::Nothing, b""),
+    (b'M', &[DFU_IDLE, Ack, WRITTEN, Ack, WRITTEN, Ack], GET_STATUS, b"MTMMMu", Asks::Status, b"DEUWWQVVUQC DEUWWQVVUQC DEUWWQVVUQX"),
+    (b'V', &[DFU_IDLE, Ack, WRITTEN, Ack, WRITTEN, Ack, LATE], WAIT, b"VVVUVu", Asks::Nothing, b""),
+    (b'U', &[DFU_IDLE, Ack, WRITTEN, Ack, WRITTEN, Ack, DFU_IDLE], RESET, b"UUUUuu", Asks::Nothing, b""),
+    (b'u', &[DFU_IDLE, Ack, WRITTEN, Ack, WRITTEN, Ack, DFU_IDLE, WasReset], Action::Done(Report::Unconfirmed), b"uuuuuu",
         Asks::Nothing, b""),
 ];
 
 /// Of an upload by eights: Enter, Fetch 0 and 1, Last with Uploaded, and that end.
 #[rattlefmt::skip]
 pub(crate) static FETCHING: [Row; 5] = [
-    (b'E', &[APP_IDLE, Ack], RESET, b"EEEEF", Asks::Nothing, b""),
-    (b'B', &[DFU_IDLE], PART_0, b"FFFFF", Asks::Part, b""),
-    (b'b', &[DFU_IDLE, FULL], PART_1, b"FFFFF", Asks::Part, b""),
-    (b'Y', &[DFU_IDLE, FULL, WRITTEN], RESET, b"YYYYy", Asks::Nothing, b""),
-    (b'y', &[DFU_IDLE, FULL, WRITTEN, WasReset], Action::Done(Report::Uploaded), b"yyyyy", Asks::Nothing, b""),
+    (b'E', &[APP_IDLE, Ack], RESET, b"EEEEFF", Asks::Nothing, b""),
+    (b'B', &[DFU_IDLE], PART_0, b"FFFFFF", Asks::Part, b""),
+    (b'b', &[DFU_IDLE, FULL], PART_1, b"FFFFFF", Asks::Part, b""),
+    (b'Y', &[DFU_IDLE, FULL, WRITTEN], RESET, b"YYYYyF", Asks::Nothing, b""),
+    (b'y', &[DFU_IDLE, FULL, WRITTEN, WasReset], Action::Done(Report::Uploaded), b"yyyyyy", Asks::Nothing, b""),
 ];
 
 /// Of a comparison by eights: Enter, Compare 0 and 1, Last with Verified and with Different, and
 /// those ends.
 #[rattlefmt::skip]
 pub(crate) static COMPARING: [Row; 7] = [
-    (b'E', &[APP_IDLE, Ack], RESET, b"EEEEF", Asks::Nothing, b""),
-    (b'B', &[DFU_IDLE], PART_0, b"FFFFF", Asks::Compared(b'b'), b"12345678"),
-    (b'b', &[DFU_IDLE, FULL], PART_1, b"FFFFF", Asks::Compared(b'Y'), b"9"),
-    (b'Y', &[DFU_IDLE, FULL, REST], RESET, b"YYYYy", Asks::Nothing, b""),
-    (b'y', &[DFU_IDLE, FULL, REST, WasReset], Action::Done(Report::Verified), b"yyyyy", Asks::Nothing, b""),
-    (b'Z', &[DFU_IDLE, FULL, WRITTEN], RESET, b"ZZZZz", Asks::Nothing, b""),
-    (b'z', &[DFU_IDLE, REST, WasReset], Action::Done(Report::Different), b"zzzzz", Asks::Nothing, b""),
+    (b'E', &[APP_IDLE, Ack], RESET, b"EEEEFF", Asks::Nothing, b""),
+    (b'B', &[DFU_IDLE], PART_0, b"FFFFFF", Asks::Compared(b'b'), b"12345678"),
+    (b'b', &[DFU_IDLE, FULL], PART_1, b"FFFFFF", Asks::Compared(b'Y'), b"9"),
+    (b'Y', &[DFU_IDLE, FULL, REST], RESET, b"YYYYyF", Asks::Nothing, b""),
+    (b'y', &[DFU_IDLE, FULL, REST, WasReset], Action::Done(Report::Verified), b"yyyyyy", Asks::Nothing, b""),
+    (b'Z', &[DFU_IDLE, FULL, WRITTEN], RESET, b"ZZZZzF", Asks::Nothing, b""),
+    (b'z', &[DFU_IDLE, REST, WasReset], Action::Done(Report::Different), b"zzzzzz", Asks::Nothing, b""),
 ];
