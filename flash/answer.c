@@ -6,23 +6,37 @@
      as many bytes out as the body has  Ack         it was made, and acknowledged
      bytes in, also fewer or none       Bytes       what came, as it came
      LIBUSB_ERROR_PIPE                  Stall       the device refused the request
-     LIBUSB_ERROR_NO_DEVICE             Restarted   the device left: told once it is back and open again
+     LIBUSB_ERROR_NO_DEVICE             Left        the device left behind the end of a download, as below
+                                        Restarted   else: told once it is back and open again
      any other                          Nothing     as TIMEOUT, IO, OVERFLOW: it may have been handled or not, and the host asks
 
    Of a reset:
      0                                  WasReset    once its interface is in its setting again, where that is another than 0
-     LIBUSB_ERROR_NOT_FOUND             WasReset    once it is back: libusb says this where the device has other descriptors
-                                                    after the reset, and comes as a new one, whose enumeration is a reset
-     LIBUSB_ERROR_NO_DEVICE             Restarted   it left before: told once it is back
+     LIBUSB_ERROR_NOT_FOUND             WasReset    at once: libusb says this where the device has other descriptors after the
+                                                    reset, and comes as a new one, whose enumeration is a reset
+     LIBUSB_ERROR_NO_DEVICE             Left        it left before, behind the end of a download, as below
+                                        Restarted   else: told once it is back
      any other                          Nothing     the host asks for it again
    NOT_FOUND is also what Linux says of a device that left before the reset. It comes back reset then too; and behind a reset
-   the host is done, or begins anew with asking for the device's state, as it does behind a restart.
+   the host is done, or begins anew with asking for the device's state, as it does behind a restart. A device that is to be
+   asked again is waited for before that request; one whose session is over need not come back, as where its application has
+   no USB.
 
    Of a wait: Waited, once the time has passed.
 
+   Left is told where the device acknowledged the DNLOAD of no bytes, a GETSTATUS behind it was answered with dfuMANIFEST-SYNC or
+   dfuMANIFEST, nothing but GETSTATUS was sent since, and the device is gone then: it may have started its image by itself, as
+   many bootloaders do, or have lost its power. It is told at once, and only once: the device is waited for before the next request.
+   The host takes it as the last reset, and never reports Installed for it. Where a reset is answered with NOT_FOUND it isn't told:
+   there Installed is reported only where the device itself said that it is done, by dfuIDLE.
+
    A device that leaves behind an acknowledged DETACH does what it was asked to, up to the next request: that is no restart.
    Until it is found again, nothing is sent. A reset that another program makes in between isn't seen here: the interface is
-   claimed, so that no other program has it for transfers. */
+   claimed, so that no other program has it for transfers.
+
+   One DETACH is this program's own, and no host hears of it (stalls.c). Behind it comes a reset that the host asked for, which is
+   told as above; where the device left behind that DETACH by itself it is told as WasReset, and where it left without an answer
+   as Restarted. The host asks for the device's state behind either. */
 #include "answer.h"
 #include "clock.h"
 
@@ -35,12 +49,28 @@ static struct answer told(struct wire *wire, uint32_t seen)
     return (struct answer){seen, wire->bytes, 0, false};
 }
 
+static void forget_end(struct wire *wire)
+{
+    wire->is_closed = wire->is_manifesting = false;
+}
+
 /* The device left: its restart is told once it can be asked again. */
 static struct answer restarted(struct wire *wire)
 {
     struct answer answer = told(wire, DFU_RESTARTED);
+    forget_end(wire);
     answer.is_gone = !device_reopen(wire->device);
     return answer;
+}
+
+/* The device left: of itself, where it may have started its image. */
+static struct answer left(struct wire *wire)
+{
+    if (!wire->is_manifesting)
+        return restarted(wire);
+    forget_end(wire);
+    device_close(wire->device);
+    return told(wire, DFU_LEFT);
 }
 
 /* The host's setups have wIndex 0 (bytes 4 and 5); USB wants the number of the interface there. Nothing else is changed. */
@@ -56,7 +86,7 @@ static struct answer answer_of(struct wire *wire, bool is_in, uint16_t length, i
 {
     struct answer answer = told(wire, DFU_NOTHING);
     if (result == LIBUSB_ERROR_NO_DEVICE)
-        return restarted(wire);
+        return left(wire);
     if (result == LIBUSB_ERROR_PIPE)
         answer.seen = DFU_STALLED;
     else if (is_in && result >= 0 && result <= length) {
@@ -65,6 +95,18 @@ static struct answer answer_of(struct wire *wire, bool is_in, uint16_t length, i
     } else if (!is_in && result == length)
         answer.seen = DFU_ACK;
     return answer;
+}
+
+/* How a download ends: its last request, and what the device says of itself behind it. */
+static void note_end(struct wire *wire, const struct dfu_action *action, const struct answer *answer)
+{
+    bool is_status = action->setup[0] == 0xa1 && action->setup[1] == 3;
+    bool is_end = action->setup[0] == 0x21 && action->setup[1] == 1 && action->length == 0;
+    if (!is_status) {
+        wire->is_closed = is_end && answer->seen == DFU_ACK;
+        wire->is_manifesting = false;
+    } else if (answer->seen == DFU_BYTES && answer->count == 6 && (answer->bytes[4] == 6 || answer->bytes[4] == 7))
+        wire->is_manifesting = wire->is_closed;
 }
 
 struct answer answer_send(struct wire *wire, const struct dfu_action *action, const uint8_t *body)
@@ -82,6 +124,7 @@ struct answer answer_send(struct wire *wire, const struct dfu_action *action, co
     wire->is_leaving = false;
     answer = answer_of(wire, is_in, length, transfer(wire, action->setup, length));
     wire->is_leaving = answer.seen == DFU_ACK && action->setup[0] == 0x21 && action->setup[1] == 0;
+    note_end(wire, action, &answer);
     return answer;
 }
 
@@ -121,21 +164,16 @@ struct answer answer_reset(struct wire *wire)
 {
     struct answer answer = told(wire, DFU_WAS_RESET);
     int error;
-    if (wire->device->handle == NULL) {
-        /* It left before this reset. */
-        answer.seen = wire->is_leaving ? DFU_WAS_RESET : DFU_RESTARTED;
-        answer.is_gone = !device_reopen(wire->device);
-        return answer;
-    }
+    if (wire->device->handle == NULL) /* it left before this reset */
+        return wire->is_leaving ? answer : restarted(wire);
     error = reset(wire->device);
-    if (error == 0)
-        return answer;
-    if (error == LIBUSB_ERROR_NOT_FOUND || (error == LIBUSB_ERROR_NO_DEVICE && wire->is_leaving)) {
+    if (error == LIBUSB_ERROR_NO_DEVICE && !wire->is_leaving)
+        return left(wire);
+    if (error == LIBUSB_ERROR_NOT_FOUND || error == LIBUSB_ERROR_NO_DEVICE)
         device_close(wire->device);
-        answer.is_gone = !device_await(wire->device);
-    } else if (error == LIBUSB_ERROR_NO_DEVICE)
-        return restarted(wire);
-    else
+    else if (error != 0)
         answer.seen = DFU_NOTHING;
+    if (answer.seen == DFU_WAS_RESET)
+        forget_end(wire);
     return answer;
 }

@@ -10,7 +10,7 @@
 #include <stdint.h>
 
 struct answer {
-    uint32_t seen;        /* DFU_ACK to DFU_RESTARTED */
+    uint32_t seen;        /* DFU_ACK to DFU_LEFT */
     const uint8_t *bytes; /* of DFU_BYTES, as many as `count`; never NULL */
     size_t count;
     bool is_gone;         /* it left and did not come back: there is nothing to tell */
@@ -20,6 +20,8 @@ struct answer {
 struct wire {
     struct device *device;
     bool is_leaving;       /* a DETACH was acknowledged, and nothing was sent since: the device is to leave */
+    bool is_closed;        /* the end of a download was acknowledged, and nothing but GETSTATUS was sent since; */
+    bool is_manifesting;   /* and a GETSTATUS said dfuMANIFEST-SYNC or dfuMANIFEST: the device may start its image by itself */
     uint8_t bytes[65536];  /* of one transfer: wLength is under 65,536 */
     uint64_t transfers;    /* how many were tried */
 };

@@ -45,11 +45,48 @@ static enum goal goal_of(const struct session *session)
     return session->is_upload ? GOAL_UPLOAD : session->wants_verified && can_upload ? GOAL_VERIFIED : GOAL_DOWNLOAD;
 }
 
+static int32_t begin(struct session *session, const uint8_t descriptor[9], size_t size)
+{
+    take_limits(session, descriptor);
+    if (session->goal == GOAL_UPLOAD)
+        return dfu_host_upload(&session->host, descriptor, size, session->actions, session->restarts);
+    if (session->goal == GOAL_VERIFIED)
+        return dfu_host_verified(&session->host, session->file, session->file_length, descriptor, size, &session->ids,
+                                 session->actions, session->restarts);
+    return dfu_host_download(&session->host, session->file, session->file_length, descriptor, size, &session->ids,
+                             session->actions, session->restarts);
+}
+
+/* Whether a functional descriptor is missing, or is none that a session can go by. */
+static bool is_odd(int32_t refusal)
+{
+    return refusal == DFU_SHORT || refusal == DFU_LONG || refusal == DFU_WRONG_LENGTH || refusal == DFU_WRONG_TYPE
+        || refusal == DFU_BAD_DESCRIPTOR;
+}
+
+/* In run-time mode the functional descriptor says no more than how the device is brought to DFU mode, and there it has one that
+   counts (USB DFU 1.1, section 4.2.4, has them alike). So where that of an interface of run-time mode is odd another one stands in
+   for it; session.c sees to it that no block is sent by that. */
+static int32_t begin_by_another(struct session *session, int32_t refusal)
+{
+    const struct found *is = &session->wire.device->is;
+    uint8_t another[9] = {9, 0x21, 3, 1000 & 0xff, 1000 >> 8, 64, 0, 0x10, 0x01};
+    if (!is->says_runtime || !is_odd(refusal))
+        return refusal;
+    session->odd = refusal;
+    /* With wTransferSize 0 the rest counts: bmAttributes and wDetachTimeOut. */
+    if (refusal == DFU_BAD_DESCRIPTOR)
+        memcpy(another + 2, is->descriptor + 2, 3);
+    return begin(session, another, sizeof another);
+}
+
 int32_t session_begin(struct session *session)
 {
     const struct found *is = &session->wire.device->is;
     uint8_t descriptor[9];
+    int32_t refusal;
     session->goal = goal_of(session);
+    session->odd = 0;
     session_meets(session);
     if (is_dfuse(is))
         return REFUSED_DFUSE;
@@ -58,12 +95,6 @@ int32_t session_begin(struct session *session)
     session->known_size = is->descriptor_size;
     session->has_sent = false;
     cut(descriptor, is->descriptor_size);
-    take_limits(session, descriptor);
-    if (session->goal == GOAL_UPLOAD)
-        return dfu_host_upload(&session->host, descriptor, session->known_size, session->actions, session->restarts);
-    if (session->goal == GOAL_VERIFIED)
-        return dfu_host_verified(&session->host, session->file, session->file_length, descriptor, session->known_size,
-                                 &session->ids, session->actions, session->restarts);
-    return dfu_host_download(&session->host, session->file, session->file_length, descriptor, session->known_size,
-                             &session->ids, session->actions, session->restarts);
+    refusal = begin(session, descriptor, session->known_size);
+    return refusal == 0 ? 0 : begin_by_another(session, refusal);
 }

@@ -88,7 +88,7 @@ int device_choose(struct device *device, const struct wanted *wanted)
     if (count > 1 && !is_unread(wanted, list, count)) {
         ask_for_one(list, count);
         found_drop(list, count);
-        return STATUS_NO_DEVICE;
+        return STATUS_SEVERAL;
     }
     device->is = list[0];
     found_drop(list + 1, count - 1);

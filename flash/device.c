@@ -26,8 +26,12 @@ int device_open(struct device *device)
         return error;
     }
     error = libusb_claim_interface(device->handle, device->is.interface);
-    if (error == 0)
-        error = device_set(device);
+    if (error != 0) {
+        libusb_close(device->handle);
+        device->handle = NULL;
+        return error;
+    }
+    error = device_set(device);
     if (error != 0)
         device_close(device);
     return error;
@@ -129,13 +133,9 @@ static bool is_back(const struct device *device)
     return (has_ports(device->path) && is_at(device->usb, device->path)) || is_elsewhere(device);
 }
 
-bool device_await(struct device *device)
+void device_await(struct device *device, uint32_t ms)
 {
-    int64_t end = clock_ms() + AWAY_MS;
-    while (!is_back(device)) {
-        if (*device->is_stop || clock_ms() >= end)
-            return false;
+    int64_t end = clock_ms() + ms;
+    while (!is_back(device) && !*device->is_stop && clock_ms() < end)
         clock_wait(LOOK_MS);
-    }
-    return true;
 }

@@ -33,9 +33,9 @@ void device_close(struct device *device);
 /* Gives back what device_choose took. */
 void device_drop(struct device *device);
 
-/* Waits until any device stands at its path, or one with its serial number is there. False after 10 seconds, or where `is_stop`
-   is set. */
-bool device_await(struct device *device);
+/* Waits until any device stands at its path, or one with its serial number is there; for `ms` at most, and until `is_stop` is
+   set. */
+void device_await(struct device *device, uint32_t ms);
 
 /* Waits until it is back with DFU, and opens it. False after 10 seconds, where `is_stop` is set, or where it has more than one
    setting that may be meant. Where it is back and can't be had, why is said on standard error. */

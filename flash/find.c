@@ -35,12 +35,17 @@ bool is_at(libusb_context *usb, const char *path)
     return is;
 }
 
+static bool has_ids(const struct found *found, uint16_t vendor, uint16_t product)
+{
+    return (vendor == 0xffff || vendor == found->vendor) && (product == 0xffff || product == found->product);
+}
+
 /* What is known of a device before it is opened. Another one isn't touched: somebody may be at work with it. */
 static bool may_be(const struct wanted *wanted, const struct found *found)
 {
-    bool is_vendor = !wanted->has_ids || wanted->vendor == 0xffff || wanted->vendor == found->vendor;
-    bool is_product = !wanted->has_ids || wanted->product == 0xffff || wanted->product == found->product;
-    return is_vendor && is_product && (wanted->path == NULL || strcmp(wanted->path, found->path) == 0);
+    bool is_named = !wanted->has_ids || has_ids(found, wanted->vendor, wanted->product)
+        || (wanted->has_dfu_ids && has_ids(found, wanted->dfu_vendor, wanted->dfu_product));
+    return is_named && (wanted->path == NULL || strcmp(wanted->path, found->path) == 0);
 }
 
 bool is_placed(const struct place *place, const struct found *found)
@@ -87,6 +92,7 @@ static void add_setting(struct look *look, const struct found *base, libusb_devi
     found.interface = setting->bInterfaceNumber;
     found.alternate = setting->bAlternateSetting;
     found.is_upgrade = setting->bInterfaceProtocol == 2;
+    found.says_runtime = setting->bInterfaceProtocol == 1;
     if (handle != NULL)
         string_find(handle, setting->iInterface, found.name);
     if (look->count == look->room || !is_wanted(look->wanted, &found))

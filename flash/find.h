@@ -20,6 +20,7 @@ struct found {
     uint8_t interface, alternate;
     char name[TEXT_ROOM];              /* of the setting, by its iInterface; empty where there is none */
     bool is_upgrade;                   /* in DFU mode, protocol 2; else in run-time mode */
+    bool says_runtime;                 /* its protocol is 1, that of run-time mode */
     int access;                        /* what libusb said to opening it: 0, or an error */
     uint8_t descriptor[9];             /* the functional descriptor */
     size_t descriptor_size;            /* 9, or 7 of DFU 1.0; 0 where there is none */
@@ -40,6 +41,8 @@ struct wanted {
     uint16_t vendor, product;          /* FFFFh is any */
     const char *path, *serial;         /* NULL is any */
     struct place place;
+    bool has_dfu_ids;                  /* it may have these identifiers too, as in DFU mode */
+    uint16_t dfu_vendor, dfu_product;
 };
 
 /* Whether a setting stands where that is asked for: in run-time mode each does. */

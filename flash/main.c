@@ -94,6 +94,11 @@ static void print_plan(void)
 {
     const struct found *is = &device.is;
     static const char *const goals[] = {"download", "download and compare", "upload"};
+    if (session.odd != 0) {
+        fputs("dry-run: bring it to DFU mode, and look there how large blocks are: ", stdout);
+        say_found(stdout, is);
+        return;
+    }
     printf("dry-run: %s", goals[session.goal]);
     if (session.goal != GOAL_UPLOAD)
         printf(" %zu bytes", session.payload_length);
@@ -102,11 +107,23 @@ static void print_plan(void)
     say_found(stdout, is);
 }
 
+/* For which device the file has to be: the one that was found; or, where the identifiers of both modes were given, that of run-time
+   mode. */
+static struct dfu_ids target(const struct words *words)
+{
+    struct dfu_ids ids = {device.is.release, device.is.product, device.is.vendor};
+    if (words->has_dfu_ids && words->vendor != 0xffff)
+        ids.vendor = words->vendor;
+    if (words->has_dfu_ids && words->product != 0xffff)
+        ids.product = words->product;
+    return ids;
+}
+
 static void ask(const struct words *words)
 {
     session.is_upload = words->job == JOB_UPLOAD;
     session.wants_verified = words->verify;
-    session.ids = (struct dfu_ids){device.is.release, device.is.product, device.is.vendor};
+    session.ids = target(words);
     session.has_limits = words->has_limits;
     session.actions = words->actions;
     session.restarts = words->restarts;
@@ -166,7 +183,8 @@ static int flash(const struct words *words, struct wanted *wanted)
 static int over_usb(const struct words *words)
 {
     struct wanted wanted = {words->has_ids, words->vendor, words->product, words->path, words->serial,
-                            {words->interface, words->alternate, words->setting}};
+                            {words->interface, words->alternate, words->setting}, words->has_dfu_ids, words->dfu_vendor,
+                            words->dfu_product};
     int error = libusb_init(&device.usb);
     int status;
     if (error != 0) {

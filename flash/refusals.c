@@ -18,7 +18,7 @@ static const struct refusal refusals[] = {
     {DFU_FILE_BAD_CRC, "BadCrc", "the file's check sum is wrong: it was changed or cut"},
     {DFU_FILE_TOO_LARGE, "TooLarge", "the file has over 16777216 bytes"},
     {DFU_EMPTY_PAYLOAD, "EmptyPayload", "the file has no image in it"},
-    {DFU_WRONG_TARGET, "WrongTarget", "the file is for another device"},
+    {DFU_WRONG_TARGET, "WrongTarget", "the file is for another device; in DFU mode it may have another product: see --device RUN,DFU"},
     {DFU_CANNOT_DOWNLOAD, "CannotDownload", "the device takes no downloads"},
     {DFU_CANNOT_UPLOAD, "CannotUpload", "the device gives no uploads"},
     {DFU_BAD_DESCRIPTOR, "BadDescriptor", "the device's transfer size is 0"},

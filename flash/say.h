@@ -22,8 +22,8 @@ struct session;
 /* What a session came to. */
 struct verdict {
     int status;        /* with which the program ends */
-    char name[24];     /* the report's name; `gone`, `silent`, `many`, `other` or `broken` where there is none */
-    const char *words; /* what it means */
+    char name[24];     /* the report's name; `gone`, `silent`, `many`, `other`, `broken` or `stalled` where there is none */
+    char words[160];   /* what it means */
     uint8_t code;      /* of `refused`: the device's bStatus, else 0 */
 };
 

@@ -1,4 +1,5 @@
-/* The loop: what the host asks for is carried out, and it is told what came of that. Nothing else is sent. */
+/* The loop: what the host asks for is carried out, and it is told what came of that. Nothing else is sent, but for the DETACH of
+   stalls.c. */
 #include "session.h"
 
 #include <stdlib.h>
@@ -6,6 +7,7 @@
 
 /* So many transfers in a row without any answer, 5 seconds each where a device is there and dead, and it is given up. */
 #define MOST_SILENT 24
+#define SETTLE_MS 2000 /* for a device that left with the last reset, so that who calls this program again finds it */
 
 static void grow(struct session *session)
 {
@@ -21,14 +23,24 @@ static void grow(struct session *session)
     session->room = 2 * wanted;
 }
 
+static bool is_download(const struct dfu_action *action)
+{
+    return action->what == DFU_SEND && action->setup[0] == 0x21 && action->setup[1] == 1;
+}
+
+static bool is_upload(const struct dfu_action *action)
+{
+    return action->what == DFU_SEND && action->setup[0] == 0xa1 && action->setup[1] == 2;
+}
+
 /* How far it is, by what was sent or came. */
 static void show(struct session *session, const struct dfu_action *action, const struct answer *answer)
 {
     uint64_t number = (uint64_t)(action->setup[2] | action->setup[3] << 8);
     uint64_t length = (uint64_t)(action->setup[6] | action->setup[7] << 8);
-    if (answer->seen == DFU_ACK && action->setup[0] == 0x21 && action->setup[1] == 1 && action->length > 0)
+    if (answer->seen == DFU_ACK && is_download(action) && action->length > 0)
         progress_at(&session->progress, PROGRESS_SENDING, action->from + action->length);
-    if (answer->seen == DFU_BYTES && action->setup[0] == 0xa1 && action->setup[1] == 2)
+    if (answer->seen == DFU_BYTES && is_upload(action))
         progress_at(&session->progress, session->goal == GOAL_UPLOAD ? PROGRESS_FETCHING : PROGRESS_COMPARING,
                     number * length + answer->count);
 }
@@ -39,8 +51,11 @@ static struct answer send_request(struct session *session, const struct dfu_acti
     /* An aborted session asks a device that is away no more. */
     if (session->is_aborted && session->wire.device->handle == NULL)
         return (struct answer){DFU_NOTHING, session->wire.bytes, 0, false};
-    session->has_sent = session->has_sent || (action->setup[0] == 0x21 && action->setup[1] == 1);
+    session->has_sent = session->has_sent || is_download(action);
     answer = answer_send(&session->wire, action, session->file + action->from);
+    if (is_download(action))
+        session->is_whole = action->length == 0 && answer.seen == DFU_ACK;
+    stalls_note(&session->stalls, &session->wire.device->is, answer.seen);
     show(session, action, &answer);
     return answer;
 }
@@ -50,7 +65,7 @@ static struct answer perform(struct session *session, const struct dfu_action *a
     struct answer answer;
     if (action->what == DFU_WAIT)
         return answer_wait(&session->wire, action->value);
-    answer = action->what == DFU_RESET ? answer_reset(&session->wire) : send_request(session, action);
+    answer = action->what == DFU_RESET ? stalls_reset(&session->stalls, &session->wire) : send_request(session, action);
     session->silent = answer.seen == DFU_NOTHING ? session->silent + 1 : 0;
     return answer;
 }
@@ -94,12 +109,37 @@ static bool tell(struct session *session, const struct answer *answer)
     return true;
 }
 
-/* One action. In DFU mode a device may have another functional descriptor than in run-time mode: then the session that brought it
-   there, which has sent no block, is dropped, and another one begins, once. */
+/* In DFU mode a device may have another functional descriptor than in run-time mode: then the session that brought it there, which
+   has sent no block, is dropped, and another one begins, once. */
+static bool begin_anew(struct session *session)
+{
+    if (session->has_sent || session->has_begun_anew)
+        return end(session, END_OTHER);
+    session->has_begun_anew = true;
+    session->refusal = session_begin(session);
+    return session->refusal == 0 || end(session, END_REFUSED);
+}
+
+/* How the session ends in place of what the host asks for; END_REPORT where that is done. By a descriptor that stands in for the
+   device's nothing of an image is sent or fetched. */
+static enum end barred(const struct session *session, const struct dfu_action *action)
+{
+    if (session->odd != 0 && (is_download(action) || is_upload(action)))
+        return END_REFUSED;
+    return action->what == DFU_RESET && stalls_is_stuck(&session->stalls) ? END_STALLED : END_REPORT;
+}
+
+/* One action. */
 static bool step(struct session *session, const struct dfu_action *action)
 {
     struct device *device = session->wire.device;
-    struct answer answer = perform(session, action);
+    enum end early = barred(session, action);
+    struct answer answer;
+    if (early != END_REPORT) {
+        session->refusal = session->odd;
+        return end(session, early);
+    }
+    answer = perform(session, action);
     if (answer.is_gone && !*device->is_stop)
         return end(session, device->is_many ? END_MANY : END_GONE);
     if (answer.is_gone)
@@ -108,13 +148,7 @@ static bool step(struct session *session, const struct dfu_action *action)
         return end(session, END_SILENT);
     if (device->handle != NULL && !session_meets(session))
         return end(session, END_OTHER);
-    if (is_as_begun(session))
-        return tell(session, &answer);
-    if (session->has_sent || session->has_begun_anew)
-        return end(session, END_OTHER);
-    session->has_begun_anew = true;
-    session->refusal = session_begin(session);
-    return session->refusal == 0 || end(session, END_REFUSED);
+    return is_as_begun(session) ? tell(session, &answer) : begin_anew(session);
 }
 
 /* The first signal: the host has the device leave what it is in. */
@@ -124,6 +158,13 @@ static int32_t stop(struct session *session)
         return 0;
     session->is_aborted = true;
     return dfu_host_abort(&session->host, session->file, session->payload_length);
+}
+
+/* The last reset leads a device out of DFU mode. It need not come back, as where its application has no USB. */
+static void settle(struct session *session)
+{
+    if (session->wire.device->handle == NULL)
+        device_await(session->wire.device, SETTLE_MS);
 }
 
 void session_run(struct session *session)
@@ -138,6 +179,7 @@ void session_run(struct session *session)
         if (action.what == DFU_DONE) {
             session->done = action;
             end(session, END_REPORT);
+            settle(session);
             return;
         }
     } while (step(session, &action));

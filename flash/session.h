@@ -4,6 +4,7 @@
 
 #include "answer.h"
 #include "progress.h"
+#include "stalls.h"
 
 #include <dfu_host.h>
 #include <stdbool.h>
@@ -19,7 +20,8 @@ enum end {
     END_MANY,   /* it came back with more than one setting */
     END_OTHER,  /* what came back is another device, or has another functional descriptor */
     END_REFUSED, /* it came to DFU mode, and the host refused to begin with it there */
-    END_BROKEN  /* the host's library refused its own record */
+    END_BROKEN, /* the host's library refused its own record */
+    END_STALLED /* it stays in run-time mode, and stalls what it is asked there */
 };
 
 struct session {
@@ -30,7 +32,7 @@ struct session {
     size_t payload_length;        /* and how many of its bytes, from the first on, are the payload; 0 of an upload */
     uint8_t *kept;                /* of an upload: what came, */
     size_t room;                  /* and how much may come before it grows */
-    struct dfu_ids ids;           /* of the device as it was found first */
+    struct dfu_ids ids;           /* for which the file has to be: those of the device as it was found first, or those asked for */
     struct found first[2];        /* the device as it was found first in run-time mode, and in DFU mode, */
     bool has_first[2];            /* where it was */
     bool has_limits;
@@ -39,8 +41,11 @@ struct session {
     struct dfu_session host;      /* the host's record */
     uint8_t known[9];             /* the device's functional descriptor when it was begun */
     size_t known_size;
+    int32_t odd;                  /* why the host refuses the functional descriptor of the run-time mode, or 0: another one stands in */
     bool has_sent, has_begun_anew, is_aborted;
+    bool is_whole;                /* the device acknowledged the image's last block and its end, and no block was sent since */
     uint32_t silent;              /* transfers in a row of which nothing was heard */
+    struct stalls stalls;
     struct wire wire;
     struct progress progress;
     uint64_t taken, restarted;    /* actions done, and restarts told */

@@ -7,14 +7,18 @@ enum status {
     STATUS_REFUSED = 1,     /* refused before a byte of the image was sent */
     STATUS_WORDS = 2,       /* the words aren't understood */
     STATUS_FILE = 3,        /* a file or a stream failed, or there was no memory */
-    STATUS_NO_DEVICE = 4,   /* no device, or more than one */
+    STATUS_NO_DEVICE = 4,   /* no such device */
     STATUS_NO_ACCESS = 5,   /* the device may not be opened, or another program or a driver has it */
     STATUS_DEVICE = 6,      /* the device refused the image */
     STATUS_GIVEN_UP = 7,    /* the limits are spent, or what came was too much, or there was no memory for it */
     STATUS_UNCONFIRMED = 8, /* the device can't tell whether the image is in place */
     STATUS_DIFFERENT = 9,   /* the device gave back another image */
     STATUS_GONE = 10,       /* the device left and did not come back, or answers no more */
-    STATUS_ABORTED = 11     /* given up by Ctrl-C or a signal */
+    STATUS_ABORTED = 11,    /* given up by Ctrl-C or a signal */
+    STATUS_SEVERAL = 12,    /* more than one device, interface or setting: choose one */
+    STATUS_OTHER = 13,      /* another device came back */
+    STATUS_BROKEN = 14,     /* a mistake of this program */
+    STATUS_STALLED = 15     /* the device could not be brought to DFU mode */
 };
 
 #endif

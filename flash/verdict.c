@@ -3,6 +3,7 @@
 #include "session.h"
 #include "status.h"
 
+#include <stdio.h>
 #include <string.h>
 
 struct meaning {
@@ -32,9 +33,19 @@ static const struct {
 } ends[] = {
     [END_GONE] = {"gone", {STATUS_GONE, "the device left and did not come back; it may have the old image, the new one or neither"}},
     [END_SILENT] = {"silent", {STATUS_GONE, "the device answers no more; it may have the old image, the new one or neither"}},
-    [END_MANY] = {"many", {STATUS_GONE, "the device came back with more than one setting: choose by --interface or --alt"}},
-    [END_OTHER] = {"other", {STATUS_GONE, "another device came back; the one of before may have the old image, the new one or neither"}},
-    [END_BROKEN] = {"broken", {STATUS_GONE, "the host refused its own record, which is a mistake of this program"}},
+    [END_MANY] = {"many", {STATUS_SEVERAL, "the device came back with more than one setting: choose by --interface or --alt"}},
+    [END_OTHER] = {"other", {STATUS_OTHER, "another device came back; the one of before may have the old image, the new one or neither"}},
+    [END_BROKEN] = {"broken", {STATUS_BROKEN, "the host refused its own record, which is a mistake of this program"}},
+    [END_STALLED] = {"stalled",
+        {STATUS_STALLED, "in run-time mode it stalls GETSTATUS: bring it to DFU mode by hand, as by its button, and run this again"}},
+};
+
+/* The same, where the device took the whole image and was to give it back. */
+static const struct meaning uncompared[] = {
+    [END_GONE] =
+        {STATUS_GONE, "the device took the whole image, left, and did not come back to be compared; see --no-verify and --wait"},
+    [END_STALLED] =
+        {STATUS_STALLED, "the device took the whole image, and stalls GETSTATUS in run-time mode: it was not compared; see --no-verify"},
 };
 
 static const char *const codes[] = {
@@ -47,6 +58,28 @@ const char *code_name(uint32_t code)
     return code < sizeof codes / sizeof codes[0] ? codes[code] : "?";
 }
 
+/* What a device may have is said only where a block was sent. */
+static void take_words(struct verdict *verdict, const struct session *session, const struct meaning *meaning)
+{
+    static const char harm[] = " may have the old image, the new one or neither";
+    size_t length = strlen(meaning->words), front = length - (sizeof harm - 1);
+    const char *part;
+    verdict->status = meaning->status;
+    snprintf(verdict->words, sizeof verdict->words, "%s", meaning->words);
+    if (session->has_sent || length < sizeof harm || strcmp(meaning->words + front, harm) != 0)
+        return;
+    part = strrchr(meaning->words, ';');
+    snprintf(verdict->words, sizeof verdict->words, "%.*s; no block was sent", (int)(part - meaning->words), meaning->words);
+}
+
+static void take_end(struct verdict *verdict, const struct session *session)
+{
+    enum end end = session->end == END_REPORT ? END_BROKEN : session->end;
+    bool is_uncompared = session->goal == GOAL_VERIFIED && session->is_whole && (end == END_GONE || end == END_STALLED);
+    snprintf(verdict->name, sizeof verdict->name, "%s", ends[end].name);
+    take_words(verdict, session, is_uncompared ? &uncompared[end] : &ends[end].meaning);
+}
+
 struct verdict verdict_of(const struct session *session)
 {
     struct verdict verdict;
@@ -54,16 +87,12 @@ struct verdict verdict_of(const struct session *session)
     int32_t length;
     memset(&verdict, 0, sizeof verdict);
     if (session->end != END_REPORT || report < DFU_INSTALLED || report > DFU_DIFFERENT) {
-        enum end end = session->end == END_REPORT ? END_BROKEN : session->end;
-        strncpy(verdict.name, ends[end].name, sizeof verdict.name - 1);
-        verdict.status = ends[end].meaning.status;
-        verdict.words = ends[end].meaning.words;
+        take_end(&verdict, session);
         return verdict;
     }
     length = dfu_host_name(report, (uint8_t *)verdict.name, sizeof verdict.name - 1);
     verdict.name[length > 0 ? length : 0] = '\0';
-    verdict.status = reports[report].status;
-    verdict.words = reports[report].words;
+    take_words(&verdict, session, &reports[report]);
     verdict.code = report == DFU_REFUSED ? (uint8_t)session->done.code : 0;
     return verdict;
 }

@@ -34,31 +34,39 @@ static bool is_number(const char *text, unsigned long most, unsigned long *numbe
     return errno == 0 && *end == '\0' && *number <= most;
 }
 
-/* Four hexadecimal digits. */
+/* Four hexadecimal digits, at the front of `text`. */
 static bool is_identifier(const char *text, uint16_t *identifier)
 {
+    char digits[5] = {0};
     for (int at = 0; at < 4; at++)
         if (!isxdigit((unsigned char)text[at]))
             return false;
-    *identifier = (uint16_t)strtoul(text, NULL, 16);
+    memcpy(digits, text, 4);
+    *identifier = (uint16_t)strtoul(digits, NULL, 16);
     return true;
 }
 
-/* VID:PID, four hexadecimal digits each. */
-static bool is_pair(const char *text, struct words *words)
+/* VID:PID, four hexadecimal digits each, at the front of `text`. */
+static bool is_pair(const char *text, uint16_t *vendor, uint16_t *product)
 {
-    char vendor[5] = {0};
-    words->has_ids = true;
-    if (strlen(text) != 9 || text[4] != ':')
-        return false;
-    memcpy(vendor, text, 4);
-    return is_identifier(vendor, &words->vendor) && is_identifier(text + 5, &words->product);
+    return is_identifier(text, vendor) && text[4] == ':' && is_identifier(text + 5, product);
 }
 
 static bool refuse(const char *what, const char *word)
 {
     fprintf(stderr, "dfu-flash: %s%s%s\nSee dfu-flash --help.\n", what, *word ? ": " : "", word);
     return false;
+}
+
+/* One pair; or two with a comma between them, of run-time mode and of DFU mode. */
+static bool is_device(const char *text, struct words *words)
+{
+    bool is_first = is_pair(text, &words->vendor, &words->product);
+    words->has_ids = true;
+    if (is_first && text[9] == '\0')
+        return true;
+    words->has_dfu_ids = is_first && text[9] == ',' && is_pair(text + 10, &words->dfu_vendor, &words->dfu_product) && text[19] == '\0';
+    return words->has_dfu_ids || refuse("--device takes VID:PID or VID:PID,VID:PID, four hexadecimal digits each", text);
 }
 
 static bool is_interface(const char *text, struct words *words)
@@ -106,7 +114,7 @@ static bool is_job(struct words *words, enum job job)
 static bool take_option(struct words *words, int code, int count, char **texts)
 {
     switch (code) {
-    case DEVICE: return is_pair(optarg, words) || refuse("--device takes VID:PID, four hexadecimal digits each", optarg);
+    case DEVICE: return is_device(optarg, words);
     case PATH: words->path = optarg; return *optarg != '\0' || refuse("--path takes a path, as --list shows it", "");
     case SERIAL: words->serial = optarg; return *optarg != '\0' || refuse("--serial takes a serial number, as --list shows it", "");
     case INTERFACE: return is_interface(optarg, words);

@@ -13,6 +13,8 @@ struct words {
     bool verify, force, dry_run, quiet, json;
     bool has_ids;                    /* --device was given */
     uint16_t vendor, product;
+    bool has_dfu_ids;                /* as RUN,DFU: in DFU mode it may have these */
+    uint16_t dfu_vendor, dfu_product;
     const char *path, *serial;       /* NULL where they weren't given */
     int interface, alternate;        /* -1 where they weren't given */
     const char *setting;             /* the name of --alt, NULL where it is a number or wasn't given */

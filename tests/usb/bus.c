@@ -38,9 +38,15 @@ static void enumerate(void)
     seen.away = settings.away;
 }
 
+/* An application without USB isn't seen on the bus. */
+static bool is_there_now(void)
+{
+    return model->is_there() && (settings.app_has_usb || !model->is_app());
+}
+
 static void look(void)
 {
-    bool is_app = model->is_app(), is_there = model->is_there();
+    bool is_app = model->is_app(), is_there = is_there_now();
     if (is_app != seen.is_app || is_there != seen.is_there)
         enumerate();
     seen.is_app = is_app;
@@ -60,11 +66,11 @@ void bus_start(void)
     if (model != NULL)
         return;
     settings_read();
-    model = strcmp(settings.device, "proved") == 0 ? &proved_model : &uboot_model;
+    model = strcmp(settings.device, "proved") == 0 ? &proved_model : strcmp(settings.device, "uboot") == 0 ? &uboot_model : &small_model;
     model->make();
     keep_read(model);
     seen.is_app = model->is_app();
-    seen.is_there = model->is_there();
+    seen.is_there = is_there_now();
     seen.generation = 1;
     told_ns = now_ns();
     atexit(at_end);
@@ -112,9 +118,17 @@ static int leave(void)
 {
     model->power();
     seen.is_app = model->is_app();
-    seen.is_there = model->is_there();
+    seen.is_there = is_there_now();
     enumerate();
     return USB_ERROR_NO_DEVICE;
+}
+
+#define GETSTATUS 3
+
+/* What an application leaves out, whichever device it runs on. */
+static bool is_left_out(const uint8_t setup[8])
+{
+    return model->is_app() && (settings.app_stalls_all || (settings.app_stalls_status && setup[1] == GETSTATUS));
 }
 
 /* The device handles it, once or twice: bytes of the last answer, or an error. */
@@ -125,6 +139,8 @@ static int handled(const uint8_t setup[8], uint8_t *data, uint16_t length, const
     uint8_t *out = is_in ? data : none;
     const uint8_t *body = is_in ? none : data;
     int count = 0;
+    if (is_left_out(setup))
+        return USB_ERROR_PIPE;
     for (int times = fate->kind == FATE_TWICE ? 2 : 1; times > 0; times--)
         count = model->handle(setup, body, is_in ? 0 : length, out, is_in ? length : 0);
     if (count < 0)
@@ -215,6 +231,11 @@ bool bus_lists(void)
 unsigned bus_generation(void)
 {
     return seen.generation;
+}
+
+bool bus_is_there(void)
+{
+    return seen.is_there;
 }
 
 bool bus_is_app(void)

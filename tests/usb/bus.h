@@ -31,6 +31,9 @@ unsigned bus_generation(void);
 
 bool bus_is_app(void);
 
+/* Whether it is on the bus, or is about to be listed again. */
+bool bus_is_there(void);
+
 /* Whether another board stands in the device's place. */
 bool bus_is_swapped(void);
 

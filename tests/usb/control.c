@@ -30,6 +30,7 @@ int libusb_open(libusb_device *device, libusb_device_handle **out)
     if (*out == NULL)
         fail_loudly("no memory for a handle");
     (*out)->device = libusb_ref_device(device);
+    (*out)->is_claimed = false;
     return 0;
 }
 
@@ -58,11 +59,16 @@ int libusb_claim_interface(libusb_device_handle *handle, int interface)
     int error = held(handle);
     if (error != 0 || interface != bus_interface())
         return error != 0 ? error : USB_ERROR_NOT_FOUND;
+    handle->is_claimed = settings.claimed == 0;
     return settings.claimed;
 }
 
+/* libusb answers LIBUSB_ERROR_NOT_FOUND; here it is shown. */
 int libusb_release_interface(libusb_device_handle *handle, int interface)
 {
+    if (!handle->is_claimed)
+        fail_loudly("an interface is released that was not claimed");
+    handle->is_claimed = false;
     return interface == bus_interface() ? held(handle) : USB_ERROR_NOT_FOUND;
 }
 

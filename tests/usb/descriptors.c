@@ -1,6 +1,6 @@
 /* The descriptors of the devices on the bus: one configuration of one interface of class FEh, subclass 01h, protocol 1 in
  * run-time mode and 2 in DFU mode (USB DFU 1.1, sections 4.1 and 4.2), in DFU mode with one alternate setting or more, and
- * the functional descriptor behind the last. */
+ * the functional descriptor behind the last. An application without DFU has an interface of another class. */
 #include "descriptors.h"
 #include "bus.h"
 #include "settings.h"
@@ -28,12 +28,13 @@ void describe_device(bool is_app, struct libusb_device_descriptor *out)
 
 int describe_function(bool is_app, uint8_t out[9])
 {
-    const uint8_t bytes[9] = { settings.descriptor, 0x21, is_app ? settings.app_attributes : settings.attributes,
+    const uint8_t size = is_app ? settings.app_descriptor : settings.descriptor;
+    const uint8_t bytes[9] = { size, 0x21, is_app ? settings.app_attributes : settings.attributes,
                                (uint8_t)settings.detach_ms, (uint8_t)(settings.detach_ms >> 8),
                                (uint8_t)settings.transfer, (uint8_t)(settings.transfer >> 8),
                                (uint8_t)settings.version, (uint8_t)(settings.version >> 8) };
-    memcpy(out, bytes, settings.descriptor);
-    return settings.descriptor;
+    memcpy(out, bytes, size);
+    return size;
 }
 
 /* What one configuration takes, in one piece of memory. */
@@ -56,7 +57,7 @@ struct libusb_config_descriptor *describe_configuration(bool is_app)
             .bDescriptorType = 4,
             .bInterfaceNumber = bus_interface(),
             .bAlternateSetting = (uint8_t)at,
-            .bInterfaceClass = 0xfe,
+            .bInterfaceClass = is_app && !settings.app_has_dfu ? 0xff : 0xfe,
             .bInterfaceSubClass = 1,
             .bInterfaceProtocol = is_app ? 1 : 2,
             .iInterface = (uint8_t)(INTERFACE_STRING + (count > 1 ? 1 + at : 0)),

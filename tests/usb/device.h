@@ -12,6 +12,7 @@ struct libusb_device {
 
 struct libusb_device_handle {
     struct libusb_device *device;
+    bool is_claimed;
 };
 
 #endif

@@ -11,13 +11,13 @@ settings_set() {
 }
 
 # Which device: by the file, by words, and never one of two.
-row 4 old '' USB_DEVICES=2 new.dfu
+row 12 old '' USB_DEVICES=2 new.dfu
 says 'serial OTHER'
 expect 'two devices: nothing is sent' is_silent
 row 0 new 'verified: ' USB_DEVICES=2 --serial F1 new.dfu
 row 0 new 'verified: ' USB_DEVICES=2 --path 1-1 new.dfu
 row 0 new 'verified: ' USB_PATH=2-1.4 --path 2-1.4 --device 1209:0001 --interface 0 --alt 0 new.dfu
-row 4 old '' USB_DEVICES=2 --device 1209:0001 new.dfu
+row 12 old '' USB_DEVICES=2 --device 1209:0001 new.dfu
 row 4 old '' USB_DEVICES=1 --serial F2 new.dfu
 row 4 old '' USB_DEVICES=1 --alt 1 new.dfu
 row 4 old '' USB_DEVICES=1 other.dfu
@@ -28,7 +28,7 @@ says 'no device with DFU'
 row 5 old '' USB_DENIED=3 new.dfu
 says 'ATTR{idVendor}=="1209", ATTR{idProduct}=="0001"'
 row 5 old '' USB_DENIED=3 --serial F1 new.dfu
-row 4 old '' 'USB_DEVICES=2 USB_OTHER_DENIED=3' new.dfu
+row 12 old '' 'USB_DEVICES=2 USB_OTHER_DENIED=3' new.dfu
 row 0 new 'verified: ' 'USB_DEVICES=2 USB_OTHER_DENIED=3' --serial F1 new.dfu
 row 5 old '' USB_DENIED=3 --serial F2 new.dfu
 row 0 - '1209:0001 path 1-2 serial OTHER' USB_DEVICES=2 --list
@@ -54,7 +54,7 @@ swaps() {
         fate="swap $number"
         for words in new.dfu '--serial F1 new.dfu'; do
             # shellcheck disable=SC2086
-            row 10 - 'other: ' "$2" $words
+            row 13 - 'other: ' "$2" $words
             expect "$2 with $fate: no block" test "$(sed '1,/ swap /d' log | grep -c DNLOAD)" -eq 0
         done
     done
@@ -64,16 +64,16 @@ swaps '0 1 4 9 10 11 12 13 14' USB_SERIAL=F1
 swaps '0 1 2 5' 'USB_START=app'
 for number in 0 4 12 13; do
     fate="swap $number"
-    row 10 - 'other: ' 'USB_SERIAL= USB_SWAP_IDS=1209:0002:0100' new.dfu
+    row 13 - 'other: ' 'USB_SERIAL= USB_SWAP_IDS=1209:0002:0100' new.dfu
 done
 for number in 0 1 2; do
     fate="swap $number"
-    row 10 - 'other: ' 'USB_SERIAL= USB_SWAP_IDS=1200:0001:0100' --upload never
+    row 13 - 'other: ' 'USB_SERIAL= USB_SWAP_IDS=1200:0001:0100' --upload never
     expect 'another board: no file' test ! -e never
 done
 for settings in USB_SWAP_INTERFACE=1 USB_SWAP_NAME=other; do
     for fate in 'swap 4' 'swap 13'; do
-        row 10 - 'other: ' "USB_SERIAL= $settings" new.dfu
+        row 13 - 'other: ' "USB_SERIAL= $settings" new.dfu
     done
 done
 fate='swap 4'
@@ -117,7 +117,7 @@ expect 'a line each' test "$(cut -d ' ' -f 9,10 out | tr '\n' ' ')" = '0 "boot" 
 row 0 - '1209:0001 path 1-1 serial F1 interface 0 alt 0 "stand-in" run-time mode, ' 'USB_ALTERNATES=3 USB_START=app' --list
 for words in new.dfu '--no-verify new.dfu' '--path 1-1 new.dfu' '--interface 0 new.dfu' '--dry-run new.dfu' '--upload up'; do
     # shellcheck disable=SC2086
-    row 4 old '' USB_ALTERNATES=2 $words
+    row 12 old '' USB_ALTERNATES=2 $words
     says 'or --alt'
     says 'alt 1 "kernel"'
     expect 'no setting is chosen: nothing is sent' is_untouched
@@ -162,7 +162,7 @@ fate=
 row 0 new '{"status":0,"report":"verified",' USB_ALTERNATES=2 --alt 1 --json --quiet new.dfu
 expect 'a record' grep -q '"interface":0,"alt":1,"name":"kernel",' out
 # What stands behind the run-time mode is seen once the device is in DFU mode.
-row 10 old 'many: ' 'USB_ALTERNATES=2 USB_START=app' new.dfu
+row 12 old 'many: ' 'USB_ALTERNATES=2 USB_START=app' new.dfu
 
 # A device that may not be opened, that another program or a driver has, or that left: nothing is sent, and why is said.
 # refused STATUS TEXT SETTINGS

@@ -1,4 +1,4 @@
-/* What a device on the stand-in's bus has to answer. The proved device and the model of U-Boot are two of these. */
+/* What a device on the stand-in's bus has to answer: the proved device, the model of U-Boot, and that of a small bootloader. */
 #ifndef USB_MODEL_H
 #define USB_MODEL_H
 
@@ -30,7 +30,7 @@ struct model {
     struct part (*keeps)(unsigned);     /* by numbers from 0, the size 0 behind the last */
 };
 
-extern const struct model proved_model, uboot_model;
+extern const struct model proved_model, uboot_model, small_model;
 
 /* A whole file, in memory that stays; where there is no name, one byte 00h. */
 struct part read_image(const char *name);

@@ -1,7 +1,8 @@
 /* The settings of the stand-in are environment variables. Numbers are decimal, but for ATTRIBUTES and the ids.
  *
- * USB_DEVICE      proved (the proved device of crates/dfu_device_c) or uboot (the rules of U-Boot 2023.01)
- * USB_ATTRIBUTES  bmAttributes, hexadecimal: 01 download, 02 upload, 04 tolerant, 08 will detach (07)
+ * USB_DEVICE      proved (the proved device of crates/dfu_device_c), uboot (the rules of U-Boot 2023.01) or small (a small
+ *                 bootloader, device_small.c)
+ * USB_ATTRIBUTES  bmAttributes, hexadecimal: 01 download, 02 upload, 04 tolerant, 08 will detach (07; for small 09)
  * USB_TRANSFER    wTransferSize (8; for uboot 4096)     USB_DETACH    wDetachTimeOut in ms (1000)
  * USB_BUSY        poll time of a block in ms (1)        USB_MANIFEST  poll time of the manifestation in ms (1)
  * USB_LEAST       fewest bytes of an image (1)          USB_CAPACITY  most bytes of an image (100000)
@@ -12,6 +13,10 @@
  * USB_SWAP_INTERFACE  interface, and the name of its first setting in DFU mode (those of the device)
  * USB_SWAP_NAME
  * USB_START       app or dfu: the mode at the start (dfu)
+ * USB_APP         what the application has: dfu (an interface of run-time mode), plain (no DFU interface) or none (no USB) (dfu)
+ * USB_APP_STALLS  what that interface stalls: nothing, status (GETSTATUS) or all (each request) (nothing)
+ * USB_APP_DESCRIPTOR  bytes of the functional descriptor in run-time mode (USB_DESCRIPTOR)
+ * USB_RESTARTS    small: what it starts by itself behind a download: app, or dfu (DFU mode again) (app)
  * USB_DEVICES     1, or 2: another device, whose serial number is OTHER, stands on the bus (1)
  * USB_DENIED      the number of the error that opening a device answers, as 3 for LIBUSB_ERROR_ACCESS (0: it is opened)
  * USB_OTHER_DENIED  the same of the other device alone (0)
@@ -87,6 +92,16 @@ static bool is_first(const char *name, const char *first, const char *second, co
     return strcmp(found, first) == 0;
 }
 
+/* Which of three words the variable is, from 0; without it the first. */
+static int which(const char *name, const char *const words[3])
+{
+    const char *found = text(name, words[0]);
+    for (int at = 0; at < 3; at++)
+        if (strcmp(found, words[at]) == 0)
+            return at;
+    fail_loudly("%s is %s, %s or %s, not %s", name, words[0], words[1], words[2], found);
+}
+
 static struct ids ids(const char *name, const char *otherwise)
 {
     unsigned vendor, product, release;
@@ -139,12 +154,28 @@ static void read_fates(const char *line)
         fail_loudly("USB_FATE is not understood: %s", line);
 }
 
+static void read_app(void)
+{
+    int has = which("USB_APP", (const char *const[]){ "dfu", "plain", "none" });
+    int stalls = which("USB_APP_STALLS", (const char *const[]){ "nothing", "status", "all" });
+    settings.app_has_dfu = has == 0;
+    settings.app_has_usb = has < 2;
+    settings.app_stalls_status = stalls > 0;
+    settings.app_stalls_all = stalls == 2;
+    settings.app_attributes = (uint8_t)number("USB_APP_ATTRIBUTES", settings.attributes, 16);
+    settings.app_descriptor = (uint8_t)number("USB_APP_DESCRIPTOR", settings.descriptor, 10);
+    settings.starts_in_app = is_first("USB_START", "app", "dfu", "dfu");
+}
+
 static void read_device(void)
 {
-    bool is_proved = is_first("USB_DEVICE", "proved", "uboot", "proved");
-    settings.device = is_proved ? "proved" : "uboot";
-    settings.attributes = (uint8_t)number("USB_ATTRIBUTES", is_proved ? 0x07 : 0x0f, 16);
-    settings.transfer = (uint16_t)number("USB_TRANSFER", is_proved ? 8 : 4096, 10);
+    static const char *const devices[] = { "proved", "uboot", "small" };
+    int kind = which("USB_DEVICE", devices);
+    bool is_proved = kind == 0;
+    settings.device = devices[kind];
+    settings.restarts_in_app = is_first("USB_RESTARTS", "app", "dfu", "app");
+    settings.attributes = (uint8_t)number("USB_ATTRIBUTES", is_proved ? 0x07 : kind == 1 ? 0x0f : 0x09, 16);
+    settings.transfer = (uint16_t)number("USB_TRANSFER", kind == 1 ? 4096 : 8, 10);
     settings.detach_ms = (uint16_t)number("USB_DETACH", is_proved ? 1000 : 0, 10);
     settings.busy_ms = number("USB_BUSY", is_proved ? 1 : 0, 10);
     settings.manifest_ms = number("USB_MANIFEST", is_proved ? 1 : 0, 10);
@@ -165,7 +196,6 @@ void settings_read(void)
     settings.swapped = ids("USB_SWAP_IDS", text("USB_DFU_IDS", text("USB_IDS", "1209:0001:0100")));
     settings.serial = text("USB_SERIAL", "F1");
     read_path(text("USB_PATH", "1-1"));
-    settings.starts_in_app = is_first("USB_START", "app", "dfu", "dfu");
     settings.devices = number("USB_DEVICES", 1, 10);
     settings.denied = -(int)number("USB_DENIED", 0, 10);
     settings.other_denied = -(int)number("USB_OTHER_DENIED", 0, 10);
@@ -176,11 +206,11 @@ void settings_read(void)
     settings.swapped_interface = (uint8_t)number("USB_SWAP_INTERFACE", settings.interface, 10);
     settings.swapped_name = getenv("USB_SWAP_NAME");
     settings.configurations = (uint8_t)number("USB_CONFIGURATIONS", 1, 10);
-    settings.app_attributes = (uint8_t)number("USB_APP_ATTRIBUTES", settings.attributes, 16);
     settings.descriptor = (uint8_t)number("USB_DESCRIPTOR", 9, 10);
     settings.version = (uint16_t)number("USB_VERSION", 0x0110, 16);
-    if (settings.descriptor > 9)
-        fail_loudly("USB_DESCRIPTOR is at most 9");
+    read_app();
+    if (settings.descriptor > 9 || settings.app_descriptor > 9)
+        fail_loudly("USB_DESCRIPTOR and USB_APP_DESCRIPTOR are at most 9");
     settings.setting = (int)number("USB_SETTING", (uint32_t)-1, 10);
     if (settings.alternates < 1 || settings.alternates > MOST_ALTERNATES)
         fail_loudly("USB_ALTERNATES is 1 to %d", MOST_ALTERNATES);

@@ -22,7 +22,7 @@ struct ids {
 #define MOST_ALTERNATES 3
 
 struct settings {
-    const char *device;                /* "proved" or "uboot" */
+    const char *device;                /* "proved", "uboot" or "small" */
     uint8_t attributes, app_attributes; /* bmAttributes, in DFU mode and in run-time mode */
     uint16_t transfer, detach_ms;      /* wTransferSize, wDetachTimeOut */
     uint32_t busy_ms, manifest_ms, least, capacity;
@@ -32,6 +32,10 @@ struct settings {
     uint8_t bus, ports[PORTS];
     unsigned port_count;               /* 0: the system tells no ports */
     bool starts_in_app;
+    bool app_has_dfu, app_has_usb;     /* what the application has */
+    bool app_stalls_status, app_stalls_all; /* what its DFU interface stalls */
+    uint8_t app_descriptor;            /* bytes of the functional descriptor in run-time mode */
+    bool restarts_in_app;              /* small: what it starts by itself, its application or itself again */
     uint8_t interface;                 /* its number; */
     uint8_t swapped_interface;         /* that of another board in its place, */
     const char *swapped_name;          /* and the name of that one's first setting, or NULL: the same */

@@ -1,0 +1,35 @@
+/* A device in run-time mode may stall GETSTATUS: in appIDLE the standard has it answered (USB DFU 1.1, appendix A.2.1), and many
+   leave it out. Where it is stalled twice the host has the bus reset, and asks again. So before the first of these resets the program
+   sends a DETACH of its own, which makes it the reset that leads to DFU mode; and it makes three of them at most, since what is
+   reset is a running application. */
+#include "stalls.h"
+#include "detach.h"
+
+#define MOST_RESETS 3
+
+void stalls_note(struct stalls *stalls, const struct found *is, uint32_t seen)
+{
+    stalls->is_last = seen == DFU_STALLED && !is->is_upgrade;
+    if (is->is_upgrade || seen == DFU_ACK || seen == DFU_BYTES)
+        stalls->resets = 0;
+}
+
+bool stalls_is_stuck(const struct stalls *stalls)
+{
+    return stalls->is_last && stalls->resets >= MOST_RESETS;
+}
+
+/* Where the device left behind that DETACH it is reset already. */
+struct answer stalls_reset(struct stalls *stalls, struct wire *wire)
+{
+    struct answer answer;
+    if (stalls->is_last && stalls->resets == 0 && wire->device->is.says_runtime) {
+        answer = detach_send(wire);
+        if (answer.is_gone || answer.seen == DFU_RESTARTED)
+            return answer;
+    }
+    answer = answer_reset(wire);
+    if (stalls->is_last && answer.seen == DFU_WAS_RESET)
+        stalls->resets++;
+    return answer;
+}
