@@ -55,7 +55,7 @@ echo "rattle-kit-0 $(cat "$top/KIT")" > version
 # make_tree FOLDER: with the crates that its crates.txt, which comes on standard input, names.
 make_tree() {
     mkdir -p "$1/flash"
-    cp "$top/dfu" "$top/libraries" "$top/install" "$top/build-crates" "$top/KIT" "$1/"
+    cp "$top/dfu" "$top/libraries" "$top/install" "$top/install-folders" "$top/build-crates" "$top/KIT" "$1/"
     cp "$top/flash/build" "$1/flash/"
     cat > "$1/crates.txt"
     echo 'Handles allowed: none.' > "$1/HANDLES"

@@ -1,0 +1,71 @@
+/* Each name and each number that a program in C may have been built with: none is to change. The program compiles where all hold. */
+#include "dfu_device.h"
+#include "dfu_host.h"
+
+#ifndef __cplusplus
+#define static_assert _Static_assert
+#endif
+#define IS(name, number) static_assert((int)(name) == (number), #name)
+
+IS(DFU_STALL, -1);
+IS(DFU_NO_CONFIG, -2);
+IS(DFU_NO_MEDIUM, -3);
+IS(DFU_NO_DEVICE, -4);
+IS(DFU_NO_ROOM, -5);
+IS(DFU_WRONG_SIZE, -6);
+IS(DFU_TOO_LARGE, -7);
+
+IS(DFU_SEND, 0);
+IS(DFU_WAIT, 1);
+IS(DFU_RESET, 2);
+IS(DFU_DONE, 3);
+
+IS(DFU_SEEN_ACK, 0);
+IS(DFU_SEEN_BYTES, 1);
+IS(DFU_SEEN_STALL, 2);
+IS(DFU_SEEN_NOTHING, 3);
+IS(DFU_SEEN_WAIT, 4);
+IS(DFU_SEEN_RESET, 5);
+IS(DFU_SEEN_RESTART, 6);
+IS(DFU_SEEN_LEFT, 7);
+IS(DFU_ACK, 0);
+IS(DFU_BYTES, 1);
+IS(DFU_STALLED, 2);
+IS(DFU_NOTHING, 3);
+IS(DFU_WAITED, 4);
+IS(DFU_WAS_RESET, 5);
+IS(DFU_RESTARTED, 6);
+
+IS(DFU_INSTALLED, 1);
+IS(DFU_UNCONFIRMED, 2);
+IS(DFU_ABORTED, 3);
+IS(DFU_GAVE_UP, 4);
+IS(DFU_REFUSED, 5);
+IS(DFU_RESTARTS_SPENT, 6);
+IS(DFU_UPLOADED, 7);
+IS(DFU_TOO_MANY_BLOCKS, 8);
+IS(DFU_NO_MEMORY, 9);
+IS(DFU_VERIFIED, 10);
+IS(DFU_DIFFERENT, 11);
+
+IS(DFU_FILE_TOO_SHORT, -1);
+IS(DFU_FILE_NO_SIGNATURE, -2);
+IS(DFU_FILE_BAD_LENGTH, -3);
+IS(DFU_FILE_DFUSE, -4);
+IS(DFU_FILE_BAD_CRC, -5);
+IS(DFU_FILE_TOO_LARGE, -7);
+IS(DFU_EMPTY_PAYLOAD, -21);
+IS(DFU_WRONG_TARGET, -22);
+IS(DFU_CANNOT_DOWNLOAD, -23);
+IS(DFU_CANNOT_UPLOAD, -24);
+IS(DFU_BAD_DESCRIPTOR, -25);
+IS(DFU_SHORT, -31);
+IS(DFU_LONG, -32);
+IS(DFU_WRONG_LENGTH, -33);
+IS(DFU_WRONG_TYPE, -34);
+IS(DFU_NO_SESSION, -41);
+IS(DFU_NO_SEEN, -42);
+
+int main(void) {
+    return 0;
+}
