@@ -103,9 +103,10 @@ for app in plain none; do
     row 8 new 'unconfirmed: ' "USB_APP=$app USB_ATTRIBUTES=01" new.dfu
     row 8 new 'unconfirmed: ' "USB_APP=$app USB_DEVICE=small" new.dfu
     row 0 old 'uploaded: ' "USB_APP=$app" --upload "up-$app"
-    row 10 new 'gone: the device took the whole image, left, and did not come back to be compared' "USB_APP=$app" new.dfu
-    expect "$app: what helps" grep -q -- 'see --no-verify and --wait' out
-    row 10 new 'gone: the device took the whole image' "USB_APP=$app USB_DEVICE=small USB_ATTRIBUTES=0b" new.dfu
+done
+for settings in USB_APP=plain 'USB_APP=none USB_DEVICE=small USB_ATTRIBUTES=0b'; do
+    row 10 new 'gone: the device took the whole image, left, and did not come back to be compared; ' "$settings" new.dfu
+    expect "$settings: what helps" grep -q -- 'see --no-verify and --wait' out
 done
 
 # That a device may have neither image is said only where a block was sent.

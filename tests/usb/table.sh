@@ -86,7 +86,7 @@ sum_rows() {
     echo "| Device | $outcomes | Image, or what was made | Runs |"
     echo '|---|---|---|---|'
     awk -F '\t' '
-        { runs[($1 ~ /U-Boot/ ? "U-Boot" : "proved") " | " $4 " | " $8]++ }
+        { runs[($1 ~ /U-Boot/ ? "U-Boot" : $1 ~ /small/ ? "small" : "proved") " | " $4 " | " $8]++ }
         END { for (said in runs) print "| " said " | " runs[said] " |" }' "$1" | LC_ALL=C sort
 }
 # What was said last, and in how many runs.

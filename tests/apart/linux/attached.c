@@ -5,7 +5,7 @@
  * at the end a configuration is set. So a reset is told where a configuration was set before, and once an enumeration. What the
  * device says of itself behind it may differ, and then the kernel enumerates it anew.
  *
- * A device that leaves, by itself or by its fate, closes its socket, and is attached again. A transfer that is lost is not answered,
+ * A device that leaves, by itself or by its fate, closes its socket, and is attached again, unless its application has no USB. A transfer that is lost is not answered,
  * until the program's time for it is over.
  *
  * usage: attached    (as root, until SIGTERM; the settings are those of the stand-in, in tests/usb/settings.c) */
@@ -136,7 +136,8 @@ static void tell_reset(void)
         return;
     is_configured = false;
     bus_reset();
-    generation = bus_generation(); /* it is the same device to the bus, with other descriptors */
+    if (bus_is_there())
+        generation = bus_generation(); /* it is the same device to the bus, with other descriptors */
 }
 
 /* Bytes of the answer, or an error of libusb. */

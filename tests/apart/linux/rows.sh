@@ -73,10 +73,25 @@ for fate in 'lost-out 4' 'lost-back 4' 'lost-out 1' 'lost-back 13' 'leave 0' 'le
 done
 for fate in 'swap 4' 'swap 22'; do
     export USB_FATE="$fate"
-    row 10 - 'other: ' USB_ATTRIBUTES=07 ./dfu-flash new.dfu
+    row 13 - 'other: ' USB_ATTRIBUTES=07 ./dfu-flash new.dfu
 done
 unset USB_FATE
 row 11 old 'aborted: ' USB_BUSY=700 timeout 1 ./dfu-flash new.dfu
+
+# Bootloaders that start their image by themselves, and applications that leave something out.
+row 8 new 'unconfirmed: ' USB_DEVICE=small ./dfu-flash new.dfu
+row 0 new 'verified: ' 'USB_DEVICE=small USB_ATTRIBUTES=0b' ./dfu-flash new.dfu
+row 0 new 'verified: ' 'USB_DEVICE=small USB_ATTRIBUTES=07' ./dfu-flash new.dfu
+row 8 new 'unconfirmed: ' 'USB_DEVICE=small USB_ATTRIBUTES=07 USB_MANIFEST=200' ./dfu-flash --no-verify new.dfu
+row 8 new 'unconfirmed: ' 'USB_DEVICE=small USB_APP=none' ./dfu-flash new.dfu
+row 0 new 'verified: ' 'USB_START=app USB_APP_STALLS=status' ./dfu-flash new.dfu
+row 0 new 'verified: ' 'USB_START=app USB_APP_STALLS=status USB_ATTRIBUTES=0f USB_DETACH=50' ./dfu-flash new.dfu
+row 15 old 'stalled: ' 'USB_START=app USB_APP_STALLS=all' ./dfu-flash new.dfu
+row 0 new 'verified: ' 'USB_DFU_IDS=1209:00ff:0100' ./dfu-flash --device 1209:0001,1209:00ff new.dfu
+row 0 new 'verified: ' 'USB_START=app USB_APP_DESCRIPTOR=0' ./dfu-flash new.dfu
+row 0 new 'installed: ' USB_APP=plain ./dfu-flash --no-verify new.dfu
+row 0 new 'installed: ' USB_APP=none ./dfu-flash --no-verify new.dfu
+row 10 new 'gone: the device took the whole image' USB_APP=none ./dfu-flash new.dfu
 
 # Who may not open the device, and the rule of udev that is printed then, with the right that a machine without seats can give.
 row 5 old '' USB_ATTRIBUTES=07 su -s /bin/sh nobody -c './dfu-flash new.dfu'
