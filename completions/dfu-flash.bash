@@ -9,12 +9,12 @@ _dfu_flash() {
         compopt -o default
         return
         ;;
-    --device | --path | --serial | --interface | --alt | --limits) return ;;
+    --device | --path | --serial | --interface | --alt | --timeout | --limits | --transfer-size) return ;;
     esac
     case $word in
     -*)
-        COMPREPLY=($(compgen -W '--device --path --serial --interface --alt --no-verify --upload --force --limits
-            --dry-run --quiet --json --list -h --help -V --version' -- "$word"))
+        COMPREPLY=($(compgen -W '--device --path --serial --interface --alt --no-verify --upload --force --detach
+            --wait --timeout --limits --transfer-size --dry-run --quiet --verbose --json --list -h --help -V --version' -- "$word"))
         ;;
     *) compopt -o default ;;
     esac

@@ -22,7 +22,7 @@
    asked again is waited for before that request; one whose session is over need not come back, as where its application has
    no USB.
 
-   Of a wait: Waited, once the time has passed.
+   Of a wait: Waited, once the time has passed; Nothing, where a stop ended it (stop.h).
 
    Left is told where the device acknowledged the DNLOAD of no bytes, a GETSTATUS behind it was answered with dfuMANIFEST-SYNC or
    dfuMANIFEST, nothing but GETSTATUS was sent since, and the device is gone then: it may have started its image by itself, as
@@ -43,10 +43,11 @@
 #include <string.h>
 
 #define TRANSFER_MS 5000 /* until a transfer counts as lost; what other programs for DFU take */
+#define STOPPED_MS 1000  /* the same of what is sent behind a stop */
 
 static struct answer told(struct wire *wire, uint32_t seen)
 {
-    return (struct answer){seen, wire->bytes, 0, false};
+    return (struct answer){seen, wire->bytes, 0, false, 0};
 }
 
 static void forget_end(struct wire *wire)
@@ -79,12 +80,13 @@ static int transfer(struct wire *wire, const uint8_t setup[8], uint16_t length)
     uint16_t value = (uint16_t)(setup[2] | setup[3] << 8);
     wire->transfers++;
     return libusb_control_transfer(wire->device->handle, setup[0], setup[1], value, wire->device->is.interface, wire->bytes,
-                                   length, TRANSFER_MS);
+                                   length, *wire->device->is_stop ? STOPPED_MS : TRANSFER_MS);
 }
 
 static struct answer answer_of(struct wire *wire, bool is_in, uint16_t length, int result)
 {
     struct answer answer = told(wire, DFU_NOTHING);
+    answer.error = result < 0 ? result : 0;
     if (result == LIBUSB_ERROR_NO_DEVICE)
         return left(wire);
     if (result == LIBUSB_ERROR_PIPE)
@@ -145,11 +147,11 @@ static bool is_there(const struct wire *wire)
 
 struct answer answer_wait(struct wire *wire, uint32_t ms)
 {
-    clock_wait(ms);
+    bool has_passed = clock_wait(ms);
     /* With bitWillDetach it leaves by itself, and is opened again before the next request. */
     if (wire->is_leaving && !is_there(wire))
         device_close(wire->device);
-    return told(wire, DFU_WAITED);
+    return told(wire, has_passed ? DFU_WAITED : DFU_NOTHING);
 }
 
 /* A reset puts an interface into setting 0. libusb says that the system tries to put it back; that it stands there isn't left to
@@ -167,6 +169,7 @@ struct answer answer_reset(struct wire *wire)
     if (wire->device->handle == NULL) /* it left before this reset */
         return wire->is_leaving ? answer : restarted(wire);
     error = reset(wire->device);
+    answer.error = error;
     if (error == LIBUSB_ERROR_NO_DEVICE && !wire->is_leaving)
         return left(wire);
     if (error == LIBUSB_ERROR_NOT_FOUND || error == LIBUSB_ERROR_NO_DEVICE)

@@ -14,6 +14,7 @@ struct answer {
     const uint8_t *bytes; /* of DFU_BYTES, as many as `count`; never NULL */
     size_t count;
     bool is_gone;         /* it left and did not come back: there is nothing to tell */
+    int error;            /* what libusb said to a transfer or a reset that failed, else 0; the host isn't told */
 };
 
 /* What comes between two actions. */

@@ -7,13 +7,20 @@
    takes (USB DFU 1.1, section 4.1.3: wTransferSize is the most that it takes). */
 #define MOST_BYTES 4096
 
-/* A descriptor as the host gets it. */
-static void cut(uint8_t descriptor[9], size_t size)
+/* A descriptor as the host gets it: with the bytes of a block that were asked for, or else with no more than are carried. */
+static void cut(uint8_t descriptor[9], size_t size, uint16_t asked)
 {
-    if (size < 7 || (descriptor[5] | descriptor[6] << 8) <= MOST_BYTES)
+    uint16_t bytes = asked != 0 ? asked : MOST_BYTES;
+    if (size < 7 || (asked == 0 && (descriptor[5] | descriptor[6] << 8) <= MOST_BYTES))
         return;
-    descriptor[5] = MOST_BYTES & 0xff;
-    descriptor[6] = MOST_BYTES >> 8;
+    descriptor[5] = (uint8_t)(bytes & 0xff);
+    descriptor[6] = (uint8_t)(bytes >> 8);
+}
+
+const char *goal_name(enum goal goal)
+{
+    static const char *const names[] = {"download", "verified", "upload"};
+    return names[goal];
 }
 
 /* A clean session takes up to 4 actions a block, one more where it is compared, and some 20 around them. Twice that for losses
@@ -69,15 +76,16 @@ static bool is_odd(int32_t refusal)
    for it; session.c sees to it that no block is sent by that. */
 static int32_t begin_by_another(struct session *session, int32_t refusal)
 {
+    static const uint8_t another[9] = {9, 0x21, 3, 1000 & 0xff, 1000 >> 8, 64, 0, 0x10, 0x01};
     const struct found *is = &session->wire.device->is;
-    uint8_t another[9] = {9, 0x21, 3, 1000 & 0xff, 1000 >> 8, 64, 0, 0x10, 0x01};
     if (!is->says_runtime || !is_odd(refusal))
         return refusal;
     session->odd = refusal;
     /* With wTransferSize 0 the rest counts: bmAttributes and wDetachTimeOut. */
+    memcpy(session->another, another, sizeof another);
     if (refusal == DFU_BAD_DESCRIPTOR)
-        memcpy(another + 2, is->descriptor + 2, 3);
-    return begin(session, another, sizeof another);
+        memcpy(session->another + 2, is->descriptor + 2, 3);
+    return begin(session, session->another, sizeof session->another);
 }
 
 int32_t session_begin(struct session *session)
@@ -94,7 +102,7 @@ int32_t session_begin(struct session *session)
     memcpy(descriptor, is->descriptor, sizeof descriptor);
     session->known_size = is->descriptor_size;
     session->has_sent = false;
-    cut(descriptor, is->descriptor_size);
+    cut(descriptor, is->descriptor_size, session->transfer);
     refusal = begin(session, descriptor, session->known_size);
     return refusal == 0 ? 0 : begin_by_another(session, refusal);
 }

@@ -1,10 +1,14 @@
 /* Which device is taken. More than one is a refusal: to write to the wrong one is harm. */
+#include "clock.h"
 #include "device.h"
 #include "say.h"
 #include "status.h"
 
 #include <stdio.h>
 #include <string.h>
+
+#define LOOK_MS 100
+#define SETTLE_MS 2000 /* in which who may open a device that came is settled */
 
 /* One DFU interface may be there in several alternate settings, each for another part of the memory. */
 static void ask_for_one(const struct found *list, int count)
@@ -19,6 +23,7 @@ static int say_none(libusb_context *usb, const struct wanted *wanted)
     const struct wanted any = {.place = ANYWHERE};
     struct found list[FOUND_ROOM];
     int count = find_all(usb, &any, list, FOUND_ROOM);
+    bool is_upgrade = false;
     if (count <= 0) {
         fprintf(stderr, "dfu-flash: no device with DFU is there\n");
         return STATUS_NO_DEVICE;
@@ -27,8 +32,12 @@ static int say_none(libusb_context *usb, const struct wanted *wanted)
     if (wanted->has_ids)
         fprintf(stderr, " (vendor %04x, product %04x; ffff is any)", wanted->vendor, wanted->product);
     fprintf(stderr, "; there is:\n");
-    for (int at = 0; at < count; at++)
+    for (int at = 0; at < count; at++) {
         say_found(stderr, &list[at]);
+        is_upgrade = is_upgrade || list[at].is_upgrade;
+    }
+    if (wanted->has_ids && !wanted->has_dfu_ids && is_upgrade)
+        fputs("dfu-flash: in DFU mode a device may have another product: see --device RUN,DFU\n", stderr);
     found_drop(list, count);
     return STATUS_NO_DEVICE;
 }
@@ -74,15 +83,57 @@ static int say_unusable(struct device *device)
     return STATUS_NO_DEVICE;
 }
 
+/* Whether one of them can be opened, or has had its time: the rights of a device come a moment after it does. */
+static bool is_settled(const struct found *list, int count, int64_t *seen_ms)
+{
+    int64_t now_ms = clock_ms();
+    if (count == 0)
+        *seen_ms = now_ms;
+    for (int at = 0; at < count; at++)
+        if (list[at].access == 0)
+            return true;
+    return count > 0 && now_ms - *seen_ms >= SETTLE_MS;
+}
+
+static void say_waiting(const struct patience *patience)
+{
+    if (patience->is_quiet)
+        return;
+    fputs("dfu-flash: waiting for the device", stderr);
+    if (patience->seconds > 0)
+        fprintf(stderr, " for up to %u s", (unsigned)patience->seconds);
+    fputs("; Ctrl-C ends it\n", stderr);
+}
+
+/* Those that are wanted; with --wait once there is one, or when the time is over. */
+static int look(const struct device *device, const struct wanted *wanted, struct found *list)
+{
+    const struct patience *patience = &device->patience;
+    int64_t began_ms = clock_ms(), seen_ms = began_ms;
+    for (bool is_first = true;; is_first = false) {
+        int count = find_all(device->usb, wanted, list, FOUND_ROOM);
+        if (count < 0)
+            return count;
+        count = drop_unread(wanted, list, count);
+        if (!patience->is_asked || is_settled(list, count, &seen_ms))
+            return count;
+        if (patience->seconds > 0 && clock_ms() - began_ms >= (int64_t)patience->seconds * 1000)
+            return count;
+        if (is_first)
+            say_waiting(patience);
+        found_drop(list, count);
+        clock_wait(LOOK_MS);
+    }
+}
+
 int device_choose(struct device *device, const struct wanted *wanted)
 {
     struct found list[FOUND_ROOM];
-    int count = find_all(device->usb, wanted, list, FOUND_ROOM);
+    int count = look(device, wanted, list);
     if (count < 0) {
         fprintf(stderr, "dfu-flash: the list of devices can't be had: %s\n", libusb_error_name(count));
         return STATUS_NO_DEVICE;
     }
-    count = drop_unread(wanted, list, count);
     if (count == 0)
         return say_none(device->usb, wanted);
     if (count > 1 && !is_unread(wanted, list, count)) {

@@ -1,8 +1,11 @@
 /* The one request of DFU that is this program's own: DETACH (USB DFU 1.1, section 5.1). The host asks for the state first, and
    sends DETACH once it was told appIDLE; but many a device stalls GETSTATUS in run-time mode, and knows nothing but DETACH there. */
 #include "detach.h"
+#include "clock.h"
 
 #define NO_DESCRIPTOR_MS 1000 /* wDetachTimeOut where there is no functional descriptor to tell it */
+#define ARRIVAL_MS 5000       /* a device may stand in run-time mode still, and leave a while after the reset */
+#define LOOK_MS 200
 
 /* wDetachTimeOut, as the device wants it. */
 static uint16_t time_of(const struct found *is)
@@ -16,23 +19,36 @@ static bool leaves_by_itself(const struct found *is)
     return is->descriptor_size >= 7 && (is->descriptor[2] & 8) != 0;
 }
 
-struct answer detach_send(struct wire *wire)
+struct answer detach_send(struct wire *wire, const struct trace *trace)
 {
     uint16_t ms = time_of(&wire->device->is);
     bool leaves = leaves_by_itself(&wire->device->is);
     const struct dfu_action action = {.what = DFU_SEND, .setup = {0x21, 0, (uint8_t)ms, (uint8_t)(ms >> 8), 0, 0, 0, 0}};
     struct answer answer = answer_send(wire, &action, wire->bytes);
+    trace_detach(trace, ms, &answer);
     if (answer.seen == DFU_ACK && leaves)
         answer_wait(wire, ms > 0 ? ms : 1);
     return answer;
 }
 
-bool detach(struct wire *wire)
+bool detach_await(struct wire *wire)
 {
-    struct answer answer = detach_send(wire);
+    const struct device *device = wire->device;
+    int64_t end = clock_ms() + ARRIVAL_MS;
+    while (device_reopen(wire->device)) {
+        if (device->is.is_upgrade || *device->is_stop || clock_ms() >= end)
+            return device->is.is_upgrade;
+        clock_wait(LOOK_MS);
+    }
+    return false;
+}
+
+bool detach(struct wire *wire, const struct trace *trace)
+{
+    struct answer answer = detach_send(wire, trace);
     if (answer.is_gone || answer.seen == DFU_STALLED)
         return false;
-    if (!wire->device->is.is_upgrade || wire->device->handle == NULL)
+    if (!wire->device->is.is_upgrade)
         answer_reset(wire);
-    return device_reopen(wire->device) && wire->device->is.is_upgrade;
+    return detach_await(wire);
 }

@@ -6,9 +6,11 @@
 #include "clock.h"
 #include "say.h"
 
+#include <stdio.h>
 #include <string.h>
+#include <unistd.h>
 
-#define AWAY_MS 10000 /* how long it may be away: an operating system takes a second or two to see a device */
+#define AWAY_MS 10000 /* how long it may be away: an operating system takes a second or two to see a device; --wait gives it more */
 #define LOOK_MS 50
 
 int device_set(struct device *device)
@@ -93,10 +95,25 @@ static void say_why(struct device *device, int error)
     found_drop(&one, count);
 }
 
+/* Whether it is waited for still. What takes over 10 seconds is said, once they have passed. */
+static bool is_awaited(const struct device *device, int64_t began_ms, bool *is_said)
+{
+    int64_t most_ms = (int64_t)device->patience.seconds * 1000;
+    int64_t away_ms = clock_ms() - began_ms;
+    if (*device->is_stop || away_ms >= (most_ms > AWAY_MS ? most_ms : AWAY_MS))
+        return false;
+    if (away_ms >= AWAY_MS && !*is_said && !device->patience.is_quiet)
+        fprintf(stderr, "%sdfu-flash: the device is away; it is waited for up to %u s\n", isatty(STDERR_FILENO) == 1 ? "\n" : "",
+                (unsigned)device->patience.seconds);
+    *is_said = *is_said || away_ms >= AWAY_MS;
+    return true;
+}
+
 /* A device whose name is in the list still, though it left, can't be opened; and its rights may come a moment after it does. */
 bool device_reopen(struct device *device)
 {
-    int64_t end = clock_ms() + AWAY_MS;
+    int64_t began_ms = clock_ms();
+    bool is_said = false;
     int error;
     device_close(device);
     for (;;) {
@@ -107,7 +124,7 @@ bool device_reopen(struct device *device)
         error = same == 1 ? device_open(device) : 0;
         if (same == 1 && error == 0)
             return true;
-        if (*device->is_stop || clock_ms() >= end)
+        if (!is_awaited(device, began_ms, &is_said))
             break;
         clock_wait(LOOK_MS);
     }

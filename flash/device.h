@@ -8,6 +8,13 @@
 #include <signal.h>
 #include <stdbool.h>
 
+/* What --wait and --quiet say of a wait for a device. */
+struct patience {
+    bool is_asked;    /* a device that isn't there yet is waited for, */
+    uint32_t seconds; /* for so long; 0 is for ever */
+    bool is_quiet;
+};
+
 struct device {
     libusb_context *usb;
     libusb_device_handle *handle;         /* NULL while it is away */
@@ -17,9 +24,11 @@ struct device {
     struct place place;                   /* the interface and setting that were asked for */
     bool is_many;                         /* it came back with more than one setting */
     const volatile sig_atomic_t *is_stop; /* a wait for the device ends where this is set */
+    struct patience patience;             /* what was asked for of waits */
 };
 
-/* Which of the devices that are wanted is opened, or why none is, in a status; the reason is said on standard error. */
+/* Which of the devices that are wanted is opened, or why none is, in a status; the reason is said on standard error. With
+   `patience` it waits until one is there. */
 int device_choose(struct device *device, const struct wanted *wanted);
 
 /* Opens it and claims its interface. 0, or an error of libusb. */
@@ -37,7 +46,7 @@ void device_drop(struct device *device);
    set. */
 void device_await(struct device *device, uint32_t ms);
 
-/* Waits until it is back with DFU, and opens it. False after 10 seconds, where `is_stop` is set, or where it has more than one
+/* Waits until it is back with DFU, and opens it. False after as long, where `is_stop` is set, or where it has more than one
    setting that may be meant. Where it is back and can't be had, why is said on standard error. */
 bool device_reopen(struct device *device);
 

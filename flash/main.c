@@ -8,39 +8,16 @@
 #include "say.h"
 #include "session.h"
 #include "status.h"
+#include "stop.h"
 #include "words.h"
 #include "clock.h"
 
-#include <signal.h>
 #include <stdio.h>
 #include <stdlib.h>
 
-static volatile sig_atomic_t is_stop;
 static struct device device;
 static struct session session;
 static uint8_t no_file[1], no_room[1]; /* the host's library wants pointers also where there are no bytes */
-
-/* The first signal ends the session well; a second one of its kind ends the program, since the handler stands for one alone. */
-static void on_stop(int number)
-{
-    (void)number;
-    is_stop = 1;
-}
-
-/* A terminal that is closed is no reason to stop where the program was told not to mind (nohup); and a reader that is gone, as
-   `head` in a pipe, never is. */
-static void catch_stops(void)
-{
-    static const int stops[] = {SIGINT, SIGTERM, SIGHUP};
-    struct sigaction action = {.sa_handler = on_stop, .sa_flags = (int)SA_RESETHAND}, before;
-    sigemptyset(&action.sa_mask);
-    for (size_t at = 0; at < sizeof stops / sizeof stops[0]; at++) {
-        sigaction(stops[at], NULL, &before);
-        if (stops[at] == SIGINT || before.sa_handler != SIG_IGN)
-            sigaction(stops[at], &action, NULL);
-    }
-    signal(SIGPIPE, SIG_IGN);
-}
 
 static int list_devices(libusb_context *usb, const struct wanted *wanted)
 {
@@ -127,6 +104,8 @@ static void ask(const struct words *words)
     session.has_limits = words->has_limits;
     session.actions = words->actions;
     session.restarts = words->restarts;
+    session.transfer = words->transfer;
+    session.trace.is_on = words->verbose;
     session.wire.device = &device;
 }
 
@@ -138,10 +117,11 @@ static int run_session(const struct words *words)
         device.is.access = error;
         return say_none(words, say_no_access(&device.is));
     }
-    catch_stops();
+    stop_catch(words->timeout);
     session.began_ms = clock_ms();
-    progress_begin(&session.progress, words->quiet, session.payload_length);
+    progress_begin(&session.progress, words->quiet, words->verbose, session.payload_length);
     session_run(&session);
+    stop_no_more();
     progress_end(&session.progress);
     if (session.end == END_REFUSED)
         return say_refused(words, session.refusal);
@@ -193,7 +173,8 @@ static int over_usb(const struct words *words)
     }
     session.file = no_file;
     session.kept = no_room;
-    device.is_stop = &is_stop;
+    device.is_stop = &stop_cause;
+    device.patience = (struct patience){words->wait, words->patience, words->quiet};
     status = words->job == JOB_LIST ? list_devices(device.usb, &wanted) : flash(words, &wanted);
     device_drop(&device);
     libusb_exit(device.usb);

@@ -11,12 +11,14 @@
 #define BAR 30
 #define SHOW_MS 100 /* a bar is drawn so often at most */
 #define LINE_BYTES 65536
+#define LONG_MS 10000   /* a wait of more than this is said */
 
 static const char *const names[] = {"", "downloading", "comparing", "uploading"};
 
-void progress_begin(struct progress *progress, bool is_quiet, uint64_t total)
+void progress_begin(struct progress *progress, bool is_quiet, bool is_lines, uint64_t total)
 {
-    *progress = (struct progress){.is_quiet = is_quiet, .is_terminal = isatty(STDERR_FILENO) == 1, .total = total};
+    bool is_terminal = !is_lines && isatty(STDERR_FILENO) == 1;
+    *progress = (struct progress){.is_quiet = is_quiet, .is_terminal = is_terminal, .total = total};
 }
 
 static void draw(struct progress *progress, uint64_t bytes)
@@ -73,6 +75,21 @@ void progress_at(struct progress *progress, enum progress_part part, uint64_t by
         draw(progress, bytes);
     else
         tell(progress, bytes);
+}
+
+void progress_wait(struct progress *progress, uint32_t ms)
+{
+    uint32_t seconds = ms / 1000;
+    if (progress->is_quiet || ms <= LONG_MS || ms <= progress->said_ms)
+        return;
+    progress_end(progress);
+    progress->said_ms = ms;
+    fputs("dfu-flash: the device asks for a wait of ", stderr);
+    if (seconds >= 3600)
+        fprintf(stderr, "%" PRIu32 " h ", seconds / 3600);
+    if (seconds >= 60)
+        fprintf(stderr, "%" PRIu32 " min ", seconds / 60 % 60);
+    fprintf(stderr, "%" PRIu32 " s\n", seconds % 60);
 }
 
 void progress_end(struct progress *progress)

@@ -14,12 +14,17 @@ struct progress {
     int64_t began_ms, shown_ms;
     uint64_t told;              /* tenths that were told; of an upload the bytes after which the next line comes */
     bool is_open;               /* a bar stands on the terminal's line */
+    uint32_t said_ms;           /* the longest wait that was said */
 };
 
-void progress_begin(struct progress *progress, bool is_quiet, uint64_t total);
+/* With `is_lines` there is no bar, as where other lines stand on the terminal. */
+void progress_begin(struct progress *progress, bool is_quiet, bool is_lines, uint64_t total);
 
 /* So many bytes of this part are done. */
 void progress_at(struct progress *progress, enum progress_part part, uint64_t bytes);
+
+/* The device asks for a wait: one of over 10 seconds is said, unless one as long was said before. */
+void progress_wait(struct progress *progress, uint32_t ms);
 
 /* Ends the line of a bar. */
 void progress_end(struct progress *progress);

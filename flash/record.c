@@ -23,13 +23,12 @@ static void print_number(const char *name, uint64_t number)
 static void print_record(const struct session *session, const struct verdict *verdict)
 {
     const struct found *is = &session->wire.device->is;
-    static const char *const goals[] = {"download", "verified", "upload"};
     printf("{\"status\":%d", verdict->status);
     print_text("report", verdict->name);
     if (verdict->code != 0)
         print_text("code", code_name(verdict->code));
     print_text("words", verdict->words);
-    print_text("goal", goals[session->goal]);
+    print_text("goal", goal_name(session->goal));
     printf(",\"vendor\":\"%04x\",\"product\":\"%04x\",\"release\":\"%04x\"", session->ids.vendor, session->ids.product,
            session->ids.device);
     print_text("path", session->wire.device->path);

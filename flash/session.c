@@ -1,6 +1,8 @@
 /* The loop: what the host asks for is carried out, and it is told what came of that. Nothing else is sent, but for the DETACH of
    stalls.c. */
 #include "session.h"
+#include "clock.h"
+#include "stop.h"
 
 #include <stdlib.h>
 #include <string.h>
@@ -50,7 +52,7 @@ static struct answer send_request(struct session *session, const struct dfu_acti
     struct answer answer;
     /* An aborted session asks a device that is away no more. */
     if (session->is_aborted && session->wire.device->handle == NULL)
-        return (struct answer){DFU_NOTHING, session->wire.bytes, 0, false};
+        return (struct answer){DFU_NOTHING, session->wire.bytes, 0, false, 0};
     session->has_sent = session->has_sent || is_download(action);
     answer = answer_send(&session->wire, action, session->file + action->from);
     if (is_download(action))
@@ -60,12 +62,20 @@ static struct answer send_request(struct session *session, const struct dfu_acti
     return answer;
 }
 
+static struct answer wait_for(struct session *session, uint32_t ms)
+{
+    progress_wait(&session->progress, ms);
+    return answer_wait(&session->wire, ms);
+}
+
 static struct answer perform(struct session *session, const struct dfu_action *action)
 {
-    struct answer answer;
+    int64_t began_ms = clock_ms();
+    struct answer answer = action->what == DFU_WAIT ? wait_for(session, action->value)
+        : action->what == DFU_RESET ? stalls_reset(&session->stalls, &session->wire, &session->trace) : send_request(session, action);
+    trace_action(&session->trace, action, &answer, clock_ms() - began_ms);
     if (action->what == DFU_WAIT)
-        return answer_wait(&session->wire, action->value);
-    answer = action->what == DFU_RESET ? stalls_reset(&session->stalls, &session->wire) : send_request(session, action);
+        return answer;
     session->silent = answer.seen == DFU_NOTHING ? session->silent + 1 : 0;
     return answer;
 }
@@ -109,6 +119,22 @@ static bool tell(struct session *session, const struct answer *answer)
     return true;
 }
 
+/* With what the host has begun: its descriptor may stand in for the device's, and its identifiers be those of run-time mode. */
+static void trace_session(const struct session *session)
+{
+    struct found is = session->wire.device->is;
+    is.vendor = session->ids.vendor;
+    is.product = session->ids.product;
+    is.release = session->ids.device;
+    if (session->odd != 0) {
+        memcpy(is.descriptor, session->another, sizeof is.descriptor);
+        is.descriptor_size = sizeof is.descriptor;
+    }
+    if (session->refusal == 0)
+        trace_begin(&session->trace, goal_name(session->goal), &is, session->host.transfer, session->host.actions,
+                    session->host.restarts);
+}
+
 /* In DFU mode a device may have another functional descriptor than in run-time mode: then the session that brought it there, which
    has sent no block, is dropped, and another one begins, once. */
 static bool begin_anew(struct session *session)
@@ -117,6 +143,7 @@ static bool begin_anew(struct session *session)
         return end(session, END_OTHER);
     session->has_begun_anew = true;
     session->refusal = session_begin(session);
+    trace_session(session);
     return session->refusal == 0 || end(session, END_REFUSED);
 }
 
@@ -157,6 +184,7 @@ static int32_t stop(struct session *session)
     if (!*session->wire.device->is_stop || session->is_aborted)
         return 0;
     session->is_aborted = true;
+    trace_abort(&session->trace);
     return dfu_host_abort(&session->host, session->file, session->payload_length);
 }
 
@@ -167,9 +195,16 @@ static void settle(struct session *session)
         device_await(session->wire.device, SETTLE_MS);
 }
 
+/* Whether the host gave up since the time is spent, and not for a signal. */
+static bool is_timed_out(const struct session *session)
+{
+    return session->done.value == DFU_ABORTED && *session->wire.device->is_stop == STOP_TIME;
+}
+
 void session_run(struct session *session)
 {
     struct dfu_action action;
+    trace_session(session);
     do {
         memset(&action, 0, sizeof action);
         if (stop(session) != 0 || dfu_host_next(&session->host, session->file, session->payload_length, &action) != 0) {
@@ -178,7 +213,7 @@ void session_run(struct session *session)
         }
         if (action.what == DFU_DONE) {
             session->done = action;
-            end(session, END_REPORT);
+            end(session, is_timed_out(session) ? END_TIMED_OUT : END_REPORT);
             settle(session);
             return;
         }

@@ -5,6 +5,7 @@
 #include "answer.h"
 #include "progress.h"
 #include "stalls.h"
+#include "trace.h"
 
 #include <dfu_host.h>
 #include <stdbool.h>
@@ -20,6 +21,7 @@ enum end {
     END_MANY,   /* it came back with more than one setting */
     END_OTHER,  /* what came back is another device, or has another functional descriptor */
     END_REFUSED, /* it came to DFU mode, and the host refused to begin with it there */
+    END_TIMED_OUT, /* the time of --timeout is spent, and the host gave up */
     END_BROKEN, /* the host's library refused its own record */
     END_STALLED /* it stays in run-time mode, and stalls what it is asked there */
 };
@@ -38,16 +40,19 @@ struct session {
     bool has_limits;
     uint32_t actions;             /* the limits: those that were asked for, or by the file's size */
     uint16_t restarts;
+    uint16_t transfer;            /* bytes of a block that were asked for; 0: as the device takes */
     struct dfu_session host;      /* the host's record */
     uint8_t known[9];             /* the device's functional descriptor when it was begun */
     size_t known_size;
-    int32_t odd;                  /* why the host refuses the functional descriptor of the run-time mode, or 0: another one stands in */
+    int32_t odd;                  /* why the host refuses the functional descriptor of the run-time mode, or 0; */
+    uint8_t another[9];           /* then another one stands in */
     bool has_sent, has_begun_anew, is_aborted;
     bool is_whole;                /* the device acknowledged the image's last block and its end, and no block was sent since */
     uint32_t silent;              /* transfers in a row of which nothing was heard */
     struct stalls stalls;
     struct wire wire;
     struct progress progress;
+    struct trace trace;
     uint64_t taken, restarted;    /* actions done, and restarts told */
     int64_t began_ms;
     enum end end;
@@ -57,6 +62,9 @@ struct session {
 
 /* The program's own refusal, beside the host's: the device speaks DfuSe. */
 #define REFUSED_DFUSE (-101)
+
+/* What it is for, in a word. */
+const char *goal_name(enum goal goal);
 
 /* Begins the session of the device that was found. 0, REFUSED_DFUSE, or the host's refusal. Nothing is sent. */
 int32_t session_begin(struct session *session);

@@ -35,6 +35,7 @@ static const struct {
     [END_SILENT] = {"silent", {STATUS_GONE, "the device answers no more; it may have the old image, the new one or neither"}},
     [END_MANY] = {"many", {STATUS_SEVERAL, "the device came back with more than one setting: choose by --interface or --alt"}},
     [END_OTHER] = {"other", {STATUS_OTHER, "another device came back; the one of before may have the old image, the new one or neither"}},
+    [END_TIMED_OUT] = {"timed-out", {STATUS_GIVEN_UP, "the time is spent; the device may have the old image, the new one or neither"}},
     [END_BROKEN] = {"broken", {STATUS_BROKEN, "the host refused its own record, which is a mistake of this program"}},
     [END_STALLED] = {"stalled",
         {STATUS_STALLED, "in run-time mode it stalls GETSTATUS: bring it to DFU mode by hand, as by its button, and run this again"}},

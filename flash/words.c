@@ -9,7 +9,8 @@
 #include <string.h>
 
 enum option_code {
-    DEVICE = 256, PATH, SERIAL, INTERFACE, ALTERNATE, NO_VERIFY, UPLOAD, FORCE, LIMITS, DRY_RUN, QUIET, JSON, LIST, HELP, VERSION
+    DEVICE = 256, PATH, SERIAL, INTERFACE, ALTERNATE, NO_VERIFY, UPLOAD, FORCE, DETACH, WAIT, TIMEOUT, LIMITS, TRANSFER_SIZE, DRY_RUN,
+    QUIET, VERBOSE, JSON, LIST, HELP, VERSION
 };
 
 static const struct option options[] = {
@@ -17,11 +18,17 @@ static const struct option options[] = {
     {"serial", required_argument, NULL, SERIAL},   {"interface", required_argument, NULL, INTERFACE},
     {"alt", required_argument, NULL, ALTERNATE},   {"no-verify", no_argument, NULL, NO_VERIFY},
     {"upload", required_argument, NULL, UPLOAD},   {"force", no_argument, NULL, FORCE},
-    {"limits", required_argument, NULL, LIMITS},   {"dry-run", no_argument, NULL, DRY_RUN},
-    {"quiet", no_argument, NULL, QUIET},           {"json", no_argument, NULL, JSON},
+    {"detach", no_argument, NULL, DETACH},         {"wait", optional_argument, NULL, WAIT},
+    {"timeout", required_argument, NULL, TIMEOUT}, {"limits", required_argument, NULL, LIMITS},
+    {"transfer-size", required_argument, NULL, TRANSFER_SIZE},
+    {"dry-run", no_argument, NULL, DRY_RUN},       {"quiet", no_argument, NULL, QUIET},
+    {"verbose", no_argument, NULL, VERBOSE},       {"json", no_argument, NULL, JSON},
     {"list", no_argument, NULL, LIST},             {"help", no_argument, NULL, HELP},
     {"version", no_argument, NULL, VERSION},       {NULL, 0, NULL, 0},
 };
+
+#define MOST_SECONDS 1000000 /* some eleven days */
+#define MOST_TRANSFER 4096   /* bytes of a block: what Linux carries */
 
 /* A decimal number up to `most`, with no sign and no other character. */
 static bool is_number(const char *text, unsigned long most, unsigned long *number)
@@ -102,11 +109,43 @@ static bool is_limits(const char *first, const char *second, struct words *words
     return true;
 }
 
-/* --upload and --list each say what is to be done, in place of a download. */
+/* From 1 up to `most`, for the option of that name. */
+static bool is_count(const char *what, const char *text, unsigned long most, uint32_t *count)
+{
+    unsigned long number;
+    if (!is_number(text, most, &number) || number == 0)
+        return refuse(what, text);
+    *count = (uint32_t)number;
+    return true;
+}
+
+static bool is_timeout(const char *text, struct words *words)
+{
+    return is_count("--timeout takes seconds, from 1 to 1000000", text, MOST_SECONDS, &words->timeout);
+}
+
+/* --wait, or --wait=SECONDS: the next word is none of it, since it may be a FILE. */
+static bool is_wait(const char *text, struct words *words)
+{
+    words->wait = true;
+    words->patience = 0;
+    return text == NULL || is_count("--wait takes seconds, as --wait=30, from 1 to 1000000", text, MOST_SECONDS, &words->patience);
+}
+
+static bool is_transfer(const char *text, struct words *words)
+{
+    uint32_t bytes = 0;
+    bool is = is_count("--transfer-size takes bytes, from 1 to 4096", text, MOST_TRANSFER, &bytes);
+    words->transfer = (uint16_t)bytes;
+    return is;
+}
+
+/* --upload, --detach and --list each say what is to be done, in place of a download. */
 static bool is_job(struct words *words, enum job job)
 {
     if (words->job != JOB_DOWNLOAD && (words->job != job || job == JOB_UPLOAD))
-        return refuse("one --upload, or --list, says what is to be done", "");
+        return refuse(words->job == JOB_DETACH || job == JOB_DETACH ? "--detach is all that is done, with no --upload and no --list"
+                                                                    : "one --upload, or --list, says what is to be done", "");
     words->job = job;
     return true;
 }
@@ -122,9 +161,14 @@ static bool take_option(struct words *words, int code, int count, char **texts)
     case NO_VERIFY: words->verify = false; return true;
     case UPLOAD: words->file = optarg; return is_job(words, JOB_UPLOAD);
     case FORCE: words->force = true; return true;
+    case DETACH: return is_job(words, JOB_DETACH);
+    case WAIT: return is_wait(optarg, words);
+    case TIMEOUT: return is_timeout(optarg, words);
+    case TRANSFER_SIZE: return is_transfer(optarg, words);
     case LIMITS: return is_limits(optarg, optind < count ? texts[optind++] : NULL, words);
     case DRY_RUN: words->dry_run = true; return true;
     case QUIET: words->quiet = true; return true;
+    case VERBOSE: words->verbose = true; return true;
     case JSON: words->json = true; return true;
     case LIST: return is_job(words, JOB_LIST);
     case 'h':
@@ -135,26 +179,34 @@ static bool take_option(struct words *words, int code, int count, char **texts)
     }
 }
 
+/* Whether the options go with what is to be done. */
+static bool is_fit(const struct words *words)
+{
+    bool has_session = words->has_limits || words->dry_run || words->transfer != 0;
+    if (words->force && words->job != JOB_UPLOAD)
+        return refuse("--force goes with --upload alone", "");
+    if (!words->verify && words->job != JOB_DOWNLOAD)
+        return refuse("--no-verify goes with a download alone", "");
+    if (words->job == JOB_LIST && (has_session || words->quiet || words->verbose || words->wait || words->timeout != 0))
+        return refuse("--list goes with what chooses devices, and with --json, alone", "");
+    if (words->job == JOB_DETACH && has_session)
+        return refuse("--detach goes with no --limits, --dry-run or --transfer-size", "");
+    return true;
+}
+
 /* Whether the words go together. */
 static bool is_whole(struct words *words, int count, char **texts)
 {
+    bool has_file = words->job == JOB_DOWNLOAD || words->job == JOB_UPLOAD;
     if (words->job == JOB_DOWNLOAD && optind < count)
         words->file = texts[optind++];
     if (optind < count)
         return refuse("a word too many", texts[optind]);
     if (words->job == JOB_DOWNLOAD && words->file == NULL)
         return refuse("no FILE was given", "");
-    if (words->job != JOB_LIST && words->file[0] == '\0')
+    if (has_file && words->file[0] == '\0')
         return refuse("the name of a file is empty", "");
-    if (words->force && words->job != JOB_UPLOAD)
-        return refuse("--force goes with --upload alone", "");
-    if (!words->verify && words->job != JOB_DOWNLOAD)
-        return refuse("--no-verify goes with a download alone", "");
-    if (words->job == JOB_LIST && (words->has_limits || words->dry_run || words->quiet || words->json))
-        return refuse("--list goes with what chooses devices alone", "");
-    if (words->json && words->dry_run)
-        return refuse("--json doesn't go with --dry-run", "");
-    return true;
+    return is_fit(words);
 }
 
 bool words_read(struct words *words, int count, char **texts)

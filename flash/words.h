@@ -5,12 +5,12 @@
 #include <stdbool.h>
 #include <stdint.h>
 
-enum job { JOB_DOWNLOAD, JOB_UPLOAD, JOB_LIST, JOB_HELP, JOB_VERSION };
+enum job { JOB_DOWNLOAD, JOB_UPLOAD, JOB_DETACH, JOB_LIST, JOB_HELP, JOB_VERSION };
 
 struct words {
     enum job job;
     const char *file;                /* FILE, or OUT of an upload */
-    bool verify, force, dry_run, quiet, json;
+    bool verify, force, dry_run, quiet, json, verbose;
     bool has_ids;                    /* --device was given */
     uint16_t vendor, product;
     bool has_dfu_ids;                /* as RUN,DFU: in DFU mode it may have these */
@@ -21,6 +21,10 @@ struct words {
     bool has_limits;                 /* --limits was given */
     uint32_t actions;
     uint16_t restarts;
+    uint16_t transfer;               /* --transfer-size, 0 where it wasn't given */
+    uint32_t timeout;                /* seconds of --timeout, 0 where it wasn't given */
+    bool wait;                       /* --wait was given, */
+    uint32_t patience;               /* and for so many seconds; 0 is for ever */
 };
 
 /* Reads the words into `words`. False where they aren't understood, which is then said on standard error. */

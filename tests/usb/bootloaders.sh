@@ -40,6 +40,9 @@ for more in '' 'USB_ATTRIBUTES=0f USB_DETACH=5' 'USB_DFU_IDS=1209:00ff:0100 USB_
     row 0 new 'verified: ' "USB_START=app USB_APP_STALLS=status $more" new.dfu
     counted "$more: a DETACH before each" DETACH 2
 done
+# It takes its time.
+row 0 new 'verified: ' 'USB_DEVICE=small USB_ATTRIBUTES=03 USB_LATE=700 USB_START=app USB_APP_STALLS=status' new.dfu
+counted 'it takes its time: a reset before each, and the last one' '^reset' 3
 row 8 new 'unconfirmed: ' 'USB_START=app USB_APP_STALLS=status USB_ATTRIBUTES=01' new.dfu
 counted 'a reset behind DETACH, and the last one' '^reset' 2
 row 0 old 'uploaded: ' 'USB_START=app USB_APP_STALLS=status' --upload stalled
@@ -52,12 +55,16 @@ for words in new.dfu '--no-verify new.dfu' '--upload never'; do
     counted 'it stalls all: one DETACH' DETACH 1
 done
 expect 'it stalls all: no file' test ! -e never
+# Its interface doesn't say that it is one of run-time mode: no DETACH.
+row 15 old 'stalled: ' 'USB_START=app USB_APP_STALLS=status USB_APP_PROTOCOL=0' new.dfu
+counted 'another protocol: no DETACH' DETACH 0
 row 15 new 'stalled: the device took the whole image' 'USB_APP_STALLS=all' new.dfu
 row 0 new 'installed: ' 'USB_APP_STALLS=all' --no-verify new.dfu
 
 # It has another product in DFU mode, and is stuck there: both are named, and the file's is the first.
 stuck='USB_IDS=1209:0001:0100 USB_DFU_IDS=1209:00ff:0100'
 row 4 old '' "$stuck" new.dfu
+says 'see --device RUN,DFU'
 row 1 old 'WrongTarget: ' "$stuck" --device 1209:00ff new.dfu
 expect 'WrongTarget: what helps' grep -q -- '--device RUN,DFU' out
 expect 'WrongTarget: nothing is sent' is_untouched
@@ -70,7 +77,7 @@ row 1 old 'WrongTarget: ' "$stuck" --device 1209:0001,1209:00ff other.dfu
 row 1 old 'WrongTarget: ' "$stuck" --device ffff:ffff,1209:00ff new.dfu
 row 4 old '' "$stuck" --device 1209:0001,1209:00fe new.dfu
 row 0 - '1209:00ff path 1-1 ' "$stuck" --device 1209:0001,1209:00ff --list
-for words in 1209:0001, 1209:0001,1209:00f 1209:0001,1209:00fff 1209:0001,1209 '1209:0001;1209:00ff' 1209:0001,1209:00ff,1209:00ff \
+for words in '1209:0001,' 1209:0001,1209:00f 1209:0001,1209:00fff 1209:0001,1209 '1209:0001;1209:00ff' 1209:0001,1209:00ff,1209:00ff \
     1209:00011,209:00ff ,1209:0001 1209:0001,1209:00fg; do
     row 2 - '' '' --device "$words" new.dfu
 done
@@ -83,7 +90,11 @@ for more in '' USB_ATTRIBUTES=03 USB_DETACH=300; do
         expect 'a dry run: nothing is sent' is_untouched
     done
 done
+row 0 new 'verified: ' 'USB_START=app USB_APP_TRANSFER=0' new.dfu
+row 0 new 'verified: ' 'USB_START=app USB_APP_TRANSFER=0 USB_ATTRIBUTES=0f USB_DETACH=5' new.dfu
 row 0 old 'uploaded: ' 'USB_START=app USB_APP_DESCRIPTOR=0' --upload odd
+row 1 old 'Short: ' 'USB_START=app USB_APP_DESCRIPTOR=0 USB_APP_PROTOCOL=0' new.dfu
+expect 'another protocol: nothing is sent' is_untouched
 row 1 old 'CannotUpload: ' 'USB_START=app USB_APP_DESCRIPTOR=0 USB_ATTRIBUTES=05' --upload never
 row 1 old 'CannotDownload: ' 'USB_START=app USB_APP_DESCRIPTOR=0 USB_ATTRIBUTES=06' new.dfu
 row 0 new 'installed: ' 'USB_START=app USB_APP_DESCRIPTOR=0 USB_ATTRIBUTES=05' new.dfu

@@ -72,6 +72,7 @@ void bus_start(void)
     seen.is_app = model->is_app();
     seen.is_there = is_there_now();
     seen.generation = 1;
+    seen.away = settings.late;
     told_ns = now_ns();
     atexit(at_end);
 }
@@ -173,6 +174,14 @@ static int meets(const struct fate *fate, const uint8_t setup[8], uint8_t *data,
     }
 }
 
+/* As libusb does it, no signal cuts it short. */
+static void pass(unsigned ms)
+{
+    struct timespec left = { ms / 1000, (long)(ms % 1000) * 1000000 };
+    while (nanosleep(&left, &left) != 0)
+        ;
+}
+
 int bus_transfer(const uint8_t setup[8], uint8_t *data, uint16_t length, unsigned timeout)
 {
     uint8_t none[8] = { 0 };
@@ -186,6 +195,7 @@ int bus_transfer(const uint8_t setup[8], uint8_t *data, uint16_t length, unsigne
         _exit(137);
     }
     uint8_t *at = data != NULL && length > 0 ? data : none;
+    pass(settings.slow_ms);
     int answer = meets(fate, setup, at, length, timeout);
     log_transfer(transfers++, setup, at, answer, fate->kind, model->state());
     look();

@@ -17,12 +17,12 @@ void libusb_unref_device(libusb_device *device);
 
 int libusb_open(libusb_device *device, libusb_device_handle **out)
 {
-    static unsigned opens;
+    static unsigned opens, denials;
     *out = NULL;
     bus_pass_time();
     if (device->is_other && settings.other_denied != 0)
         return settings.other_denied;
-    if (settings.denied != 0 && opens++ >= settings.opens)
+    if (settings.denied != 0 && opens++ >= settings.opens && denials++ < settings.denials)
         return settings.denied;
     if (!device->is_other && device->generation != bus_generation())
         return USB_ERROR_NO_DEVICE;

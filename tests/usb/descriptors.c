@@ -29,9 +29,10 @@ void describe_device(bool is_app, struct libusb_device_descriptor *out)
 int describe_function(bool is_app, uint8_t out[9])
 {
     const uint8_t size = is_app ? settings.app_descriptor : settings.descriptor;
+    const uint16_t transfer = is_app ? settings.app_transfer : settings.transfer;
     const uint8_t bytes[9] = { size, 0x21, is_app ? settings.app_attributes : settings.attributes,
                                (uint8_t)settings.detach_ms, (uint8_t)(settings.detach_ms >> 8),
-                               (uint8_t)settings.transfer, (uint8_t)(settings.transfer >> 8),
+                               (uint8_t)transfer, (uint8_t)(transfer >> 8),
                                (uint8_t)settings.version, (uint8_t)(settings.version >> 8) };
     memcpy(out, bytes, size);
     return size;
@@ -59,7 +60,7 @@ struct libusb_config_descriptor *describe_configuration(bool is_app)
             .bAlternateSetting = (uint8_t)at,
             .bInterfaceClass = is_app && !settings.app_has_dfu ? 0xff : 0xfe,
             .bInterfaceSubClass = 1,
-            .bInterfaceProtocol = is_app ? 1 : 2,
+            .bInterfaceProtocol = is_app ? settings.app_protocol : 2,
             .iInterface = (uint8_t)(INTERFACE_STRING + (count > 1 ? 1 + at : 0)),
         };
     whole->alternates[count - 1].extra = whole->function;

@@ -50,19 +50,20 @@ static void power(void)
 
 static void reset_itself(void)
 {
+    bool is_detaching = small.state == APP_DETACH;
     start();
     small.away_ms = RESET_MS;
-    if (!settings.restarts_in_app)
+    if (is_detaching || !settings.restarts_in_app)
         small.state = IDLE;
 }
 
 /* A reset of the bus leads to DFU mode behind DETACH, and out of it. */
 static void usb_reset(void)
 {
-    if (small.state == APP_DETACH)
-        small.state = IDLE;
-    else
+    if (small.state != APP_DETACH)
         start();
+    else if (settings.late_ms == 0)
+        small.state = IDLE;
 }
 
 static void elapse(uint32_t ms)
@@ -73,7 +74,7 @@ static void elapse(uint32_t ms)
         reset_itself();
     else if (small.leaves_ms > 0)
         small.leaves_ms -= ms;
-    if (small.state == APP_DETACH && (settings.attributes & 8) != 0)
+    if (small.state == APP_DETACH && settings.late_ms == 0 && (settings.attributes & 8) != 0)
         small.state = IDLE;
 }
 
@@ -149,6 +150,7 @@ static int in_app(unsigned what, uint8_t *out)
     if (what != DETACH)
         return STALLED;
     small.state = APP_DETACH;
+    small.leaves_ms = settings.late_ms;
     return 0;
 }
 

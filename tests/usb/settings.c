@@ -16,11 +16,14 @@
  * USB_APP         what the application has: dfu (an interface of run-time mode), plain (no DFU interface) or none (no USB) (dfu)
  * USB_APP_STALLS  what that interface stalls: nothing, status (GETSTATUS) or all (each request) (nothing)
  * USB_APP_DESCRIPTOR  bytes of the functional descriptor in run-time mode (USB_DESCRIPTOR)
+ * USB_APP_TRANSFER  its wTransferSize (USB_TRANSFER)    USB_APP_PROTOCOL  bInterfaceProtocol in run-time mode (1)
  * USB_RESTARTS    small: what it starts by itself behind a download: app, or dfu (DFU mode again) (app)
+ * USB_LATE        small: DETACH leads to DFU mode after so many ms, and no reset does (0: a reset does, or bitWillDetach)
  * USB_DEVICES     1, or 2: another device, whose serial number is OTHER, stands on the bus (1)
  * USB_DENIED      the number of the error that opening a device answers, as 3 for LIBUSB_ERROR_ACCESS (0: it is opened)
  * USB_OTHER_DENIED  the same of the other device alone (0)
  * USB_OPENS       so many opens go well before USB_DENIED holds (0)
+ * USB_DENIALS     only so many opens are denied then, and the rest go well (all are)
  * USB_CLAIMED     the number of the error that claiming the interface answers, as 6 for LIBUSB_ERROR_BUSY (0: it is claimed)
  * USB_ALTERNATES  alternate settings of the interface in DFU mode, up to 3, with the names boot, kernel and data (1)
  * USB_SETTING     the setting that each request of DFU mode has to be made in: one in another ends the program (any)
@@ -30,6 +33,8 @@
  * USB_DESCRIPTOR  bytes of the functional descriptor, 7 as in DFU 1.0, or 0 for none (9)
  * USB_VERSION     its bcdDFUVersion, hexadecimal (0110)
  * USB_AWAY        for how many lists of devices it is away when its mode changes, or when it leaves (0)
+ * USB_LATE        for how many lists of devices it is away at the start (0)
+ * USB_SLOW        how many ms a transfer takes on the program's clock (0)
  * USB_FATE        fates of transfers, with commas between: `lost-out N`, `lost-back N`, `twice N`, `short N BYTES`,
  *                 `leave N` (its power goes and comes back), `swap N` (the same, and another board, with the serial number
  *                 OTHER, stands in its place), `kill N` (the program is killed before it), `deaf N` (from N on
@@ -164,6 +169,8 @@ static void read_app(void)
     settings.app_stalls_all = stalls == 2;
     settings.app_attributes = (uint8_t)number("USB_APP_ATTRIBUTES", settings.attributes, 16);
     settings.app_descriptor = (uint8_t)number("USB_APP_DESCRIPTOR", settings.descriptor, 10);
+    settings.app_transfer = (uint16_t)number("USB_APP_TRANSFER", settings.transfer, 10);
+    settings.app_protocol = (uint8_t)number("USB_APP_PROTOCOL", 1, 10);
     settings.starts_in_app = is_first("USB_START", "app", "dfu", "dfu");
 }
 
@@ -174,6 +181,7 @@ static void read_device(void)
     bool is_proved = kind == 0;
     settings.device = devices[kind];
     settings.restarts_in_app = is_first("USB_RESTARTS", "app", "dfu", "app");
+    settings.late_ms = number("USB_LATE", 0, 10);
     settings.attributes = (uint8_t)number("USB_ATTRIBUTES", is_proved ? 0x07 : kind == 1 ? 0x0f : 0x09, 16);
     settings.transfer = (uint16_t)number("USB_TRANSFER", kind == 1 ? 4096 : 8, 10);
     settings.detach_ms = (uint16_t)number("USB_DETACH", is_proved ? 1000 : 0, 10);
@@ -200,6 +208,7 @@ void settings_read(void)
     settings.denied = -(int)number("USB_DENIED", 0, 10);
     settings.other_denied = -(int)number("USB_OTHER_DENIED", 0, 10);
     settings.opens = number("USB_OPENS", 0, 10);
+    settings.denials = number("USB_DENIALS", UINT32_MAX, 10);
     settings.claimed = -(int)number("USB_CLAIMED", 0, 10);
     settings.alternates = number("USB_ALTERNATES", 1, 10);
     settings.interface = (uint8_t)number("USB_INTERFACE", 0, 10);
@@ -215,6 +224,8 @@ void settings_read(void)
     if (settings.alternates < 1 || settings.alternates > MOST_ALTERNATES)
         fail_loudly("USB_ALTERNATES is 1 to %d", MOST_ALTERNATES);
     settings.away = number("USB_AWAY", 0, 10);
+    settings.late = number("USB_LATE", 0, 10);
+    settings.slow_ms = number("USB_SLOW", 0, 10);
     read_fates(text("USB_FATE", ""));
     settings.log = getenv("USB_LOG");
     settings.save = getenv("USB_SAVE");

@@ -1,0 +1,83 @@
+/* Signals and the time limit of a session. A handler notes the cause, and writes to a pipe that each wait looks at: so a signal
+   that comes just before a wait ends it too, whichever thread of libusb got it. */
+#define _POSIX_C_SOURCE 200809L
+#include "stop.h"
+
+#include <errno.h>
+#include <fcntl.h>
+#include <stdbool.h>
+#include <stddef.h>
+#include <unistd.h>
+
+volatile sig_atomic_t stop_cause;
+static int wake[2] = {-1, -1};
+static bool is_timed;
+
+int stop_descriptor(void)
+{
+    return wake[0];
+}
+
+static void on_stop(int number)
+{
+    int before = errno;
+    ssize_t written;
+    if (stop_cause == STOP_NONE)
+        stop_cause = number == SIGALRM ? STOP_TIME : STOP_SIGNAL;
+    written = write(wake[1], "", 1);
+    (void)written;
+    errno = before;
+}
+
+/* Where there is no pipe, a wait is ended all the same, but for a signal that comes just before it. */
+static void make_pipe(void)
+{
+    if (wake[0] >= 0 || pipe(wake) != 0)
+        return;
+    for (int at = 0; at < 2; at++) {
+        fcntl(wake[at], F_SETFD, FD_CLOEXEC);
+        fcntl(wake[at], F_SETFL, O_NONBLOCK);
+    }
+}
+
+/* A second signal of a kind ends the program, since the handler stands for one alone. */
+static void catch_one(int number)
+{
+    struct sigaction action = {.sa_handler = on_stop, .sa_flags = (int)(SA_RESETHAND | SA_RESTART)};
+    sigemptyset(&action.sa_mask);
+    sigaction(number, &action, NULL);
+}
+
+static bool is_ignored(int number)
+{
+    struct sigaction now;
+    return sigaction(number, NULL, &now) == 0 && now.sa_handler == SIG_IGN;
+}
+
+/* A terminal that is closed is no reason to stop where the program was started to ignore that (nohup); nor is a reader that is gone,
+   as `head` in a pipe. */
+void stop_catch(uint32_t seconds)
+{
+    sigset_t alarms;
+    make_pipe();
+    catch_one(SIGINT);
+    if (!is_ignored(SIGTERM))
+        catch_one(SIGTERM);
+    if (!is_ignored(SIGHUP))
+        catch_one(SIGHUP);
+    signal(SIGPIPE, SIG_IGN);
+    is_timed = seconds != 0;
+    if (!is_timed)
+        return;
+    catch_one(SIGALRM);
+    sigemptyset(&alarms);
+    sigaddset(&alarms, SIGALRM);
+    sigprocmask(SIG_UNBLOCK, &alarms, NULL);
+    alarm(seconds);
+}
+
+void stop_no_more(void)
+{
+    if (is_timed)
+        alarm(0);
+}

@@ -1,0 +1,100 @@
+/* The trace of --verbose. An action has seven words with one space between: its number, the request (or WAIT, or RESET), wValue (or
+   the milliseconds), wLength, what the host is told, the state that the device reported in that, and the milliseconds that it took.
+   What begins and ends a session has a line that begins with a word. Other programs read this: what stands stays. */
+#include "trace.h"
+
+#include <inttypes.h>
+#include <stdio.h>
+#include <string.h>
+
+#define SHORT_BYTES 8 /* an answer of up to so many is shown byte by byte */
+
+static const char *const requests[] = {"DETACH", "DNLOAD", "UPLOAD", "GETSTATUS", "CLRSTATUS", "GETSTATE", "ABORT"};
+static const char *const states[] = {"appIDLE",          "appDETACH",   "dfuIDLE",
+                                     "dfuDNLOAD-SYNC",   "dfuDNBUSY",   "dfuDNLOAD-IDLE",
+                                     "dfuMANIFEST-SYNC", "dfuMANIFEST", "dfuMANIFEST-WAIT-RESET",
+                                     "dfuUPLOAD-IDLE",   "dfuERROR"};
+
+#define NAME(table, number) ((number) < sizeof(table) / sizeof *(table) ? (table)[number] : "?")
+
+static void print_hex(const uint8_t *bytes, size_t count)
+{
+    for (size_t at = 0; at < count; at++)
+        fprintf(stderr, "%02x", bytes[at]);
+}
+
+static void print_bytes(const struct answer *answer)
+{
+    if (answer->count == 0 || answer->count > SHORT_BYTES)
+        fprintf(stderr, "%zu-bytes", answer->count);
+    else
+        print_hex(answer->bytes, answer->count);
+}
+
+/* What was told, and of nothing the error of libusb. */
+static void print_answer(const struct answer *answer)
+{
+    static const char *const told[] = {"ack", "", "stall", "nothing", "waited", "reset", "restarted", "left"};
+    static const char prefix[] = "LIBUSB_ERROR_";
+    const char *error = answer->error < 0 ? libusb_error_name(answer->error) : "";
+    if (answer->is_gone)
+        fputs("gone", stderr);
+    else if (answer->seen == DFU_BYTES)
+        print_bytes(answer);
+    else
+        fputs(NAME(told, answer->seen), stderr);
+    if (answer->seen == DFU_NOTHING && !answer->is_gone && *error != '\0')
+        fprintf(stderr, ":%s", strncmp(error, prefix, sizeof prefix - 1) == 0 ? error + sizeof prefix - 1 : error);
+}
+
+/* The state that an answer to GETSTATUS or GETSTATE has in it (USB DFU 1.1, sections 6.1.2 and 6.1.5). */
+static const char *state_in(uint8_t request, const struct answer *answer)
+{
+    if (answer->seen == DFU_BYTES && request == 3 && answer->count == 6)
+        return NAME(states, answer->bytes[4]);
+    if (answer->seen == DFU_BYTES && request == 5 && answer->count == 1)
+        return NAME(states, answer->bytes[0]);
+    return "-";
+}
+
+void trace_action(struct trace *trace, const struct dfu_action *action, const struct answer *answer, int64_t ms)
+{
+    const uint8_t *setup = action->setup;
+    if (!trace->is_on)
+        return;
+    trace->number++;
+    if (action->what == DFU_SEND)
+        fprintf(stderr, "%" PRIu64 " %s %u %u ", trace->number, NAME(requests, setup[1]), (unsigned)(setup[2] | setup[3] << 8),
+                (unsigned)(setup[6] | setup[7] << 8));
+    else
+        fprintf(stderr, "%" PRIu64 " %s %" PRIu32 " 0 ", trace->number, action->what == DFU_WAIT ? "WAIT" : "RESET",
+                action->what == DFU_WAIT ? action->value : 0);
+    print_answer(answer);
+    fprintf(stderr, " %s %" PRId64 "\n", action->what == DFU_SEND ? state_in(setup[1], answer) : "-", ms);
+}
+
+void trace_begin(const struct trace *trace, const char *goal, const struct found *is, unsigned transfer, uint32_t actions,
+                 uint16_t restarts)
+{
+    if (!trace->is_on)
+        return;
+    fprintf(stderr, "begin %s %04x:%04x:%04x %s %u %u %s ", goal, is->vendor, is->product, is->release, is->path, is->interface,
+            is->alternate, is->is_upgrade ? "DFU" : "run-time");
+    print_hex(is->descriptor, is->descriptor_size);
+    fprintf(stderr, "%s %u %" PRIu32 " %u\n", is->descriptor_size == 0 ? "-" : "", transfer, actions, restarts);
+}
+
+void trace_detach(const struct trace *trace, unsigned value, const struct answer *answer)
+{
+    if (!trace->is_on)
+        return;
+    fprintf(stderr, "own: DETACH %u 0 ", value);
+    print_answer(answer);
+    fputc('\n', stderr);
+}
+
+void trace_abort(const struct trace *trace)
+{
+    if (trace->is_on)
+        fputs("abort\n", stderr);
+}
