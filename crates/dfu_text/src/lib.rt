@@ -30,4 +30,5 @@ pub use reasons::reason_line;
 pub use reasons::setup::SetUp;
 pub use reasons::shown::shown;
 pub use reasons::sums::Sums;
+pub use reasons::words::{bad_identifier, bad_kind, bad_out, unread_word};
 pub use showing::show_text;

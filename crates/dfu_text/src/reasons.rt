@@ -11,6 +11,7 @@ pub(crate) mod line;
 pub(crate) mod setup;
 pub(crate) mod shown;
 pub(crate) mod sums;
+pub(crate) mod words;
 
 use crate::numbers::{field, push};
 use std::alloc::{AllocError, Global};
