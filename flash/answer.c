@@ -111,7 +111,7 @@ static void note_end(struct wire *wire, const struct dfu_action *action, const s
         wire->is_manifesting = wire->is_closed;
 }
 
-struct answer answer_send(struct wire *wire, const struct dfu_action *action, const uint8_t *body)
+static struct answer send_to(struct wire *wire, const struct dfu_action *action, const uint8_t *body)
 {
     bool is_in = (action->setup[0] & 0x80) != 0;
     uint16_t length = (uint16_t)(action->setup[6] | action->setup[7] << 8);
@@ -127,6 +127,14 @@ struct answer answer_send(struct wire *wire, const struct dfu_action *action, co
     answer = answer_of(wire, is_in, length, transfer(wire, action->setup, length));
     wire->is_leaving = answer.seen == DFU_ACK && action->setup[0] == 0x21 && action->setup[1] == 0;
     note_end(wire, action, &answer);
+    return answer;
+}
+
+struct answer answer_send(struct wire *wire, const struct dfu_action *action, const uint8_t *body)
+{
+    int64_t began_ms = clock_ms();
+    struct answer answer = send_to(wire, action, body);
+    trace_request(&wire->trace, action->setup, &answer, clock_ms() - began_ms);
     return answer;
 }
 
@@ -147,11 +155,13 @@ static bool is_there(const struct wire *wire)
 
 struct answer answer_wait(struct wire *wire, uint32_t ms)
 {
-    bool has_passed = clock_wait(ms);
+    int64_t began_ms = clock_ms();
+    struct answer answer = told(wire, clock_wait(ms) ? DFU_WAITED : DFU_NOTHING);
+    trace_wait(&wire->trace, ms, &answer, clock_ms() - began_ms);
     /* With bitWillDetach it leaves by itself, and is opened again before the next request. */
     if (wire->is_leaving && !is_there(wire))
         device_close(wire->device);
-    return told(wire, has_passed ? DFU_WAITED : DFU_NOTHING);
+    return answer;
 }
 
 /* A reset puts an interface into setting 0. libusb says that the system tries to put it back; that it stands there isn't left to
@@ -162,7 +172,7 @@ static int reset(struct device *device)
     return error == 0 && device->is.alternate != 0 ? device_set(device) : error;
 }
 
-struct answer answer_reset(struct wire *wire)
+static struct answer reset_told(struct wire *wire)
 {
     struct answer answer = told(wire, DFU_WAS_RESET);
     int error;
@@ -178,5 +188,13 @@ struct answer answer_reset(struct wire *wire)
         answer.seen = DFU_NOTHING;
     if (answer.seen == DFU_WAS_RESET)
         forget_end(wire);
+    return answer;
+}
+
+struct answer answer_reset(struct wire *wire)
+{
+    int64_t began_ms = clock_ms();
+    struct answer answer = reset_told(wire);
+    trace_reset(&wire->trace, &answer, clock_ms() - began_ms);
     return answer;
 }

@@ -3,6 +3,7 @@
 #define DFU_FLASH_ANSWER_H
 
 #include "device.h"
+#include "trace.h"
 
 #include <dfu_host.h>
 #include <stdbool.h>
@@ -25,6 +26,7 @@ struct wire {
     bool is_manifesting;   /* and a GETSTATUS said dfuMANIFEST-SYNC or dfuMANIFEST: the device may start its image by itself */
     uint8_t bytes[65536];  /* of one transfer: wLength is under 65,536 */
     uint64_t transfers;    /* how many were tried */
+    struct trace trace;
 };
 
 /* Sends a request of the host with its body, `length` bytes. */

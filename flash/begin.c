@@ -19,7 +19,7 @@ static void cut(uint8_t descriptor[9], size_t size, uint16_t asked)
 
 const char *goal_name(enum goal goal)
 {
-    static const char *const names[] = {"download", "verified", "upload"};
+    static const char *const names[] = {"download", "verified", "upload", "detach"};
     return names[goal];
 }
 

@@ -1,6 +1,7 @@
 /* What is read of a device beside its transfers: the functional descriptor (USB DFU 1.1, section 4.1.3) and strings.
    These are requests of USB itself, and are made before a session and where a device has come back. */
 #include "find.h"
+#include "text.h"
 
 #include <string.h>
 
@@ -43,7 +44,7 @@ void descriptor_find(struct found *found, libusb_device_handle *handle, const st
 void string_find(libusb_device_handle *handle, uint8_t index, char text[TEXT_ROOM])
 {
     unsigned char bytes[255];
-    int length, count = 0;
+    int length;
     text[0] = '\0';
     if (index == 0)
         return;
@@ -54,7 +55,6 @@ void string_find(libusb_device_handle *handle, uint8_t index, char text[TEXT_ROO
     length = libusb_get_string_descriptor(handle, index, (uint16_t)(bytes[2] | bytes[3] << 8), bytes, (int)sizeof bytes);
     if (length > bytes[0])
         length = bytes[0];
-    for (int at = 2; at + 1 < length; at += 2)
-        text[count++] = bytes[at + 1] == 0 && bytes[at] >= 0x20 && bytes[at] < 0x7f ? (char)bytes[at] : '?';
-    text[count] = '\0';
+    if (length > 2)
+        text_from_units(bytes + 2, (size_t)(length - 2) / 2, text, TEXT_ROOM);
 }

@@ -19,15 +19,17 @@ static bool leaves_by_itself(const struct found *is)
     return is->descriptor_size >= 7 && (is->descriptor[2] & 8) != 0;
 }
 
-struct answer detach_send(struct wire *wire, const struct trace *trace)
+struct answer detach_send(struct wire *wire)
 {
     uint16_t ms = time_of(&wire->device->is);
     bool leaves = leaves_by_itself(&wire->device->is);
     const struct dfu_action action = {.what = DFU_SEND, .setup = {0x21, 0, (uint8_t)ms, (uint8_t)(ms >> 8), 0, 0, 0, 0}};
-    struct answer answer = answer_send(wire, &action, wire->bytes);
-    trace_detach(trace, ms, &answer);
+    struct answer answer;
+    wire->trace.is_own = true;
+    answer = answer_send(wire, &action, wire->bytes);
     if (answer.seen == DFU_ACK && leaves)
         answer_wait(wire, ms > 0 ? ms : 1);
+    wire->trace.is_own = false;
     return answer;
 }
 
@@ -43,12 +45,14 @@ bool detach_await(struct wire *wire)
     return false;
 }
 
-bool detach(struct wire *wire, const struct trace *trace)
+bool detach(struct wire *wire)
 {
-    struct answer answer = detach_send(wire, trace);
+    struct answer answer = detach_send(wire);
     if (answer.is_gone || answer.seen == DFU_STALLED)
         return false;
+    wire->trace.is_own = true;
     if (!wire->device->is.is_upgrade)
         answer_reset(wire);
+    wire->trace.is_own = false;
     return detach_await(wire);
 }

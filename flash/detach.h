@@ -2,17 +2,17 @@
 #ifndef DFU_FLASH_DETACH_H
 #define DFU_FLASH_DETACH_H
 
-#include "trace.h"
+#include "answer.h"
 
 #include <stdbool.h>
 
 /* Sends one DETACH to a device in run-time mode, waits where it detaches by itself, and tells what came of the request. */
-struct answer detach_send(struct wire *wire, const struct trace *trace);
+struct answer detach_send(struct wire *wire);
 
 /* Behind DETACH and the reset: waits for 5 seconds until the device is in DFU mode, and opens it. Whether it is. */
 bool detach_await(struct wire *wire);
 
 /* Brings a device from run-time mode to DFU mode: DETACH, a reset unless it left by itself, and the wait. Whether it is there. */
-bool detach(struct wire *wire, const struct trace *trace);
+bool detach(struct wire *wire);
 
 #endif

@@ -8,7 +8,7 @@
 #include <stdint.h>
 
 #define PATH_ROOM 64   /* a bus and up to 7 ports */
-#define TEXT_ROOM 128  /* a string descriptor has up to 126 characters */
+#define TEXT_ROOM 384  /* a string descriptor has up to 126 units of UTF-16, each up to 3 bytes here */
 #define FOUND_ROOM 256 /* settings that are looked at, each an entry of a list */
 
 /* One alternate setting of a DFU interface (USB DFU 1.1, sections 4.1.2 and 4.2.3). */
@@ -72,7 +72,7 @@ bool is_at(libusb_context *usb, const char *path);
 void descriptor_find(struct found *found, libusb_device_handle *handle, const struct libusb_config_descriptor *configuration,
                      const struct libusb_interface *interface, int at);
 
-/* The string descriptor of that index, in ASCII; empty where it can't be read. */
+/* The string descriptor of that index, in UTF-8, up to its first NUL; empty where it can't be read. */
 void string_find(libusb_device_handle *handle, uint8_t index, char text[TEXT_ROOM]);
 
 #endif

@@ -2,15 +2,17 @@
    is decided by the proved host (dfu_host.h); this program finds the device, carries out what the host asks for and tells it what
    came of it. docs/dfu-flash.1 says how it is used, and flash/README.md what is this program's own. */
 #define _POSIX_C_SOURCE 200809L
+#include "clock.h"
 #include "device.h"
+#include "dfu_mode.h"
 #include "files.h"
+#include "list.h"
 #include "record.h"
 #include "say.h"
 #include "session.h"
 #include "status.h"
 #include "stop.h"
 #include "words.h"
-#include "clock.h"
 
 #include <stdio.h>
 #include <stdlib.h>
@@ -18,22 +20,6 @@
 static struct device device;
 static struct session session;
 static uint8_t no_file[1], no_room[1]; /* the host's library wants pointers also where there are no bytes */
-
-static int list_devices(libusb_context *usb, const struct wanted *wanted)
-{
-    struct found list[FOUND_ROOM];
-    int count = find_all(usb, wanted, list, FOUND_ROOM);
-    if (count < 0) {
-        fprintf(stderr, "dfu-flash: the list of devices can't be had: %s\n", libusb_error_name(count));
-        return STATUS_NO_DEVICE;
-    }
-    for (int at = 0; at < count; at++)
-        say_found(stdout, &list[at]);
-    found_drop(list, count);
-    if (count == FOUND_ROOM)
-        fputs("dfu-flash: more than these may be there; choose by --device, --path or --serial\n", stderr);
-    return record_out() ? STATUS_DONE : STATUS_FILE;
-}
 
 static int say_refused(const struct words *words, int32_t refusal)
 {
@@ -67,23 +53,6 @@ static int take_file(const struct words *words, struct wanted *wanted)
     return STATUS_DONE;
 }
 
-static void print_plan(void)
-{
-    const struct found *is = &device.is;
-    static const char *const goals[] = {"download", "download and compare", "upload"};
-    if (session.odd != 0) {
-        fputs("dry-run: bring it to DFU mode, and look there how large blocks are: ", stdout);
-        say_found(stdout, is);
-        return;
-    }
-    printf("dry-run: %s", goals[session.goal]);
-    if (session.goal != GOAL_UPLOAD)
-        printf(" %zu bytes", session.payload_length);
-    printf(" in blocks of %u, within %lu actions and %u restarts: ", session.host.transfer, (unsigned long)session.actions,
-           session.restarts);
-    say_found(stdout, is);
-}
-
 /* For which device the file has to be: the one that was found; or, where the identifiers of both modes were given, that of run-time
    mode. */
 static struct dfu_ids target(const struct words *words)
@@ -105,13 +74,13 @@ static void ask(const struct words *words)
     session.actions = words->actions;
     session.restarts = words->restarts;
     session.transfer = words->transfer;
-    session.trace.is_on = words->verbose;
+    session.wire.trace.is_on = words->verbose;
     session.wire.device = &device;
 }
 
-static int run_session(const struct words *words)
+/* Opens the device; from here on signals and --timeout end what is done with it. */
+static int begin_work(const struct words *words)
 {
-    struct verdict verdict;
     int error = device_open(&device);
     if (error != 0) {
         device.is.access = error;
@@ -119,6 +88,20 @@ static int run_session(const struct words *words)
     }
     stop_catch(words->timeout);
     session.began_ms = clock_ms();
+    return STATUS_DONE;
+}
+
+static int print_verdict(const struct words *words, const struct verdict *verdict)
+{
+    return record_print(&session, verdict, words->json) ? verdict->status : STATUS_FILE;
+}
+
+static int run_session(const struct words *words)
+{
+    struct verdict verdict;
+    int status = begin_work(words);
+    if (status != STATUS_DONE)
+        return status;
     progress_begin(&session.progress, words->quiet, words->verbose, session.payload_length);
     session_run(&session);
     stop_no_more();
@@ -129,7 +112,24 @@ static int run_session(const struct words *words)
     if (session.goal == GOAL_UPLOAD && verdict.status == STATUS_DONE
         && !file_make(words->file, words->force, session.kept, (size_t)session.host.kept))
         return say_none(words, STATUS_FILE);
-    return record_print(&session, &verdict, words->json) ? verdict.status : STATUS_FILE;
+    return print_verdict(words, &verdict);
+}
+
+static int run_detach(const struct words *words, const struct wanted *wanted)
+{
+    struct verdict verdict;
+    int status = device_choose(&device, wanted);
+    if (status != STATUS_DONE)
+        return say_none(words, status);
+    ask(words);
+    session.goal = GOAL_DETACH;
+    session.began_ms = clock_ms();
+    status = device.is.is_upgrade ? STATUS_DONE : begin_work(words);
+    if (status != STATUS_DONE)
+        return status;
+    verdict = dfu_mode(&session);
+    stop_no_more();
+    return print_verdict(words, &verdict);
 }
 
 /* Sends nothing: file and device are looked for, and the session begins, or is refused. */
@@ -156,7 +156,7 @@ static int flash(const struct words *words, struct wanted *wanted)
         return status;
     if (!words->dry_run)
         return run_session(words);
-    print_plan();
+    list_plan(&session, words->json);
     return record_out() ? STATUS_DONE : STATUS_FILE;
 }
 
@@ -175,7 +175,10 @@ static int over_usb(const struct words *words)
     session.kept = no_room;
     device.is_stop = &stop_cause;
     device.patience = (struct patience){words->wait, words->patience, words->quiet};
-    status = words->job == JOB_LIST ? list_devices(device.usb, &wanted) : flash(words, &wanted);
+    if (words->job == JOB_LIST)
+        status = list_devices(device.usb, &wanted, words->json);
+    else
+        status = words->job == JOB_DETACH ? run_detach(words, &wanted) : flash(words, &wanted);
     device_drop(&device);
     libusb_exit(device.usb);
     return status;

@@ -1,5 +1,6 @@
 /* Reads the DFU file. */
 #include "files.h"
+#include "say.h"
 
 #include <errno.h>
 #include <stdio.h>
@@ -18,7 +19,9 @@ bool file_read(const char *name, uint8_t **bytes, size_t *length)
         is_read = !ferror(file);
     }
     if (!is_read) {
-        fprintf(stderr, "dfu-flash: %s can't be read: %s\n", name, strerror(errno));
+        int error = errno;
+        say_text(stderr, "dfu-flash: ", name, " can't be read: ");
+        fprintf(stderr, "%s\n", strerror(error));
         free(*bytes);
         *bytes = NULL;
     }

@@ -1,48 +1,48 @@
 /* The last line of standard output. */
 #include "record.h"
 #include "clock.h"
+#include "json.h"
 #include "status.h"
 
-#include <inttypes.h>
 #include <stdio.h>
 
-/* A text in JSON. The serial numbers and paths that come here are ASCII; names and words are this program's own. */
-static void print_text(const char *name, const char *text)
+static void begin(int status, const char *report)
 {
-    printf(",\"%s\":\"", name);
-    for (; *text != '\0'; text++)
-        printf(*text == '"' || *text == '\\' ? "\\%c" : "%c", *text);
-    putchar('"');
+    printf("{\"status\":%d", status);
+    json_text("report", report);
 }
 
-static void print_number(const char *name, uint64_t number)
+static void print_device(const struct session *session)
 {
-    printf(",\"%s\":%" PRIu64, name, number);
+    const struct found *is = &session->wire.device->is;
+    json_text("goal", goal_name(session->goal));
+    printf(",\"vendor\":\"%04x\",\"product\":\"%04x\",\"release\":\"%04x\"", session->ids.vendor, session->ids.product,
+           session->ids.device);
+    json_text("path", session->wire.device->path);
+    if (is->serial[0] != '\0')
+        json_text("serial", is->serial);
+    json_setting(is);
+}
+
+void record_begin(const struct session *session, int status, const char *report, const char *words)
+{
+    begin(status, report);
+    json_text("words", words);
+    print_device(session);
 }
 
 static void print_record(const struct session *session, const struct verdict *verdict)
 {
-    const struct found *is = &session->wire.device->is;
-    printf("{\"status\":%d", verdict->status);
-    print_text("report", verdict->name);
+    begin(verdict->status, verdict->name);
     if (verdict->code != 0)
-        print_text("code", code_name(verdict->code));
-    print_text("words", verdict->words);
-    print_text("goal", goal_name(session->goal));
-    printf(",\"vendor\":\"%04x\",\"product\":\"%04x\",\"release\":\"%04x\"", session->ids.vendor, session->ids.product,
-           session->ids.device);
-    print_text("path", session->wire.device->path);
-    if (is->serial[0] != '\0')
-        print_text("serial", is->serial);
-    print_number("interface", is->interface);
-    print_number("alt", is->alternate);
-    if (is->name[0] != '\0')
-        print_text("name", is->name);
-    print_number("bytes", session->goal == GOAL_UPLOAD ? session->host.kept : session->payload_length);
-    print_number("actions", session->taken);
-    print_number("transfers", session->wire.transfers);
-    print_number("restarts", session->restarted);
-    print_number("milliseconds", (uint64_t)(clock_ms() - session->began_ms));
+        json_text("code", code_name(verdict->code));
+    json_text("words", verdict->words);
+    print_device(session);
+    json_number("bytes", session->goal == GOAL_UPLOAD ? session->host.kept : session->payload_length);
+    json_number("actions", session->taken);
+    json_number("transfers", session->wire.transfers);
+    json_number("restarts", session->restarted);
+    json_number("milliseconds", (uint64_t)(clock_ms() - session->began_ms));
     puts("}");
 }
 
@@ -67,9 +67,8 @@ bool record_print(const struct session *session, const struct verdict *verdict, 
 
 static void print_short(int status, const char *name, const char *words)
 {
-    printf("{\"status\":%d", status);
-    print_text("report", name);
-    print_text("words", words);
+    begin(status, name);
+    json_text("words", words);
     puts("}");
 }
 
@@ -90,7 +89,10 @@ bool record_none(int status, bool is_json)
         print_short(status, "file", "a file or a stream failed, or there was no memory");
     else if (status == STATUS_NO_ACCESS)
         print_short(status, "no-access", "the device may not be opened, or another program or a driver has it");
+    else if (status == STATUS_SEVERAL)
+        print_short(status, "several",
+                    "more than one device, interface or setting; choose by --device, --path, --serial, --interface or --alt");
     else
-        print_short(status, "no-device", "there is no such device, or more than one");
+        print_short(status, "none", "there is no such device");
     return record_out();
 }

@@ -7,6 +7,9 @@
 
 #include <stdbool.h>
 
+/* The front of a record in JSON: status, report, words, what the session is for, and the device. */
+void record_begin(const struct session *session, int status, const char *report, const char *words);
+
 /* The report's name and what it means, in one line; or, with `is_json`, one record. False where standard output failed. */
 bool record_print(const struct session *session, const struct verdict *verdict, bool is_json);
 

@@ -1,6 +1,7 @@
 /* Lines about devices. */
 #include "say.h"
 #include "status.h"
+#include "text.h"
 
 #include <string.h>
 
@@ -25,14 +26,21 @@ static const char *access_words(int access)
     }
 }
 
+void say_text(FILE *out, const char *before, const char *text, const char *behind)
+{
+    fputs(before, out);
+    text_print(out, text);
+    fputs(behind, out);
+}
+
 void say_found(FILE *out, const struct found *found)
 {
     fprintf(out, "%04x:%04x path %s", found->vendor, found->product, found->path);
     if (found->serial[0] != '\0')
-        fprintf(out, " serial %s", found->serial);
+        say_text(out, " serial ", found->serial, "");
     fprintf(out, " interface %u alt %u", found->interface, found->alternate);
     if (found->name[0] != '\0')
-        fprintf(out, " \"%s\"", found->name);
+        say_text(out, " \"", found->name, "\"");
     fputs(found->is_upgrade ? " DFU mode" : " run-time mode", out);
     say_descriptor(out, found);
     fprintf(out, "%s\n", access_words(found->access));
@@ -43,7 +51,9 @@ static void say_rule(const struct found *found)
     fprintf(stderr,
             "To allow it to who sits at this computer, write this line to /etc/udev/rules.d/60-dfu-%04x.rules,\n"
             "run `udevadm control --reload`, and plug the device in again:\n"
-            "SUBSYSTEM==\"usb\", ATTR{idVendor}==\"%04x\", ATTR{idProduct}==\"%04x\", MODE=\"0660\", TAG+=\"uaccess\"\n",
+            "SUBSYSTEM==\"usb\", ATTR{idVendor}==\"%04x\", ATTR{idProduct}==\"%04x\", MODE=\"0660\", TAG+=\"uaccess\"\n"
+            "To allow it for every device with DFU, run `./install --udev /etc/udev/rules.d` of Fustrelan as root, which\n"
+            "installs 70-dfu.rules. Over ssh nobody sits there: that file has a line for the members of a group.\n",
             found->vendor, found->vendor, found->product);
 }
 

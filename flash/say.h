@@ -10,6 +10,9 @@
 /* A line for a device, as --list prints it. */
 void say_found(FILE *out, const struct found *found);
 
+/* A text that others chose, as a name of a file, between two of this program's. */
+void say_text(FILE *out, const char *before, const char *text, const char *behind);
+
 /* Why a device isn't opened, or its interface isn't claimed, by `access`; and what helps. The status that this is. */
 int say_no_access(const struct found *found);
 

@@ -1,7 +1,6 @@
 /* The loop: what the host asks for is carried out, and it is told what came of that. Nothing else is sent, but for the DETACH of
    stalls.c. */
 #include "session.h"
-#include "clock.h"
 #include "stop.h"
 
 #include <stdlib.h>
@@ -62,20 +61,14 @@ static struct answer send_request(struct session *session, const struct dfu_acti
     return answer;
 }
 
-static struct answer wait_for(struct session *session, uint32_t ms)
-{
-    progress_wait(&session->progress, ms);
-    return answer_wait(&session->wire, ms);
-}
-
 static struct answer perform(struct session *session, const struct dfu_action *action)
 {
-    int64_t began_ms = clock_ms();
-    struct answer answer = action->what == DFU_WAIT ? wait_for(session, action->value)
-        : action->what == DFU_RESET ? stalls_reset(&session->stalls, &session->wire, &session->trace) : send_request(session, action);
-    trace_action(&session->trace, action, &answer, clock_ms() - began_ms);
-    if (action->what == DFU_WAIT)
-        return answer;
+    struct answer answer;
+    if (action->what == DFU_WAIT) {
+        progress_wait(&session->progress, action->value);
+        return answer_wait(&session->wire, action->value);
+    }
+    answer = action->what == DFU_RESET ? stalls_reset(&session->stalls, &session->wire) : send_request(session, action);
     session->silent = answer.seen == DFU_NOTHING ? session->silent + 1 : 0;
     return answer;
 }
@@ -131,7 +124,7 @@ static void trace_session(const struct session *session)
         is.descriptor_size = sizeof is.descriptor;
     }
     if (session->refusal == 0)
-        trace_begin(&session->trace, goal_name(session->goal), &is, session->host.transfer, session->host.actions,
+        trace_begin(&session->wire.trace, goal_name(session->goal), &is, session->host.transfer, session->host.actions,
                     session->host.restarts);
 }
 
@@ -184,8 +177,14 @@ static int32_t stop(struct session *session)
     if (!*session->wire.device->is_stop || session->is_aborted)
         return 0;
     session->is_aborted = true;
-    trace_abort(&session->trace);
+    trace_abort(&session->wire.trace);
     return dfu_host_abort(&session->host, session->file, session->payload_length);
+}
+
+/* Whether the host gave up since the time is spent, and not for a signal. */
+static bool is_timed_out(const struct session *session)
+{
+    return session->done.value == DFU_ABORTED && *session->wire.device->is_stop == STOP_TIME;
 }
 
 /* The last reset leads a device out of DFU mode. It need not come back, as where its application has no USB. */
@@ -193,12 +192,6 @@ static void settle(struct session *session)
 {
     if (session->wire.device->handle == NULL)
         device_await(session->wire.device, SETTLE_MS);
-}
-
-/* Whether the host gave up since the time is spent, and not for a signal. */
-static bool is_timed_out(const struct session *session)
-{
-    return session->done.value == DFU_ABORTED && *session->wire.device->is_stop == STOP_TIME;
 }
 
 void session_run(struct session *session)

@@ -5,13 +5,12 @@
 #include "answer.h"
 #include "progress.h"
 #include "stalls.h"
-#include "trace.h"
 
 #include <dfu_host.h>
 #include <stdbool.h>
 #include <stdint.h>
 
-enum goal { GOAL_DOWNLOAD, GOAL_VERIFIED, GOAL_UPLOAD };
+enum goal { GOAL_DOWNLOAD, GOAL_VERIFIED, GOAL_UPLOAD, GOAL_DETACH };
 
 /* How it ended: with the host's report, or without one. */
 enum end {
@@ -52,7 +51,6 @@ struct session {
     struct stalls stalls;
     struct wire wire;
     struct progress progress;
-    struct trace trace;
     uint64_t taken, restarted;    /* actions done, and restarts told */
     int64_t began_ms;
     enum end end;

@@ -20,14 +20,16 @@ bool stalls_is_stuck(const struct stalls *stalls)
 }
 
 /* Where the device left behind that DETACH it is reset already. */
-struct answer stalls_reset(struct stalls *stalls, struct wire *wire, const struct trace *trace)
+struct answer stalls_reset(struct stalls *stalls, struct wire *wire)
 {
     bool is_first = stalls->is_last && stalls->resets == 0 && wire->device->is.says_runtime;
     struct answer answer = {0};
     if (is_first)
-        answer = detach_send(wire, trace);
-    if (is_first && (answer.is_gone || answer.seen == DFU_RESTARTED))
+        answer = detach_send(wire);
+    if (is_first && (answer.is_gone || answer.seen == DFU_RESTARTED)) {
+        trace_reset(&wire->trace, &answer, 0);
         return answer;
+    }
     is_first = is_first && answer.seen == DFU_ACK;
     answer = answer_reset(wire);
     if (stalls->is_last && answer.seen == DFU_WAS_RESET)

@@ -2,7 +2,7 @@
 #ifndef DFU_FLASH_STALLS_H
 #define DFU_FLASH_STALLS_H
 
-#include "trace.h"
+#include "answer.h"
 
 #include <stdbool.h>
 #include <stdint.h>
@@ -19,6 +19,6 @@ void stalls_note(struct stalls *stalls, const struct found *is, uint32_t seen);
 bool stalls_is_stuck(const struct stalls *stalls);
 
 /* Resets the bus, as the host asks for it. */
-struct answer stalls_reset(struct stalls *stalls, struct wire *wire, const struct trace *trace);
+struct answer stalls_reset(struct stalls *stalls, struct wire *wire);
 
 #endif

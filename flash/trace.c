@@ -2,6 +2,7 @@
    the milliseconds), wLength, what the host is told, the state that the device reported in that, and the milliseconds that it took.
    What begins and ends a session has a line that begins with a word. Other programs read this: what stands stays. */
 #include "trace.h"
+#include "answer.h"
 
 #include <inttypes.h>
 #include <stdio.h>
@@ -57,20 +58,41 @@ static const char *state_in(uint8_t request, const struct answer *answer)
     return "-";
 }
 
-void trace_action(struct trace *trace, const struct dfu_action *action, const struct answer *answer, int64_t ms)
+/* The first four words. */
+static void print_front(struct trace *trace, const char *what, uint32_t value, unsigned length)
 {
-    const uint8_t *setup = action->setup;
+    if (trace->is_own)
+        fputs("own:", stderr);
+    else
+        fprintf(stderr, "%" PRIu64, ++trace->number);
+    fprintf(stderr, " %s %" PRIu32 " %u ", what, value, length);
+}
+
+void trace_request(struct trace *trace, const uint8_t setup[8], const struct answer *answer, int64_t ms)
+{
     if (!trace->is_on)
         return;
-    trace->number++;
-    if (action->what == DFU_SEND)
-        fprintf(stderr, "%" PRIu64 " %s %u %u ", trace->number, NAME(requests, setup[1]), (unsigned)(setup[2] | setup[3] << 8),
-                (unsigned)(setup[6] | setup[7] << 8));
-    else
-        fprintf(stderr, "%" PRIu64 " %s %" PRIu32 " 0 ", trace->number, action->what == DFU_WAIT ? "WAIT" : "RESET",
-                action->what == DFU_WAIT ? action->value : 0);
+    print_front(trace, NAME(requests, setup[1]), (uint32_t)(setup[2] | setup[3] << 8), (unsigned)(setup[6] | setup[7] << 8));
     print_answer(answer);
-    fprintf(stderr, " %s %" PRId64 "\n", action->what == DFU_SEND ? state_in(setup[1], answer) : "-", ms);
+    fprintf(stderr, " %s %" PRId64 "\n", state_in(setup[1], answer), ms);
+}
+
+void trace_wait(struct trace *trace, uint32_t asked, const struct answer *answer, int64_t ms)
+{
+    if (!trace->is_on)
+        return;
+    print_front(trace, "WAIT", asked, 0);
+    print_answer(answer);
+    fprintf(stderr, " - %" PRId64 "\n", ms);
+}
+
+void trace_reset(struct trace *trace, const struct answer *answer, int64_t ms)
+{
+    if (!trace->is_on)
+        return;
+    print_front(trace, "RESET", 0, 0);
+    print_answer(answer);
+    fprintf(stderr, " - %" PRId64 "\n", ms);
 }
 
 void trace_begin(const struct trace *trace, const char *goal, const struct found *is, unsigned transfer, uint32_t actions,
@@ -82,15 +104,6 @@ void trace_begin(const struct trace *trace, const char *goal, const struct found
             is->alternate, is->is_upgrade ? "DFU" : "run-time");
     print_hex(is->descriptor, is->descriptor_size);
     fprintf(stderr, "%s %u %" PRIu32 " %u\n", is->descriptor_size == 0 ? "-" : "", transfer, actions, restarts);
-}
-
-void trace_detach(const struct trace *trace, unsigned value, const struct answer *answer)
-{
-    if (!trace->is_on)
-        return;
-    fprintf(stderr, "own: DETACH %u 0 ", value);
-    print_answer(answer);
-    fputc('\n', stderr);
 }
 
 void trace_abort(const struct trace *trace)

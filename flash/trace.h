@@ -2,26 +2,26 @@
 #ifndef DFU_FLASH_TRACE_H
 #define DFU_FLASH_TRACE_H
 
-#include "answer.h"
-
-#include <dfu_host.h>
 #include <stdbool.h>
 #include <stdint.h>
 
+struct answer;
+struct found;
+
 struct trace {
     bool is_on;
-    uint64_t number; /* of the next action, from 1 */
+    bool is_own;     /* what is done is this program's own, and no action of the host: it has no number */
+    uint64_t number; /* of the last action */
 };
 
-/* An action of the host was carried out. */
-void trace_action(struct trace *trace, const struct dfu_action *action, const struct answer *answer, int64_t ms);
+/* A request was sent, a wait of `asked` ms was made, or the bus was reset; and it took `ms`. */
+void trace_request(struct trace *trace, const uint8_t setup[8], const struct answer *answer, int64_t ms);
+void trace_wait(struct trace *trace, uint32_t asked, const struct answer *answer, int64_t ms);
+void trace_reset(struct trace *trace, const struct answer *answer, int64_t ms);
 
-/* The bytes of a functional descriptor with which a session begins, what it is for, and its limits. */
+/* A session begins: what it is for, the device and its functional descriptor, the bytes of a block, and the limits. */
 void trace_begin(const struct trace *trace, const char *goal, const struct found *is, unsigned transfer, uint32_t actions,
                  uint16_t restarts);
-
-/* The DETACH that is this program's own, and that the host hears nothing of. */
-void trace_detach(const struct trace *trace, unsigned value, const struct answer *answer);
 
 /* The session is given up. */
 void trace_abort(const struct trace *trace);

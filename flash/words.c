@@ -1,5 +1,6 @@
 /* The command line: what each word means, and which words go together. */
 #include "words.h"
+#include "say.h"
 
 #include <ctype.h>
 #include <errno.h>
@@ -61,7 +62,8 @@ static bool is_pair(const char *text, uint16_t *vendor, uint16_t *product)
 
 static bool refuse(const char *what, const char *word)
 {
-    fprintf(stderr, "dfu-flash: %s%s%s\nSee dfu-flash --help.\n", what, *word ? ": " : "", word);
+    fprintf(stderr, "dfu-flash: %s", what);
+    say_text(stderr, *word != '\0' ? ": " : "", word, "\nSee dfu-flash --help.\n");
     return false;
 }
 

@@ -4,6 +4,7 @@
    is harm. */
 #define _GNU_SOURCE
 #include "files.h"
+#include "say.h"
 
 #include <errno.h>
 #include <fcntl.h>
@@ -15,7 +16,8 @@
 
 static bool fail(const char *name, const char *why)
 {
-    fprintf(stderr, "dfu-flash: %s can't be made: %s\n", name, why);
+    say_text(stderr, "dfu-flash: ", name, " can't be made: ");
+    fprintf(stderr, "%s\n", why);
     return false;
 }
 

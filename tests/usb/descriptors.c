@@ -5,8 +5,11 @@
 #include "bus.h"
 #include "settings.h"
 
+#include <stdio.h>
 #include <stdlib.h>
 #include <string.h>
+
+#define MOST_UNITS 126 /* of a string descriptor */
 
 enum { NO_STRING, SERIAL_STRING, INTERFACE_STRING }; /* behind the last those of the settings, where there are several */
 
@@ -29,7 +32,7 @@ void describe_device(bool is_app, struct libusb_device_descriptor *out)
 int describe_function(bool is_app, uint8_t out[9])
 {
     const uint8_t size = is_app ? settings.app_descriptor : settings.descriptor;
-    const uint16_t transfer = is_app ? settings.app_transfer : settings.transfer;
+    const uint16_t transfer = is_app ? settings.app_transfer : settings.said;
     const uint8_t bytes[9] = { size, 0x21, is_app ? settings.app_attributes : settings.attributes,
                                (uint8_t)settings.detach_ms, (uint8_t)(settings.detach_ms >> 8),
                                (uint8_t)transfer, (uint8_t)(transfer >> 8),
@@ -84,24 +87,41 @@ void forget_configuration(struct libusb_config_descriptor *found)
     free(found);
 }
 
+/* The units of UTF-16: a character of ASCII each, or \uXXXX, which may be any. */
+static unsigned units_of(const char *text, uint16_t units[MOST_UNITS])
+{
+    unsigned count = 0;
+    while (*text != '\0') {
+        unsigned unit = (uint8_t)*text;
+        int used = 1;
+        if (count == MOST_UNITS)
+            fail_loudly("a string is too long: %s", text);
+        if (text[0] == '\\' && sscanf(text, "\\u%4x%n", &unit, &used) != 1)
+            fail_loudly("a string isn't understood: %s", text);
+        units[count++] = (uint16_t)unit;
+        text += used;
+    }
+    return count;
+}
+
 int describe_string(unsigned number, bool is_other, uint8_t *out, uint16_t room)
 {
     static const char *const names[] = { "stand-in", "boot", "kernel", "data" };
     const char *text = number < INTERFACE_STRING ? is_other || bus_is_swapped() ? "OTHER" : settings.serial : "";
-    uint8_t bytes[2 + 2 * 126] = { 4, 3, 0x09, 0x04 };
+    uint8_t bytes[2 + 2 * MOST_UNITS] = { 4, 3, 0x09, 0x04 };
     if (number > INTERFACE_STRING + MOST_ALTERNATES)
         return USB_ERROR_PIPE;
     if (number >= INTERFACE_STRING)
         text = names[number - INTERFACE_STRING];
     if (number == INTERFACE_STRING && bus_is_swapped() && settings.swapped_name != NULL)
         text = settings.swapped_name;
-    if (strlen(text) > 126)
-        fail_loudly("USB_SERIAL is too long");
+    uint16_t units[MOST_UNITS];
+    unsigned length = units_of(text, units);
     if (number != NO_STRING)
-        bytes[0] = (uint8_t)(2 + 2 * strlen(text));
-    for (size_t i = 0; number != NO_STRING && text[i] != '\0'; i++) {
-        bytes[2 + 2 * i] = (uint8_t)text[i];
-        bytes[3 + 2 * i] = 0;
+        bytes[0] = (uint8_t)(2 + 2 * length);
+    for (unsigned i = 0; number != NO_STRING && i < length; i++) {
+        bytes[2 + 2 * i] = (uint8_t)units[i];
+        bytes[3 + 2 * i] = (uint8_t)(units[i] >> 8);
     }
     int count = bytes[0] < room ? bytes[0] : room;
     memcpy(out, bytes, (size_t)count);

@@ -4,11 +4,13 @@
  *                 bootloader, device_small.c)
  * USB_ATTRIBUTES  bmAttributes, hexadecimal: 01 download, 02 upload, 04 tolerant, 08 will detach (07; for small 09)
  * USB_TRANSFER    wTransferSize (8; for uboot 4096)     USB_DETACH    wDetachTimeOut in ms (1000)
+ * USB_SAID        wTransferSize in the functional descriptor, where that isn't so (USB_TRANSFER)
  * USB_BUSY        poll time of a block in ms (1)        USB_MANIFEST  poll time of the manifestation in ms (1)
  * USB_LEAST       fewest bytes of an image (1)          USB_CAPACITY  most bytes of an image (100000)
  * USB_IMAGE       a file with the old image (one byte, 00h)
  * USB_IDS         vendor:product:release in run-time mode (1209:0001:0100); USB_DFU_IDS in DFU mode (the same)
- * USB_SERIAL      serial number (F1)                    USB_PATH      bus and ports, as 1-2.3, or a bus alone (1-1)
+ * USB_SERIAL      serial number, with \uXXXX for any unit of UTF-16 (F1)
+ * USB_PATH        bus and ports, as 1-2.3, or a bus alone (1-1)
  * USB_SWAP_IDS    of the board that stands in the device's place once it was swapped: its ids, in either mode, its
  * USB_SWAP_INTERFACE  interface, and the name of its first setting in DFU mode (those of the device)
  * USB_SWAP_NAME
@@ -169,7 +171,8 @@ static void read_app(void)
     settings.app_stalls_all = stalls == 2;
     settings.app_attributes = (uint8_t)number("USB_APP_ATTRIBUTES", settings.attributes, 16);
     settings.app_descriptor = (uint8_t)number("USB_APP_DESCRIPTOR", settings.descriptor, 10);
-    settings.app_transfer = (uint16_t)number("USB_APP_TRANSFER", settings.transfer, 10);
+    settings.said = (uint16_t)number("USB_SAID", settings.transfer, 10);
+    settings.app_transfer = (uint16_t)number("USB_APP_TRANSFER", settings.said, 10);
     settings.app_protocol = (uint8_t)number("USB_APP_PROTOCOL", 1, 10);
     settings.starts_in_app = is_first("USB_START", "app", "dfu", "dfu");
 }

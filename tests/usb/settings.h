@@ -25,6 +25,7 @@ struct settings {
     const char *device;                /* "proved", "uboot" or "small" */
     uint8_t attributes, app_attributes; /* bmAttributes, in DFU mode and in run-time mode */
     uint16_t transfer, detach_ms;      /* wTransferSize, wDetachTimeOut */
+    uint16_t said;                     /* wTransferSize as the functional descriptor has it */
     uint32_t busy_ms, manifest_ms, least, capacity;
     const char *image;                 /* a file with the old image, or NULL: one byte, 00h */
     struct ids app, dfu, swapped;      /* in run-time mode, in DFU mode, and of another board in its place */

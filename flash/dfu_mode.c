@@ -1,0 +1,43 @@
+/* --detach: a device is brought to DFU mode, by this program's own DETACH (detach.c), and that is all. No host has a part in it. */
+#include "dfu_mode.h"
+#include "detach.h"
+#include "status.h"
+#include "stop.h"
+
+#include <stdio.h>
+
+struct outcome {
+    int status;
+    const char *name, *words;
+};
+
+static const struct outcome outcomes[] = {
+    {STATUS_DONE, "detached", "the device is in DFU mode"},
+    {STATUS_GONE, "gone", "the device left for DFU mode, and did not come back"},
+    {STATUS_STALLED, "not-detached", "the device stays in run-time mode: bring it to DFU mode by hand, as by its button"},
+    {STATUS_ABORTED, "aborted", "given up by Ctrl-C or a signal; the device may come to DFU mode still"},
+    {STATUS_GIVEN_UP, "timed-out", "the time is spent; the device may come to DFU mode still"},
+};
+
+/* A device that came back with several settings is in DFU mode too: in run-time mode there is one. */
+static const struct outcome *outcome_of(const struct device *device, bool is_detached)
+{
+    if (is_detached || device->is.is_upgrade)
+        return &outcomes[0];
+    if (*device->is_stop == STOP_TIME)
+        return &outcomes[4];
+    if (*device->is_stop != STOP_NONE)
+        return &outcomes[3];
+    return device->handle == NULL ? &outcomes[1] : &outcomes[2];
+}
+
+struct verdict dfu_mode(struct session *session)
+{
+    struct device *device = session->wire.device;
+    bool is_detached = device->is.is_upgrade || detach(&session->wire);
+    const struct outcome *outcome = outcome_of(device, is_detached);
+    struct verdict verdict = {.status = outcome->status};
+    snprintf(verdict.name, sizeof verdict.name, "%s", outcome->name);
+    snprintf(verdict.words, sizeof verdict.words, "%s", outcome->words);
+    return verdict;
+}

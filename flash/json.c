@@ -1,0 +1,50 @@
+/* Records in JSON. */
+#include "json.h"
+#include "text.h"
+
+#include <inttypes.h>
+#include <stdio.h>
+
+/* Bytes that aren't UTF-8 have no place in JSON, and become the character that stands for such. */
+static void print_quoted(const char *text)
+{
+    putchar('"');
+    while (*text != '\0') {
+        uint32_t character = 0;
+        size_t length = text_character(text, &character);
+        if (length == 0)
+            fputs("\\ufffd", stdout);
+        else if (text_is_control(character))
+            printf("\\u%04" PRIx32, character);
+        else if (character == '"' || character == '\\')
+            printf("\\%c", (char)character);
+        else
+            fwrite(text, 1, length, stdout);
+        text += length > 0 ? length : 1;
+    }
+    putchar('"');
+}
+
+void json_text(const char *name, const char *text)
+{
+    printf(",\"%s\":", name);
+    print_quoted(text);
+}
+
+void json_number(const char *name, uint64_t number)
+{
+    printf(",\"%s\":%" PRIu64, name, number);
+}
+
+void json_truth(const char *name, bool is)
+{
+    printf(",\"%s\":%s", name, is ? "true" : "false");
+}
+
+void json_setting(const struct found *found)
+{
+    json_number("interface", found->interface);
+    json_number("alt", found->alternate);
+    if (found->name[0] != '\0')
+        json_text("name", found->name);
+}

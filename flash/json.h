@@ -1,0 +1,18 @@
+/* Records in JSON, on standard output. */
+#ifndef DFU_FLASH_JSON_H
+#define DFU_FLASH_JSON_H
+
+#include "find.h"
+
+#include <stdbool.h>
+#include <stdint.h>
+
+/* A field behind another one: its name, and a text, a number or a truth. */
+void json_text(const char *name, const char *text);
+void json_number(const char *name, uint64_t number);
+void json_truth(const char *name, bool is);
+
+/* The fields of a setting: interface, alternate setting and name. */
+void json_setting(const struct found *found);
+
+#endif

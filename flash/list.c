@@ -1,0 +1,100 @@
+/* What is printed of --list and of --dry-run. */
+#include "list.h"
+#include "json.h"
+#include "record.h"
+#include "say.h"
+#include "status.h"
+
+#include <stdio.h>
+
+static const char *access_name(int access)
+{
+    switch (access) {
+    case 0: return "yes";
+    case LIBUSB_ERROR_BUSY: return "in use";
+    case LIBUSB_ERROR_NO_DEVICE: return "gone";
+    default: return "no";
+    }
+}
+
+static void print_descriptor(const struct found *found)
+{
+    const uint8_t *bytes = found->descriptor;
+    char digits[2 * sizeof found->descriptor + 1];
+    if (found->descriptor_size < 7)
+        return;
+    for (size_t at = 0; at < found->descriptor_size; at++)
+        snprintf(digits + 2 * at, 3, "%02x", bytes[at]);
+    json_text("descriptor", digits);
+    json_number("transfer", (uint64_t)(bytes[5] | bytes[6] << 8));
+    json_truth("download", (bytes[2] & 1) != 0);
+    json_truth("upload", (bytes[2] & 2) != 0);
+    json_truth("tolerant", (bytes[2] & 4) != 0);
+    json_truth("will_detach", (bytes[2] & 8) != 0);
+}
+
+static void print_record(const struct found *found)
+{
+    printf("{\"vendor\":\"%04x\",\"product\":\"%04x\",\"release\":\"%04x\"", found->vendor, found->product, found->release);
+    json_text("path", found->path);
+    if (found->serial[0] != '\0')
+        json_text("serial", found->serial);
+    json_setting(found);
+    json_text("mode", found->is_upgrade ? "DFU" : "run-time");
+    print_descriptor(found);
+    json_text("access", access_name(found->access));
+    puts("}");
+}
+
+int list_devices(libusb_context *usb, const struct wanted *wanted, bool is_json)
+{
+    struct found list[FOUND_ROOM];
+    int count = find_all(usb, wanted, list, FOUND_ROOM);
+    if (count < 0) {
+        fprintf(stderr, "dfu-flash: the list of devices can't be had: %s\n", libusb_error_name(count));
+        return record_none(STATUS_NO_DEVICE, is_json) ? STATUS_NO_DEVICE : STATUS_FILE;
+    }
+    for (int at = 0; at < count; at++)
+        if (is_json)
+            print_record(&list[at]);
+        else
+            say_found(stdout, &list[at]);
+    found_drop(list, count);
+    if (count == FOUND_ROOM)
+        fputs("dfu-flash: more than these may be there; choose by --device, --path or --serial\n", stderr);
+    return record_out() ? STATUS_DONE : STATUS_FILE;
+}
+
+/* The same as of a session that was made, as far as it is known before. */
+static void print_plan_record(const struct session *session)
+{
+    record_begin(session, STATUS_DONE, "dry-run",
+                 session->odd != 0 ? "bring it to DFU mode, and look there how large blocks are" : "nothing was sent");
+    if (session->goal != GOAL_UPLOAD)
+        json_number("bytes", session->payload_length);
+    if (session->odd == 0) {
+        json_number("transfer", session->host.transfer);
+        json_number("most_actions", session->actions);
+        json_number("most_restarts", session->restarts);
+    }
+    puts("}");
+}
+
+void list_plan(const struct session *session, bool is_json)
+{
+    static const char *const goals[] = {"download", "download and compare", "upload"};
+    if (is_json) {
+        print_plan_record(session);
+        return;
+    }
+    if (session->odd != 0)
+        fputs("dry-run: bring it to DFU mode, and look there how large blocks are: ", stdout);
+    else {
+        printf("dry-run: %s", goals[session->goal]);
+        if (session->goal != GOAL_UPLOAD)
+            printf(" %zu bytes", session->payload_length);
+        printf(" in blocks of %u, within %lu actions and %u restarts: ", session->host.transfer, (unsigned long)session->actions,
+               session->restarts);
+    }
+    say_found(stdout, &session->wire.device->is);
+}

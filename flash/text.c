@@ -1,0 +1,77 @@
+/* Texts that others chose. A device may call itself by any string, and a file may have any name: what a terminal would take for a
+   command, or would draw in another order, is escaped. */
+#include "text.h"
+
+#include <string.h>
+
+/* C0, DEL and C1, the separators of lines and paragraphs, and what turns the direction of writing. */
+bool text_is_control(uint32_t character)
+{
+    return character < 0x20 || (character >= 0x7f && character < 0xa0) || (character >= 0x200e && character <= 0x200f)
+        || (character >= 0x2028 && character <= 0x202e) || (character >= 0x2066 && character <= 0x2069);
+}
+
+/* UTF-8 has each character in its shortest form, and no half of a pair of UTF-16. */
+size_t text_character(const char *text, uint32_t *character)
+{
+    static const uint32_t least[] = {0, 0, 0x80, 0x800, 0x10000};
+    const unsigned char *bytes = (const unsigned char *)text;
+    unsigned char first = bytes[0];
+    size_t count = first < 0x80 ? 1 : first >> 5 == 6 ? 2 : first >> 4 == 14 ? 3 : first >> 3 == 30 ? 4 : 0;
+    uint32_t point = count <= 1 ? first : first & (0x7fu >> count);
+    for (size_t at = 1; at < count; at++) {
+        if (bytes[at] >> 6 != 2)
+            return 0;
+        point = point << 6 | (bytes[at] & 0x3f);
+    }
+    *character = point;
+    return point < least[count] || point > 0x10ffff || (point >= 0xd800 && point < 0xe000) ? 0 : count;
+}
+
+void text_print(FILE *out, const char *text)
+{
+    while (*text != '\0') {
+        uint32_t character = 0;
+        size_t length = text_character(text, &character), end = length > 0 ? length : 1;
+        if (length > 0 && !text_is_control(character))
+            fwrite(text, 1, length, out);
+        else
+            for (size_t at = 0; at < end; at++)
+                fprintf(out, "\\x%02x", (unsigned char)text[at]);
+        text += end;
+    }
+}
+
+/* A half of a pair that has no other half becomes three bytes that are no UTF-8, and so are escaped where they are printed. */
+static size_t put_point(uint32_t point, char bytes[4])
+{
+    size_t count = point < 0x80 ? 1 : point < 0x800 ? 2 : point < 0x10000 ? 3 : 4;
+    static const unsigned char fronts[] = {0, 0, 0xc0, 0xe0, 0xf0};
+    for (size_t at = count - 1; at > 0; at--) {
+        bytes[at] = (char)(0x80 | (point & 0x3f));
+        point >>= 6;
+    }
+    bytes[0] = (char)(fronts[count] | point);
+    return count;
+}
+
+void text_from_units(const unsigned char *bytes, size_t count, char *text, size_t room)
+{
+    size_t length = 0;
+    for (size_t at = 0; at < count; at++) {
+        uint32_t point = (uint32_t)(bytes[2 * at] | bytes[2 * at + 1] << 8);
+        uint32_t next = at + 1 < count ? (uint32_t)(bytes[2 * at + 2] | bytes[2 * at + 3] << 8) : 0;
+        char character[4];
+        size_t more;
+        if (point >> 10 == 0xd800 >> 10 && next >> 10 == 0xdc00 >> 10) {
+            point = 0x10000 + ((point & 0x3ff) << 10) + (next & 0x3ff);
+            at++;
+        }
+        more = put_point(point, character);
+        if (point == 0 || length + more >= room)
+            break;
+        memcpy(text + length, character, more);
+        length += more;
+    }
+    text[length] = '\0';
+}
