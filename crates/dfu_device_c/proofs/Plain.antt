@@ -61,22 +61,28 @@ shows_plain config s m block =
 done_plain : (p : Plan) (len : ℕ) (d : Shown) (a : Answer) (out : List ℕ) (d' : Shown) → d.slots.medium.fuse ≡ Whole
     → Done p len d a out d' → Done p len (plain_device d) a out (plain_device d')
 done_plain (Sure reply stage) len d a out d' whole done = (done.0, ap plain_device done.1)
-done_plain (Writes before block reply stage bad) len d a out d' whole (inl (says, done)) = inl (says, record {
-  config_is = done.config_is;
-  room = room_tagged d'.slots [] ∙ done.room ∙ sym (room_tagged d.slots []);
-  stage_is = done.stage_is;
-  calls = called_all_tagged d.slots d'.slots [] (block_calls before block) done.calls;
-  image = image_tagged d'.slots [] ∙ done.image ∙ sym (image_tagged d.slots []);
-})
+done_plain (Writes before block reply stage bad) len d a out d' whole (inl (says, done)) = inl (
+  says,
+  record {
+    config_is = done.config_is;
+    room = room_tagged d'.slots [] ∙ done.room ∙ sym (room_tagged d.slots []);
+    stage_is = done.stage_is;
+    calls = called_all_tagged d.slots d'.slots [] (block_calls before block) done.calls;
+    image = image_tagged d'.slots [] ∙ done.image ∙ sym (image_tagged d.slots []);
+  },
+)
 done_plain (Writes before block reply stage bad) len d a out d' whole (inr (fault, says, done)) =
     absurd (called_works fault d.slots d'.slots (block_calls before block) whole done.calls)
-done_plain (Commits taken reply stage bad) len d a out d' whole (inl (says, done)) = inl (says, record {
-  config_is = done.config_is;
-  room = room_tagged d'.slots [] ∙ done.room ∙ sym (room_tagged d.slots []);
-  stage_is = done.stage_is;
-  calls = called_all_tagged d.slots d'.slots [] (Commit (length taken) ∷ []) done.calls;
-  image = image_tagged d'.slots [] ∙ done.image;
-})
+done_plain (Commits taken reply stage bad) len d a out d' whole (inl (says, done)) = inl (
+  says,
+  record {
+    config_is = done.config_is;
+    room = room_tagged d'.slots [] ∙ done.room ∙ sym (room_tagged d.slots []);
+    stage_is = done.stage_is;
+    calls = called_all_tagged d.slots d'.slots [] (Commit (length taken) ∷ []) done.calls;
+    image = image_tagged d'.slots [] ∙ done.image;
+  },
+)
 done_plain (Commits taken reply stage bad) len d a out d' whole (inr (fault, says, done)) =
     absurd (called_works fault d.slots d'.slots (Commit (length taken) ∷ []) whole done.calls)
 

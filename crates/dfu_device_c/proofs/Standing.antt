@@ -50,8 +50,7 @@ pub stands_nowhere : (s : Setting) (r : DfuDevice) (memory : MutBor (List ℕ)) 
     → IsOpened r memory slots → d ≡ record { config = s; slots = slots; stage = InAppIdle } → StandsNowhere r d.slots
     → IsRefused refusal.NoDevice s r memory.now
 stands_nowhere s r memory slots d allowed opened began nowhere =
-    let store : d.slots ≡ store_at r memory = ap (λ (w : Shown). w.slots) began ∙ opened.slots_are in
-    (
+    let store : d.slots ≡ store_at r memory = ap (λ (w : Shown). w.slots) began ∙ opened.slots_are in (
       allowed,
       opened.store.has_image,
       λ w device.

@@ -28,7 +28,7 @@ pub record Formats (bytes image : List ℕ) (result : ℤ) (bytes' : List ℕ) :
 abbrev pub IsNoFormat : List ℕ → List ℕ → ℤ → Type 0
 IsNoFormat bytes image result = ((result ≡ NO_MEDIUM) × (2 ^ 32 ≤ length bytes))
     ⊎ ((f : FormatFault) × (f ≢ fault.Failed) × (result ≡ format_number f) × (length bytes < 2 ^ 32)
-        × IsFormatFault f (memory_of bytes) image)
+    × IsFormatFault f (memory_of bytes) image)
 
 -- It was not formatted, for what the number says, and stands as it did.
 pub record RefusesFormat (bytes image : List ℕ) (result : ℤ) (bytes' : List ℕ) : Type 0 where

@@ -45,7 +45,7 @@ pub extern "C" fn dfu_device_handle(
 ) -> i32
     ensures outcome { let s = setting_of config.now in
         Answered s device.old medium.old out.old (λ a sent d d'. Handles setup.now body.now d a sent d')
-            result device.new medium.new out.new
+        result device.new medium.new out.new
         ⊎ (Refuses s device.old medium.old result device.new medium.new × (out.new ≡ out.old))
         ⊎ HasNoRoom s device.old medium.old out.old result device.new medium.new out.new }
     ensures short { length out.old < answer_room (setting_of config.now) → result ≡ NO_ROOM }

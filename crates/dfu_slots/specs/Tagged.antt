@@ -3,11 +3,11 @@ use Rattle.std.specs.Prelude.{refl, ◌≡◌, ℕ, List, [], ◌∷◌, ◌++�
 use Rattle.std.proofs.Common.{inl, inr, sym, ap, ◌∙◌, subst}
 use Rattle.dfu_suffix.specs.Register.{register}
 use Rattle.dfu_slots.specs.declared.fault.WriteFault.{WriteFault}
-use Rattle.dfu_slots.specs.Medium.{MediumState, Write, Wrote, AllWrites, BrokenWrites}
+use Rattle.dfu_slots.specs.Medium.{MediumState, Write, AllWrites, BrokenWrites}
 use Rattle.dfu_slots.specs.Image.{gate_of, Active, HasImage}
 use Rattle.dfu_slots.specs.Writes.{part_writes, commit_writes}
 use Rattle.dfu_slots.specs.Store.{IsStore}
-use Rattle.dfu_slots.specs.Seen.{SlotsState, image_of, spare_of, is_begun, room_of, held_at, data_place, Call, Begin, Put, Commit, Ending, AllWorked, BrokenBy, writes_of, next_held, CallWorked, Calls, Called}
+use Rattle.dfu_slots.specs.Seen.{SlotsState, image_of, spare_of, is_begun, room_of, held_at, data_place, Call, Begin, Put, Commit, Ending, AllWorked, BrokenBy, writes_of, next_held, Calls, Called}
 
 -- The medium with this tag.
 abbrev pub tagged : MediumState → List ℕ → MediumState

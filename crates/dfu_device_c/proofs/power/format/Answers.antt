@@ -1,6 +1,5 @@
 use Rattle.std.proofs.Common.{◌∙◌, ap, sym, subst, []}
-use Rattle.std.specs.Borrow.{MutBor}
-use Rattle.dfu_slots.specs.Medium.{MediumState, AllWrites}
+use Rattle.dfu_slots.specs.Medium.{AllWrites}
 use Rattle.dfu_slots.specs.Image.{Active}
 use Rattle.dfu_slots.specs.Seen.{format_series}
 use Rattle.dfu_slots.specs.Tagged.{active_tagged, all_tagged, all_writes_tagged}
