@@ -25,13 +25,15 @@ for more in '' USB_MANIFEST=30 USB_RESTARTS=dfu USB_START=app 'USB_START=app USB
 done
 # It is compared with what stands there, and another image is another one.
 row 9 - 'different: ' 'USB_DEVICE=small USB_ATTRIBUTES=0b USB_CAPACITY=20' new.dfu
-# A device that leaves before it has told dfuMANIFEST is one that restarted: the image is sent anew.
-fate='leave 13'
-row 8 new 'unconfirmed: ' USB_DEVICE=small new.dfu
-counted 'it left behind the end, and told nothing: the image is sent twice' 'DNLOAD 0 8' 2
-fate='leave 12'
-row 0 new 'verified: ' 'USB_DEVICE=small USB_ATTRIBUTES=0b' new.dfu
-counted 'it left at the end: the image is sent twice' 'DNLOAD 0 8' 2
+# A device that leaves at the end, or behind it, and before it has answered dfuMANIFEST is one that restarted: the image is sent
+# anew.
+for number in 13 14; do
+    fate="leave $number"
+    row 8 new 'unconfirmed: ' USB_DEVICE=small new.dfu
+    counted "$fate: the image is sent twice" 'DNLOAD 0 8' 2
+    row 0 new 'verified: ' 'USB_DEVICE=small USB_ATTRIBUTES=0b' new.dfu
+    counted "$fate: the image is sent twice" 'DNLOAD 0 8' 2
+done
 fate=
 
 # Its run-time interface stalls GETSTATUS: one DETACH leads it to DFU mode, before the download and before the comparison.
@@ -41,7 +43,7 @@ for more in '' 'USB_ATTRIBUTES=0f USB_DETACH=5' 'USB_DFU_IDS=1209:00ff:0100 USB_
     counted "$more: a DETACH before each" DETACH 2
 done
 # It takes its time.
-row 0 new 'verified: ' 'USB_DEVICE=small USB_ATTRIBUTES=03 USB_LATE=700 USB_START=app USB_APP_STALLS=status' new.dfu
+row 0 new 'verified: ' 'USB_DEVICE=small USB_ATTRIBUTES=03 USB_LEAVES=700 USB_START=app USB_APP_STALLS=status' new.dfu
 counted 'it takes its time: a reset before each, and the last one' '^reset' 3
 row 8 new 'unconfirmed: ' 'USB_START=app USB_APP_STALLS=status USB_ATTRIBUTES=01' new.dfu
 counted 'a reset behind DETACH, and the last one' '^reset' 2

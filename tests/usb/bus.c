@@ -72,7 +72,7 @@ void bus_start(void)
     seen.is_app = model->is_app();
     seen.is_there = is_there_now();
     seen.generation = 1;
-    seen.away = settings.late;
+    seen.away = settings.absent;
     told_ns = now_ns();
     atexit(at_end);
 }

@@ -62,7 +62,7 @@ static void usb_reset(void)
 {
     if (small.state != APP_DETACH)
         start();
-    else if (settings.late_ms == 0)
+    else if (settings.detaches_ms == 0)
         small.state = IDLE;
 }
 
@@ -74,7 +74,7 @@ static void elapse(uint32_t ms)
         reset_itself();
     else if (small.leaves_ms > 0)
         small.leaves_ms -= ms;
-    if (small.state == APP_DETACH && settings.late_ms == 0 && (settings.attributes & 8) != 0)
+    if (small.state == APP_DETACH && settings.detaches_ms == 0 && (settings.attributes & 8) != 0)
         small.state = IDLE;
 }
 
@@ -150,7 +150,7 @@ static int in_app(unsigned what, uint8_t *out)
     if (what != DETACH)
         return STALLED;
     small.state = APP_DETACH;
-    small.leaves_ms = settings.late_ms;
+    small.leaves_ms = settings.detaches_ms;
     return 0;
 }
 

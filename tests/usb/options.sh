@@ -13,7 +13,7 @@ row 0 old 'detached: ' '' --detach
 expect 'in DFU mode: nothing is sent' is_silent
 record='{"status":0,"report":"detached","words":"the device is in DFU mode","goal":"detach","vendor":"1209",'
 row 0 old "$record" USB_START=app --detach --json
-row 0 old 'detached: ' 'USB_START=app USB_LATE=3' --detach --wait --quiet
+row 0 old 'detached: ' 'USB_START=app USB_ABSENT=3' --detach --wait --quiet
 row 4 old '' 'USB_START=app USB_DEVICES=0' --detach
 row 12 old '' 'USB_START=app USB_DEVICES=2' --detach
 row 5 old '' 'USB_START=app USB_CLAIMED=6' --detach

@@ -20,7 +20,7 @@
  * USB_APP_DESCRIPTOR  bytes of the functional descriptor in run-time mode (USB_DESCRIPTOR)
  * USB_APP_TRANSFER  its wTransferSize (USB_TRANSFER)    USB_APP_PROTOCOL  bInterfaceProtocol in run-time mode (1)
  * USB_RESTARTS    small: what it starts by itself behind a download: app, or dfu (DFU mode again) (app)
- * USB_LATE        small: DETACH leads to DFU mode after so many ms, and no reset does (0: a reset does, or bitWillDetach)
+ * USB_LEAVES      small: DETACH leads to DFU mode after so many ms, and no reset does (0: a reset does, or bitWillDetach)
  * USB_DEVICES     1, or 2: another device, whose serial number is OTHER, stands on the bus (1)
  * USB_DENIED      the number of the error that opening a device answers, as 3 for LIBUSB_ERROR_ACCESS (0: it is opened)
  * USB_OTHER_DENIED  the same of the other device alone (0)
@@ -35,7 +35,7 @@
  * USB_DESCRIPTOR  bytes of the functional descriptor, 7 as in DFU 1.0, or 0 for none (9)
  * USB_VERSION     its bcdDFUVersion, hexadecimal (0110)
  * USB_AWAY        for how many lists of devices it is away when its mode changes, or when it leaves (0)
- * USB_LATE        for how many lists of devices it is away at the start (0)
+ * USB_ABSENT      for how many lists of devices it is away at the start (0)
  * USB_SLOW        how many ms a transfer takes on the program's clock (0)
  * USB_FATE        fates of transfers, with commas between: `lost-out N`, `lost-back N`, `twice N`, `short N BYTES`,
  *                 `leave N` (its power goes and comes back), `swap N` (the same, and another board, with the serial number
@@ -184,7 +184,7 @@ static void read_device(void)
     bool is_proved = kind == 0;
     settings.device = devices[kind];
     settings.restarts_in_app = is_first("USB_RESTARTS", "app", "dfu", "app");
-    settings.late_ms = number("USB_LATE", 0, 10);
+    settings.detaches_ms = number("USB_LEAVES", 0, 10);
     settings.attributes = (uint8_t)number("USB_ATTRIBUTES", is_proved ? 0x07 : kind == 1 ? 0x0f : 0x09, 16);
     settings.transfer = (uint16_t)number("USB_TRANSFER", kind == 1 ? 4096 : 8, 10);
     settings.detach_ms = (uint16_t)number("USB_DETACH", is_proved ? 1000 : 0, 10);
@@ -227,7 +227,7 @@ void settings_read(void)
     if (settings.alternates < 1 || settings.alternates > MOST_ALTERNATES)
         fail_loudly("USB_ALTERNATES is 1 to %d", MOST_ALTERNATES);
     settings.away = number("USB_AWAY", 0, 10);
-    settings.late = number("USB_LATE", 0, 10);
+    settings.absent = number("USB_ABSENT", 0, 10);
     settings.slow_ms = number("USB_SLOW", 0, 10);
     read_fates(text("USB_FATE", ""));
     settings.log = getenv("USB_LOG");

@@ -39,7 +39,7 @@ struct settings {
     uint16_t app_transfer;             /* its wTransferSize, */
     uint8_t app_protocol;              /* and bInterfaceProtocol there */
     bool restarts_in_app;              /* small: what it starts by itself, its application or itself again; */
-    uint32_t late_ms;                  /* and how long it takes to DFU mode */
+    uint32_t detaches_ms;              /* and how long it takes to DFU mode */
     uint8_t interface;                 /* its number; */
     uint8_t swapped_interface;         /* that of another board in its place, */
     const char *swapped_name;          /* and the name of that one's first setting, or NULL: the same */
@@ -50,7 +50,7 @@ struct settings {
     int setting;                       /* the one that requests are to be made in, or -1: any */
     int denied, other_denied, claimed; /* the error of an open, of one of the other device, and of a claim, or 0 */
     unsigned opens, denials;           /* so many opens go well before, and so many are denied */
-    unsigned devices, away, late;
+    unsigned devices, away, absent;
     unsigned slow_ms;                  /* what a transfer takes on the program's clock */
     struct fate fates[FATES];
     unsigned fate_count;

@@ -67,23 +67,23 @@ stopped ALRM 0.5 USB_BUSY=16777215 new.dfu
 expect 'an alarm of another program' test "$code" -eq 142
 
 # --wait: for a device that comes, with the rights that come behind it; not where two are there.
-row 4 old '' USB_LATE=3 new.dfu
-row 0 new 'verified: ' USB_LATE=3 --wait new.dfu
+row 4 old '' USB_ABSENT=3 new.dfu
+row 0 new 'verified: ' USB_ABSENT=3 --wait new.dfu
 says 'dfu-flash: waiting for the device; Ctrl-C ends it'
-row 0 new 'verified: ' 'USB_LATE=3 USB_START=app' --wait=30 new.dfu
+row 0 new 'verified: ' 'USB_ABSENT=3 USB_START=app' --wait=30 new.dfu
 says 'dfu-flash: waiting for the device for up to 30 s; Ctrl-C ends it'
-row 0 old 'uploaded: ' USB_LATE=3 --wait --quiet --upload late
+row 0 old 'uploaded: ' USB_ABSENT=3 --wait --quiet --upload late
 expect 'quiet: what is waited for is not said' test ! -s err
-row 4 old '' USB_LATE=100000 --wait=1 new.dfu
+row 4 old '' USB_ABSENT=100000 --wait=1 new.dfu
 says 'no device with DFU'
 row 0 new 'verified: ' 'USB_DENIED=3 USB_DENIALS=5' --wait new.dfu
-row 5 old '' 'USB_DENIED=3 USB_LATE=2' --wait new.dfu
+row 5 old '' 'USB_DENIED=3 USB_ABSENT=2' --wait new.dfu
 says 'may not be opened: LIBUSB_ERROR_ACCESS'
 row 12 old '' 'USB_DEVICES=2' --wait new.dfu
-row 0 new 'verified: ' 'USB_DEVICES=2 USB_LATE=3' --wait --serial F1 new.dfu
-row 4 old '' 'USB_LATE=100000 USB_DEVICES=2' --wait=1 --serial F1 new.dfu
+row 0 new 'verified: ' 'USB_DEVICES=2 USB_ABSENT=3' --wait --serial F1 new.dfu
+row 4 old '' 'USB_ABSENT=100000 USB_DEVICES=2' --wait=1 --serial F1 new.dfu
 for words in --wait --wait=30; do
-    stopped INT 0.5 USB_LATE=100000 $words new.dfu
+    stopped INT 0.5 USB_ABSENT=100000 $words new.dfu
     expect "$words: a signal" test "$code" -eq 130
     expect "$words: nothing is sent" is_silent
     expect "$words: at once" test "$took" -le 4
