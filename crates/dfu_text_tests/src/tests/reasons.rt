@@ -13,7 +13,7 @@ use std::test::Fail;
 /// The sums of the file in pieces of so many bytes: what the suffix says, and what they are.
 fn sums_are(rt: &impl Abort, piece: usize) {
     let mut sums = Sums::new();
-    for bytes in DIGITS.chunks(piece) {
+    for bytes in DIGITS.chunks(piece.max(1)) {
         sums.take(bytes);
     }
     assert_eq!(rt;
