@@ -16,3 +16,11 @@ sums_why written found =
 unfoldable pub length_why : ℕ → ℕ → List ℕ
 length_why said count =
     codes "the suffix says that it has " ++ decimal said ++ (codes " bytes, at least 16 are wanted, and the file has " ++ decimal count)
+
+-- Why `-` is no OUT.
+unfoldable pub out_why : List ℕ
+out_why = codes "it has to be a file, as ./- for one with this name"
+
+-- Why a word isn't understood that isn't UTF-8 text.
+unfoldable pub unread_why : List ℕ
+unread_why = codes "it has to be UTF-8 text; a file with another name can be given as standard input"
