@@ -11,6 +11,7 @@
 #define MOST_EXTRA 48
 #define MOST_TEXTS 6
 #define MOST_UNITS 40
+#define MOST_TEXT (3 * MOST_UNITS + 1)
 
 enum mode { RUN_TIME, UPGRADE };
 
@@ -82,11 +83,11 @@ void face_spoil(struct face *face);
 /* The setting of an interface's number that is of DFU, or NULL. */
 const struct setting *face_setting(const struct face *face, int interface, int alternate);
 
-/* Whether the text of that number is these ASCII characters. */
+/* Whether the text of that number is this one. */
 bool face_says(const struct face *face, uint8_t number, const char *text);
 
-/* Writes it where it is ASCII, else an empty text. */
-void face_text(const struct face *face, uint8_t number, char text[MOST_UNITS + 1]);
+/* Writes it in UTF-8, up to a character 0; an empty text where it is no UTF-16. */
+void face_text(const struct face *face, uint8_t number, char text[MOST_TEXT]);
 
 /* The path, as 1-2.3. */
 void place_path(const struct place *place, char path[64]);

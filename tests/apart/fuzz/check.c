@@ -17,6 +17,7 @@
 static struct {
     struct board *board;
     char path[64];
+    int64_t began_ms;
     bool has_mode[2], has_tried, has_downloaded;
     struct {
         uint16_t vendor, product;
@@ -35,6 +36,7 @@ static void check_choice(const struct libusb_device *device)
 {
     const struct face *face = &device->face;
     chosen.board = device->board;
+    chosen.began_ms = clock_now();
     place_path(&device->place, chosen.path);
     if (!asked.is_sound)
         return;
@@ -98,7 +100,7 @@ void check_request(const struct libusb_device_handle *handle, const uint8_t setu
         check_choice(handle->device);
     if (!handle_is_there(handle))
         return;
-    if ((setup[0] & 0x7f) != 0x21 || setup[1] > 6)
+    if ((setup[0] & 0x7f) != 0x21 || setup[1] > 6 || (asked.is_sound && asked.job == JOB_DETACH && setup[1] != 0))
         fault("the request %02x of type %02x is none of DFU", setup[1], setup[0]);
     if (index > 255 || !handle->claimed[index])
         fault("a request of DFU goes to interface %u, which isn't claimed", index);
@@ -153,6 +155,13 @@ static void check_image(int status)
     outcome->is_placed = status == 0;
 }
 
+static void check_detach(int status)
+{
+    bool is_steady = temper.is_fair && temper.leaves == 0 && temper.strays == 0;
+    if (is_steady && asked.is_sound && asked.job == JOB_DETACH && status == 0 && chosen.board != NULL && chosen.board->mode != UPGRADE)
+        fault("the status is 0, and the device isn't in DFU mode");
+}
+
 static void check_upload(int status)
 {
     static uint8_t bytes[200000];
@@ -174,7 +183,14 @@ static void check_upload(int status)
 /* A signal, and an alarm, which is one, end the program soon. */
 static void check_time(void)
 {
-    if (temper.is_fair && signal_came() >= 0 && clock_now() - signal_came() > STOP_MS)
+    int64_t most_ms = STOP_MS + (int64_t)asked.timeout * 1000;
+    if (!temper.is_fair || !asked.is_sound)
+        return;
+    if (asked.timeout > 0 && chosen.board != NULL && clock_now() - chosen.began_ms > most_ms)
+        fault("the program ends %lld ms after it began, in spite of --timeout", (long long)(clock_now() - chosen.began_ms));
+    if (chosen.board == NULL && (!asked.is_patient || asked.wait > 0) && clock_now() > STOP_MS + (int64_t)asked.wait * 1000)
+        fault("the program waits %lld ms for a device", (long long)clock_now());
+    if (signal_came() >= 0 && clock_now() - signal_came() > STOP_MS)
         fault("the program ends %lld ms after a signal", (long long)(clock_now() - signal_came()));
 }
 
@@ -194,4 +210,5 @@ void check_status(int status)
     check_time();
     check_image(status);
     check_upload(status);
+    check_detach(status);
 }

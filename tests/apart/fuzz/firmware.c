@@ -77,7 +77,7 @@ static void clear_folder(void)
 void firmware_make(void)
 {
     uint8_t size = (uint8_t)(chance(10) ? between(16, 255) : 16);
-    firmware.payload = chance(30) ? 0 : chance(4) ? between(1, MOST_FIRMWARE) : between(1, 700);
+    firmware.payload = chance(100) ? 0 : chance(4) ? between(1, MOST_FIRMWARE) : between(1, 700);
     any_bytes(firmware.bytes, firmware.payload);
     address();
     suffix(firmware.bytes + firmware.payload, size);
@@ -86,7 +86,7 @@ void firmware_make(void)
         spoil();
     clear_folder();
     write_file(FILE_NAME, firmware.bytes, firmware.length);
-    firmware.has_out = chance(5);
+    firmware.has_out = chance(10);
     if (firmware.has_out)
         write_file(OUT_NAME, OLD_OUT, strlen(OLD_OUT));
 }

@@ -112,6 +112,16 @@ static void read_all(int stream, char *text)
         fault("a stream has a byte 00");
 }
 
+/* A line for each setting. */
+static void check_list(const char *out)
+{
+    while (asked.is_json && *out != '\0') {
+        out = value_end(out, 4);
+        if (out == NULL || *out++ != '\n')
+            fault("a line of the list isn't JSON");
+    }
+}
+
 /* What the device may have is said only where a block was sent. */
 static void check_harm(const char *line)
 {
@@ -127,12 +137,18 @@ static void check_out(const char *out, int status)
     if (!asked.is_sound)
         return;
     check_harm(line);
+    if (asked.job == JOB_LIST && status == 0) {
+        check_list(out);
+        return;
+    }
     if (asked.is_json) {
         check_record(line, status);
         return;
     }
     if (asked.job == JOB_DOWNLOAD && !asked.is_dry && status == 0 && strncmp(line, "verified: ", 10) != 0
         && strncmp(line, "installed: ", 11) != 0)
+        fault("the status is 0, and the report is: %s", line);
+    if (asked.job == JOB_DETACH && status == 0 && strncmp(line, "detached: ", 10) != 0)
         fault("the status is 0, and the report is: %s", line);
     if (asked.job == JOB_UPLOAD && !asked.is_dry && status == 0 && strncmp(line, "uploaded: ", 10) != 0)
         fault("the status is 0, and the report is: %s", line);

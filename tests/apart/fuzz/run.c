@@ -52,7 +52,7 @@ static int stream(const char *name)
 static void streams_open(void)
 {
     int full = stream("/dev/full");
-    streams.out = chance(15) ? -1 : stream(NULL);
+    streams.out = chance(40) ? -1 : stream(NULL);
     streams.err = chance(100) ? -1 : stream(NULL);
     dup2(streams.out >= 0 ? streams.out : full, 1);
     dup2(streams.err >= 0 ? streams.err : full, 2);
@@ -77,6 +77,8 @@ static int files_open(void)
 static void play(uint64_t seed)
 {
     int files;
+    /* Not that of the process that started it: it would be closed. */
+    __sanitizer_set_report_fd((void *)(intptr_t)trace_stream);
     random_begin(seed);
     temper_throw();
     outcome->is_fair = temper.is_fair;
@@ -136,6 +138,7 @@ static const char *run(uint64_t seed)
     if (process == 0) {
         sigprocmask(SIG_UNBLOCK, &child, NULL);
         play(seed);
+        temper = (struct temper){0};
         if (__gcov_dump)
             __gcov_dump();
         _exit(0);
@@ -179,7 +182,6 @@ static void set_up(void)
     trace_stream = fcntl(2, F_DUPFD_CLOEXEC, 100);
     if (outcome == MAP_FAILED || trace_stream < 0)
         exit(1);
-    __sanitizer_set_report_fd((void *)(intptr_t)trace_stream);
     sigemptyset(&child);
     sigaddset(&child, SIGCHLD);
     sigprocmask(SIG_BLOCK, &child, NULL);

@@ -1,6 +1,8 @@
 /* What is read of a face. */
 #include "board.h"
 
+#include <string.h>
+
 const struct function *board_function(const struct face *face)
 {
     for (unsigned at = 0; at < MOST_FUNCTIONS; at++)
@@ -25,26 +27,58 @@ const struct setting *face_setting(const struct face *face, int interface, int a
     return NULL;
 }
 
-void face_text(const struct face *face, uint8_t number, char text[MOST_UNITS + 1])
+/* The bytes of a character in UTF-8. */
+static int put(uint32_t point, char *at)
 {
+    if (point < 0x80) {
+        at[0] = (char)point;
+        return 1;
+    }
+    if (point < 0x800) {
+        at[0] = (char)(0xc0 | point >> 6);
+        at[1] = (char)(0x80 | (point & 0x3f));
+        return 2;
+    }
+    if (point < 0x10000) {
+        at[0] = (char)(0xe0 | point >> 12);
+        at[1] = (char)(0x80 | (point >> 6 & 0x3f));
+        at[2] = (char)(0x80 | (point & 0x3f));
+        return 3;
+    }
+    at[0] = (char)(0xf0 | point >> 18);
+    at[1] = (char)(0x80 | (point >> 12 & 0x3f));
+    at[2] = (char)(0x80 | (point >> 6 & 0x3f));
+    at[3] = (char)(0x80 | (point & 0x3f));
+    return 4;
+}
+
+static bool is_half(uint32_t unit, uint32_t first)
+{
+    return unit >= first && unit < first + 0x400;
+}
+
+void face_text(const struct face *face, uint8_t number, char text[MOST_TEXT])
+{
+    const struct text *told = &face->texts[number < MOST_TEXTS ? number : 0];
+    int length = 0;
     text[0] = '\0';
-    if (number == 0 || number >= MOST_TEXTS)
-        return;
-    for (unsigned at = 0; at < face->texts[number].count; at++) {
-        if (face->texts[number].units[at] < 0x20 || face->texts[number].units[at] > 0x7e) {
+    for (unsigned at = 0; at < told->count && told->units[at] != 0; at++) {
+        uint32_t point = told->units[at], next = at + 1 < told->count ? told->units[at + 1] : 0;
+        if (is_half(point, 0xd800) && is_half(next, 0xdc00)) {
+            point = 0x10000 + ((point - 0xd800) << 10) + (next - 0xdc00);
+            at++;
+        } else if (is_half(point, 0xd800) || is_half(point, 0xdc00)) {
             text[0] = '\0';
             return;
         }
-        text[at] = (char)face->texts[number].units[at];
-        text[at + 1] = '\0';
+        length += put(point, text + length);
     }
+    text[length] = '\0';
 }
 
 bool face_says(const struct face *face, uint8_t number, const char *text)
 {
-    const struct text *told = &face->texts[number < MOST_TEXTS ? number : 0];
-    unsigned at = 0;
-    while (at < told->count && text[at] != '\0' && told->units[at] == (uint8_t)text[at])
-        at++;
-    return at == told->count && text[at] == '\0';
+    char told[MOST_TEXT];
+    face_text(face, number, told);
+    return strcmp(told, text) == 0;
 }

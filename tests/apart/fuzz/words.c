@@ -15,7 +15,7 @@ struct asked asked;
 /* Each word in memory of its own, so that a read past its end is seen. */
 static void say(const char *format, ...)
 {
-    char text[100];
+    char text[MOST_TEXT];
     va_list values;
     if (asked.count == MOST_WORDS)
         return;
@@ -100,7 +100,8 @@ static void say_device(void)
         say_alternate(upgrade);
 }
 
-static void say_options(void)
+/* Of a download and of an upload. */
+static void say_session(void)
 {
     if (chance(asked.job == JOB_DOWNLOAD ? 3 : 0))
         say("--no-verify");
@@ -114,32 +115,68 @@ static void say_options(void)
         say("%u", chance(2) ? below(6) : between(6, 70));
     }
     if (chance(8)) {
-        asked.is_quiet = true;
-        say("--quiet");
+        say("--transfer-size");
+        say("%u", chance(2) ? between(1, 64) : between(1, 4096));
     }
     if (chance(20)) {
         asked.is_dry = true;
         say("--dry-run");
-    } else if (chance(3)) {
+    }
+}
+
+static void say_time(void)
+{
+    asked.is_patient = chance(6);
+    if (asked.is_patient && chance(2))
+        say("--wait");
+    else if (asked.is_patient) {
+        asked.wait = between(1, chance(4) ? 1000 : 20);
+        say("--wait=%u", asked.wait);
+    }
+    if (chance(6)) {
+        asked.timeout = between(1, chance(2) ? 10 : 1000);
+        say("--timeout");
+        say("%u", asked.timeout);
+    }
+}
+
+static void say_options(void)
+{
+    if (asked.job == JOB_DOWNLOAD || asked.job == JOB_UPLOAD)
+        say_session();
+    if (asked.job != JOB_LIST) {
+        say_time();
+        if (chance(8))
+            say("--quiet");
+        if (chance(6))
+            say("--verbose");
+    }
+    if (chance(3)) {
         asked.is_json = true;
         say("--json");
     }
 }
 
-static void say_sound(void)
+static void say_job(void)
 {
-    asked.is_sound = true;
-    asked.job = chance(30) ? JOB_LIST : chance(5) ? JOB_UPLOAD : JOB_DOWNLOAD;
-    say_device();
-    if (asked.job != JOB_LIST)
-        say_options();
     if (asked.job == JOB_LIST)
         say("--list");
+    else if (asked.job == JOB_DETACH)
+        say("--detach");
     else if (asked.job == JOB_UPLOAD) {
         say("--upload");
         say(OUT_NAME);
     } else
-        say(chance(60) ? "nowhere" : FILE_NAME);
+        say(!chance(60) ? FILE_NAME : chance(2) ? "nowhere" : "no\x1b[2Jwhere\xff");
+}
+
+static void say_sound(void)
+{
+    asked.is_sound = true;
+    asked.job = chance(30) ? JOB_LIST : chance(15) ? JOB_DETACH : chance(5) ? JOB_UPLOAD : JOB_DOWNLOAD;
+    say_device();
+    say_options();
+    say_job();
     if (asked.job == JOB_DOWNLOAD && !asked.has_ids && asked.path[0] == '\0' && asked.serial[0] == '\0') {
         asked.has_ids = true;
         asked.vendor = firmware.vendor;
@@ -153,9 +190,9 @@ static void say_any(void)
     static const char *const some[] = {
         "--device", "1209:0001", "ffff:ffff", "1209:1", "--path", "1-1", "--serial", "S-A", "--interface", "0", "255", "256", "--alt",
         "boot", "", "--no-verify", "--upload", OUT_NAME, "--force", "--limits", "10", "4294967296", "-1", "--dry-run", "--quiet", "--json",
-        "--list", "--help", "-h", "--version", "-V", FILE_NAME, FILE_NAME, FILE_NAME, "--", "-", "--what", "--device=1209:0001", "1209:0001,1209:00ff", "1209:0001,", "1209:0001,1209:00", "12", "--alt=1",
-        "--l", "--upload=", "--serial=\x1b[2J", "99999999999999999999"};
-    for (uint32_t count = below(7); count > 0; count--)
+        "--list", "--detach", "--wait", "--wait=", "--wait=5", "--timeout", "--transfer-size", "--verbose", "--help", "-h", "--version", "-V", FILE_NAME, FILE_NAME, FILE_NAME, "--", "-", "--what", "--device=1209:0001", "1209:0001,1209:00ff", "1209:0001,", "1209:0001,1209:00", "12", "--alt=1",
+        "--l", "--w=3", "--time=2", "--upload=", "--serial=\x1b[2J", "99999999999999999999"};
+    for (uint32_t count = below(8); count > 0; count--)
         say("%s", some[below(sizeof some / sizeof some[0])]);
 }
 
