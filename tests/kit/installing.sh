@@ -63,7 +63,8 @@ rights() {
 }
 
 tree="$work/the tree"
-mkdir -p "$tree/crates/dfu_cmd/out" "$tree/docs"
+mkdir -p "$tree/crates/dfu_cmd/out" "$tree/docs" "$tree/flash"
+cp "$top/flash/70-dfu.rules" "$tree/flash"
 cp -R "$top/install" "$top/install-folders" "$top/completions" "$top/include" "$tree"
 cp "$top"/docs/*.1 "$tree/docs"
 cp "$top/crates/dfu_cmd/out/dfu_cmd" "$tree/crates/dfu_cmd/out"

@@ -207,6 +207,7 @@ int main(void)
     signal(SIGPIPE, SIG_IGN);
     bus_start();
     while (!is_stopped) {
+        bus_pass_time();
         if (line < 0 && (!bus_lists() || !attach())) {
             usleep(50000);
             continue;
