@@ -147,5 +147,6 @@ int device_choose(struct device *device, const struct wanted *wanted)
     memcpy(device->path, list[0].path, sizeof device->path);
     /* One that was asked for at its path is found again nowhere else. */
     device->serial = wanted->path != NULL && has_ports(device->path) ? NULL : wanted->serial;
+    device->bus = wanted->path;
     return is_usable(device) ? STATUS_DONE : say_unusable(device);
 }

@@ -20,7 +20,8 @@ struct device {
     libusb_device_handle *handle;         /* NULL while it is away */
     struct found is;                      /* as it was found last */
     char path[PATH_ROOM];                 /* by this it is found again, */
-    const char *serial;                   /* or by the serial number that was asked for; NULL where none was */
+    const char *serial;                   /* or by the serial number that was asked for; NULL where none was, */
+    const char *bus;                      /* at this path, where one was asked for that names no ports; else NULL */
     struct place place;                   /* the interface and setting that were asked for */
     bool is_many;                         /* it came back with more than one setting */
     const volatile sig_atomic_t *is_stop; /* a wait for the device ends where this is set */
