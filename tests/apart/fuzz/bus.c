@@ -88,10 +88,20 @@ void bus_make(void)
     }
 }
 
+/* Each stands in the other's place then. */
+static void swap(struct board *first, struct board *second)
+{
+    struct place place = first->place;
+    first->place = second->place;
+    second->place = place;
+    bus_leave(first);
+    bus_leave(second);
+}
+
 /* In a fair run the boards stay what they are: they lose their power, or nobody may have them for a while. */
 static void stray(struct board *board)
 {
-    switch (below(temper.is_fair ? 3 : 9)) {
+    switch (below(temper.is_fair ? 3 : 10)) {
     case 0:
         model_power(&board->model);
         bus_leave(board);
@@ -106,6 +116,7 @@ static void stray(struct board *board)
         break;
     case 6: board->place.ports[0] = (uint8_t)between(10, 13); bus_leave(board); break;
     case 7: board->faces[RUN_TIME] = board->faces[below(2)]; bus_leave(board); break;
+    case 8: swap(board, &bus.boards[below(bus.count)]); break;
     default:
         face_spoil(&board->faces[below(2)]);
         bus_leave(board);

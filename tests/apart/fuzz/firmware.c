@@ -9,9 +9,11 @@
 #include <dirent.h>
 #include <stdio.h>
 #include <string.h>
+#include <sys/stat.h>
 #include <unistd.h>
 
 #define OLD_OUT "what stood there before"
+#define OTHER_NAME "other"
 
 struct firmware firmware;
 
@@ -70,8 +72,18 @@ static void clear_folder(void)
     DIR *folder = opendir(".");
     for (struct dirent *one = readdir(folder); one != NULL; one = readdir(folder))
         if (strcmp(one->d_name, ".") != 0 && strcmp(one->d_name, "..") != 0)
-            unlink(one->d_name);
+            if (unlink(one->d_name) != 0)
+                rmdir(one->d_name);
     closedir(folder);
+}
+
+static void make_out(void)
+{
+    firmware.out = !chance(8) ? OUT_NONE : chance(4) ? OUT_FOLDER : chance(3) ? OUT_LINK : OUT_FILE;
+    if (firmware.out == OUT_FILE || firmware.out == OUT_LINK)
+        write_file(firmware.out == OUT_FILE ? OUT_NAME : OTHER_NAME, OLD_OUT, strlen(OLD_OUT));
+    if ((firmware.out == OUT_LINK && symlink(OTHER_NAME, OUT_NAME) != 0) || (firmware.out == OUT_FOLDER && mkdir(OUT_NAME, 0777) != 0))
+        fault("OUT can't be made");
 }
 
 void firmware_make(void)
@@ -86,18 +98,16 @@ void firmware_make(void)
         spoil();
     clear_folder();
     write_file(FILE_NAME, firmware.bytes, firmware.length);
-    firmware.has_out = chance(10);
-    if (firmware.has_out)
-        write_file(OUT_NAME, OLD_OUT, strlen(OLD_OUT));
+    make_out();
 }
 
-/* Nothing but the two stands in the folder. */
+/* Nothing else stands in the folder. */
 static void check_folder(void)
 {
     DIR *folder = opendir(".");
     for (struct dirent *one = readdir(folder); one != NULL; one = readdir(folder))
         if (strcmp(one->d_name, ".") != 0 && strcmp(one->d_name, "..") != 0 && strcmp(one->d_name, FILE_NAME) != 0
-            && strcmp(one->d_name, OUT_NAME) != 0)
+            && strcmp(one->d_name, OUT_NAME) != 0 && (firmware.out != OUT_LINK || strcmp(one->d_name, OTHER_NAME) != 0))
             fault("the file %s is left", one->d_name);
     closedir(folder);
 }
@@ -113,19 +123,35 @@ static bool has(const char *name, const void *bytes, size_t length)
     return count == length && memcmp(found, bytes, length) == 0;
 }
 
+/* What stood at OUT before stands there still. */
+static bool is_out_kept(void)
+{
+    struct stat is;
+    if (lstat(OUT_NAME, &is) != 0)
+        return firmware.out == OUT_NONE;
+    if (firmware.out == OUT_FOLDER)
+        return S_ISDIR(is.st_mode);
+    if (firmware.out == OUT_LINK)
+        return S_ISLNK(is.st_mode) && has(OTHER_NAME, OLD_OUT, strlen(OLD_OUT));
+    return firmware.out == OUT_FILE && has(OUT_NAME, OLD_OUT, strlen(OLD_OUT));
+}
+
 void firmware_check(int status)
 {
-    bool is_written = asked.is_sound && asked.job == JOB_UPLOAD && status == 0 && !asked.is_dry;
-    if (asked.is_sound)
-        check_folder();
-    if (asked.is_sound && !has(FILE_NAME, firmware.bytes, firmware.length))
+    /* With status 3 the file may stand there too, where only the report could not be printed. */
+    bool may_write = asked.job == JOB_UPLOAD && !asked.is_dry && (status == 0 || status == 3)
+        && (firmware.out == OUT_NONE || (firmware.out == OUT_FILE && asked.is_forced));
+    bool is_written = asked.job == JOB_UPLOAD && !asked.is_dry && status == 0;
+    struct stat is;
+    if (!asked.is_sound)
+        return;
+    check_folder();
+    if (!has(FILE_NAME, firmware.bytes, firmware.length))
         fault("the file was changed");
-    if (asked.is_sound && !is_written && status != 3 && firmware.has_out && !has(OUT_NAME, OLD_OUT, strlen(OLD_OUT)))
-        fault("OUT was changed with status %d", status);
-    if (is_written && firmware.has_out && !asked.is_forced)
-        fault("OUT was replaced without --force");
-    if (is_written && access(OUT_NAME, F_OK) != 0)
+    if (!may_write && !is_out_kept())
+        fault("OUT isn't what it was, and the status is %d", status);
+    if (is_written && !may_write)
+        fault("the status is 0, and OUT was not to be replaced");
+    if (is_written && (lstat(OUT_NAME, &is) != 0 || !S_ISREG(is.st_mode)))
         fault("there is no OUT behind an upload");
-    if (asked.is_sound && !is_written && !firmware.has_out && status != 3 && access(OUT_NAME, F_OK) == 0)
-        fault("OUT was made with status %d", status);
 }

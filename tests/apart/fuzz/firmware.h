@@ -13,7 +13,7 @@ struct firmware {
     uint8_t bytes[MOST_FIRMWARE + 300];
     uint32_t payload, length; /* bytes of the image, and of the file */
     uint16_t vendor, product, release;
-    bool has_out;             /* OUT is there */
+    enum { OUT_NONE, OUT_FILE, OUT_FOLDER, OUT_LINK } out; /* what stands at OUT; a link names the file `other` */
 };
 
 extern struct firmware firmware;

@@ -21,7 +21,7 @@ void temper_throw(void)
     temper.strays = temper.is_fair && !chance(3) ? 0 : between(10, 500);
     temper.stops = chance(6) ? between(20, 500) : 0;
     temper.no_memory = chance(20) ? 3 : 0;
-    temper.files_fail = chance(10) ? 3 : 0;
+    temper.files_fail = chance(6) ? 3 : 0;
     temper.patience = chance(4) ? between(1, 400) : between(1000, 8000);
     temper.is_terminal = chance(2);
 }
