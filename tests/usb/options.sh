@@ -106,3 +106,11 @@ row 3 old '' '' --upload "nowhere/$name"
 expect 'a name is escaped' grep -qF "$(printf 'nowhere/a\\x1b[2J\\xc2\\x9b\303\251\\xffb can'"'"'t be made: ')" err
 row 2 - '' '' new.dfu "$name"
 expect 'a word is escaped' grep -qF "$(printf 'a word too many: a\\x1b[2J')" err
+
+# 'Coming from dfu-util': each of its options has a line in the manual, and stands in the help.
+sed -n '/^\.SH COMING FROM DFU/,/^\.SH LIMITS/p' "$top/docs/dfu-flash.1" > section
+LD_LIBRARY_PATH=$work ./dfu-flash --help | sed -n '/^Coming from dfu-util:/,/^$/p' > help
+for option in D U Z l d p S i a n c t w e E R v V s; do
+    expect "-$option of dfu-util, in the manual" grep -q "^\.B.*\\\\-$option\\b" section
+    expect "-$option of dfu-util, in the help" grep -q "^  .*-$option\\b" help
+done
