@@ -90,8 +90,9 @@ impl Progress {
         if !task.is_behind_close(self.phase) {
             return self.restarted();
         }
-        let phase = Phase::Last(Report::Unconfirmed);
-        Progress { phase, ..self }.by_row(task, Heard::WasReset)
+        let next = task.after_last(Report::Unconfirmed, Heard::WasReset);
+        task.go_on(true);
+        self.spent(next, self.restarts)
     }
 
     /// After a restart of the device.

@@ -11,4 +11,8 @@ pub returns-clause-state : goal.returns-clause-state
 returns-clause-state c = λ memory old.
     let behind : is_behind_close (goal_of c.args.task.now.goal) (phase_of old c.args.self.phase) ≡ true =
     sym (c.is_behind_close.ensures old) ∙ c.if-not-is_behind_close.false in
-    rw behind (c.by_row.ensures.state memory memory [] refl tt)
+    c.spent.ensures.state c.go_on.new.self memory old
+    ∙ rw (behind, c.go_on.ensures.task, c.after_last-next.ensures.next memory []) refl
+
+pub returns-clause-within : goal.returns-clause-within
+returns-clause-within c = c.spent.ensures.within c.go_on.new.self (c.go_on.ensures.within _ c.after_last-next.ensures.within)
