@@ -144,8 +144,9 @@ int32_t dfu_device_power_on(const struct dfu_config *config, struct dfu_device *
 /* The device gets power and begins in dfuIDLE: as dfu_device_power_on, a DETACH and a reset of the bus. */
 int32_t dfu_device_begin(const struct dfu_config *config, struct dfu_device *device, uint8_t *medium, size_t size);
 
-/* Answers a setup with its body. BODY AND OUT MUST NOT SHARE A BYTE. The number is how many bytes of out are the answer: 0 where it is acknowledged, or has
- * none; or DFU_STALL; or the first that holds of DFU_NO_ROOM, DFU_NO_CONFIG, DFU_NO_MEDIUM, DFU_NO_DEVICE. */
+/* Answers a setup with its body. BODY AND OUT MUST NOT SHARE A BYTE. The number is how many bytes of out are the answer: 0
+ * where it is acknowledged, or has none; or DFU_STALL; or the first that holds of DFU_NO_ROOM, DFU_NO_CONFIG, DFU_NO_MEDIUM,
+ * DFU_NO_DEVICE. */
 int32_t dfu_device_handle(const struct dfu_config *config, struct dfu_device *device, uint8_t *medium, size_t size,
                           const uint8_t setup[8], const uint8_t *body, size_t length, uint8_t *out, size_t room);
 
