@@ -8,9 +8,11 @@
  * record, not the medium, and not the buffer of the answer.
  *
  * What the program owes, always:
- * - No pointer is NULL, also where its length is 0. Each points to as much as its length or its type says.
- * - Nothing that is handed in overlaps anything else that is.
- * - One call at a time for a record or a medium, and up to 9,000 bytes of stack below a call.
+ * - No pointer is NULL, also where its length is 0. Each points to as much as its length or its type says. Where address 0
+ *   is memory, nothing that is handed in begins there.
+ * - Nothing that is handed in overlaps anything else that is: BODY AND OUT ARE TWO BUFFERS, also where the stack has one.
+ * - One call at a time for a record or a medium, and up to 9,000 bytes of stack below a call. Two devices share nothing: a
+ *   call for one may interrupt a call for the other. An interrupt that may come within a call makes none for the same device.
  * What it owes so that the device goes on from where it was:
  * - The configuration is the same in every call.
  * - The record and the medium are as the last call left them. A record begins with dfu_device_power_on.
@@ -19,7 +21,7 @@
  *
  * The loop of a bootloader:
  *
- *     on power:            dfu_device_power_on; for a device that is to begin in dfuIDLE, then a DETACH and a reset of its own
+ *     on power:            dfu_device_power_on; or dfu_device_begin for a device that is to begin in dfuIDLE
  *     on a bus reset:      dfu_device_usb_reset, once per enumeration
  *     on a request of this class (bmRequestType 21h or A1h) to the interface of this standard:
  *                          set wIndex, bytes 4 and 5 of the setup, to 0, whatever number the interface has
@@ -27,26 +29,44 @@
  *                          n = dfu_device_handle(..)
  *                          0 or more: answer with the n bytes of out, or acknowledge where the host sent
  *                          DFU_STALL: stall endpoint 0; the device may be in another state now
- *     as time passes:      dfu_device_elapse where dfu_device_state is 1, 4 or 7; no other state counts time
+ *     as time passes:      dfu_device_elapse where dfu_device_due is more than 0; no other state counts time
  *                          bitWillDetach, and the state went from 1 to 2: leave the bus and come back; report no reset for that
  *     then:                dfu_device_state says what runs: the application in 0 and 1, the upgrade elsewhere
  *
  * - Other requests, as SET_INTERFACE, are the program's own: dfu_device_handle stalls them.
  * - Report the time that has passed before you hand in a request. In state 4 or 7 each request, GETSTATUS too, is an error
  *   and drops what was taken.
- * - Do not cut a body that is longer than your buffer: stall it, without a call.
+ * - Some stacks acknowledge a data stage as they take it, so that it is too late for a stall (Linux's FunctionFS and
+ *   raw-gadget do). There ask dfu_device_would_stall before the data stage. 1: call dfu_device_handle, with any body of
+ *   wLength bytes, and stall the setup. 0: receive the data stage, then call dfu_device_handle.
+ * - Do not cut a body that is longer than your buffer, which has at least transfer bytes: call dfu_device_too_long with its
+ *   setup, and stall it.
  * - Report one bus reset per enumeration; skip the first one if you started in dfuIDLE. Another reset ends the upgrade: by
  *   the table, one in dfuIDLE leads to appIDLE.
  * - The medium is written in the dfu_device_elapse that ends the busy or the manifestation time. Where that time is 0, it
  *   is written in the dfu_device_handle that answers GETSTATUS. A DNLOAD writes nothing.
  * - Each call that is given a medium reads the whole active image, to check it. Until the next download writes its first
  *   block, it reads the image before it too. The call that puts an image in place reads the new one, and then both again.
- *   So report time in few calls: one with busy_ms, when it has passed, will do. */
+ *   So report time in few calls: one with what dfu_device_due says will do.
+ * - The host waits for the poll time after the answer to GETSTATUS. Report busy_ms or manifest_ms right after that answer:
+ *   the medium is then written while the host waits, and not when it asks again.
+ * - Where a block device keeps the medium, choose C so that no sector has bytes of both slots: 32 + C is a multiple of the
+ *   sector's size. */
 #ifndef DFU_DEVICE_H
 #define DFU_DEVICE_H
 
 #include <stddef.h>
 #include <stdint.h>
+
+#if !defined(__x86_64__) && !defined(_M_X64) && !defined(__aarch64__) && !defined(_M_ARM64)
+#error "there is an archive of dfu_device_c for x86-64 and for AArch64 only"
+#endif
+
+/* The version: 10,000 for each major one, 100 for each minor one, and 1 for each patch. */
+#ifndef DFU_VERSION
+#define DFU_VERSION 100
+#define DFU_VERSION_TEXT "0.1.0"
+#endif
 
 #ifdef __cplusplus
 extern "C" {
@@ -104,12 +124,14 @@ enum {
     DFU_NO_DEVICE = -4,  /* the record is none of a device on that medium */
     DFU_NO_ROOM = -5,    /* out has less room than an answer may need: 6 bytes, or the transfer size where that is more */
     DFU_WRONG_SIZE = -6, /* the medium has no length that two slots can have */
-    DFU_TOO_LARGE = -7   /* the image is longer than a slot's data */
+    DFU_TOO_LARGE = -7,  /* the image is longer than a slot's data */
+    DFU_NOT_LONG = -9    /* the host sends no more bytes with this setup than a block may have */
 };
 
 /* Writes an image into the first slot and makes it the active one, whatever stood on the medium: 0; or the first that
  * holds of DFU_NO_MEDIUM (2^32 bytes or more), DFU_WRONG_SIZE, DFU_TOO_LARGE. A medium for images of at most C bytes has
- * 2 * (32 + C) bytes, C from 1 to 16,777,216. It is for when a board is made: a loss of power within it may leave no image. */
+ * 2 * (32 + C) bytes, C from 1 to 16,777,216. It is for when a board is made: a loss of power within it may leave no image.
+ * An image of length 0 is allowed, and means that there is no application yet: dfu_device_image tells it by the length. */
 int32_t dfu_device_format(uint8_t *medium, size_t size, const uint8_t *image, size_t length);
 
 /* The device gets power: 0, and the record is that of a device in appIDLE, whatever it held; or the first that holds of
@@ -119,8 +141,12 @@ int32_t dfu_device_format(uint8_t *medium, size_t size, const uint8_t *image, si
  * comes last. */
 int32_t dfu_device_power_on(const struct dfu_config *config, struct dfu_device *device, uint8_t *medium, size_t size);
 
-/* Answers a setup with its body. The number is how many bytes of out are the answer: 0 where it is acknowledged, or has
- * none; or DFU_STALL; or the first that holds of DFU_NO_ROOM, DFU_NO_CONFIG, DFU_NO_MEDIUM, DFU_NO_DEVICE. */
+/* The device gets power and begins in dfuIDLE: as dfu_device_power_on, a DETACH and a reset of the bus. */
+int32_t dfu_device_begin(const struct dfu_config *config, struct dfu_device *device, uint8_t *medium, size_t size);
+
+/* Answers a setup with its body. BODY AND OUT MUST NOT SHARE A BYTE. The number is how many bytes of out are the answer: 0
+ * where it is acknowledged, or has none; or DFU_STALL; or the first that holds of DFU_NO_ROOM, DFU_NO_CONFIG, DFU_NO_MEDIUM,
+ * DFU_NO_DEVICE. */
 int32_t dfu_device_handle(const struct dfu_config *config, struct dfu_device *device, uint8_t *medium, size_t size,
                           const uint8_t setup[8], const uint8_t *body, size_t length, uint8_t *out, size_t room);
 
@@ -132,6 +158,23 @@ int32_t dfu_device_elapse(const struct dfu_config *config, struct dfu_device *de
  * every other state to appIDLE. */
 int32_t dfu_device_usb_reset(const struct dfu_config *config, struct dfu_device *device, uint8_t *medium, size_t size);
 
+/* Whether dfu_device_handle will stall this setup, whatever body of wLength bytes comes with it: 1 or 0; or the first that
+ * holds of DFU_NO_CONFIG, DFU_NO_DEVICE, the latter as dfu_device_state. The medium has size bytes. Nothing changes. */
+int32_t dfu_device_would_stall(const struct dfu_config *config, const struct dfu_device *device, size_t size,
+                               const uint8_t setup[8]);
+
+/* As dfu_device_handle for a setup whose body has more than transfer bytes, without the body: DFU_STALL; or the first that
+ * holds of DFU_NO_CONFIG, DFU_NO_DEVICE as dfu_device_state, DFU_NOT_LONG. */
+int32_t dfu_device_too_long(const struct dfu_config *config, struct dfu_device *device, const uint8_t setup[8]);
+
+/* In how many milliseconds dfu_device_elapse changes the state, at least 1; 0 where no time changes it; or the first that
+ * holds of DFU_NO_CONFIG, DFU_NO_DEVICE as dfu_device_state. */
+int64_t dfu_device_due(const struct dfu_config *config, const struct dfu_device *device);
+
+/* The functional descriptor (USB DFU 1.1, section 4.1.3), for the configuration descriptor: 9, and out has its 9 bytes; or
+ * DFU_NO_CONFIG. */
+int32_t dfu_device_functional(const struct dfu_config *config, uint8_t out[9]);
+
 /* The state, bState: 0 to 10; or DFU_NO_DEVICE where mode, or number in mode 12, is out of its range. */
 int32_t dfu_device_state(const struct dfu_device *device);
 
@@ -139,8 +182,11 @@ int32_t dfu_device_state(const struct dfu_device *device);
 int32_t dfu_device_code(const struct dfu_device *device);
 
 /* Where the active image stands, for a program that runs it in place: 0; or DFU_NO_MEDIUM, and place is as it was. It
- * writes nothing. The place holds until the next image is put in place. */
+ * writes nothing. The place holds until the next image is put in place. A length of 0 means that there is no application. */
 int32_t dfu_device_image(uint8_t *medium, size_t size, struct dfu_place *place);
+
+/* The version of the archive: DFU_VERSION, where header and archive belong together. */
+int32_t dfu_device_version(void);
 
 #ifdef __cplusplus
 }

@@ -116,7 +116,7 @@ static int tell_status(uint8_t *out)
             reset_itself();
         return count;
     default:
-        return status(out, small.state, 0);
+        return status(out, small.state, small.leaves_ms);
     }
 }
 

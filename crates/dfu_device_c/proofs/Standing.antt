@@ -1,5 +1,5 @@
 -- Which device a record is: that of a device that was put where it says, and that of the device that it keeps.
-use Rattle.std.proofs.Common.{◌≡◌, ◌≤◌, ◌%◌, ℕ, List, [], ◌∷◌, get_or, length, ap, sym, ◌∙◌, subst, IsTrue, arith}
+use Rattle.std.proofs.Common.{◌≡◌, ◌≤◌, ◌%◌, ℕ, List, [], ◌∷◌, get_or, length, take, true, ap, sym, ◌∙◌, subst, IsTrue, arith}
 use Rattle.std.proofs.lemmas.List.{nil_from_length}
 use Rattle.std.specs.Borrow.{MutBor}
 use Rattle.dfu_slots.specs.declared.unit.Unit.TheVariants.{Byte}
@@ -8,11 +8,11 @@ use Rattle.dfu_slots.specs.Medium.{MediumState}
 use Rattle.dfu_slots.specs.Store.{IsStore}
 use Rattle.dfu_slots.specs.Tagged.{is_store_tagged}
 use Rattle.dfu_device.specs.declared.mode.Mode.{Mode}
-use Rattle.dfu_slots.specs.Seen.{SlotsState}
+use Rattle.dfu_slots.specs.Seen.{SlotsState, store_of}
 use Rattle.dfu_device.specs.Setting.{Setting, IsAllowed}
 use Rattle.dfu_device.specs.Stage.{InAppIdle}
 use Rattle.dfu_device.specs.Shown.{Shown}
-use Rattle.dfu_device.specs.Parts.{shows, is_sound}
+use Rattle.dfu_device.specs.Parts.{shows, is_filled, is_sound}
 use Rattle.dfu_device_c.specs.declared.record.DfuDevice.{DfuDevice}
 use Rattle.dfu_device_c.specs.declared.refusal.Refusal.TheVariants as refusal
 use Rattle.dfu_device_c.specs.Memory.{memory_of, memory_at, plain_medium, plain_store, plain_device}
@@ -90,4 +90,26 @@ kept_device s r bytes d m block slots allowed config_is slots_is medium_is end_i
           (subst (λ (n : ℕ). IsTrue (is_sound m n d.slots)) (sym size) sound));
       device_is = ap plain_device (sym parts) ∙ shows_plain d.config d.slots m block
           ∙ (λ k. shows (config_is k) (same k) m (sym block_is k));
+    }
+
+-- What is sound in one mode is so in one in which nothing is put.
+free_sound : (m old : Mode) (n k : ℕ) (x : SlotsState) → ((n : ℕ) (x : SlotsState) → is_filled m n x ≡ true)
+    → IsTrue (is_sound old n x) → IsTrue (is_sound m k x)
+free_sound m old n k x free sound = rw (free k x) (grind (arith, sound))
+
+-- A record that was put in another mode, in which nothing is put, is the record of that device.
+pub moved_device : (s : Setting) (r r' : DfuDevice) (bytes : List ℕ) (d : Shown) (m : Mode) → IsDevice s r bytes d → HasMode r' m
+    → r'.put_end ≡ r.put_end → r'.length ≡ r.length → r'.block ≡ r.block → ((n : ℕ) (x : SlotsState) → is_filled m n x ≡ true)
+    → IsDevice s r' bytes (shows s (store_in r bytes) m (block_in r))
+moved_device s r r' bytes d m device has_mode end size block free =
+    let same : store_in r bytes ≡ store_in r' bytes = λ i. store_of (memory_of bytes) [] (sym end i) in
+    record {
+      allowed = device.allowed;
+      store = subst (λ (x : SlotsState). IsStore x) same device.store;
+      mode = m;
+      has_mode = has_mode;
+      fits = omega (arith, device.fits, size);
+      sound = subst (λ (x : SlotsState). IsTrue (is_sound m r'.length x)) same
+          (free_sound m device.mode r.length r'.length (store_in r bytes) free device.sound);
+      device_is = λ i. shows s (same i) m (take (sym size i) (sym block i));
     }

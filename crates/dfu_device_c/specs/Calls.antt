@@ -1,14 +1,16 @@
 -- What a call answers to a program in C.
-use Rattle.std.specs.Prelude.{◌≡◌, ℕ, ℤ, pos, ◌<◌, ◌≤◌, List, ◌++◌, length, drop}
+use Rattle.std.specs.Prelude.{◌≡◌, ◌⊎◌, ℕ, ℤ, pos, ◌<◌, ◌≤◌, List, ◌++◌, length, drop}
 use Rattle.std.specs.Borrow.{MutBor}
 use Rattle.dfu_device.specs.declared.answer.Answer.{Answer}
-use Rattle.dfu_device.specs.Setting.{Setting}
+use Rattle.dfu_device.specs.declared.mode.Mode.{Mode}
+use Rattle.dfu_device.specs.Setting.{Setting, IsAllowed}
 use Rattle.dfu_device.specs.Shown.{Shown}
 use Rattle.dfu_device.specs.Lent.{answer_room}
 use Rattle.dfu_device_c.specs.declared.record.DfuDevice.{DfuDevice}
 use Rattle.dfu_device_c.specs.declared.refusal.Refusal.{Refusal}
+use Rattle.dfu_device_c.specs.Record.{HasMode}
 use Rattle.dfu_device_c.specs.Device.{IsRefused, Takes}
-use Rattle.dfu_device_c.specs.Numbers.{refusal_number, answer_number, NO_ROOM}
+use Rattle.dfu_device_c.specs.Numbers.{refusal_number, answer_number, NO_CONFIG, NO_DEVICE, NO_ROOM}
 
 -- A call with this number was refused, and left the record and the medium as they were.
 pub record Refuses (s : Setting) (r : DfuDevice) (bytes : List ℕ) (result : ℤ) (r' : DfuDevice) (bytes' : List ℕ) : Type 0 where
@@ -55,3 +57,8 @@ pub record HasNoRoom (s : Setting) (r : DfuDevice) (bytes out : List ℕ) (resul
 pub record IsBack (old new : MutBor (List ℕ)) : Type 0 where
   pub name : new.ghost_name ≡ old.ghost_name
   pub bytes : new.now ≡ old.now
+
+-- A question was not answered: the configuration is not allowed, or else the record has no mode.
+abbrev pub RefusesAsking : Setting → DfuDevice → ℤ → Type 0
+RefusesAsking s r result = ((result ≡ NO_CONFIG) × ¬ IsAllowed s)
+    ⊎ ((result ≡ NO_DEVICE) × IsAllowed s × ((m : Mode) → ¬ HasMode r m))

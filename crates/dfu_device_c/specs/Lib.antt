@@ -5,3 +5,6 @@ pub mod Device
 pub mod Numbers
 pub mod Calls
 pub mod Power
+pub mod Stalls
+pub mod Due
+pub mod Long

@@ -29,6 +29,10 @@ refusal_number refusal.NoDevice = NO_DEVICE
 abbrev pub NO_ROOM : ℤ
 NO_ROOM = negsuc 4
 
+-- DFU_NOT_LONG.
+abbrev pub NOT_LONG : ℤ
+NOT_LONG = negsuc 8
+
 -- DFU_STALL.
 abbrev pub STALL : ℤ
 STALL = negsuc 0

@@ -6,6 +6,7 @@ use Rattle.dfu_slots.specs.Medium.{AllWrites}
 use Rattle.dfu_slots.specs.Image.{Active}
 use Rattle.dfu_slots.specs.Seen.{format_series}
 use Rattle.dfu_slots.specs.Changes.{IsFormatFault}
+use Rattle.dfu_device.specs.Stage.{InDfuIdle}
 use Rattle.dfu_device.specs.Setting.{Setting, IsAllowed}
 use Rattle.dfu_device.specs.Shown.{powered_on}
 use Rattle.dfu_device_c.specs.declared.record.DfuDevice.{DfuDevice}
@@ -39,6 +40,12 @@ pub record RefusesFormat (bytes image : List ℕ) (result : ℤ) (bytes' : List 
 pub record Powers (s : Setting) (bytes : List ℕ) (result : ℤ) (r' : DfuDevice) (bytes' : List ℕ) : Type 0 where
   pub number_is : result ≡ pos 0
   pub is : IsDevice s r' bytes (powered_on s (memory_of bytes))
+  pub untouched : bytes' ≡ bytes
+
+-- A device got power and began in dfuIDLE on this medium, which stands as it did.
+pub record Begins (s : Setting) (bytes : List ℕ) (result : ℤ) (r' : DfuDevice) (bytes' : List ℕ) : Type 0 where
+  pub number_is : result ≡ pos 0
+  pub is : IsDevice s r' bytes (record (powered_on s (memory_of bytes)) { stage = InDfuIdle })
   pub untouched : bytes' ≡ bytes
 
 -- No device got power: the configuration is not allowed, or else the medium has no image. All stands as it did.

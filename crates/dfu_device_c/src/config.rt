@@ -1,5 +1,5 @@
 //! What a program in C sets a device up with.
-ghost use Rattle.std.specs.Prelude.{◌≡◌, IfSome, IfNone};
+ghost use Rattle.std.specs.Prelude.{◌≡◌, IfSome, IfNone, IsTrue, not};
 ghost use Rattle.dfu_device.specs.Setting.{IsAllowed};
 ghost use Rattle.dfu_device_c.specs.Config.{setting_of};
 
@@ -33,6 +33,29 @@ pub struct DfuConfig {
     pub least: u32,
 }
 
+/// Whether a device can be set up so.
+pub(crate) fn is_allowed(config: &DfuConfig) -> bool
+    ensures yes { IsTrue result → IsAllowed (setting_of config.now) }
+    ensures no { IsTrue (not result) → ¬ IsAllowed (setting_of config.now) }
+{
+    match config_of(config) {
+        Some(_) => true,
+        None => false,
+    }
+}
+
+/// The functional descriptor.
+pub(crate) fn functional_of(config: &DfuConfig) -> Functional
+    ensures { result ≡ (setting_of config.now).functional }
+{
+    Functional::of_attributes(
+        config.attributes,
+        config.detach_ms,
+        config.transfer,
+        VERSION,
+    )
+}
+
 /// The configuration that this is, if a device can be set up so.
 #[inline(never)]
 pub(crate) fn config_of(config: &DfuConfig) -> Option<Config>
@@ -45,12 +68,7 @@ pub(crate) fn config_of(config: &DfuConfig) -> Option<Config>
         product: config.product,
         vendor: config.vendor,
     };
-    let functional = Functional::of_attributes(
-        config.attributes,
-        config.detach_ms,
-        config.transfer,
-        VERSION,
-    );
+    let functional = functional_of(config);
     match Config::new(
         ids,
         functional,

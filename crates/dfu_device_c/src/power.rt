@@ -3,6 +3,7 @@ ghost use Rattle.std.specs.Prelude.{◌≡◌, ◌≢◌, ◌⊎◌, IfErr, OnOk
 ghost use Rattle.dfu_slots.specs.declared.fault.FormatFault.{FormatFault};
 ghost use Rattle.dfu_slots.specs.Image.{HasImage};
 ghost use Rattle.dfu_slots.specs.Changes.{IsFormatFault};
+ghost use Rattle.dfu_device.specs.Stage.{InDfuIdle};
 ghost use Rattle.dfu_device.specs.Setting.{IsAllowed};
 ghost use Rattle.dfu_device.specs.Shown.{powered_on};
 ghost use Rattle.dfu_device_c.specs.Config.{setting_of};
@@ -10,14 +11,14 @@ ghost use Rattle.dfu_device_c.specs.Memory.{memory_of};
 ghost use Rattle.dfu_device_c.specs.Device.{IsDevice};
 ghost use Rattle.dfu_device_c.specs.Calls.{IsBack};
 ghost use Rattle.dfu_device_c.specs.Numbers.{format_number};
-ghost use Rattle.dfu_device_c.specs.Power.{Formats, Powers, Stands, RefusesFormat, RefusesPower, RefusesPlace, IsFormatted, IsThere};
+ghost use Rattle.dfu_device_c.specs.Power.{Formats, Powers, Begins, Stands, RefusesFormat, RefusesPower, RefusesPlace, IsFormatted, IsThere};
 
 use crate::config::{DfuConfig, config_of};
 use crate::keeping::{keep, started};
 use crate::memory::{Memory, is_short, take};
 use crate::place::DfuPlace;
-use crate::record::DfuDevice;
-use dfu_device::Config;
+use crate::record::{DfuDevice, set_mode};
+use dfu_device::{Config, Mode};
 use dfu_slots::{FormatFault, Slots};
 
 // The number of a fault of `Slots::format`.
@@ -109,6 +110,48 @@ pub extern "C" fn dfu_device_power_on(
     }
     let mut memory = Memory { bytes: medium };
     match power_on(setting, device, &mut memory) {
+        Ok(_) => 0,
+        Err(_) => -3,
+    }
+}
+
+// So does it, and begins in dfuIDLE.
+fn begin(setting: Config, device: &mut DfuDevice, memory: &mut Memory<'_>) -> Result<(), ()>
+    requires { IsAllowed setting }
+    ensures ok { OnOk result (IsDevice setting device.new memory.old.bytes.now
+        (record (powered_on setting (memory_of memory.old.bytes.now)) { stage = InDfuIdle })) }
+    ensures err { OnErr result (¬ HasImage (memory_of memory.old.bytes.now)) }
+    ensures unchanged { OnErr result (device.new ≡ device.old) }
+    ensures back { IsBack memory.old.bytes memory.new.bytes }
+{
+    match power_on(setting, device, memory) {
+        Ok(_) => {
+            set_mode(device, Mode::DfuIdle);
+            Ok(())
+        }
+        Err(_) => Err(()),
+    }
+}
+
+/// A device gets power and begins in dfuIDLE, as by `dfu_device_power_on`, a DETACH and a reset of the bus.
+#[unsafe(no_mangle)]
+pub extern "C" fn dfu_device_begin(
+    config: &DfuConfig,
+    device: &mut DfuDevice,
+    medium: &mut [u8],
+) -> i32
+    ensures outcome { let s = setting_of config.now in
+        Begins s medium.old result device.new medium.new
+        ⊎ RefusesPower s device.old medium.old result device.new medium.new }
+{
+    let Some(setting) = config_of(config) else {
+        return -2;
+    };
+    if !is_short(medium) {
+        return -3;
+    }
+    let mut memory = Memory { bytes: medium };
+    match begin(setting, device, &mut memory) {
         Ok(_) => 0,
         Err(_) => -3,
     }

@@ -23,6 +23,11 @@ pub record Took (r r' : DfuSession) (payload : Bor (List ℕ)) (buffer buffer' :
   pub later : IsHeld r' payload buffer' next
   pub row : HostRow (host_in r buffer parts) word (host_in r' buffer' next)
 
+-- The record and the buffer are those of a session over this payload.
+pub record Stands (r : DfuSession) (payload : Bor (List ℕ)) (buffer : List ℕ) : Type 0 where
+  pub parts : Parts
+  pub held : IsHeld r payload buffer parts
+
 -- The record and the buffer are none of a session over this payload.
 abbrev pub NotHeld : DfuSession → Bor (List ℕ) → (buffer : List ℕ) → Type 0
 NotHeld r payload buffer = (parts : Parts) → IsHeld r payload buffer parts → ⊥
@@ -31,13 +36,14 @@ NotHeld r payload buffer = (parts : Parts) → IsHeld r payload buffer parts →
 abbrev pub NoRecord : DfuSession → Bor (List ℕ) → Type 0
 NoRecord r payload = (parts : Parts) → IsRecord r payload parts → ⊥
 
--- The session of a record was given up, whatever its buffer has.
+-- The session of a record was given up, whatever its buffer has, and keeps as many bytes.
 pub record GivenUp (r r' : DfuSession) (payload : Bor (List ℕ)) : Type 0 where
   pub parts : Parts
   pub next : Parts
   pub before : IsRecord r payload parts
   pub later : IsRecord r' payload next
   pub same : (memory : List ℕ) → host_of memory next ≡ aborted (host_of memory parts)
+  pub kept : r'.kept ≡ r.kept
 
 -- The record of an action says what the session of a record does next: the body of what it sends is cut from its payload.
 pub record IsNext (r : DfuSession) (payload : Bor (List ℕ)) (a : DfuAction) : Type 0 where

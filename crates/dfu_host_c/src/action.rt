@@ -1,6 +1,6 @@
 //! What is to be done next, as a record for C.
 
-ghost use Rattle.std.specs.Prelude.{◌≡◌, ◌⊎◌, List, pos, ℕ};
+ghost use Rattle.std.specs.Prelude.{◌≡◌, ◌⊎◌, ◌≤◌, List, length, pos, ℕ};
 ghost use Rattle.dfu_host.specs.Phases.{Deed};
 ghost use Rattle.dfu_host.specs.InParts.{IsCut};
 ghost use Rattle.dfu_host.specs.Wire.{Spells};
@@ -33,8 +33,10 @@ pub struct DfuAction {
 }
 
 /// The record of an action whose body, if any, begins there.
+#[tactic(auto, using(crate::proofs::Bodies::cut_ends))]
 fn record_of(action: Action<'_>, from: usize) -> DfuAction
-    ensures { (deed : Deed) (payload : List ℕ) → Spells deed action.entry → IsCut payload from action.entry → Tells payload deed result }
+    ensures { (deed : Deed) (payload : List ℕ) → Spells deed action.entry → IsCut payload from action.entry → from ≤ length payload
+        → Tells payload deed result }
 {
     let none = DfuAction {
         what: 2,
@@ -71,6 +73,7 @@ fn record_of(action: Action<'_>, from: usize) -> DfuAction
 }
 
 /// What a session wants done next: 0 or `DFU_NO_SESSION`.
+#[tactic(auto, using(crate::proofs::Bodies::begins_within))]
 #[unsafe(no_mangle)]
 pub extern "C" fn dfu_host_next(session: &DfuSession, payload: &[u8], action: &mut DfuAction) -> i32
     ensures outcome { ((result ≡ pos 0) × IsNext session.now payload.entry action.new)

@@ -4,7 +4,7 @@ ghost use Rattle.std.specs.Prelude.{◌≡◌, ◌⊎◌, ◌≤◌, List, ℕ, 
 ghost use Rattle.std.specs.Borrow.{Bor};
 ghost use Rattle.dfu_host.specs.Goals.{Carries};
 ghost use Rattle.dfu_host.specs.Host.{HostRow};
-ghost use Rattle.dfu_host_c.specs.Calls.{GivenUp, NoRecord, NotHeld, Took};
+ghost use Rattle.dfu_host_c.specs.Calls.{GivenUp, NoRecord, NotHeld, Stands, Took};
 ghost use Rattle.dfu_host_c.specs.Sessions.{IsHeld, host_in};
 ghost use Rattle.dfu_host_c.specs.Refusals.{no_session, no_seen};
 ghost use Rattle.dfu_host_c.specs.Told.{seen_at};
@@ -36,7 +36,8 @@ pub extern "C" fn dfu_host_take(
 ) -> i32
     ensures outcome { ((result ≡ pos 0) × Took session.old session.new payload.entry kept.old kept.new seen bytes.entry)
         ⊎ ((result ≡ no_session) × NotHeld session.old payload.entry kept.old × (session.new ≡ session.old) × (kept.new ≡ kept.old))
-        ⊎ ((result ≡ no_seen) × (seen_at seen bytes.entry ≡ None) × (session.new ≡ session.old) × (kept.new ≡ kept.old)) }
+        ⊎ ((result ≡ no_seen) × Stands session.old payload.entry kept.old × (seen_at seen bytes.entry ≡ None)
+        × (session.new ≡ session.old) × (kept.new ≡ kept.old)) }
 {
     let Some(mut host) = session_of(session, payload) else {
         return NO_SESSION;

@@ -1,5 +1,5 @@
 -- The blank medium on which a script's device starts.
-use Rattle.std.proofs.Common.{◌≡◌, ◌≤◌, ◌+◌, ◌*◌, ℕ, length, replicate, arith, sym, subst}
+use Rattle.std.proofs.Common.{◌≡◌, ◌≤◌, ◌+◌, ◌*◌, ℕ, [], length, replicate, arith, sym, subst}
 use Rattle.std.proofs.Math.ListN.{length-replicate}
 use Rattle.dfu_slots.specs.declared.unit.Unit.{Unit as WriteUnit}
 use Rattle.dfu_slots.specs.Medium.{MediumState}

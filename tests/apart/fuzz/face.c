@@ -80,7 +80,8 @@ static void make_foreign(struct function *function, uint8_t number)
     function->number = number;
     function->count = (uint8_t)between(1, 2);
     for (unsigned at = 0; at < function->count; at++)
-        function->settings[at] = (struct setting){(uint8_t)at, (uint8_t)(chance(2) ? 3 : 0xff), 1, 1, 0, {{9, 0x21, 1, 2, 3, 64, 0, 16, 1}, 9}};
+        function->settings[at] = (struct setting){(uint8_t)at, (uint8_t)(chance(2) ? 3 : 0xff), 1, 1, 0,
+                                                  {{9, 0x21, 1, 2, 3, 64, 0, 16, 1}, 9}};
 }
 
 void face_make(struct face *face, const struct board *board, enum mode mode)

@@ -17,7 +17,7 @@ struct streams streams;
 /* How many bytes a character of UTF-8 has, or 0 where there is none. */
 static int character(const unsigned char *at)
 {
-    int more = at[0] < 0x80 ? 0 : at[0] >= 0xc2 && at[0] < 0xe0 ? 1 : at[0] >= 0xe0 && at[0] < 0xf0 ? 2 : at[0] >= 0xf0 && at[0] < 0xf5 ? 3 : -1;
+    int more = at[0] < 0x80 ? 0 : at[0] < 0xc2 ? -1 : at[0] < 0xe0 ? 1 : at[0] < 0xf0 ? 2 : at[0] < 0xf5 ? 3 : -1;
     for (int next = 1; next <= more; next++)
         if ((at[next] & 0xc0) != 0x80)
             return 0;

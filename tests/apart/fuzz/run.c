@@ -26,8 +26,9 @@
 
 #define MOST_SECONDS 60   /* of one run, by the clock on the wall */
 #define MOST_FAULTS 20
-#define LEAKS_EVERY 20    /* runs: to look for leaks takes longer than to play one */
+#define LEAKS_EVERY 50    /* runs: to look for leaks takes longer than to play one */
 #define STATUSES 32
+#define SAY_EVERY 10000
 
 int flash_main(int count, char **words);
 void __gcov_dump(void) __attribute__((weak));
@@ -116,7 +117,7 @@ static const char *why_bad(int how)
     if (WIFSIGNALED(how))
         snprintf(text, sizeof text, "signal %d%s", WTERMSIG(how), WTERMSIG(how) == SIGKILL ? ": it hangs" : "");
     else
-        snprintf(text, sizeof text, "the run ended with %d%s", WEXITSTATUS(how), WEXITSTATUS(how) == 97 || WEXITSTATUS(how) == 1 ? ": a sanitizer's report" : "");
+        snprintf(text, sizeof text, "the run ended with %d: a sanitizer's report", WEXITSTATUS(how));
     return text;
 }
 
@@ -167,8 +168,8 @@ static void count(void)
 
 static void say_sums(void)
 {
-    printf("%" PRIu64 " calls of libusb, %" PRIu64 " transfers; devices by the table in %" PRIu64 " runs, with the image in place in %" PRIu64 "\n",
-           sums.calls, sums.transfers, sums.fair, sums.placed);
+    printf("%" PRIu64 " calls of libusb, %" PRIu64 " transfers\n", sums.calls, sums.transfers);
+    printf("devices that keep the table in %" PRIu64 " runs, with the image in place in %" PRIu64 "\n", sums.fair, sums.placed);
     for (int status = 0; status < STATUSES; status++)
         if (sums.statuses[status] > 0)
             printf("status %d: %" PRIu64 "\n", status, sums.statuses[status]);
@@ -205,6 +206,8 @@ int main(int words, char **texts)
         failed += bad != NULL;
         if (bad != NULL)
             printf("seed %" PRIu64 ": %s\n", seed + at, bad);
+        if ((at + 1) % SAY_EVERY == 0)
+            printf("%" PRIu64 " played\n", at + 1);
         fflush(stdout);
     }
     say_sums();

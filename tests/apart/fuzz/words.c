@@ -188,10 +188,12 @@ static void say_sound(void)
 static void say_any(void)
 {
     static const char *const some[] = {
-        "--device", "1209:0001", "ffff:ffff", "1209:1", "--path", "1-1", "--serial", "S-A", "--interface", "0", "255", "256", "--alt",
-        "boot", "", "--no-verify", "--upload", OUT_NAME, "--force", "--limits", "10", "4294967296", "-1", "--dry-run", "--quiet", "--json",
-        "--list", "--detach", "--wait", "--wait=", "--wait=5", "--timeout", "--transfer-size", "--verbose", "--help", "-h", "--version", "-V", FILE_NAME, FILE_NAME, FILE_NAME, "--", "-", "--what", "--device=1209:0001", "1209:0001,1209:00ff", "1209:0001,", "1209:0001,1209:00", "12", "--alt=1",
-        "--l", "--w=3", "--time=2", "--upload=", "--serial=\x1b[2J", "99999999999999999999"};
+        "--device", "1209:0001", "ffff:ffff", "1209:1", "--path", "1-1", "--serial", "S-A", "--interface", "0", "255", "256",
+        "--alt", "boot", "", "--no-verify", "--upload", OUT_NAME, "--force", "--limits", "10", "4294967296", "-1", "--dry-run",
+        "--quiet", "--json", "--list", "--detach", "--wait", "--wait=", "--wait=5", "--timeout", "--transfer-size", "--verbose",
+        "--help", "-h", "--version", "-V", FILE_NAME, FILE_NAME, FILE_NAME, "--", "-", "--what", "--device=1209:0001",
+        "1209:0001,1209:00ff", "1209:0001,", "1209:0001,1209:00", "12", "--alt=1", "--l", "--w=3", "--time=2", "--upload=",
+        "--serial=\x1b[2J", "99999999999999999999"};
     for (uint32_t count = below(8); count > 0; count--)
         say("%s", some[below(sizeof some / sizeof some[0])]);
 }

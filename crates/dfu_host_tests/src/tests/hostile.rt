@@ -114,7 +114,9 @@ fn give_up(rt: &impl Abort, session: &Session<'_>, row: &Row) -> Result<(), Fail
         wants(rt, &host, row.2);
         return Ok(());
     }
-    for seen in [Ack, WRITTEN, Stall, Nothing, Waited, WasReset, Restarted, Left] {
+    for seen in [
+        Ack, WRITTEN, Stall, Nothing, Waited, WasReset, Restarted, Left,
+    ] {
         let mut host = session.host(row)?;
         host.abort();
         host.abort();

@@ -58,8 +58,7 @@ static TOLERANTLY: [&'static [Seen<'static>]; 4] = [
 ];
 
 /// The same of another device.
-static SILENTLY: [&'static [Seen<'static>]; 4] =
-    [&[], &[SYNC], &[MANIFEST, Waited], &[DFU_IDLE]];
+static SILENTLY: [&'static [Seen<'static>]; 4] = [&[], &[SYNC], &[MANIFEST, Waited], &[DFU_IDLE]];
 
 #[test]
 fn download_is_unconfirmed(rt: HostRuntime) -> Result<(), Fail> {

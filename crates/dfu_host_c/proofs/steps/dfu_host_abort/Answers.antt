@@ -10,5 +10,6 @@ returns c =
       before = c.in-Some.ensures.some.0;
       later = c.record_of.ensures.says c.args.payload (c.abort.ensures.payload c.args.payload c.in-Some.ensures.some.1);
       same = c.abort.ensures.given_up;
+      kept = c.record_of.ensures.kept;
     } in
     record { outcome = inl (refl, first) }

@@ -1,0 +1,119 @@
+-- So it is for the device that a record is.
+use Rattle.std.proofs.Common.{◌≡◌, ◌≢◌, ◌⊎◌, ◌<◌, ◌==◌, nat_lt, Bool, true, false, IsTrue, ℕ, List, [], length, inl, inr, ⊎_elim, refl, sym, ap, ◌∙◌, subst, arith, if◌then◌else◌}
+use Rattle.std.proofs.lemmas.Bool.{eq-eqb, le-leb}
+use Rattle.std.proofs.lemmas.Bool.Decides.{eqb_tells}
+use Rattle.dfu_wire.specs.declared.setups.Setup.{Setup}
+use Rattle.dfu_wire.specs.declared.requests.Request.{Request as Asked}
+use Rattle.dfu_wire.specs.declared.requests.Request.TheVariants as asked
+use Rattle.dfu_wire.specs.Setup.{IsSetup}
+use Rattle.dfu_wire.specs.Request.{Asks, IsNamed}
+use Rattle.dfu_slots.specs.Seen.{SlotsState, image_of, spare_of}
+use Rattle.dfu_device.specs.declared.answer.Answer.TheVariants as answer
+use Rattle.dfu_device.specs.declared.mode.Mode.{Mode}
+use Rattle.dfu_device.specs.declared.mode.Mode.TheVariants as mode
+use Rattle.dfu_device.specs.Stage.{Stage, Stall, OtherRequest, Dnload}
+use Rattle.dfu_device.specs.Table.{Plan, Sure, plan}
+use Rattle.dfu_device.specs.Setting.{Setting}
+use Rattle.dfu_device.specs.Shown.{Shown, profile}
+use Rattle.dfu_device.specs.Parts.{shows, stage_of, is_filled}
+use Rattle.dfu_device.specs.Rows.{Done, Handles, handled_as, body_length, asked_length, setup_plan}
+use Rattle.dfu_device_c.specs.declared.record.DfuDevice.{DfuDevice}
+use Rattle.dfu_device_c.specs.Record.{HasMode, block_in}
+use Rattle.dfu_device_c.specs.Device.{IsDevice, Takes, store_in}
+use Rattle.dfu_device_c.specs.Long.{after_long, IsLong, TakesLong}
+use Rattle.dfu_device_c.proofs.LongPlans.{plan_other, plan_long}
+use Rattle.dfu_device_c.proofs.Standing.{moved_device}
+
+-- Nothing is put in the modes that it leads to.
+after_free : (m : Mode) (n : ℕ) (x : SlotsState) → is_filled (after_long m) n x ≡ true
+after_free mode.AppIdle n x = refl
+after_free (mode.AppDetach timer passed) n x = refl
+after_free mode.DfuIdle n x = refl
+after_free (mode.DownloadSync written number) n x = refl
+after_free (mode.DownloadSyncWritten written number) n x = refl
+after_free (mode.DownloadBusy written number passed) n x = refl
+after_free (mode.DownloadIdle written number) n x = refl
+after_free (mode.ManifestSync written) n x = refl
+after_free mode.ManifestSyncComplete n x = refl
+after_free (mode.Manifest written passed) n x = refl
+after_free mode.ManifestWaitReset n x = refl
+after_free (mode.UploadIdle place number) n x = refl
+after_free (mode.Error code) n x = refl
+
+-- A setup with which the host sends bytes is none of those with a length of 0.
+unnamed : (p : Setup) → p.kind ≡ 0x21 → 0 < p.length → p.request ≢ 1 → (q : Asked) → IsNamed p q → ⊥
+unnamed p out some not_one (asked.Detach timeout) named = omega (arith, some, named.1)
+unnamed p out some not_one (asked.Dnload block len) named = not_one named.0.request
+unnamed p out some not_one (asked.Upload block len) named = omega (arith, out, named.0.kind)
+unnamed p out some not_one (asked.GetStatus len) named = omega (arith, out, named.0.kind)
+unnamed p out some not_one asked.ClrStatus named = omega (arith, some, named.1)
+unnamed p out some not_one (asked.GetState len) named = omega (arith, out, named.0.kind)
+unnamed p out some not_one asked.Abort named = omega (arith, some, named.1)
+unnamed p out some not_one asked.OtherClass named = named
+unnamed p out some not_one asked.NotDfu named = named
+
+-- A host that sends bytes sends with 21h.
+sends : (p : Setup) → 0 < body_length p → (p.kind ≡ 0x21) × (0 < p.length)
+sends p some = by_kind (eqb_tells p.kind 0x21)
+  where
+    by_kind : (((p.kind == 0x21) ≡ true) × (p.kind ≡ 0x21)) ⊎ (((p.kind == 0x21) ≡ false) × (p.kind ≢ 0x21)) → (p.kind ≡ 0x21) × (0 < p.length)
+    by_kind (inl (is, out)) = (out, subst (λ (b : Bool). 0 < (if b then p.length else 0)) is some)
+    by_kind (inr (is, other)) = absurd (omega (arith, subst (λ (b : Bool). 0 < (if b then p.length else 0)) is some))
+
+module _ (s : Setting) (r r' : DfuDevice) (setup : List ℕ) (p : Setup) (m : Mode) (is : IsSetup p setup)
+    (long : s.functional.transfer < body_length p) (the_mode : (x : Mode) → HasMode r x → m ≡ x) where
+  -- The plan of a request for another interface.
+  pub long_elsewhere : p.index ≢ 0 → r' ≡ r → TakesLong s r setup r'
+  long_elsewhere other same bytes d device body body_is = record {
+    before = d;
+    after = d;
+    was = device;
+    is = subst (λ x. IsDevice s x bytes d) (sym same) device;
+    step = handled_as p asked.NotDfu is (λ us. other us.1) ((refl, refl), refl);
+  }
+
+  -- The device goes where an unknown request takes it.
+  module _ (index : p.index ≡ 0) (moved : HasMode r' (after_long m)) (end : r'.put_end ≡ r.put_end) (size : r'.length ≡ r.length)
+      (block : r'.block ≡ r.block) (bytes : List ℕ) (d : Shown) (device : IsDevice s r bytes d) (body : List ℕ)
+      (fits : length body ≡ body_length p) where
+    abbrev after : Shown
+    after = shows s (store_in r bytes) (after_long m) (block_in r)
+
+    stage_is : d.stage ≡ stage_of m (spare_of (store_in r bytes)) (block_in r)
+    stage_is = ap (λ (w : Shown). w.stage) device.device_is
+        ∙ (λ i. stage_of (sym (the_mode device.mode device.has_mode) i) (spare_of (store_in r bytes)) (block_in r))
+
+    stalled : (w : Plan) → w ≡ Sure Stall (stage_of (after_long m) (spare_of (store_in r bytes)) (block_in r)) → (len : ℕ)
+        → Done w len d answer.Stall [] after
+    stalled w is len = subst (λ (x : Plan). Done x len d answer.Stall [] after) (sym is)
+        ((refl, refl), (λ i. record {
+          config = ap (λ (w : Shown). w.config) (sym device.device_is) i;
+          slots = ap (λ (w : Shown). w.slots) (sym device.device_is) i;
+          stage = stage_of (after_long m) (spare_of (store_in r bytes)) (block_in r);
+        }))
+
+    served : (length body == body_length p) ≡ true
+    served = eq-eqb (length body) (body_length p) fits
+
+    named : p.request ≡ 1 → Handles setup body d answer.Stall [] after
+    named one = handled_as p (asked.Dnload p.value p.length) is
+        (record { kind = (sends p (omega (arith, long))).0; request = one; index = index }, refl, refl)
+        (stalled _ (rw served (ap (λ (x : Stage). plan (profile d) (image_of d.slots) x (Dnload p.value body)) stage_is
+        ∙ plan_long (profile d) (image_of d.slots) m _ _ p.value body
+        (le-leb _ _ (omega (arith, long, fits, ap (λ (w : Shown). w.config.functional.transfer) device.device_is))))) _)
+
+    other : p.request ≢ 1 → Handles setup body d answer.Stall [] after
+    other not_one =
+        let out = sends p (omega (arith, long)) in
+        handled_as p asked.OtherClass is ((inl out.0, index), unnamed p out.0 out.1 not_one)
+        (stalled _ (rw served (ap (λ (x : Stage). plan (profile d) (image_of d.slots) x OtherRequest) stage_is
+        ∙ plan_other (profile d) (image_of d.slots) m _ _)) _)
+
+    pub long_here : Takes s r bytes (λ d d'. Handles setup body d answer.Stall [] d') r' bytes
+    long_here = record {
+      before = d;
+      after = after;
+      was = device;
+      is = moved_device s r r' bytes d (after_long m) device moved end size block (after_free m);
+      step = ⊎_elim (λ one. named one.1) (λ not_one. other not_one.1) (eqb_tells p.request 1);
+    }

@@ -1,0 +1,31 @@
+-- A body that is longer than a block may be.
+use Rattle.std.specs.Prelude.{◌≡◌, ◌<◌, ℕ, ℤ, List, [], length}
+use Rattle.dfu_wire.specs.declared.setups.Setup.{Setup}
+use Rattle.dfu_wire.specs.declared.codes.Code.TheVariants.{StalledPkt}
+use Rattle.dfu_wire.specs.Setup.{IsSetup}
+use Rattle.dfu_device.specs.declared.answer.Answer.TheVariants as answer
+use Rattle.dfu_device.specs.declared.mode.Mode.{Mode}
+use Rattle.dfu_device.specs.declared.mode.Mode.TheVariants as mode
+use Rattle.dfu_device.specs.Rows.{Handles, body_length}
+use Rattle.dfu_device.specs.Setting.{Setting}
+use Rattle.dfu_device.specs.Shown.{Shown}
+use Rattle.dfu_device_c.specs.declared.record.DfuDevice.{DfuDevice}
+use Rattle.dfu_device_c.specs.Device.{IsDevice, Takes}
+
+-- Where a device goes from this mode by such a body: as by a request that it doesn't know.
+abbrev pub after_long : Mode → Mode
+after_long mode.AppIdle = mode.AppIdle
+after_long (mode.AppDetach timer passed) = mode.AppIdle
+after_long mode.ManifestWaitReset = mode.ManifestWaitReset
+after_long (mode.Error code) = mode.Error code
+after_long m = mode.Error StalledPkt
+
+-- The host sends more bytes with this setup than a block has.
+abbrev pub IsLong : Setting → List ℕ → Type 0
+IsLong s setup = (p : Setup) → IsSetup p setup → s.functional.transfer < body_length p
+
+-- Whatever that body is: a device that the record was is now the one that its row makes of it, and the answer is a stall.
+abbrev pub TakesLong : Setting → DfuDevice → List ℕ → DfuDevice → Type 0
+TakesLong s r setup r' = (bytes : List ℕ) (d : Shown) → IsDevice s r bytes d
+    → (body : List ℕ) → ((p : Setup) → IsSetup p setup → length body ≡ body_length p)
+    → Takes s r bytes (λ d d'. Handles setup body d answer.Stall [] d') r' bytes

@@ -1,0 +1,159 @@
+/* What a program asks beside the rows: whether a setup will be stalled, held against what dfu_device_handle then does, in
+ * each mode; when time changes the state; a body that is too long; the functional descriptor; a beginning in dfuIDLE; a
+ * board without an application; the version. */
+#include <stdio.h>
+#include <string.h>
+
+#include "dfu_device.h"
+
+#define MODES 13
+
+static struct dfu_config config = {0x0100, 1, 0x1209, 255, 8, 7, 5, 10, 4};
+static struct dfu_device device, stations[MODES];
+static uint8_t medium[2 * (32 + 16)], mediums[MODES][sizeof medium], out[16];
+static int wrong, stalls, others;
+
+static void expect(const char *what, int is) {
+    if (!is) {
+        printf("asking: %s\n", what);
+        wrong = 1;
+    }
+}
+
+static int32_t ask(uint8_t kind, uint8_t request, uint16_t value, uint16_t length) {
+    static const uint8_t body[64] = {1, 2, 3};
+    uint8_t setup[8] = {kind, request, (uint8_t)value, (uint8_t)(value >> 8), 0, 0, (uint8_t)length, (uint8_t)(length >> 8)};
+    return dfu_device_handle(&config, &device, medium, sizeof medium, setup, body, kind == 0x21 ? length : 0, out, sizeof out);
+}
+
+static void pass(uint32_t ms) {
+    expect("time", dfu_device_elapse(&config, &device, medium, sizeof medium, ms) == 0);
+}
+
+/* Keeps where the device is now, by its mode. */
+static void keep(void) {
+    stations[device.mode] = device;
+    memcpy(mediums[device.mode], medium, sizeof medium);
+}
+
+/* The way through every mode. */
+static void visit(void) {
+    dfu_device_format(medium, sizeof medium, (const uint8_t *)"0123456789", 10);
+    dfu_device_power_on(&config, &device, medium, sizeof medium), keep();
+    ask(0x21, 0, 100, 0), keep();
+    dfu_device_usb_reset(&config, &device, medium, sizeof medium), keep();
+    ask(0xa1, 2, 0, 8), keep();
+    ask(0x21, 6, 0, 0);
+    ask(0x21, 1, 0, 8), keep();
+    ask(0xa1, 3, 0, 6), keep();
+    pass(5), keep();
+    ask(0xa1, 3, 0, 6), keep();
+    ask(0x21, 1, 1, 0), keep();
+    ask(0xa1, 3, 0, 6), keep();
+    pass(10), keep();
+    ask(0x21, 7, 0, 0), keep();
+    device = stations[2];
+    device.mode = 10, keep();
+}
+
+/* A setup where the device stands at a station: what would_stall says, and what handle does. */
+static void compare(int station, uint8_t kind, uint8_t request, uint16_t value, uint16_t index, uint16_t length) {
+    static const uint8_t body[64] = {9, 8, 7};
+    uint8_t setup[8] = {kind, request, (uint8_t)value, (uint8_t)(value >> 8), (uint8_t)index, 0, (uint8_t)length, 0};
+    device = stations[station];
+    memcpy(medium, mediums[station], sizeof medium);
+    int32_t will = dfu_device_would_stall(&config, &device, sizeof medium, setup);
+    int32_t did = dfu_device_handle(&config, &device, medium, sizeof medium, setup, body, kind == 0x21 ? length : 0, out, sizeof out);
+    if (will != (did == DFU_STALL)) {
+        printf("asking: mode %d, %02x %u, value %u, length %u: %d, and then %d\n", station, kind, request, value, length, (int)will,
+            (int)did);
+        wrong = 1;
+    }
+    *(will ? &stalls : &others) += 1;
+}
+
+/* A body that is too long: what too_long does is what handle does with the whole of it. */
+static void too_long(int station, uint8_t kind, uint8_t request, uint16_t length) {
+    static const uint8_t body[64] = {9, 8, 7};
+    uint8_t setup[8] = {kind, request, 0, 0, 0, 0, (uint8_t)length, 0};
+    struct dfu_device other = device = stations[station];
+    memcpy(medium, mediums[station], sizeof medium);
+    int32_t is = dfu_device_too_long(&config, &other, setup);
+    if (kind == 0xa1 || length <= config.transfer)
+        expect("not long", is == DFU_NOT_LONG && memcmp(&other, &device, sizeof other) == 0);
+    else
+        expect("too long", is == DFU_STALL
+            && dfu_device_handle(&config, &device, medium, sizeof medium, setup, body, length, out, sizeof out) == DFU_STALL
+            && dfu_device_state(&other) == dfu_device_state(&device) && dfu_device_code(&other) == dfu_device_code(&device));
+}
+
+/* When a change is due: one millisecond less leaves the state, and that many change it. */
+static void due(int station) {
+    int64_t ms = dfu_device_due(&config, &stations[station]);
+    for (int64_t is = ms - 1; ms > 0 && is <= ms; is++) {
+        device = stations[station];
+        memcpy(medium, mediums[station], sizeof medium);
+        pass((uint32_t)is);
+        expect("due", (dfu_device_state(&device) != dfu_device_state(&stations[station])) == (is == ms));
+    }
+    expect("counts", (ms > 0) == (station == 1 || station == 5 || station == 9));
+    device = stations[station];
+    memcpy(medium, mediums[station], sizeof medium);
+    pass(1000000);
+    expect("counts no time", ms > 0 || dfu_device_state(&device) == dfu_device_state(&stations[station]));
+}
+
+static void all(void) {
+    static const uint16_t lengths[] = {0, 1, 6, 8, 9, 63};
+    for (int station = 0; station < MODES; station++) {
+        for (unsigned request = 0; request < 9; request++)
+            for (unsigned at = 0; at < 6; at++)
+                for (uint16_t value = 0; value < 3; value++) {
+                    compare(station, 0x21, (uint8_t)request, value, 0, lengths[at]);
+                    compare(station, 0xa1, (uint8_t)request, value, 0, lengths[at]);
+                    compare(station, 0x21, (uint8_t)request, value, 1, lengths[at]);
+                    compare(station, 0x00, (uint8_t)request, value, 0, 0);
+                }
+        for (unsigned request = 0; request < 9; request++)
+            for (unsigned at = 0; at < 6; at++) {
+                too_long(station, 0x21, (uint8_t)request, lengths[at]);
+                too_long(station, 0xa1, (uint8_t)request, lengths[at]);
+            }
+        due(station);
+    }
+}
+
+static void rest(void) {
+    static const uint8_t descriptor[9] = {9, 0x21, 7, 255, 0, 8, 0, 0x10, 1}, setup[8] = {0x21, 1, 0, 0, 0, 0, 9, 0};
+    struct dfu_config bad = config;
+    struct dfu_place place;
+    uint8_t bytes[9] = {0};
+    expect("functional", dfu_device_functional(&config, bytes) == 9 && memcmp(bytes, descriptor, 9) == 0);
+    bad.transfer = 0;
+    memset(bytes, 7, 9);
+    expect("no functional", dfu_device_functional(&bad, bytes) == DFU_NO_CONFIG && bytes[0] == 7 && bytes[8] == 7);
+    expect("no config", dfu_device_would_stall(&bad, &device, sizeof medium, setup) == DFU_NO_CONFIG
+        && dfu_device_due(&bad, &device) == DFU_NO_CONFIG && dfu_device_too_long(&bad, &device, setup) == DFU_NO_CONFIG
+        && dfu_device_begin(&bad, &device, medium, sizeof medium) == DFU_NO_CONFIG);
+    device.mode = 13;
+    expect("no mode", dfu_device_would_stall(&config, &device, sizeof medium, setup) == DFU_NO_DEVICE
+        && dfu_device_due(&config, &device) == DFU_NO_DEVICE && dfu_device_too_long(&config, &device, setup) == DFU_NO_DEVICE);
+    expect("begin", dfu_device_format(medium, sizeof medium, setup, 0) == 0
+        && dfu_device_begin(&config, &device, medium, sizeof medium) == 0 && dfu_device_state(&device) == 2);
+    expect("no application", dfu_device_image(medium, sizeof medium, &place) == 0 && place.length == 0);
+    ask(0x21, 1, 0, 8), ask(0xa1, 3, 0, 6), pass(5), ask(0xa1, 3, 0, 6), ask(0x21, 1, 1, 0), ask(0xa1, 3, 0, 6), pass(10);
+    expect("application", dfu_device_image(medium, sizeof medium, &place) == 0 && place.length == 8);
+    memset(medium, 0xff, sizeof medium);
+    expect("no medium", dfu_device_begin(&config, &device, medium, sizeof medium) == DFU_NO_MEDIUM);
+    expect("version", dfu_device_version() == DFU_VERSION);
+}
+
+int main(void) {
+    visit();
+    for (config.attributes = 0; config.attributes < 16; config.attributes++)
+        all();
+    config.attributes = 7;
+    rest();
+    printf("asked before the body: %d stalls, %d others; version " DFU_VERSION_TEXT "\n", stalls, others);
+    return wrong || stalls == 0 || others == 0;
+}
