@@ -2,16 +2,20 @@
 
 # Names of files are left to readline, which knows how each has to be quoted.
 _dfu() {
-    local word=${COMP_WORDS[COMP_CWORD]} command=${COMP_WORDS[1]} at=2 place=0 options='-h --help' is_value=
+    local word=${COMP_WORDS[COMP_CWORD]} command at=1 place=0 options='--explain -h --help' is_value=
     COMPREPLY=()
-    if [ "$COMP_CWORD" -eq 1 ]; then
+    # The command may stand behind an option.
+    [ "$COMP_CWORD" -eq 1 ] || [ "${COMP_WORDS[1]}" != --explain ] || at=2
+    command=${COMP_WORDS[at]}
+    if [ "$COMP_CWORD" -eq "$at" ]; then
         case $word in
-        -*) COMPREPLY=($(compgen -W "$options" -- "$word")) ;;
+        -*) COMPREPLY=($(compgen -W "$options -V --version" -- "$word")) ;;
         *) COMPREPLY=($(compgen -W 'check add show run help' -- "$word")) ;;
         esac
         return
     fi
-    [ "$command" != add ] || options='--vid --pid --did -h --help'
+    [ "$command" != add ] || options='--vid --pid --did --explain -h --help'
+    at=$((at + 1))
     # How many words that are no options stand before this one. In `--vid=1209` readline takes the `=`
     # for a word.
     while [ "$at" -lt "$COMP_CWORD" ]; do

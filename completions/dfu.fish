@@ -19,6 +19,8 @@ end
 
 complete -c dfu -f
 complete -c dfu -s h -l help -d 'Print help'
+complete -c dfu -n __dfu_at -s V -l version -d 'Print version'
+complete -c dfu -n 'not __fish_seen_subcommand_from help' -l explain -d 'Print the reason of a refusal on standard error'
 complete -c dfu -n __dfu_at -a check -d 'Check a DFU file and print what its suffix says'
 complete -c dfu -n __dfu_at -a add -d 'Write a raw image and a suffix for it to a new file'
 complete -c dfu -n __dfu_at -a show -d 'Print the fields of bytes that go over the wire'

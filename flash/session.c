@@ -46,12 +46,24 @@ static void show(struct session *session, const struct dfu_action *action, const
                     number * length + answer->count);
 }
 
+/* A device that left is found again before it is asked anything; and where it is another one then, nothing is sent to it. */
+static bool is_ready(struct session *session, bool *is_gone)
+{
+    struct device *device = session->wire.device;
+    if (device->handle != NULL)
+        return true;
+    /* An aborted session asks a device that is away no more. */
+    if (session->is_aborted)
+        return false;
+    *is_gone = !device_reopen(device);
+    return !*is_gone && session_meets(session);
+}
+
 static struct answer send_request(struct session *session, const struct dfu_action *action)
 {
-    struct answer answer;
-    /* An aborted session asks a device that is away no more. */
-    if (session->is_aborted && session->wire.device->handle == NULL)
-        return (struct answer){DFU_NOTHING, session->wire.bytes, 0, false, 0};
+    struct answer answer = {DFU_NOTHING, session->wire.bytes, 0, false, 0};
+    if (!is_ready(session, &answer.is_gone))
+        return answer;
     session->has_sent = session->has_sent || is_download(action);
     answer = answer_send(&session->wire, action, session->file + action->from);
     if (is_download(action))

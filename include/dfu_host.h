@@ -27,16 +27,16 @@
  *     stalled                                                  DFU_SEEN_STALL
  *     not finished for any other reason, as a timeout          DFU_SEEN_NOTHING
  *     the device left unasked, or somebody else reset it       DFU_SEEN_RESTART, once it is back, before all else
- *     the device left of itself behind the close               DFU_SEEN_LEFT in place of that, and before all else
+ *     the device left of itself after the close                DFU_SEEN_LEFT in place of that, before all else
  * - A device that leaves because of DFU_RESET, or of a DETACH that it acknowledged, does what it was asked to: that is no
  *   restart. The next action is for the device once it is open again. DFU_SEEN_RESET is the answer to DFU_RESET then too.
  * - Each DFU_SEEN_RESTART spends one of the session's restarts, and the host asks anew where the device stands.
  * - DFU_SEEN_LEFT is for a device that starts its new image by itself. Report it once, and only where all three hold: the
- *   device acknowledged the DNLOAD of no bytes that closes the download; it answered a GETSTATUS behind that with
- *   dfuMANIFEST-SYNC or dfuMANIFEST; and then it left, or came back reset, though nobody reset it or asked it to leave.
- * - DFU_SEEN_LEFT stands for the last reset, and spends no restart. A session of dfu_host_download is over then, with
- *   DFU_UNCONFIRMED; one of dfu_host_verified begins to compare. In any other phase it counts as DFU_SEEN_RESTART. The device
- *   need not be back for it; the next request needs it back.
+ *   device acknowledged the DNLOAD of no bytes that closes the download; it answered a later GETSTATUS with
+ *   dfuMANIFEST-SYNC or dfuMANIFEST; then it left, or came back reset, though nobody reset it or asked it to leave.
+ * - DFU_SEEN_LEFT takes the place of the last reset and spends no restart. A session of dfu_host_download is over with
+ *   DFU_UNCONFIRMED, one of dfu_host_verified begins to compare. It may be reported before the device is back. In any other
+ *   phase it is as DFU_SEEN_RESTART.
  *
  * What the program owes, always:
  * - No pointer is NULL, also where its length is 0. Each points to as many bytes as its length says.
@@ -115,7 +115,7 @@ enum {
     DFU_SEEN_WAIT = 4,    /* DFU_WAIT: the time has passed */
     DFU_SEEN_RESET = 5,   /* DFU_RESET: the bus was reset */
     DFU_SEEN_RESTART = 6, /* the device was restarted unasked */
-    DFU_SEEN_LEFT = 7,    /* the device left of itself, where that stands for the last reset */
+    DFU_SEEN_LEFT = 7,    /* the device left of itself after the close, to start its new image */
     /* Their names in programs written before. */
     DFU_ACK = DFU_SEEN_ACK,
     DFU_BYTES = DFU_SEEN_BYTES,

@@ -1,5 +1,5 @@
 /* Calls with a record or a medium that were garbled: each is answered or refused, and writes nothing outside what it was
- * given. It takes how many calls to make. */
+ * given. One that is refused changes nothing at all, and none changes the size of anything. It takes how many calls to make. */
 #include <stdio.h>
 #include <stdlib.h>
 #include <string.h>
@@ -16,8 +16,8 @@ static uint32_t roll(uint32_t sides) {
 
 int main(int count, char **words) {
     /* A guard on both sides of each. */
-    static uint8_t field[64 + 192 + 64], given[64 + 8 + 64], start[192];
-    static struct dfu_device records[3];
+    static uint8_t field[64 + 192 + 64], given[64 + 8 + 64], start[192], field_before[sizeof field], given_before[sizeof given];
+    static struct dfu_device records[3], record_before;
     struct dfu_device *record = &records[1];
     uint8_t *medium = field + 64, *out = given + 64;
     long answered = 0, refused = 0, all = count > 1 ? atol(words[1]) : 1000;
@@ -38,14 +38,30 @@ int main(int count, char **words) {
         *record = (struct dfu_device){roll(14), roll(12), roll(20), roll(12), (uint16_t)roll(18), (uint16_t)roll(10), {0}};
         if (roll(4) == 0)
             ((uint8_t *)record)[roll(20)] = (uint8_t)roll(256);
-        int32_t result, what = (int32_t)roll(4);
+        /* One of sixteen is refused for the room, one for the configuration, and one for both. */
+        struct dfu_config used = config;
+        uint32_t fault = roll(16);
+        size_t room = fault == 0 || fault == 2 ? roll(8) : 8;
+        if (fault == 1 || fault == 2)
+            used.busy_ms = 0x1000000;
+        memcpy(field_before, field, sizeof field);
+        memcpy(given_before, given, sizeof given);
+        record_before = *record;
+        int32_t result, what = (int32_t)roll(6);
         if (what == 0)
-            result = dfu_device_elapse(&config, record, medium, 192, roll(12));
+            result = dfu_device_elapse(&used, record, medium, 192, roll(12));
         else if (what == 1 && roll(4) == 0)
-            result = dfu_device_usb_reset(&config, record, medium, 192);
+            result = dfu_device_usb_reset(&used, record, medium, 192);
+        else if (what == 2 && roll(4) == 0)
+            result = dfu_device_power_on(&used, record, medium, 192);
         else
-            result = dfu_device_handle(&config, record, medium, 192, setup, body, setup[0] == 0x21 ? setup[6] : 0, out, 8);
+            result = dfu_device_handle(&used, record, medium, 192, setup, body, setup[0] == 0x21 ? setup[6] : 0, out, room);
         *(result >= -1 ? &answered : &refused) += 1;
+        if (room < 8 && what > 2 && result != DFU_NO_ROOM)
+            return printf("garbled: call %ld has no room and answered %d\n", call, (int)result), 1;
+        if (result < -1 && (memcmp(field_before, field, sizeof field) != 0 || memcmp(given_before, given, sizeof given) != 0
+            || memcmp(&record_before, record, sizeof *record) != 0))
+            return printf("garbled: call %ld was refused with %d and changed something\n", call, (int)result), 1;
         if (result < DFU_NO_ROOM || result > 8)
             return printf("garbled: call %ld answered %d\n", call, (int)result), 1;
         for (size_t i = 0; i < 64; i++)

@@ -65,10 +65,15 @@ static uint32_t run_left(struct dfu_session *s) {
     return a.value;
 }
 
-/* Goes on until the session is over, with one answer lost and the rest given up at an action: the report. */
+/* Goes on until the session is over, with one answer lost and the rest given up at an action: the report. A session takes
+ * 1,000 actions at most. */
 static uint32_t run(struct dfu_session *s, size_t payload, size_t room, int lost, int given_up) {
     struct dfu_action a;
     for (int step = 0; dfu_host_next(s, ones, payload, &a) == 0 && a.what != DFU_DONE; step++) {
+        if (step == 1001) {
+            is("steps", step, 1000);
+            exit(1);
+        }
         if (step == given_up) {
             is("abort", dfu_host_abort(s, ones, payload), 0);
             continue;

@@ -27,7 +27,7 @@ is() {
 }
 
 mkdir tools kit temp
-for tool in sh find readlink cksum sort cat touch rm cp mv mktemp mkdir sed tr wc date sleep nproc printf kill chmod dirname env flock stty; do
+for tool in sh find readlink cksum sort cat touch rm cp mv mktemp mkdir rmdir sed tr wc date sleep nproc printf kill chmod dirname env flock stty; do
     where=$(command -v "$tool") || continue
     case $where in /*) ln -s "$where" "tools/$tool" ;; esac
 done

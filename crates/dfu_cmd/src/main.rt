@@ -2,11 +2,15 @@
 //! library crates answer. It doesn't talk to a USB device.
 #![tactic(auto)]
 
-use dfu_commands::run_words;
+use dfu_commands::run_explained;
 use dfu_suffix::SuffixFault;
-use dfu_text::{Exit, bad_words, fault_text};
-use std::io::{self, ErrorKind};
+use dfu_text::{Exit, bad_words, fault_text, unread_word};
+use std::env::{Env, FillError};
+use std::io::{self, ErrorKind, IsTerminal};
 use std::process::ExitCode;
+
+/// The most bytes of a word that is looked at.
+const MOST: usize = 4096;
 
 /// The words of the command line.
 fn words_of(rt: &HostRuntime) -> io::Result<Vec<String>> {
@@ -17,18 +21,54 @@ fn words_of(rt: &HostRuntime) -> io::Result<Vec<String>> {
     Ok(words)
 }
 
+/// What the words say where one of them isn't text: the place of the first such word, and whether
+/// the reason is asked for.
+fn looked_at(rt: &HostRuntime) -> (usize, bool) {
+    let mut wrong = 0;
+    let mut explain = false;
+    let mut buffer = [0u8; MOST];
+    for place in 1..u16::MAX {
+        let place = usize::from(place);
+        match rt.arg(place, &mut buffer) {
+            Ok(count) => {
+                let word = &buffer[..count];
+                explain = explain || word == b"--explain".as_slice();
+                if wrong == 0 && std::str::from_utf8(word).is_err() {
+                    wrong = place;
+                }
+            }
+            Err(FillError::TooLong) => {}
+            Err(FillError::NotPresent) => break,
+        }
+    }
+    (wrong, explain)
+}
+
+/// Refuses words of which one isn't text.
+fn refuse_word(rt: &HostRuntime, is_wanted: bool) -> Exit {
+    let exit = bad_words(&mut io::writer(rt));
+    let (place, explain) = looked_at(rt);
+    if is_wanted || explain {
+        if let Some(line) = &unread_word(rt.alloc(), place) {
+            let _ = rt.eprint(line.as_str());
+        }
+    }
+    exit
+}
+
 /// Words that can't be had: one of them isn't text, or there is no memory for them.
-fn refuse_words(rt: &HostRuntime, error: &io::Error) -> Exit {
+fn refuse_words(rt: &HostRuntime, error: &io::Error, is_wanted: bool) -> Exit {
     match error.kind() {
-        ErrorKind::InvalidData => bad_words(&mut io::writer(rt)),
+        ErrorKind::InvalidData => refuse_word(rt, is_wanted),
         _ => fault_text(SuffixFault::NoMemory, &mut io::writer(rt)),
     }
 }
 
 fn main(rt: HostRuntime) -> ExitCode {
+    let is_wanted = rt.stderr().is_terminal();
     let status = match words_of(&rt) {
-        Ok(words) => run_words(&rt, &words),
-        Err(error) => refuse_words(&rt, &error).status(),
+        Ok(words) => run_explained(&rt, &words, is_wanted),
+        Err(error) => refuse_words(&rt, &error, is_wanted).status(),
     };
     ExitCode::from(status)
 }

@@ -3,7 +3,8 @@
 ghost use Rattle.std.specs.Io.Buffered.{writer_contents};
 ghost use Rattle.dfu_commands.specs.Buffering.{RunsBuffered};
 
-use crate::running::run_text;
+use crate::running::run_with_fault;
+use dfu_link::ScriptFault;
 use dfu_text::Exit;
 use std::alloc::Global;
 use std::io::{BufWriter, Read, Write};
@@ -15,17 +16,29 @@ use std::io::{BufWriter, Read, Write};
 pub fn run_buffered<R: Read + Drop, W: Write + Drop>(
     alloc: Global,
     reader: R,
-    mut buffer: BufWriter<W>,
+    buffer: BufWriter<W>,
 ) -> (Exit, W)
     ensures { RunsBuffered (R.remaining reader) (writer_contents W.contents buffer) (W.contents result.1) result.0 }
 {
-    let exit = run_text(alloc, reader, &mut buffer);
+    let (exit, _, writer) = run_buffered_with_fault(alloc, reader, buffer);
+    (exit, writer)
+}
+
+/// Does what `run_buffered` does, and returns the fault at which the script stopped too.
+pub fn run_buffered_with_fault<R: Read + Drop, W: Write + Drop>(
+    alloc: Global,
+    reader: R,
+    mut buffer: BufWriter<W>,
+) -> (Exit, Option<ScriptFault>, W)
+    ensures { RunsBuffered (R.remaining reader) (writer_contents W.contents buffer) (W.contents result.2) result.0 }
+{
+    let (exit, fault) = run_with_fault(alloc, reader, &mut buffer);
     match buffer.into_inner() {
-        Ok(writer) => (exit, writer),
+        Ok(writer) => (exit, fault, writer),
         Err(error) => {
             // Taken apart, since a buffer that is dropped is written once more.
             let (writer, _) = error.into_inner().into_parts();
-            (Exit::Fault, writer)
+            (Exit::Fault, fault, writer)
         }
     }
 }

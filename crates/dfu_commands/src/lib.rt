@@ -8,7 +8,8 @@ mod buffering;
 mod performing;
 mod running;
 mod scripts;
+mod watching;
 
-pub use buffering::run_buffered;
-pub use performing::run_words;
-pub use running::run_text;
+pub use buffering::{run_buffered, run_buffered_with_fault};
+pub use performing::{run_explained, run_words};
+pub use running::{run_text, run_with_fault};

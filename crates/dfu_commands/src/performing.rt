@@ -1,21 +1,60 @@
 //! What the words of a command line ask for is done.
 
 use crate::scripts::run_script;
-use dfu_files::{Owned, run_add, run_check};
+use dfu_files::{Owned, add_file, check_file};
 use dfu_suffix::SuffixFault;
-use dfu_text::{Exit, IdTexts, bad_words, fault_text, ids_said, show_text};
-use dfu_words::{Job, JobFault, job};
+use dfu_text::{
+    Answer, Exit, IdTexts, bad_identifier, bad_kind, bad_out, bad_words, fault_text, ids_said,
+    show_text,
+};
+use dfu_words::{Asked, Job, JobFault, asked};
 use std::io::{self, IsTerminal};
 use std::rt::Files;
 
+/// Refuses words, for this reason.
+fn refused<R: Print>(rt: &R, reason: Option<String>) -> Answer {
+    Answer {
+        exit: bad_words(&mut io::writer(rt)),
+        reason,
+    }
+}
+
+/// Adds a suffix, where the words can be used.
+fn perform_add<R: Files + Input + Print + AllocGlobal>(
+    rt: &R,
+    file: &str,
+    to: &str,
+    texts: &IdTexts<'_>,
+) -> Answer
+where
+    R::File: Owned,
+{
+    let Some(ids) = ids_said(texts) else {
+        return refused(rt, bad_identifier(rt.alloc(), texts));
+    };
+    if to == "-" {
+        return refused(rt, bad_out(rt.alloc()));
+    }
+    add_file(rt, file, to, ids)
+}
+
+fn perform_show<R: Print + AllocGlobal>(rt: &R, kind: &str, hex: &str) -> Answer {
+    let exit = show_text(rt.alloc(), kind, hex, &mut io::writer(rt));
+    let reason = match exit {
+        Exit::BadWords => bad_kind(rt.alloc(), kind),
+        _ => None,
+    };
+    Answer { exit, reason }
+}
+
 /// Does a job.
-fn perform<R: Files + Input + Print + AllocGlobal>(rt: &R, job: &Job) -> Exit
+fn perform<R: Files + Input + Print + AllocGlobal>(rt: &R, job: &Job, explain: bool) -> Answer
 where
     R::File: Owned + IsTerminal,
     R::Reader: IsTerminal,
 {
     match job {
-        Job::Check { file } => run_check(rt, file),
+        Job::Check { file } => check_file(rt, file, explain),
         Job::Add {
             file,
             to,
@@ -28,37 +67,72 @@ where
                 product: pid,
                 device: did,
             };
-            match ids_said(&texts) {
-                Some(ids) => run_add(rt, file, to, ids),
-                None => bad_words(&mut io::writer(rt)),
-            }
+            perform_add(rt, file, to, &texts)
         }
-        Job::Show { kind, hex } => show_text(rt.alloc(), kind, hex, &mut io::writer(rt)),
-        Job::Run { script } => run_script(rt, script),
+        Job::Show { kind, hex } => perform_show(rt, kind, hex),
+        Job::Run { script } => run_script(rt, script, explain),
     }
 }
 
 /// The parser's text, which for a mistake ends with how to ask for help.
-fn explain<R: Print>(rt: &R, error: &clap::Error) -> u8 {
+fn print_text<R: Print>(rt: &R, error: &clap::Error) -> u8 {
     match rt.print(error) {
         Ok(()) => error.exit_code() as u8,
         Err(_error) => Exit::Fault.status(),
     }
 }
 
-/// Does what the words ask for, and answers the exit status.
+/// Does what the words ask for. It answers the exit status, and the reason where that is wanted: by the
+/// words, or since `is_wanted` says so.
+fn answer_words<R: Files + Input + Print + AllocGlobal>(
+    rt: &R,
+    words: &[String],
+    is_wanted: bool,
+) -> (u8, Option<String>)
+where
+    R::File: Owned + IsTerminal,
+    R::Reader: IsTerminal,
+{
+    match asked(rt.alloc(), words) {
+        Ok(Asked { job, explain }) => {
+            let is_wanted = is_wanted || explain;
+            let Answer { exit, reason } = perform(rt, &job, is_wanted);
+            let reason = if is_wanted { reason } else { None };
+            (exit.status(), reason)
+        }
+        Err(fault) => match fault {
+            JobFault::Words(error) => (print_text(rt, &error), None),
+            JobFault::NoMemory => (no_memory(rt).status(), None),
+        },
+    }
+}
+
+/// Does what the words ask for, and answers the exit status. No reason is written.
 pub fn run_words<R: Files + Input + Print + AllocGlobal>(rt: &R, words: &[String]) -> u8
 where
     R::File: Owned + IsTerminal,
     R::Reader: IsTerminal,
 {
-    match job(rt.alloc(), words) {
-        Ok(job) => perform(rt, &job).status(),
-        Err(fault) => match fault {
-            JobFault::Words(error) => explain(rt, &error),
-            JobFault::NoMemory => no_memory(rt).status(),
-        },
+    let (status, _) = answer_words(rt, words, false);
+    status
+}
+
+/// Does what `run_words` does, and writes the reason of a refusal to standard error, where the words
+/// have `--explain` or `is_wanted` is set. Where it can't be written nothing else changes.
+pub fn run_explained<R: Files + Input + Print + Eprint + AllocGlobal>(
+    rt: &R,
+    words: &[String],
+    is_wanted: bool,
+) -> u8
+where
+    R::File: Owned + IsTerminal,
+    R::Reader: IsTerminal,
+{
+    let (status, reason) = answer_words(rt, words, is_wanted);
+    if let Some(line) = &reason {
+        let _ = rt.eprint(line.as_str());
     }
+    status
 }
 
 fn no_memory<R: Print>(rt: &R) -> Exit {

@@ -1,5 +1,6 @@
 //! `dfu run`: what a script prints, and the line for one that stopped.
 
+ghost use Rattle.std.specs.Prelude.{◌≡◌, None};
 ghost use Rattle.dfu_commands.specs.RunText.{WritesStop, WritesRun, WritesLegally, WritesWithHeadline};
 
 use dfu_link::{ScriptFault, script};
@@ -38,8 +39,24 @@ pub fn run_text<R: Read + Drop, W: Write>(alloc: Global, reader: R, writer: &mut
     ensures legal { WritesLegally (R.remaining reader) (W.contents writer.old) (W.contents writer.new) result }
     ensures headline { WritesWithHeadline (R.remaining reader) (W.contents writer.old) (W.contents writer.new) result }
 {
+    let (exit, _) = run_with_fault(alloc, reader, writer);
+    exit
+}
+
+/// Does what `run_text` does, and returns beside the end the fault at which the script stopped.
+pub fn run_with_fault<R: Read + Drop, W: Write>(
+    alloc: Global,
+    reader: R,
+    writer: &mut W,
+) -> (Exit, Option<ScriptFault>)
+    ensures run { WritesRun (R.remaining reader) (W.contents writer.old) (W.contents writer.new) result.0 }
+    ensures legal { WritesLegally (R.remaining reader) (W.contents writer.old) (W.contents writer.new) result.0 }
+    ensures headline { WritesWithHeadline (R.remaining reader) (W.contents writer.old) (W.contents writer.new) result.0 }
+    // Where no fault is given the script ran to its end.
+    ensures fault { result.1 ≡ None → result.0 ≡ Exit.Done }
+{
     match script(alloc, reader, writer) {
-        Ok(()) => Exit::Done,
-        Err(fault) => stop_text(alloc, fault, writer),
+        Ok(()) => (Exit::Done, None),
+        Err(fault) => (stop_text(alloc, fault, writer), Some(fault)),
     }
 }

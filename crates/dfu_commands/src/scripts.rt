@@ -1,9 +1,12 @@
 //! `dfu run`: the script of a file or of standard input, and how often it prints.
 
-use crate::buffering::run_buffered;
-use dfu_files::open;
+use crate::buffering::run_buffered_with_fault;
+use crate::watching::Watched;
+use dfu_files::{error_reason, file_reason, open};
+use dfu_link::ScriptFault;
 use dfu_suffix::SuffixFault;
-use dfu_text::{Exit, fault_text};
+use dfu_text::{Answer, fault_text};
+use std::alloc::Global;
 use std::io::{self, BufWriter, IsTerminal, Printer, Read};
 use std::rt::Files;
 
@@ -23,22 +26,72 @@ fn buffer_of<R: Print + AllocGlobal>(rt: &R, room: usize) -> BufWriter<Printer<'
     buffer
 }
 
-/// Runs a script through a buffer, so that it makes few writes. Where the script is typed at a
-/// terminal, what a line prints is out before the next one is waited for, so the buffer has no room.
-fn run_from<R: Print + AllocGlobal, S: Read + IsTerminal + Drop>(rt: &R, script: S) -> Exit {
-    let room = if script.is_terminal() { 0 } else { BUFFER };
-    let (exit, _) = run_buffered(rt.alloc(), script, buffer_of(rt, room));
-    exit
+/// Why a script stopped, where its line doesn't say it.
+fn stop_reason<S>(
+    alloc: Global,
+    name: &str,
+    fault: ScriptFault,
+    watched: &mut Watched<S>,
+) -> Option<String> {
+    match fault {
+        ScriptFault::BadLine(number) => {
+            line_reason(alloc, name, number, &watched.line_reason(alloc)?)
+        }
+        ScriptFault::BadConfig => {
+            let (number, why) = watched.setup_reason()?;
+            line_reason(alloc, name, number, why)
+        }
+        ScriptFault::Read => match &watched.error {
+            Some(error) => error_reason(alloc, name, error),
+            None => None,
+        },
+        _ => None,
+    }
 }
 
-/// Runs a script, or that of standard input where the name is `-`.
-pub(crate) fn run_script<R: Files + Input + Print + AllocGlobal>(rt: &R, script: &str) -> Exit
+/// The line that says why, of a line of a script.
+fn line_reason(alloc: Global, name: &str, number: u32, why: &str) -> Option<String> {
+    match format!(in alloc; "line {number}: {why}") {
+        Ok(why) => file_reason(alloc, name, &why),
+        Err(_) => None,
+    }
+}
+
+/// Runs a script through a buffer, so that it makes few writes. Where the script is typed at a
+/// terminal, what a line prints is out before the next one is waited for, so the buffer has no room.
+fn run_from<R: Print + AllocGlobal, S: Read + IsTerminal + Drop>(
+    rt: &R,
+    name: &str,
+    script: S,
+    explain: bool,
+) -> Answer {
+    let alloc = rt.alloc();
+    let room = if script.is_terminal() { 0 } else { BUFFER };
+    let mut watched = Watched::new(alloc, script, explain);
+    let (exit, fault, _) = run_buffered_with_fault(alloc, &mut watched, buffer_of(rt, room));
+    let reason = match fault {
+        Some(fault) if explain => stop_reason(alloc, name, fault, &mut watched),
+        _ => None,
+    };
+    Answer { exit, reason }
+}
+
+/// Runs a script, or that of standard input where the name is `-`, with the reason where it stops and
+/// that is wanted.
+pub(crate) fn run_script<R: Files + Input + Print + AllocGlobal>(
+    rt: &R,
+    script: &str,
+    explain: bool,
+) -> Answer
 where
     R::File: IsTerminal,
     R::Reader: IsTerminal,
 {
     match open(rt, script) {
-        Ok(reader) => run_from(rt, reader),
-        Err(_error) => fault_text(SuffixFault::Read, &mut io::writer(rt)),
+        Ok(reader) => run_from(rt, script, reader, explain),
+        Err(error) => Answer {
+            exit: fault_text(SuffixFault::Read, &mut io::writer(rt)),
+            reason: error_reason(rt.alloc(), script, &error),
+        },
     }
 }

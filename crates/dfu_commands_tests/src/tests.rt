@@ -7,6 +7,7 @@ mod host;
 mod machine;
 mod opened;
 mod readers;
+mod reasons;
 mod runs;
 mod scripts;
 mod streams;

@@ -1,2 +1,3 @@
 pub mod SameConfig
+pub mod Plain
 pub mod Standing

@@ -1,12 +1,15 @@
 //! The calls for a device, as a program in C makes them: `include/dfu_device.h` says each for a reader of C.
-ghost use Rattle.std.specs.Prelude.{◌≡◌, ◌⊎◌, ◌≤◌};
+ghost use Rattle.std.specs.Prelude.{◌≡◌, ◌⊎◌, ◌<◌, ◌≤◌, length};
 ghost use Rattle.dfu_device.specs.Rows.{Handles, Elapses};
 ghost use Rattle.dfu_device.specs.Table.{reset_stage};
-ghost use Rattle.dfu_device_c.specs.Numbers.{answer_number};
-ghost use Rattle.dfu_device_c.specs.Calls.{Refuses, Goes, Answered, HasNoRoom, room_for};
+ghost use Rattle.dfu_device.specs.Lent.{answer_room};
+ghost use Rattle.dfu_device_c.specs.Config.{setting_of};
+ghost use Rattle.dfu_device_c.specs.Numbers.{answer_number, NO_ROOM};
+ghost use Rattle.dfu_device_c.specs.Calls.{Refuses, Goes, Answered, HasNoRoom};
 
 use crate::calls;
-use crate::config::DfuConfig;
+use crate::config::{DfuConfig, config_of};
+use crate::memory::{Memory, is_short};
 use crate::record::DfuDevice;
 use dfu_device::Answer;
 
@@ -24,7 +27,7 @@ fn number_of(answer: Answer, count: usize) -> i32
 
 // How many bytes of room an answer needs.
 fn room_for(config: &DfuConfig) -> usize
-    ensures { result ≡ room_for config.now }
+    ensures { result ≡ answer_room (setting_of config.now) }
 {
     usize::from(config.transfer).max(6)
 }
@@ -40,15 +43,24 @@ pub extern "C" fn dfu_device_handle(
     body: &[u8],
     out: &mut [u8],
 ) -> i32
-    ensures outcome { Answered config.now device.old medium.old out.old (λ a sent d d'. Handles setup.now body.now d a sent d')
-        result device.new out.new
-        ⊎ (Refuses config.now device.old medium.old result device.new × (out.new ≡ out.old))
-        ⊎ HasNoRoom config.now device.old out.old result device.new out.new }
+    ensures outcome { let s = setting_of config.now in
+        Answered s device.old medium.old out.old (λ a sent d d'. Handles setup.now body.now d a sent d')
+        result device.new medium.new out.new
+        ⊎ (Refuses s device.old medium.old result device.new medium.new × (out.new ≡ out.old))
+        ⊎ HasNoRoom s device.old medium.old out.old result device.new medium.new out.new }
+    ensures short { length out.old < answer_room (setting_of config.now) → result ≡ NO_ROOM }
 {
     if out.len() < room_for(config) {
         return -5;
     }
-    match calls::handle(config, device, medium, setup, body, out) {
+    let Some(setting) = config_of(config) else {
+        return -2;
+    };
+    if !is_short(medium) {
+        return -3;
+    }
+    let mut memory = Memory { bytes: medium };
+    match calls::handle(setting, device, &mut memory, setup, body, out) {
         Ok((answer, count)) => number_of(answer, count),
         Err(refusal) => refusal.number(),
     }
@@ -62,10 +74,18 @@ pub extern "C" fn dfu_device_elapse(
     medium: &mut [u8],
     ms: u32,
 ) -> i32
-    ensures outcome { Goes config.now device.old medium.old (Elapses ms) result device.new
-        ⊎ Refuses config.now device.old medium.old result device.new }
+    ensures outcome { let s = setting_of config.now in
+        Goes s device.old medium.old (Elapses ms) result device.new medium.new
+        ⊎ Refuses s device.old medium.old result device.new medium.new }
 {
-    match calls::elapse(config, device, medium, ms) {
+    let Some(setting) = config_of(config) else {
+        return -2;
+    };
+    if !is_short(medium) {
+        return -3;
+    }
+    let mut memory = Memory { bytes: medium };
+    match calls::elapse(setting, device, &mut memory, ms) {
         Ok(_) => 0,
         Err(refusal) => refusal.number(),
     }
@@ -78,10 +98,18 @@ pub extern "C" fn dfu_device_usb_reset(
     device: &mut DfuDevice,
     medium: &mut [u8],
 ) -> i32
-    ensures outcome { Goes config.now device.old medium.old (λ d d'. d' ≡ record d { stage = reset_stage d.stage }) result device.new
-        ⊎ Refuses config.now device.old medium.old result device.new }
+    ensures outcome { let s = setting_of config.now in
+        Goes s device.old medium.old (λ d d'. d' ≡ record d { stage = reset_stage d.stage }) result device.new medium.new
+        ⊎ Refuses s device.old medium.old result device.new medium.new }
 {
-    match calls::usb_reset(config, device, medium) {
+    let Some(setting) = config_of(config) else {
+        return -2;
+    };
+    if !is_short(medium) {
+        return -3;
+    }
+    let mut memory = Memory { bytes: medium };
+    match calls::usb_reset(setting, device, &mut memory) {
         Ok(_) => 0,
         Err(refusal) => refusal.number(),
     }

@@ -1,51 +1,52 @@
 //! A device is made of what is kept of it, and kept again.
-ghost use Rattle.std.specs.Prelude.{◌≡◌, ◌≢◌, IfOk, IfErr, IsTrue, not};
+ghost use Rattle.std.specs.Prelude.{◌≡◌, ◌≢◌, IfOk, IfErr, OnErr, IsTrue, not, List, ℕ};
 ghost use Rattle.dfu_slots.specs.Image.{HasImage};
-ghost use Rattle.dfu_device.specs.Setting.{IsAllowed};
+ghost use Rattle.dfu_device.specs.Setting.{Setting, IsAllowed};
 ghost use Rattle.dfu_device.specs.Stage.{InAppIdle};
-ghost use Rattle.dfu_device_c.specs.Config.{setting_of};
-ghost use Rattle.dfu_device_c.specs.Memory.{memory_of};
+ghost use Rattle.dfu_device_c.specs.Memory.{memory_of, memory_at, plain_medium, plain_device};
 ghost use Rattle.dfu_device_c.specs.Device.{IsDevice, IsRefused, IsOpened, StandsAs, StandsNowhere};
+ghost use Rattle.dfu_device_c.specs.Calls.{IsBack};
 
-use crate::config::{DfuConfig, config_of};
-use crate::memory::Memory;
+use crate::memory::{Memory, take};
 use crate::record::{DfuDevice, mode_of, set_block, set_mode};
 use crate::refusal::Refusal;
 use arrayvec::ArrayVec;
 use dfu_device::{Config, Device};
 use dfu_slots::Slots;
 
-// Why a medium of which no store was made is none of a device.
-fn refusal_of(memory: Memory) -> Refusal
-    ensures config { result ≢ Refusal.NoConfig }
-    ensures medium { result ≡ Refusal.NoMedium → ¬ HasImage (memory_of memory.entry) }
-    ensures device { result ≡ Refusal.NoDevice → HasImage (memory_of memory.entry) }
+// Why a medium of which no store was made is none of a device; and the medium back.
+fn refusal_of<'m>(memory: Memory<'m>) -> (Refusal, Memory<'m>)
+    ensures config { result.0 ≢ Refusal.NoConfig }
+    ensures medium { result.0 ≡ Refusal.NoMedium → ¬ HasImage (memory_at memory.entry.bytes) }
+    ensures device { result.0 ≡ Refusal.NoDevice → HasImage (memory_at memory.entry.bytes) }
+    ensures back { memory_at result.1.bytes ≡ memory_at memory.entry.bytes }
 {
     match Slots::open(memory) {
-        Ok(_) => Refusal::NoDevice,
-        Err(_) => Refusal::NoMedium,
+        Ok(slots) => (Refusal::NoDevice, slots.into_medium()),
+        Err(refused) => {
+            let (_, memory) = refused;
+            (Refusal::NoMedium, memory)
+        }
     }
 }
 
-/// What a device is set up with and the slot store of a record, on this medium; or why they are none of a device.
+/// The slot store of a record in this memory, which is taken out of its place; or why there is none, and the memory is back.
 /// It reads the active image, for its register.
 pub(crate) fn open<'m>(
-    config: &DfuConfig,
     kept: &DfuDevice,
-    bytes: &'m mut [u8],
-) -> Result<(Config, Slots<Memory<'m>>), Refusal>
-    ensures ok { IfOk result (λ r. IsOpened config.now kept.now bytes.old r.0 r.1) }
-    ensures err { IfErr result (λ e. IsRefused e config.now kept.now bytes.old) }
+    memory: &mut Memory<'m>,
+) -> Result<Slots<Memory<'m>>, Refusal>
+    ensures ok { IfOk result (λ slots. IsOpened kept.now memory.old.bytes slots) }
+    ensures err { IfErr result (λ e. (s : Setting) → IsAllowed s → IsRefused e s kept.now memory.old.bytes.now) }
+    ensures back { OnErr result (IsBack memory.old.bytes memory.new.bytes) }
 {
-    let Some(setting) = config_of(config) else {
-        return Err(Refusal::NoConfig);
-    };
-    let Some(memory) = Memory::over(bytes) else {
-        return Err(Refusal::NoMedium);
-    };
-    match Slots::from_parts(memory, ArrayVec::new(), kept.put_end) {
-        Ok(slots) => Ok((setting, slots)),
-        Err(memory) => Err(refusal_of(memory)),
+    match Slots::from_parts(take(memory), ArrayVec::new(), kept.put_end) {
+        Ok(slots) => Ok(slots),
+        Err(taken) => {
+            let (refusal, taken) = refusal_of(taken);
+            *memory = taken;
+            Err(refusal)
+        }
     }
 }
 
@@ -62,6 +63,7 @@ pub(crate) fn started<'m>(setting: Config, slots: Slots<Memory<'m>>) -> Device<M
 pub(crate) fn stand(device: &mut Device<Memory<'_>>, kept: &DfuDevice) -> bool
     ensures yes { IsTrue result → StandsAs kept.now device.old device.new }
     ensures no { IsTrue (not result) → StandsNowhere kept.now device.old.slots }
+    ensures unchanged { IsTrue (not result) → device.new ≡ device.old }
 {
     let Some(mode) = mode_of(kept) else {
         return false;
@@ -73,12 +75,11 @@ pub(crate) fn stand(device: &mut Device<Memory<'_>>, kept: &DfuDevice) -> bool
     device.set_parts(mode, &kept.block[..length])
 }
 
-/// Keeps a device, and shows its medium.
+/// Keeps a device.
 #[inline(never)]
-pub(crate) fn keep<'d, 'm>(device: &'d Device<Memory<'m>>, kept: &mut DfuDevice) -> &'d Memory<'m>
-    ensures device { (c : DfuConfig) → IsAllowed (setting_of c) →
-        device.now.config ≡ setting_of c → IsDevice c kept.new result.now device.now }
-    ensures medium { memory_of result.now ≡ device.now.slots.medium }
+pub(crate) fn keep(device: &Device<Memory<'_>>, kept: &mut DfuDevice)
+    ensures { (s : Setting) (bytes : List ℕ) → IsAllowed s → device.now.config ≡ s
+        → plain_medium device.now.slots.medium ≡ memory_of bytes → IsDevice s kept.new bytes (plain_device device.now) }
 {
     let (mode, block) = device.parts();
     set_block(kept, block);
@@ -87,5 +88,4 @@ pub(crate) fn keep<'d, 'm>(device: &'d Device<Memory<'m>>, kept: &mut DfuDevice)
     // Called for its clause `store`: since the medium is written in bytes, none is held back.
     let _ = slots.held();
     kept.put_end = slots.put_end();
-    slots.medium()
 }

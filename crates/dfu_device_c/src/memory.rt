@@ -1,41 +1,37 @@
 //! A medium in the memory of a program in C.
-ghost use Rattle.std.specs.Prelude.{◌≡◌, ◌^◌, ◌≤◌, length, IfSome, IfNone};
-ghost use Rattle.dfu_device_c.specs.Memory.{memory_of};
+ghost use Rattle.std.specs.Prelude.{◌≡◌, ◌^◌, ◌<◌, ◌≤◌, length, IsTrue, not};
+ghost use Rattle.dfu_device_c.specs.Memory.{memory_at};
 
 use dfu_slots::{Failed, Medium, Unit};
-use std::marker::Model;
 
 /// A medium of bytes in memory, which is written in bytes. No write of it fails.
+///
+/// A slot store takes its medium by value. That the caller's memory has the bytes that the store leaves is known by the
+/// name of the reference, which is the medium's tag: so a call takes the memory out of its place (`take`), and puts back
+/// what the store gives back.
 #[derive(Drop)]
 pub(crate) struct Memory<'m> {
-    bytes: &'m mut [u8],
+    pub(crate) bytes: &'m mut [u8],
+    ghost short: { length bytes.now < 2 ^ 32 },
 }
 
-impl<'m> Model for Memory<'m> {
-    ghost use Rattle.std.specs.Prelude.{ℕ, ◌<◌, ◌^◌, List, length};
-
-    ghost Value = { List ℕ };
-
-    ghost view = { λ m. m.bytes.now };
-
-    ghost invariant = { λ m. length m.bytes.now < 2 ^ 32 };
+/// Whether a medium has fewer than 2^32 bytes.
+pub(crate) fn is_short(bytes: &[u8]) -> bool
+    ensures yes { IsTrue result → length bytes.now < 2 ^ 32 }
+    ensures no { IsTrue (not result) → 2 ^ 32 ≤ length bytes.now }
+{
+    bytes.len() <= 0xffff_ffff
 }
 
-impl<'m> Memory<'m> {
-    /// A medium of these bytes, if they are fewer than 2^32.
-    pub(crate) fn over(bytes: &'m mut [u8]) -> Option<Memory<'m>>
-        ensures some { IfSome result (λ m. m ≡ bytes.old) }
-        ensures none { IfNone result (2 ^ 32 ≤ length bytes.old) }
-    {
-        if bytes.len() > 0xffff_ffff {
-            return None;
-        }
-        Some(Memory { bytes })
-    }
+/// Takes the memory out of its place, and leaves none there.
+pub(crate) fn take<'m>(place: &mut Memory<'m>) -> Memory<'m>
+    ensures { result.bytes ≡ place.old.bytes }
+{
+    std::mem::replace(place, Memory { bytes: &mut [] })
 }
 
 impl<'m> Medium for Memory<'m> {
-    ghost state = { λ m. memory_of m };
+    ghost state = { λ m. memory_at m.bytes };
 
     fn len(&self) -> u32 {
         self.bytes.len() as u32

@@ -1,14 +1,23 @@
 //! What a program in C does to a medium, and to a device that gets power.
-ghost use Rattle.std.specs.Prelude.{◌≡◌, ◌⊎◌};
+ghost use Rattle.std.specs.Prelude.{◌≡◌, ◌≢◌, ◌⊎◌, IfErr, OnOk, OnErr};
 ghost use Rattle.dfu_slots.specs.declared.fault.FormatFault.{FormatFault};
+ghost use Rattle.dfu_slots.specs.Image.{HasImage};
+ghost use Rattle.dfu_slots.specs.Changes.{IsFormatFault};
+ghost use Rattle.dfu_device.specs.Setting.{IsAllowed};
+ghost use Rattle.dfu_device.specs.Shown.{powered_on};
+ghost use Rattle.dfu_device_c.specs.Config.{setting_of};
+ghost use Rattle.dfu_device_c.specs.Memory.{memory_of};
+ghost use Rattle.dfu_device_c.specs.Device.{IsDevice};
+ghost use Rattle.dfu_device_c.specs.Calls.{IsBack};
 ghost use Rattle.dfu_device_c.specs.Numbers.{format_number};
-ghost use Rattle.dfu_device_c.specs.Power.{Formats, Powers, Stands, RefusesFormat, RefusesPower, RefusesPlace};
+ghost use Rattle.dfu_device_c.specs.Power.{Formats, Powers, Stands, RefusesFormat, RefusesPower, RefusesPlace, IsFormatted, IsThere};
 
 use crate::config::{DfuConfig, config_of};
 use crate::keeping::{keep, started};
-use crate::memory::Memory;
+use crate::memory::{Memory, is_short, take};
 use crate::place::DfuPlace;
 use crate::record::DfuDevice;
+use dfu_device::Config;
 use dfu_slots::{FormatFault, Slots};
 
 // The number of a fault of `Slots::format`.
@@ -22,21 +31,62 @@ fn number_of(fault: FormatFault) -> i32
     }
 }
 
+// `Slots::format`.
+fn format(memory: &mut Memory<'_>, image: &[u8]) -> Result<(), FormatFault>
+    ensures ok { OnOk result (IsFormatted memory.old.bytes.now image.now memory.new.bytes.now) }
+    ensures err { IfErr result (λ f. (f ≢ FormatFault.Failed) × IsFormatFault f (memory_of memory.old.bytes.now) image.now) }
+    ensures unchanged { OnErr result (memory.new.bytes.now ≡ memory.old.bytes.now) }
+    ensures name { memory.new.bytes.ghost_name ≡ memory.old.bytes.ghost_name }
+{
+    match Slots::format(take(memory), image) {
+        Ok(slots) => {
+            *memory = slots.into_medium();
+            Ok(())
+        }
+        Err(refused) => {
+            let (fault, taken) = refused;
+            *memory = taken;
+            Err(fault)
+        }
+    }
+}
+
 /// Writes an image into the first slot and makes it the active one, as `Slots::format`: 0. Refused with -3 where the
 /// medium has 2^32 bytes or more, -6 where it has no length that two slots can have, -7 where the image is too long.
 #[unsafe(no_mangle)]
 pub extern "C" fn dfu_device_format(medium: &mut [u8], image: &[u8]) -> i32
-    ensures outcome { Formats medium.old image.now result ⊎ RefusesFormat medium.old image.now result }
+    ensures outcome { Formats medium.old image.now result medium.new ⊎ RefusesFormat medium.old image.now result medium.new }
 {
-    let Some(memory) = Memory::over(medium) else {
+    if !is_short(medium) {
         return -3;
-    };
-    match Slots::format(memory, image) {
+    }
+    let mut memory = Memory { bytes: medium };
+    match format(&mut memory, image) {
+        Ok(_) => 0,
+        Err(fault) => number_of(fault),
+    }
+}
+
+// A device gets power on this memory, if that has an image.
+fn power_on(setting: Config, device: &mut DfuDevice, memory: &mut Memory<'_>) -> Result<(), ()>
+    requires { IsAllowed setting }
+    ensures ok { OnOk result (IsDevice setting device.new memory.old.bytes.now (powered_on setting (memory_of memory.old.bytes.now))) }
+    ensures err { OnErr result (¬ HasImage (memory_of memory.old.bytes.now)) }
+    ensures unchanged { OnErr result (device.new ≡ device.old) }
+    ensures back { IsBack memory.old.bytes memory.new.bytes }
+{
+    match Slots::open(take(memory)) {
         Ok(slots) => {
-            slots.into_medium();
-            0
+            let on = started(setting, slots);
+            keep(&on, device);
+            *memory = on.into_medium();
+            Ok(())
         }
-        Err((fault, _)) => number_of(fault),
+        Err(refused) => {
+            let (_, taken) = refused;
+            *memory = taken;
+            Err(())
+        }
     }
 }
 
@@ -47,40 +97,57 @@ pub extern "C" fn dfu_device_power_on(
     device: &mut DfuDevice,
     medium: &mut [u8],
 ) -> i32
-    ensures outcome { Powers config.now medium.old result device.new
-        ⊎ (RefusesPower config.now medium.old result × (device.new ≡ device.old)) }
+    ensures outcome { let s = setting_of config.now in
+        Powers s medium.old result device.new medium.new
+        ⊎ RefusesPower s device.old medium.old result device.new medium.new }
 {
     let Some(setting) = config_of(config) else {
         return -2;
     };
-    let Some(memory) = Memory::over(medium) else {
+    if !is_short(medium) {
         return -3;
-    };
-    match Slots::open(memory) {
-        Ok(slots) => {
-            let on = started(setting, slots);
-            keep(&on, device);
-            0
-        }
+    }
+    let mut memory = Memory { bytes: medium };
+    match power_on(setting, device, &mut memory) {
+        Ok(_) => 0,
         Err(_) => -3,
+    }
+}
+
+// Where the active image stands in this memory, if there is one.
+fn find(memory: &mut Memory<'_>, place: &mut DfuPlace) -> Result<(), ()>
+    ensures ok { OnOk result (IsThere memory.old.bytes.now place.new) }
+    ensures err { OnErr result (¬ HasImage (memory_of memory.old.bytes.now)) }
+    ensures unchanged { OnErr result (place.new ≡ place.old) }
+    ensures back { IsBack memory.old.bytes memory.new.bytes }
+{
+    match Slots::open(take(memory)) {
+        Ok(slots) => {
+            place.at = slots.image_at();
+            place.length = slots.active_len();
+            *memory = slots.into_medium();
+            Ok(())
+        }
+        Err(refused) => {
+            let (_, taken) = refused;
+            *memory = taken;
+            Err(())
+        }
     }
 }
 
 /// Where the active image stands on a medium: 0, and `place` has it. It writes nothing.
 #[unsafe(no_mangle)]
 pub extern "C" fn dfu_device_image(medium: &mut [u8], place: &mut DfuPlace) -> i32
-    ensures outcome { Stands medium.old result place.new
-        ⊎ (RefusesPlace medium.old result × (place.new ≡ place.old)) }
+    ensures outcome { Stands medium.old result place.new medium.new
+        ⊎ RefusesPlace medium.old place.old result place.new medium.new }
 {
-    let Some(memory) = Memory::over(medium) else {
+    if !is_short(medium) {
         return -3;
-    };
-    match Slots::open(memory) {
-        Ok(slots) => {
-            place.at = slots.image_at();
-            place.length = slots.active_len();
-            0
-        }
+    }
+    let mut memory = Memory { bytes: medium };
+    match find(&mut memory, place) {
+        Ok(_) => 0,
         Err(_) => -3,
     }
 }

@@ -6,12 +6,15 @@
 
 mod files;
 mod given;
+mod noting;
 mod owner;
 mod part;
 mod place;
+mod reasons;
 mod replacing;
 
-pub use files::{run_add, run_check};
+pub use files::{add_file, check_file, run_add, run_check};
 pub use given::{Given, open};
 pub use owner::Owned;
 pub use part::rights_after;
+pub use reasons::{error_reason, file_reason};

@@ -52,7 +52,8 @@ fn new_part<R: Files + AllocGlobal>(rt: &R, place: Place) -> io::Result<Part<R::
             }
         }
     }
-    Err(io::Error::from(ErrorKind::AlreadyExists))
+    let why = "each name from .dfu-part-0 to .dfu-part-999 is taken";
+    Err(io::Error::new(ErrorKind::AlreadyExists, why))
 }
 
 /// The rights that a file has in place of one with this mode: the same; where it has another owner

@@ -106,11 +106,13 @@ pub(crate) fn place_of<R: Files + AllocGlobal>(rt: &R, out: &str) -> io::Result<
         let seen = found(fs::metadata(rt, out))?;
         let place = followed(rt, out)?;
         if !may_be(&seen) || !may_be(&place.file) {
-            break;
+            let why = "it is no regular file, and leads to none";
+            return Err(io::Error::new(ErrorKind::InvalidInput, why));
         }
         if is_same(&seen, &place.file) {
             return Ok(place);
         }
     }
-    Err(io::Error::from(ErrorKind::InvalidInput))
+    let why = "somebody else replaces it again and again";
+    Err(io::Error::new(ErrorKind::InvalidInput, why))
 }

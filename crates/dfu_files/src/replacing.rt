@@ -1,5 +1,7 @@
 //! A file that takes the place of another, whole.
 
+ghost use Rattle.std.specs.Prelude.{◌≤◌, length, IfOk};
+
 use crate::owner::Owned;
 use crate::part::{Part, begin, put, remove};
 use std::io::{self, ErrorKind, Write};
@@ -14,6 +16,8 @@ pub(crate) struct Replacement<'a, R: Files> {
     rt: &'a R,
     out: &'a str,
     part: Option<Part<R::File>>,
+    /// At what making or writing the part failed.
+    pub error: Option<io::Error>,
 }
 
 impl<'a, R: Files> Replacement<'a, R> {
@@ -22,6 +26,7 @@ impl<'a, R: Files> Replacement<'a, R> {
             rt,
             out,
             part: None,
+            error: None,
         }
     }
 
@@ -45,17 +50,35 @@ impl<'a, R: Files> Replacement<'a, R> {
     }
 }
 
-impl<R: Files + AllocGlobal> Write for Replacement<'_, R>
+impl<R: Files + AllocGlobal> Replacement<'_, R>
 where
     R::File: Owned,
 {
-    fn write(&mut self, buf: &[u8]) -> io::Result<usize> {
+    fn put(&mut self, buf: &[u8]) -> io::Result<usize>
+        ensures { IfOk result (λ n. n ≤ length buf.now) }
+    {
         if self.part.is_none() {
             self.part = Some(begin(self.rt, self.out)?);
         }
         match &mut self.part {
             Some(part) => part.file.write(buf),
             None => Ok(0),
+        }
+    }
+}
+
+impl<R: Files + AllocGlobal> Write for Replacement<'_, R>
+where
+    R::File: Owned,
+{
+    fn write(&mut self, buf: &[u8]) -> io::Result<usize> {
+        match self.put(buf) {
+            Ok(count) => Ok(count),
+            Err(error) => {
+                let kind = error.kind();
+                self.error = Some(error);
+                Err(io::Error::from(kind))
+            }
         }
     }
 

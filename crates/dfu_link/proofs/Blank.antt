@@ -10,8 +10,8 @@ use Rattle.dfu_link.specs.ScriptRun.{blank}
 
 -- It is what the medium in memory is made as.
 pub made_blank : (u : WriteUnit) (n len : ℕ) → len ≡ 2 * (2 * gate_size u + n)
-    → ◌≡◌ {A = MediumState} (record { bytes = replicate len 255; failures = 0; fuse = Whole; unit = u }) (blank u n)
-made_blank u n len is = λ i. record { bytes = replicate (is i) 255; failures = 0; fuse = Whole; unit = u }
+    → ◌≡◌ {A = MediumState} (record { bytes = replicate len 255; failures = 0; fuse = Whole; unit = u; tag = [] }) (blank u n)
+made_blank u n len is = λ i. record { bytes = replicate (is i) 255; failures = 0; fuse = Whole; unit = u; tag = [] }
 
 -- So many bytes it has.
 blank_len : (u : WriteUnit) (n : ℕ) → length (blank u n).bytes ≡ 2 * (2 * gate_size u + n)

@@ -83,7 +83,13 @@ IsReady (line ∷ lines) = HasToAct (line_of line)
 
 -- A blank medium of two slots that is written in this unit, with room for images of so many bytes. It is not armed.
 abbrev pub blank : WriteUnit → ℕ → MediumState
-blank unit capacity = record { bytes = replicate (2 * (2 * gate_size unit + capacity)) 255; failures = 0; fuse = Whole; unit = unit }
+blank unit capacity = record {
+  bytes = replicate (2 * (2 * gate_size unit + capacity)) 255;
+  failures = 0;
+  fuse = Whole;
+  unit = unit;
+  tag = [];
+}
 
 -- The device starts: it is allowed, the room has whole units, the image fits, and it stands in appIDLE on a blank medium that was formatted
 -- with the image, which is the active one of its bytes.

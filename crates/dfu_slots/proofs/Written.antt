@@ -40,6 +40,7 @@ was_written old at new now fits (inr lied) stands =
       failures = omega (arith, lied.failures);
       fuse = lie_works old.fuse old.bytes at new now.bytes now.fuse lied.fuse right;
       unit = lied.unit;
+      tag = lied.tag;
     }
 
 -- They do not: it lied.

@@ -8,6 +8,7 @@ pub mod Store
 pub mod Changes
 pub mod Leaves
 pub mod Unarmed
+pub mod Tagged
 pub mod OneWrite
 pub mod Determined
 pub mod inside

@@ -18,12 +18,14 @@ pub data Fuse : Type 0 where
   -- Every write fails and leaves nothing.
   Stopped : Fuse
 
--- A medium: its bytes, how often a write has failed, what the next writes will do, and the unit in which it is written.
+-- A medium: its bytes, how often a write has failed, what the next writes will do, the unit in which it is written, and a tag of its
+-- owner's choice, by which the owner knows it again.
 pub record MediumState : Type 0 where
   pub bytes : List ℕ
   pub failures : ℕ
   pub fuse : Fuse
   pub unit : WriteUnit
+  pub tag : List ℕ
 
 -- These bytes stand in place of those from `at` on.
 abbrev pub written : List ℕ → ℕ → List ℕ → List ℕ
@@ -75,6 +77,7 @@ pub record Wrote (old : MediumState) (at : ℕ) (new : List ℕ) (now : MediumSt
   pub failures : old.failures ≤ now.failures
   pub fuse : MayWork old.fuse old.bytes at new now.fuse
   pub unit : now.unit ≡ old.unit
+  pub tag : now.tag ≡ old.tag
 
 -- A write answered Failed, or it lied: it was torn, and the count rose.
 pub record FailedWrite (fault : WriteFault) (old : MediumState) (at : ℕ) (new : List ℕ) (now : MediumState) : Type 0 where
@@ -82,6 +85,7 @@ pub record FailedWrite (fault : WriteFault) (old : MediumState) (at : ℕ) (new 
   pub failures : Rose old.failures now.failures
   pub fuse : MayFail old.fuse fault old.bytes at new now.bytes now.fuse
   pub unit : now.unit ≡ old.unit
+  pub tag : now.tag ≡ old.tag
 
 -- A write that answered Ok worked, or it lied.
 abbrev pub WroteOrLied : MediumState → ℕ → List ℕ → MediumState → Type 0

@@ -19,7 +19,8 @@ pub struct Failed;
 /// sound only where `unit` is a multiple of the part's erase unit: a part that erases a sector larger than its unit
 /// within `write` loses the active image with the other bytes of the sector.
 pub trait Medium: Drop {
-    /// The bytes now, how often a write has failed, what is known of the next writes, and the unit.
+    /// The bytes now, how often a write has failed, what is known of the next writes, the unit, and a tag that is always
+    /// the same: what the tag says is for the implementer to choose.
     ghost state: { Self → MediumState };
 
     /// How many bytes it has, always the same.

@@ -1,5 +1,5 @@
 //! A medium in memory.
-ghost use Rattle.std.specs.Prelude.{◌≡◌, ◌+◌, ◌≤◌, length, take, replicate, if◌then◌else◌, IfOk};
+ghost use Rattle.std.specs.Prelude.{◌≡◌, [], ◌+◌, ◌≤◌, length, take, replicate, if◌then◌else◌, IfOk};
 ghost use Rattle.dfu_slots.specs.Units.{IsMultiple};
 ghost use Rattle.dfu_slots.specs.Medium.{written};
 ghost use Rattle.dfu_slots.specs.Medium.Fuse.{Whole};
@@ -47,7 +47,7 @@ pub struct SimMedium {
 }
 
 impl Model for SimMedium {
-    ghost use Rattle.std.specs.Prelude.{◌<◌, ◌^◌, length};
+    ghost use Rattle.std.specs.Prelude.{◌<◌, ◌^◌, length, []};
     ghost use Rattle.dfu_slots.specs.Medium.{MediumState};
     ghost use Rattle.dfu_slots.specs.inside.Sim.{fuse_of};
 
@@ -58,6 +58,7 @@ impl Model for SimMedium {
       failures = m.failures;
       fuse = fuse_of m.mode m.writes m.tear.items m.stop;
       unit = m.unit;
+      tag = [];
     } };
 
     ghost invariant = { λ m. length m.bytes.items < 2 ^ 32 };
@@ -71,7 +72,7 @@ impl SimMedium {
     /// `NoMemory` where there is no memory for the bytes.
     pub fn new(alloc: Global, len: u32) -> Result<SimMedium, NoMemory>
         ensures { IfOk result (λ medium.
-            medium ≡ record { bytes = replicate len 255; failures = 0; fuse = Whole; unit = Unit.Byte }) }
+            medium ≡ record { bytes = replicate len 255; failures = 0; fuse = Whole; unit = Unit.Byte; tag = [] }) }
     {
         SimMedium::with_unit(alloc, len, Unit::Byte)
     }
@@ -84,7 +85,7 @@ impl SimMedium {
     pub fn with_unit(alloc: Global, len: u32, unit: Unit) -> Result<SimMedium, NoMemory>
         requires { IsMultiple unit len }
         ensures { IfOk result (λ medium.
-            medium ≡ record { bytes = replicate len 255; failures = 0; fuse = Whole; unit = unit }) }
+            medium ≡ record { bytes = replicate len 255; failures = 0; fuse = Whole; unit = unit; tag = [] }) }
     {
         let mut bytes = Vec::new(alloc);
         bytes.resize(len as usize, 0xff)?;

@@ -7,7 +7,7 @@ use Rattle.dfu_suffix.specs.declared.fault.SuffixFault.{SuffixFault}
 use Rattle.dfu_suffix.specs.declared.fault.SuffixFault.TheVariants.{NoMemory}
 use Rattle.dfu_text.specs.declared.exit.Exit.{Exit}
 use Rattle.dfu_text.specs.declared.exit.Exit.TheVariants.{Done, Refused}
-use Rattle.dfu_text.specs.AnswerLines.{fault_exit, fault_line}
+use Rattle.dfu_text.specs.AnswerLines.{IsFaultOf, fault_exit, fault_line}
 use Rattle.dfu_text.specs.Output.{Wrote}
 
 -- The line for a file that was made is `wrote N`, with the number of its bytes.
@@ -31,3 +31,8 @@ WritesAdd given ids file written old new result =
     (answer : Result ℕ SuffixFault) × IfSome given (λ all. Adds all ids file written answer) × KeepsAtFault file written answer
     × (Wrote old new (added_line answer) (added_exit answer) result
     ⊎ (IsOk answer × Wrote old new (fault_line NoMemory) Refused result))
+
+-- The fault is that of what adding a suffix answered for all that the reader gave.
+abbrev pub HasAddFault : (given : Option (List ℕ)) → Ids → (file written : Option (List ℕ)) → Option SuffixFault → Type 0
+HasAddFault given ids file written fault =
+    (answer : Result ℕ SuffixFault) × IfSome given (λ all. Adds all ids file written answer) × IsFaultOf answer fault

@@ -1,9 +1,9 @@
 -- The lines that the program writes, each ended by 0Ah.
-use Rattle.std.specs.Prelude.{ℕ, ◌-◌, ◌^◌, false, List, [], ◌∷◌, ◌++◌, Result, Ok, Err, codes}
+use Rattle.std.specs.Prelude.{◌≡◌, ◌⊎◌, ℕ, ◌-◌, ◌^◌, false, List, [], ◌∷◌, ◌++◌, Option, Some, None, Result, Ok, Err, codes}
 use Rattle.std.specs.Fmt.{decimal, digits, padded_integral, format_spec}
 use Rattle.dfu_suffix.specs.declared.summary.Summary.{Summary}
 use Rattle.dfu_suffix.specs.declared.fault.SuffixFault.{SuffixFault}
-use Rattle.dfu_suffix.specs.declared.fault.SuffixFault.TheVariants.{Read, Write}
+use Rattle.dfu_suffix.specs.declared.fault.SuffixFault.TheVariants.{NoMemory, Read, Write}
 use Rattle.dfu_suffix.specs.FaultName.{suffix_fault_name}
 use Rattle.dfu_text.specs.declared.exit.Exit.{Exit}
 use Rattle.dfu_text.specs.declared.exit.Exit.TheVariants.{Done, Refused, Fault}
@@ -44,3 +44,8 @@ exit_of (Err f) = fault_exit f
 -- The line for words that aren't understood is `bad words`.
 abbrev pub bad_words_line : List ℕ
 bad_words_line = codes "bad words" ++ 10 ∷ []
+
+-- The fault of an answer, if it is one; or, of an answer that is none, that there was no memory for its line.
+abbrev pub IsFaultOf : {T : Type 0} → Result T SuffixFault → Option SuffixFault → Type 0
+IsFaultOf (Ok x) fault = (fault ≡ None) ⊎ (fault ≡ Some NoMemory)
+IsFaultOf (Err f) fault = fault ≡ Some f

@@ -6,7 +6,7 @@ use Rattle.dfu_suffix.specs.declared.fault.SuffixFault.{SuffixFault}
 use Rattle.dfu_suffix.specs.declared.fault.SuffixFault.TheVariants.{NoMemory}
 use Rattle.dfu_text.specs.declared.exit.Exit.{Exit}
 use Rattle.dfu_text.specs.declared.exit.Exit.TheVariants.{Refused}
-use Rattle.dfu_text.specs.AnswerLines.{exit_of, fault_line, line_of}
+use Rattle.dfu_text.specs.AnswerLines.{IsFaultOf, exit_of, fault_line, line_of}
 use Rattle.dfu_text.specs.Output.{Wrote}
 
 -- The line is that of the answer for all that the reader gave; or, of a file, it says that there was no memory for it.
@@ -14,3 +14,8 @@ abbrev pub WritesCheck : Option (List ℕ) → Option (List ℕ) → Option (Lis
 WritesCheck given old new result =
     (answer : Result Summary SuffixFault) × IfSome given (λ all. UnlessRead answer (Checks all answer))
     × (Wrote old new (line_of answer) (exit_of answer) result ⊎ (IsOk answer × Wrote old new (fault_line NoMemory) Refused result))
+
+-- The fault is that of the answer for all that the reader gave.
+abbrev pub HasCheckFault : Option (List ℕ) → Option SuffixFault → Type 0
+HasCheckFault given fault =
+    (answer : Result Summary SuffixFault) × IfSome given (λ all. UnlessRead answer (Checks all answer)) × IsFaultOf answer fault

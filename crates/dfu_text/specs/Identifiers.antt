@@ -1,5 +1,5 @@
 -- The identifiers that the options of `dfu add` give.
-use Rattle.std.specs.Prelude.{ℕ, List, Option, Some, None}
+use Rattle.std.specs.Prelude.{ℕ, List, Option, Some, None, codes, if◌then◌else◌, is_some}
 use Rattle.dfu_wire.specs.declared.ids.Ids.{Ids}
 use Rattle.dfu_wire.specs.Identifier.{identifier_in}
 
@@ -11,3 +11,9 @@ ids_in vendor product device = None
 -- Three texts of four hexadecimal digits are the identifiers of a device.
 abbrev pub ids_said : (vendor product device : List ℕ) → Option Ids
 ids_said vendor product device = ids_in (identifier_in vendor) (identifier_in product) (identifier_in device)
+
+-- The first option whose text is no identifier, and the text.
+abbrev pub wrong_option : (vendor product device : List ℕ) → Option (List ℕ × List ℕ)
+wrong_option vendor product device =
+    if is_some (identifier_in vendor) then (if is_some (identifier_in product) then (if is_some (identifier_in device) then None
+    else Some (codes "--did", device)) else Some (codes "--pid", product)) else Some (codes "--vid", vendor)

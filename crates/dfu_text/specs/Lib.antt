@@ -7,3 +7,4 @@ pub mod ShowLines
 pub mod ShowText
 pub mod AddText
 pub mod NumberText
+pub mod ReasonLines

@@ -2,7 +2,7 @@
 
 ghost use Rattle.std.specs.Prelude.{◌≡◌, IfOk};
 ghost use Rattle.std.specs.String.{string_bytes};
-ghost use Rattle.dfu_text.specs.AddText.{WritesAdd, wrote_line};
+ghost use Rattle.dfu_text.specs.AddText.{HasAddFault, WritesAdd, wrote_line};
 
 use crate::exit::Exit;
 use crate::faults::fault_text;
@@ -40,11 +40,30 @@ pub fn add_text<R: Read + Drop, F: Write, W: Write>(
     ensures { WritesAdd (R.remaining reader) ids (F.contents file.old) (F.contents file.new) (W.contents out.old)
         (W.contents out.new) result }
 {
+    let (exit, _) = add_with_fault(alloc, reader, ids, file, out);
+    exit
+}
+
+/// Does what `add_text` does, and returns beside the end the fault whose line was to be written.
+pub fn add_with_fault<R: Read + Drop, F: Write, W: Write>(
+    alloc: Global,
+    reader: R,
+    ids: Ids,
+    file: &mut F,
+    out: &mut W,
+) -> (Exit, Option<SuffixFault>)
+    ensures line { WritesAdd (R.remaining reader) ids (F.contents file.old) (F.contents file.new) (W.contents out.old)
+        (W.contents out.new) result.0 }
+    ensures fault { HasAddFault (R.remaining reader) ids (F.contents file.old) (F.contents file.new) result.1 }
+{
     match add(alloc, reader, ids, file) {
         Ok(count) => match wrote_line(alloc, count) {
-            Ok(line) => write_out(out, line.as_bytes(), Exit::Done),
-            Err(_) => fault_text(SuffixFault::NoMemory, out),
+            Ok(line) => (write_out(out, line.as_bytes(), Exit::Done), None),
+            Err(_) => {
+                let fault = SuffixFault::NoMemory;
+                (fault_text(fault, out), Some(fault))
+            }
         },
-        Err(fault) => fault_text(fault, out),
+        Err(fault) => (fault_text(fault, out), Some(fault)),
     }
 }

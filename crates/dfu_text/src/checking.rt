@@ -3,7 +3,7 @@
 ghost use Rattle.std.specs.Prelude.{◌≡◌, IfOk};
 ghost use Rattle.std.specs.String.{string_bytes};
 ghost use Rattle.dfu_text.specs.AnswerLines.{ok_line};
-ghost use Rattle.dfu_text.specs.CheckText.{WritesCheck};
+ghost use Rattle.dfu_text.specs.CheckText.{HasCheckFault, WritesCheck};
 
 use crate::exit::Exit;
 use crate::faults::fault_text;
@@ -43,11 +43,27 @@ fn ok_line(alloc: Global, summary: &Summary) -> Result<String, AllocError>
 pub fn check_text<R: Read + Drop, W: Write>(alloc: Global, reader: R, writer: &mut W) -> Exit
     ensures { WritesCheck (R.remaining reader) (W.contents writer.old) (W.contents writer.new) result }
 {
+    let (exit, _) = check_with_fault(alloc, reader, writer);
+    exit
+}
+
+/// Does what `check_text` does, and returns beside the end the fault whose line was to be written.
+pub fn check_with_fault<R: Read + Drop, W: Write>(
+    alloc: Global,
+    reader: R,
+    writer: &mut W,
+) -> (Exit, Option<SuffixFault>)
+    ensures line { WritesCheck (R.remaining reader) (W.contents writer.old) (W.contents writer.new) result.0 }
+    ensures fault { HasCheckFault (R.remaining reader) result.1 }
+{
     match check(reader) {
         Ok(summary) => match ok_line(alloc, &summary) {
-            Ok(line) => write_out(writer, line.as_bytes(), Exit::Done),
-            Err(_) => fault_text(SuffixFault::NoMemory, writer),
+            Ok(line) => (write_out(writer, line.as_bytes(), Exit::Done), None),
+            Err(_) => {
+                let fault = SuffixFault::NoMemory;
+                (fault_text(fault, writer), Some(fault))
+            }
         },
-        Err(fault) => fault_text(fault, writer),
+        Err(fault) => (fault_text(fault, writer), Some(fault)),
     }
 }

@@ -1,7 +1,7 @@
 //! The identifiers that the options of `dfu add` give.
 
-ghost use Rattle.std.specs.Prelude.{◌≡◌};
-ghost use Rattle.dfu_text.specs.Identifiers.{ids_said};
+ghost use Rattle.std.specs.Prelude.{◌≡◌, option_map};
+ghost use Rattle.dfu_text.specs.Identifiers.{ids_said, wrong_option};
 
 use dfu_wire::{Ids, identifier};
 
@@ -28,4 +28,21 @@ pub fn ids_said(texts: &IdTexts<'_>) -> Option<Ids>
         product,
         vendor,
     })
+}
+
+/// The first option whose text is no identifier, and the text.
+pub(crate) fn wrong_option<'t>(texts: &IdTexts<'t>) -> Option<(&'static str, &'t str)>
+    ensures { option_map (λ o. (o.0.now, o.1.now)) result
+        ≡ wrong_option texts.now.vendor.now texts.now.product.now texts.now.device.now }
+{
+    if identifier(texts.vendor.as_bytes()).is_none() {
+        return Some(("--vid", texts.vendor));
+    }
+    if identifier(texts.product.as_bytes()).is_none() {
+        return Some(("--pid", texts.product));
+    }
+    if identifier(texts.device.as_bytes()).is_none() {
+        return Some(("--did", texts.device));
+    }
+    None
 }

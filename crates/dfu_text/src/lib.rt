@@ -4,6 +4,7 @@
 #![tactic(auto)]
 
 mod adding;
+mod answer;
 mod checking;
 mod exit;
 mod faults;
@@ -11,14 +12,23 @@ mod identifiers;
 mod numbering;
 mod numbers;
 mod output;
+mod reasons;
 mod show_lines;
 mod showing;
 
-pub use adding::add_text;
-pub use checking::check_text;
+pub use adding::{add_text, add_with_fault};
+pub use answer::Answer;
+pub use checking::{check_text, check_with_fault};
 pub use exit::Exit;
 pub use faults::{bad_words, fault_text};
 pub use identifiers::{IdTexts, ids_said};
 pub use numbering::number_text;
 pub use output::write_out;
+pub use reasons::files::{length_why, sums_why};
+pub use reasons::line::line_why;
+pub use reasons::reason_line;
+pub use reasons::setup::SetUp;
+pub use reasons::shown::shown;
+pub use reasons::sums::Sums;
+pub use reasons::words::{bad_identifier, bad_kind, bad_out, unread_word};
 pub use showing::show_text;

@@ -1,6 +1,7 @@
 //! The lines of known files and bytes.
 
 mod readers;
+mod reasons;
 mod streams;
 
 use dfu_text::{Exit, add_text, check_text, show_text};

@@ -46,14 +46,14 @@ pub struct Fram<C: Chip> {
 }
 
 impl<C: Chip> Medium for Fram<C> {
-    ghost use Rattle.std.specs.Prelude.{◌-◌, ◌^◌};
+    ghost use Rattle.std.specs.Prelude.{◌-◌, ◌^◌, []};
     ghost use Rattle.dfu_slots.specs.Medium.{MediumState};
     ghost use Rattle.dfu_slots.specs.Medium.Fuse.{Unknown};
     ghost use Rattle.dfu_slots.specs.declared.unit.Unit.TheVariants.{Byte};
 
     // Any write may fail or lie. A count of failures that stands at its last value always leaves that open, so that
     // nothing need be counted.
-    ghost state = { λ m. record { bytes = C.cells m.chip; failures = 2 ^ 64 - 1; fuse = Unknown; unit = Byte } };
+    ghost state = { λ m. record { bytes = C.cells m.chip; failures = 2 ^ 64 - 1; fuse = Unknown; unit = Byte; tag = [] } };
 
     fn len(&self) -> u32 {
         self.chip.size()

@@ -1,6 +1,6 @@
 -- The command line as clap reads it.
 use Rattle.std.proofs.Common.{◌≡◌, List, [], IfSome, Option, false, true, refl, ap, subst, sym, ◌∙◌}
-use Rattle.clap.specs.Words.{App, HasKind, HasMatchesOf, IsParsedFrom, Row, Text, app_of, fault_of, has_subcommand, is_simple, is_simple_and_free, subcommand_of, subcommand_rows_of}
+use Rattle.clap.specs.Words.{App, HasKind, HasMatchesOf, IsParsedFrom, Row, Text, app_of, fault_of, found_of, has_subcommand, is_simple, is_simple_and_free, matches_of, rows_of, subcommand_of, subcommand_rows_of}
 use Rattle.clap.specs.declared.builder.Command.{Command}
 use Rattle.clap.specs.declared.builder.Command.TheViews.{out-Command}
 use Rattle.clap.specs.declared.parser.matches.ArgMatches.{ArgMatches}
@@ -23,6 +23,11 @@ dfu_requires = refl
 pub stated : (app : App) (words : List Text) (m : ArgMatches) → app ≡ dfu_app → HasMatchesOf app words m →
     subcommand_rows_of m ≡ subcommand_of dfu_app words
 stated app words m e h = (h (ap is_simple e ∙ dfu_simple)).1 ∙ ap (λ (a : App). subcommand_of a words) e
+
+-- The same of its own arguments.
+pub stated_above : (app : App) (words : List Text) (m : ArgMatches) → app ≡ dfu_app → HasMatchesOf app words m →
+    rows_of (found_of m) ≡ matches_of dfu_app words
+stated_above app words m e h = (h (ap is_simple e ∙ dfu_simple)).0 ∙ ap (λ (a : App). matches_of a words) e
 
 -- A parse of this command met a subcommand.
 pub met : (command : Command) (m : ArgMatches) → app_of command ≡ dfu_app → (out-Command command).has_globals ≡ false →

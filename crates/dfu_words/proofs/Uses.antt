@@ -1,5 +1,5 @@
 -- What a word without a fault leaves: rows that have a value.
-use Rattle.std.proofs.Common.{◌≡◌, ◌<◌, ◌&&◌, ℕ, Bool, cond, true, false, zero, suc, refl, sym, arith, List, [], ◌∷◌, length, drop, Option, Some, None, is_some, nat_lt, true≢false}
+use Rattle.std.proofs.Common.{◌≡◌, ◌<◌, ◌&&◌, ℕ, Bool, cond, true, false, not, zero, suc, refl, sym, arith, List, [], ◌∷◌, length, drop, Option, Some, None, is_some, nat_lt, true≢false}
 use Rattle.std.specs.Prelude.{encode_utf8, slice_get}
 use Rattle.std.specs.List.{find, list_all}
 use Rattle.std.specs.Option.{option_map_or}
@@ -8,7 +8,7 @@ use Rattle.clap.specs.Lexer.{long_of, short_of}
 use Rattle.clap.specs.Facts.{unwrap_or_range}
 use Rattle.clap.specs.Kinds.{Kinds, or_else, range_kinds}
 use Rattle.clap.specs.Faults.{bundle_step_fault, flag_word_fault, flags_fault, long_fault, option_fault, react_fault, settle_fault, short_fault, use_fault}
-use Rattle.clap.specs.Walk.{Held, Outcome, Row, Rule, Text, Waiting, action_of, after_flag, arg_by_id, arg_by_long, arg_by_short, attached_value, bundle, bundle_met, bundle_step, done, flag_met, idle, long_met, long_or_other, most_values, option, option_met, option_word, plain, plain_word, positional, reacted, reading_by, refused, settled, settled_rows, short_met, short_or_plain, takes_values, used, used_as, used_by_id, values_or_missing, waits, without}
+use Rattle.clap.specs.Walk.{Held, Outcome, Row, Rule, Text, Waiting, action_of, after_flag, arg_by_id, arg_by_long, arg_by_short, attached_value, bundle, bundle_met, bundle_step, done, flag_met, idle, is_empty, long_met, long_or_other, most_values, option, option_met, option_word, plain, plain_word, positional, reacted, reading_by, refused, settled, settled_rows, short_met, short_or_plain, takes_values, used, used_as, used_by_id, values_or_missing, waits, without}
 use Rattle.clap.specs.declared.builder.action.ArgAction.{ArgAction}
 use Rattle.clap.specs.declared.builder.action.ArgAction.TheVariants.{Set, Append, SetTrue, SetFalse, Count, Help, HelpShort, HelpLong, Version}
 use Rattle.clap.specs.declared.parser.matches.ValueSource.TheVariants.{CommandLine}
@@ -37,19 +37,29 @@ found_passes p q (y ∷ ys) x all is = go (p y) (q y) refl refl all is (found_pa
     go true false pa qb all is later = later all is
     go false b pa qb all is later = absurd (true≢false (sym all))
 
-abbrev sets_as : ArgAction → ℕ → Bool
-sets_as Set least = nat_lt 0 least
-sets_as Help least = true
-sets_as _ least = false
+abbrev sets_as : ArgAction → ℕ → List Text → Bool
+sets_as Set least missing = nat_lt 0 least
+sets_as SetTrue least missing = not (is_empty missing)
+sets_as Help least missing = true
+sets_as Version least missing = true
+sets_as _ least missing = false
 
--- A use of the argument gives a value, or asks for help.
+-- A use of the argument gives a value, or asks for help or the version.
 abbrev pub sets_value : Rule → Bool
-sets_value a = sets_as (action_of a) (unwrap_or_range a.range).start_inclusive
+sets_value a = sets_as (action_of a) (unwrap_or_range a.range).start_inclusive a.missing
 
 given_value : (a : Rule) (values : List Text) (least most : ℕ) → nat_lt 0 least ≡ true → range_kinds least most (length values) ≡ []
     → 0 < length (values_or_missing a values)
 given_value a [] least most some e = let bad : kind.InvalidValue ∷ [] ≡ [] = rw some at e in cc
 given_value a (v ∷ vs) least most some e = omega arith
+
+flag_value : (a : Rule) (values : List Text) → not (is_empty a.missing) ≡ true → 0 < length (values_or_missing a values)
+flag_value a [] some = go a.missing some
+  where
+    go : (vs : List Text) → not (is_empty vs) ≡ true → 0 < length vs
+    go [] some = absurd (true≢false (sym some))
+    go (v ∷ vs) some = omega arith
+flag_value a (v ∷ vs) some = omega arith
 
 used_full : (again : Bool) (a : Rule) (values : List Text) (rows : List Row) → sets_value a ≡ true
     → use_fault again a values rows ≡ [] → Full rows
@@ -59,18 +69,19 @@ used_full again a values rows ok e f = go (action_of a) ok
     range : range_kinds (unwrap_or_range a.range).start_inclusive (most_values a) (length values) ≡ []
     range = first_none _ _ e
 
-    go : (x : ArgAction) → sets_as x (unwrap_or_range a.range).start_inclusive ≡ true
+    go : (x : ArgAction) → sets_as x (unwrap_or_range a.range).start_inclusive a.missing ≡ true
         → Full (used_as x a.id (reading_by a) (values_or_missing a values) rows)
     go Set ok = valued_full a.id (reading_by a) CommandLine (values_or_missing a values) (without a.id rows)
         (given_value a values _ (most_values a) ok range) (without_full a.id rows f)
+    go SetTrue ok = valued_full a.id (reading_by a) CommandLine (values_or_missing a values) (without a.id rows)
+        (flag_value a values ok) (without_full a.id rows f)
     go Help ok = f
+    go Version ok = f
     go Append ok = absurd (true≢false (sym ok))
-    go SetTrue ok = absurd (true≢false (sym ok))
     go SetFalse ok = absurd (true≢false (sym ok))
     go Count ok = absurd (true≢false (sym ok))
     go HelpShort ok = absurd (true≢false (sym ok))
     go HelpLong ok = absurd (true≢false (sym ok))
-    go Version ok = absurd (true≢false (sym ok))
 
 module _ (c : List Rule) (all : list_all sets_value c ≡ true) (again : Bool) where
   -- What is pending gets its values.

@@ -1,8 +1,9 @@
 -- The command line of the program, in clap's own words.
-use Rattle.std.specs.Prelude.{◌≡◌, true, List, [], ◌∷◌, Option, Some, None, codes}
+use Rattle.std.specs.Prelude.{◌≡◌, ◌||◌, Bool, true, false, List, [], ◌∷◌, Option, Some, None, codes}
+use Rattle.std.specs.Str.{bytes_eq}
 use Rattle.std.specs.String.{string_bytes}
-use Rattle.clap.specs.Words.{App, Row, Rule, Text, first_of, new_app, new_rule, with_rule, with_subcommand}
-use Rattle.clap.specs.declared.builder.ArgAction.TheVariants.{Set}
+use Rattle.clap.specs.Words.{App, Row, Rule, Text, first_of, matches_of, new_app, new_rule, subcommand_of, with_rule, with_subcommand}
+use Rattle.clap.specs.declared.builder.ArgAction.TheVariants.{Set, SetTrue}
 use Rattle.dfu_words.specs.declared.task.Job.{Job}
 use Rattle.dfu_words.specs.declared.task.Job.TheVariants.{Check, Add, Show, Run}
 
@@ -14,27 +15,41 @@ needed id = record (new_rule id) { required = true; action = Some Set; value_nam
 abbrev pub option : Text → Text → Rule
 option id default = record (new_rule id) { long = Some id; action = Some Set; defaults = default ∷ [] }
 
+-- A flag `--ID` has no value, and is off where it isn't given.
+abbrev pub flag : Text → Rule
+flag id = record (new_rule id) { long = Some id; action = Some SetTrue }
+
+-- Each command takes the flag `--explain`.
+abbrev pub explained : App → App
+explained app = with_rule app (flag (codes "explain"))
+
 -- The command `check` takes FILE.
 abbrev pub check_app : App
-check_app = with_rule (new_app (codes "check")) (needed (codes "file"))
+check_app = explained (with_rule (new_app (codes "check")) (needed (codes "file")))
 
 -- The command `add` takes FILE, OUT and the options `--vid`, `--pid` and `--did`, each `ffff` by default.
 abbrev pub add_app : App
 add_app =
-    with_rule (with_rule (with_rule (with_rule (with_rule (new_app (codes "add")) (needed (codes "file"))) (needed (codes "to")))
-    (option (codes "vid") (codes "ffff"))) (option (codes "pid") (codes "ffff"))) (option (codes "did") (codes "ffff"))
+    explained (with_rule (with_rule (with_rule (with_rule (with_rule (new_app (codes "add")) (needed (codes "file"))) (needed (codes "to")))
+    (option (codes "vid") (codes "ffff"))) (option (codes "pid") (codes "ffff"))) (option (codes "did") (codes "ffff")))
 
 -- The command `show` takes KIND and HEX.
 abbrev pub show_app : App
-show_app = with_rule (with_rule (new_app (codes "show")) (needed (codes "kind"))) (needed (codes "hex"))
+show_app = explained (with_rule (with_rule (new_app (codes "show")) (needed (codes "kind"))) (needed (codes "hex")))
 
 -- The command `run` takes SCRIPT.
 abbrev pub run_app : App
-run_app = with_rule (new_app (codes "run")) (needed (codes "script"))
+run_app = explained (with_rule (new_app (codes "run")) (needed (codes "script")))
 
--- The command `dfu` with no subcommand yet has to get one.
+-- The command `dfu` with no subcommand yet has to get one, and has a version.
+abbrev pub bare_app : App
+bare_app = record (new_app (codes "dfu")) {
+  top = record (new_app (codes "dfu")).top { subcommand_required = true; has_version = true };
+}
+
+-- It takes the flag `--explain` before its subcommand too.
 abbrev pub top_app : App
-top_app = record (new_app (codes "dfu")) { top = record (new_app (codes "dfu")).top { subcommand_required = true } }
+top_app = explained bare_app
 
 -- The whole command `dfu` has the subcommands `check`, `add`, `show` and `run`.
 unfoldable pub dfu_app : App
@@ -51,3 +66,19 @@ States (Some p) (Add file to vid pid did) =
 States (Some p) (Show kind hex) = (p.0 ≡ codes "show") × (first_of (codes "kind") p.1 ≡ Some (string_bytes kind))
     × (first_of (codes "hex") p.1 ≡ Some (string_bytes hex))
 States (Some p) (Run script) = (p.0 ≡ codes "run") × (first_of (codes "script") p.1 ≡ Some (string_bytes script))
+
+-- The text of a flag says that it is on.
+abbrev pub is_on : Option Text → Bool
+is_on None = false
+is_on (Some text) = bytes_eq text (codes "true")
+
+-- The rows of a subcommand, which has none where there is no subcommand.
+abbrev pub rows_in : Option (Text × List Row) → List Row
+rows_in None = []
+rows_in (Some p) = p.1
+
+-- The words ask for the reason of a refusal: they have the flag `--explain`, before the subcommand or behind it.
+abbrev pub asks_why : List Text → Bool
+asks_why words =
+    is_on (first_of (codes "explain") (matches_of dfu_app words))
+    || is_on (first_of (codes "explain") (rows_in (subcommand_of dfu_app words)))

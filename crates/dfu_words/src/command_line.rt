@@ -4,7 +4,7 @@
 ghost use Rattle.std.specs.Prelude.{◌≡◌, IfOk, false, true};
 ghost use Rattle.clap.specs.Words.{App, Rule, app_of, new_app, rule_of, with_rule, with_subcommand};
 ghost use Rattle.clap.specs.declared.builder.Command.TheViews.{out-Command};
-ghost use Rattle.dfu_words.specs.CommandLine.{needed, option, check_app, add_app, show_app, run_app, top_app, dfu_app};
+ghost use Rattle.dfu_words.specs.CommandLine.{needed, option, flag, explained, check_app, add_app, show_app, run_app, bare_app, top_app, dfu_app};
 
 use crate::help;
 use clap::{Arg, ArgAction, Command};
@@ -33,6 +33,18 @@ fn option<'a>(alloc: Global, id: &'a str, default: &'a str, help: &'a str) -> Ar
         .long(id)
         .action(ArgAction::Set)
         .default_value(default)
+        .help(help)
+}
+
+/// A flag, which is off where it isn't given.
+#[inline(never)]
+fn flag<'a>(alloc: Global, id: &'a str, help: &'a str) -> Arg<'a>
+    ensures rule { rule_of result ≡ flag id.entry.now }
+    ensures local { result.global ≡ false }
+{
+    Arg::new(alloc, id)
+        .long(id)
+        .action(ArgAction::SetTrue)
         .help(help)
 }
 
@@ -67,6 +79,18 @@ fn with_sub<'a>(
     command?.subcommand(sub?)
 }
 
+/// A command with the flag `--explain` too, where there was memory for the command.
+fn explained<'a>(
+    alloc: Global,
+    command: Result<Command<'a>, AllocError>,
+) -> Result<Command<'a>, AllocError>
+    requires plain { IfOk command (λ c. (out-Command c).has_globals ≡ false) }
+    ensures app { (a : App) → IfOk command.entry (λ c. app_of c ≡ a) → IfOk result (λ c. app_of c ≡ explained a) }
+    ensures local { IfOk result (λ c. (out-Command c).has_globals ≡ false) }
+{
+    with(command, flag(alloc, "explain", help::EXPLAIN))
+}
+
 /// A command with no arguments yet.
 #[inline(never)]
 fn described<'a>(alloc: Global, name: &'a str, about: &'a str, example: &'a str) -> Command<'a>
@@ -81,7 +105,8 @@ fn check_command<'a>(alloc: Global) -> Result<Command<'a>, AllocError>
     ensures local { IfOk result (λ c. (out-Command c).has_globals ≡ false) }
 {
     let command = described(alloc, "check", help::CHECK, help::CHECK_EXAMPLE);
-    with(Ok(command), needed(alloc, "file", "FILE", help::CHECK_FILE))
+    let command = with(Ok(command), needed(alloc, "file", "FILE", help::CHECK_FILE));
+    explained(alloc, command)
 }
 
 fn add_command<'a>(alloc: Global) -> Result<Command<'a>, AllocError>
@@ -93,7 +118,8 @@ fn add_command<'a>(alloc: Global) -> Result<Command<'a>, AllocError>
     let command = with(command, needed(alloc, "to", "OUT", help::ADD_OUT));
     let command = with(command, option(alloc, "vid", "ffff", help::ADD_VID));
     let command = with(command, option(alloc, "pid", "ffff", help::ADD_PID));
-    with(command, option(alloc, "did", "ffff", help::ADD_DID))
+    let command = with(command, option(alloc, "did", "ffff", help::ADD_DID));
+    explained(alloc, command)
 }
 
 fn show_command<'a>(alloc: Global) -> Result<Command<'a>, AllocError>
@@ -102,7 +128,8 @@ fn show_command<'a>(alloc: Global) -> Result<Command<'a>, AllocError>
 {
     let command = described(alloc, "show", help::SHOW, help::SHOW_EXAMPLE);
     let command = with(Ok(command), needed(alloc, "kind", "KIND", help::SHOW_KIND));
-    with(command, needed(alloc, "hex", "HEX", help::SHOW_HEX))
+    let command = with(command, needed(alloc, "hex", "HEX", help::SHOW_HEX));
+    explained(alloc, command)
 }
 
 fn run_command<'a>(alloc: Global) -> Result<Command<'a>, AllocError>
@@ -110,20 +137,27 @@ fn run_command<'a>(alloc: Global) -> Result<Command<'a>, AllocError>
     ensures local { IfOk result (λ c. (out-Command c).has_globals ≡ false) }
 {
     let command = described(alloc, "run", help::RUN, help::RUN_EXAMPLE);
-    with(
-        Ok(command),
-        needed(alloc, "script", "SCRIPT", help::RUN_SCRIPT),
-    )
+    let script = needed(alloc, "script", "SCRIPT", help::RUN_SCRIPT);
+    explained(alloc, with(Ok(command), script))
 }
 
-/// The command before its subcommands: it has to get one of them.
-fn top_command<'a>(alloc: Global) -> Result<Command<'a>, AllocError>
-    ensures app { IfOk result (λ c. app_of c ≡ top_app) }
+/// The command before its arguments: it has to get a subcommand, and has a version.
+fn bare_command<'a>(alloc: Global) -> Result<Command<'a>, AllocError>
+    ensures app { IfOk result (λ c. app_of c ≡ bare_app) }
     ensures local { IfOk result (λ c. (out-Command c).has_globals ≡ false) }
 {
     described(alloc, "dfu", help::DFU, help::DFU_EXAMPLE)
         .subcommand_required(true)
+        .version(help::VERSION)
         .bin_name("dfu")
+}
+
+/// The command before its subcommands.
+fn top_command<'a>(alloc: Global) -> Result<Command<'a>, AllocError>
+    ensures app { IfOk result (λ c. app_of c ≡ top_app) }
+    ensures local { IfOk result (λ c. (out-Command c).has_globals ≡ false) }
+{
+    explained(alloc, bare_command(alloc))
 }
 
 /// The whole command.

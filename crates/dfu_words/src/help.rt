@@ -1,17 +1,22 @@
 //! The texts of `--help`.
 
+/// What `--version` prints behind the program's name.
+pub(crate) const VERSION: &str = "0.1.0";
+
 pub(crate) const DFU: &str = "dfu 0.1.0: firmware files and upgrades over USB (DFU 1.1)";
 
 pub(crate) const DFU_EXAMPLE: &str = "\
 Examples:
   dfu check firmware.dfu
-  dfu run examples/clean-run.script
+  echo show | dfu run -
 
 Exit status:
   0  done
   1  refused, with the reason's name: refused NAME
   2  the words aren't understood
   3  a file or a stream failed: fault Read or fault Write";
+
+pub(crate) const EXPLAIN: &str = "Print the reason of a refusal on standard error";
 
 pub(crate) const CHECK: &str = "Check a DFU file and print what its suffix says";
 
@@ -23,15 +28,15 @@ Example:
 
 pub(crate) const ADD: &str = "Write a raw image and a suffix for it to a new file";
 
-pub(crate) const ADD_FILE: &str = "The raw image";
+pub(crate) const ADD_FILE: &str = "The raw image, or - for standard input";
 
-pub(crate) const ADD_OUT: &str = "The file to make; it may be FILE";
+pub(crate) const ADD_OUT: &str = "The file to make; it may be FILE, and can't be -";
 
-pub(crate) const ADD_VID: &str = "Vendor: four hexadecimal digits, as 1209; default ffff, any";
+pub(crate) const ADD_VID: &str = "Vendor: four hexadecimal digits, as 1209; ffff is any";
 
-pub(crate) const ADD_PID: &str = "Product: four hexadecimal digits, as 0001; default ffff, any";
+pub(crate) const ADD_PID: &str = "Product: four hexadecimal digits, as 0001; ffff is any";
 
-pub(crate) const ADD_DID: &str = "Device release: four hexadecimal digits, as 0100; default ffff";
+pub(crate) const ADD_DID: &str = "Device release: four hexadecimal digits, as 0100";
 
 pub(crate) const ADD_EXAMPLE: &str = "\
 Example:

@@ -8,5 +8,5 @@ mod help;
 mod task;
 mod words;
 
-pub use task::{Job, JobFault};
-pub use words::job;
+pub use task::{Asked, Job, JobFault};
+pub use words::{asked, job};

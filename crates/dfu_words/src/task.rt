@@ -35,6 +35,15 @@ pub enum Job {
     },
 }
 
+/// A job, and how it is to be done.
+#[derive(Debug, Drop)]
+pub struct Asked {
+    /// What is to be done.
+    pub job: Job,
+    /// Whether the reason of a refusal is wanted: `--explain` was given.
+    pub explain: bool,
+}
+
 /// Why the words are no job.
 #[derive(Debug, Drop)]
 pub enum JobFault {

@@ -2,13 +2,13 @@
 
 ghost use Rattle.std.specs.Prelude.{◌≡◌, IfErr, IfOk, IfSome, Some, codes, is_some, map, true};
 ghost use Rattle.std.specs.String.{string_bytes};
-ghost use Rattle.clap.specs.Words.{HasKind, Kinds, first_of, found_of, has_subcommand, rows_of, subcommand_of, subcommand_rows_of};
-ghost use Rattle.dfu_words.specs.CommandLine.{dfu_app, States};
+ghost use Rattle.clap.specs.Words.{HasKind, Kinds, first_of, found_of, has_subcommand, matches_of, rows_of, subcommand_of, subcommand_rows_of};
+ghost use Rattle.dfu_words.specs.CommandLine.{asks_why, dfu_app, is_on, rows_in, States};
 ghost use Rattle.dfu_words.specs.Complete.{HasTexts, IsComplete, arguments_of};
 ghost use Rattle.dfu_words.specs.Refusals.{EndsBy, Tells, word_faults};
 
 use crate::command_line::dfu_command;
-use crate::task::{Job, JobFault};
+use crate::task::{Asked, Job, JobFault};
 use clap::ArgMatches;
 use clap::error::ErrorKind;
 use std::alloc::Global;
@@ -30,8 +30,19 @@ fn text_of(alloc: Global, found: &ArgMatches<'_>, id: &str) -> Result<String, Jo
     }
 }
 
+/// Whether a flag was given.
+fn is_on(found: &ArgMatches<'_>, id: &str) -> bool
+    ensures { result ≡ is_on (first_of id.now (rows_of (found_of found.now))) }
+{
+    match found.get_str(id) {
+        Some(text) => text == "true",
+        None => false,
+    }
+}
+
 /// What clap makes of the words.
 fn matches_of<'a>(alloc: Global, words: &'a [String]) -> Result<ArgMatches<'a>, JobFault>
+    ensures top { IfOk result (λ m. rows_of (found_of m) ≡ matches_of dfu_app (map string_bytes words.now)) }
     ensures rows { IfOk result (λ m. subcommand_rows_of m ≡ subcommand_of dfu_app (map string_bytes words.now)) }
     ensures named { IfOk result (λ m. has_subcommand m ≡ true) }
     ensures complete { IfOk result (λ m. IfSome (subcommand_rows_of m) (λ p. IsComplete p.0 p.1)) }
@@ -130,18 +141,48 @@ fn chosen(alloc: Global, matches: &ArgMatches<'_>) -> Result<Job, JobFault>
     }
 }
 
+/// Whether the flag was given behind the subcommand.
+fn is_on_below(matches: &ArgMatches<'_>, id: &str) -> bool
+    ensures { result ≡ is_on (first_of id.now (rows_in (subcommand_rows_of matches.now))) }
+{
+    match matches.subcommand() {
+        Some((_name, found)) => is_on(found, id),
+        None => false,
+    }
+}
+
+/// What the words ask for; the first word is the program's name.
+///
+/// # Errors
+///
+/// Words where the parser refuses the words, as where they have no subcommand, and where they ask
+/// for help or the version; NoMemory where an allocation was refused.
+pub fn asked(alloc: Global, words: &[String]) -> Result<Asked, JobFault>
+    // The subcommand and its texts are those that clap states for these words and this command.
+    ensures job { IfOk result (λ a. States (subcommand_of dfu_app (map string_bytes words.now)) a.job) }
+    // The reason is wanted exactly where clap states the flag for these words.
+    ensures explain { IfOk result (λ a. a.explain ≡ asks_why (map string_bytes words.now)) }
+    // A job comes only where clap states no fault for them, and Words only with a kind that it states.
+    ensures faults { EndsBy (word_faults (map string_bytes words.now)) result }
+{
+    let matches = matches_of(alloc, words)?;
+    let explain = is_on(&matches, "explain") || is_on_below(&matches, "explain");
+    let job = chosen(alloc, &matches)?;
+    Ok(Asked { job, explain })
+}
+
 /// The job that the words ask for; the first word is the program's name.
 ///
 /// # Errors
 ///
 /// Words where the parser refuses the words, as where they have no subcommand, and where they ask
-/// for help; NoMemory where an allocation was refused.
+/// for help or the version; NoMemory where an allocation was refused.
 pub fn job(alloc: Global, words: &[String]) -> Result<Job, JobFault>
     // The subcommand and its texts are those that clap states for these words and this command.
     ensures job { IfOk result (λ j. States (subcommand_of dfu_app (map string_bytes words.now)) j) }
     // A job comes only where clap states no fault for them, and Words only with a kind that it states.
     ensures faults { EndsBy (word_faults (map string_bytes words.now)) result }
 {
-    let matches = matches_of(alloc, words)?;
-    chosen(alloc, &matches)
+    let asked = asked(alloc, words)?;
+    Ok(asked.job)
 }

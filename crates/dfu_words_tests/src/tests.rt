@@ -1,6 +1,6 @@
 //! The jobs of known words.
 
-use dfu_words::{Job, JobFault, job};
+use dfu_words::{Job, JobFault, asked, job};
 use std::alloc::{AllocError, Global};
 use std::test::Fail;
 
@@ -59,7 +59,7 @@ fn outcome(alloc: Global, line: &str) -> Result<String, AllocError> {
 }
 
 /// Words, and the job that they are.
-static JOBS: [(&str, &str); 16] = [
+static JOBS: [(&str, &str); 20] = [
     ("dfu add a b --pid 0001", "add;a;b;ffff;0001;ffff;"),
     ("dfu add a b --did 1 --vid=2", "add;a;b;2;ffff;1;"),
     ("dfu check -", "check;-;"),
@@ -72,7 +72,11 @@ static JOBS: [(&str, &str); 16] = [
     ("dfu add a b c", "words 2"),
     ("dfu run", "words 2"),
     ("dfu run a b", "words 2"),
-    ("dfu --version", "words 2"),
+    ("dfu check a --version", "words 2"),
+    ("dfu check a --explain=1", "words 2"),
+    ("dfu check a --explain --explain", "words 2"),
+    ("dfu --version", "words 0"),
+    ("dfu -V", "words 0"),
     ("dfu show status -x", "words 2"),
     ("dfu --help", "words 0"),
     ("dfu help add", "words 0"),
@@ -84,6 +88,32 @@ fn jobs_of_words(rt: HostRuntime) -> Result<(), Fail> {
     for (line, found) in &JOBS {
         let text = outcome(rt.alloc(), line)?;
         assert_eq!(rt; text.as_str(), *found, "{line}");
+    }
+    Ok(())
+}
+
+/// Words, and whether they ask for the reason of a refusal.
+static REASONS: [(&str, bool); 9] = [
+    ("dfu check a", false),
+    ("dfu check a --explain", true),
+    ("dfu --explain check a", true),
+    ("dfu --explain check a --explain", true),
+    ("dfu check -- --explain", false),
+    ("dfu add a b --explain --vid 1", true),
+    ("dfu add a b --vid 1", false),
+    ("dfu show status 00 --explain", true),
+    ("dfu run --explain -", true),
+];
+
+#[test]
+fn reasons_wanted(rt: HostRuntime) -> Result<(), Fail> {
+    for (line, wanted) in &REASONS {
+        let words = words_of(rt.alloc(), line)?;
+        let answer = asked(rt.alloc(), &words);
+        match answer {
+            Ok(asked) => assert_eq!(rt; asked.explain, *wanted, "{line}"),
+            Err(_) => assert!(rt; false, "{line}"),
+        }
     }
     Ok(())
 }

@@ -1,7 +1,7 @@
 //! `dfu add` on the machine in memory: which calls it makes, and what stands there when one fails.
 
 use crate::tests::acting::{ADD, OLD, calls, ends, holds, machine_over, machine_with, prints};
-use crate::tests::machine::Kind;
+use crate::tests::machine::{Kind, Machine};
 use crate::tests::{DIGITS, FOUR_ONES};
 use dfu_files::rights_after;
 use std::alloc::Global;
@@ -16,6 +16,18 @@ fn makes_a_new_file(rt: HostRuntime) -> Result<(), Fail> {
     calls(&rt, &machine, made)?;
     prints(&rt, &machine, "wrote 25\n")?;
     holds(&rt, &machine, "a;b;", "b", &DIGITS)
+}
+
+// Standard input is read, and no file is opened for it.
+#[test]
+fn reads_standard_input(rt: HostRuntime) -> Result<(), Fail> {
+    let machine = Machine::new(rt.alloc(), b"123456789", "");
+    let line = "dfu add - b --vid 1209 --pid 0001 --did 0100";
+    ends(&rt, &machine, line, 0)?;
+    let made = "see b;look b;create .dfu-part-0 666;write;sync;rename .dfu-part-0 b;";
+    calls(&rt, &machine, made)?;
+    prints(&rt, &machine, "wrote 25\n")?;
+    holds(&rt, &machine, "b;", "b", &DIGITS)
 }
 
 // It has its owner and its rights before it has a byte.

@@ -6,7 +6,7 @@ use std::test::Fail;
 
 /// Words, what is printed, the calls that are made, and the end.
 #[rattlefmt::skip]
-static READ: [(&str, &str, &str, u8); 7] = [
+static READ: [(&str, &str, &str, u8); 10] = [
     ("dfu check a", "ok payload 4 suffix 16 device ffff product ffff vendor ffff dfu 0100 crc 0c51c871\n", "open a;", 0),
     ("dfu check -", "refused TooShort\n", "", 1),
     ("dfu check c", "fault Read\n", "open c;", 3),
@@ -14,6 +14,9 @@ static READ: [(&str, &str, &str, u8); 7] = [
     ("dfu run -", "state appIDLE status OK image 00\nimage 00\n", "", 0),
     ("dfu run c", "fault Read\n", "open c;", 3),
     ("dfu show state 00", "bad words\n", "", 2),
+    ("dfu add - -", "bad words\n", "", 2),
+    ("dfu add c -", "bad words\n", "", 2),
+    ("dfu add - b --vid 12", "bad words\n", "", 2),
 ];
 
 // Standard input has a script, and `a` a file.
@@ -29,9 +32,10 @@ fn reads_what_is_named(rt: HostRuntime) -> Result<(), Fail> {
 }
 
 /// Words, the call that fails, and the end.
-static TOLD: [(&str, &str, u8); 5] = [
+static TOLD: [(&str, &str, u8); 6] = [
     ("dfu --help", "", 0),
     ("dfu help add", "", 0),
+    ("dfu --version", "", 0),
     ("dfu", "", 2),
     ("dfu --help", "print", 3),
     ("dfu", "print", 3),

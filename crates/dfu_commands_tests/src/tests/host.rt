@@ -46,6 +46,23 @@ impl Print for Host<'_> {
     }
 }
 
+impl Eprint for Host<'_> {
+    fn eprint<D: Display + Drop>(&self, value: D) -> io::Result<()> {
+        let text = format!(in self.machine.alloc; "{value}")?;
+        let mut state = self.machine.state.try_borrow_mut()?;
+        if self.machine.failing == "eprint" {
+            return Err(io::Error::from(ErrorKind::BrokenPipe));
+        }
+        state.told.extend_from_slice(text.as_bytes())?;
+        Ok(())
+    }
+
+    fn eprintln<D: Display + Drop>(&self, value: D) -> io::Result<()> {
+        self.eprint(value)?;
+        self.eprint("\n")
+    }
+}
+
 impl Input for Host<'_> {
     type Reader = Typed;
 

@@ -28,6 +28,8 @@ pub struct State {
     /// The calls so far, each ended by `;`.
     pub calls: String,
     pub printed: Vec<u8>,
+    /// What was printed on standard error.
+    pub told: Vec<u8>,
     /// How many calls of printing were made.
     pub prints: usize,
     /// How many of them succeed.
@@ -74,6 +76,7 @@ impl Machine {
             folder: Vec::new(alloc),
             calls: String::new(alloc),
             printed: Vec::new(alloc),
+            told: Vec::new(alloc),
             prints: 0,
             room: if failing == "print" { 0 } else { usize::MAX },
         };

@@ -2,7 +2,7 @@ use Rattle.std.proofs.Common.{ap, inl, inr, refl, subst, sym, ◌∙◌, ℕ, Li
 use Rattle.std.specs.Io.Buffered.{into_inner_error_writer, writer_buffer, writer_contents, writer_inner}
 use Rattle.std.specs.Io.KnownBytes.{Keeps, append_known}
 use Rattle.dfu_commands.specs.Buffering.{HasFront}
-use Rattle.dfu_commands.proofs.buffering.run_buffered.Goals as goal
+use Rattle.dfu_commands.proofs.buffering.run_buffered_with_fault.Goals as goal
 
 -- What the writer behind a buffer has is a front of what was written, where that is known.
 front_out : (written behind : Option (List ℕ)) (buffer : List ℕ) → Keeps written (append_known behind buffer)
@@ -13,11 +13,11 @@ front_out (Some w) (Some front) buffer kept = record { front = front; rest = buf
 
 pub returns-in-Ok : goal.returns-in-Ok
 returns-in-Ok g c = record {
-  written = writer_contents g.W.Write.contents c.run_text-exit.new.writer;
-  end = c.run_text-exit.result;
-  run = c.run_text-exit.ensures.run;
-  legal = c.run_text-exit.ensures.legal;
-  headline = c.run_text-exit.ensures.headline;
+  written = writer_contents g.W.Write.contents c.run_with_fault-exit.new.writer;
+  end = c.run_with_fault-exit.result.0;
+  run = c.run_with_fault-exit.ensures.run;
+  legal = c.run_with_fault-exit.ensures.legal;
+  headline = c.run_with_fault-exit.ensures.headline;
   comes_out = inl (c.in-Ok.ensures.ok, refl);
 }
 
@@ -25,13 +25,13 @@ pub returns-in-Err : goal.returns-in-Err
 returns-in-Err g c =
     let left = into_inner_error_writer c.in-Err.error in
     let behind = c.into_parts-writer.ensures.inner ∙ ap writer_inner c.into_inner-in-Err.ensures in
-    let written = writer_contents g.W.Write.contents c.run_text-exit.new.writer in
+    let written = writer_contents g.W.Write.contents c.run_with_fault-exit.new.writer in
     let front = front_out written (g.W.Write.contents (writer_inner left)) (writer_buffer left) c.in-Err.ensures.err in
     record {
       written = written;
-      end = c.run_text-exit.result;
-      run = c.run_text-exit.ensures.run;
-      legal = c.run_text-exit.ensures.legal;
-      headline = c.run_text-exit.ensures.headline;
+      end = c.run_with_fault-exit.result.0;
+      run = c.run_with_fault-exit.ensures.run;
+      legal = c.run_with_fault-exit.ensures.legal;
+      headline = c.run_with_fault-exit.ensures.headline;
       comes_out = inr (subst (λ x. IfSome written (λ w. HasFront w (g.W.Write.contents x))) (sym behind) front, refl);
     }

@@ -1,0 +1,131 @@
+#include "firmware.h"
+#include "books.h"
+#include "bus.h"
+#include "random.h"
+#include "temper.h"
+#include "usb.h"
+#include "words.h"
+
+#include <dirent.h>
+#include <stdio.h>
+#include <string.h>
+#include <unistd.h>
+
+#define OLD_OUT "what stood there before"
+
+struct firmware firmware;
+
+/* The register of a DFU file (USB DFU 1.1, appendix B). */
+static uint32_t register_of(const uint8_t *bytes, uint32_t length)
+{
+    uint32_t state = 0xffffffff;
+    for (uint32_t at = 0; at < length; at++) {
+        state ^= bytes[at];
+        for (int bit = 0; bit < 8; bit++)
+            state = state >> 1 ^ ((state & 1) != 0 ? 0xedb88320 : 0);
+    }
+    return state;
+}
+
+static void write_file(const char *name, const void *bytes, size_t length)
+{
+    FILE *file = fopen(name, "wb");
+    if (file == NULL || fwrite(bytes, 1, length, file) != length || fclose(file) != 0)
+        fault("the file %s can't be made", name);
+}
+
+static void suffix(uint8_t *at, uint8_t size)
+{
+    const uint8_t fields[12] = {(uint8_t)firmware.release, (uint8_t)(firmware.release >> 8), (uint8_t)firmware.product,
+                                (uint8_t)(firmware.product >> 8), (uint8_t)firmware.vendor, (uint8_t)(firmware.vendor >> 8),
+                                chance(60) ? 0x1a : 0, 1, 'U', 'F', 'D', size};
+    uint32_t value;
+    any_bytes(at, size - 16u);
+    memcpy(at + size - 16, fields, sizeof fields);
+    value = register_of(firmware.bytes, firmware.payload + size - 4u);
+    for (int byte = 0; byte < 4; byte++)
+        at[size - 4 + byte] = (uint8_t)(value >> 8 * byte);
+}
+
+/* For the board that is there, for any, or for none. */
+static void address(void)
+{
+    const struct face *face = &bus.target->faces[chance(8) ? !bus.target->mode : bus.target->mode];
+    firmware.vendor = chance(6) ? 0xffff : face->vendor;
+    firmware.product = chance(4) ? 0xffff : face->product;
+    firmware.release = (uint16_t)(chance(3) ? face->release : 0xffff);
+}
+
+static void spoil(void)
+{
+    if (chance(2))
+        firmware.bytes[below(firmware.length)] ^= (uint8_t)(1 << below(8));
+    else
+        firmware.length = below(firmware.length);
+}
+
+/* What an earlier run left, whose words named other files. */
+static void clear_folder(void)
+{
+    DIR *folder = opendir(".");
+    for (struct dirent *one = readdir(folder); one != NULL; one = readdir(folder))
+        if (strcmp(one->d_name, ".") != 0 && strcmp(one->d_name, "..") != 0)
+            unlink(one->d_name);
+    closedir(folder);
+}
+
+void firmware_make(void)
+{
+    uint8_t size = (uint8_t)(chance(10) ? between(16, 255) : 16);
+    firmware.payload = chance(100) ? 0 : chance(4) ? between(1, MOST_FIRMWARE) : between(1, 700);
+    any_bytes(firmware.bytes, firmware.payload);
+    address();
+    suffix(firmware.bytes + firmware.payload, size);
+    firmware.length = firmware.payload + size;
+    if (chance(30))
+        spoil();
+    clear_folder();
+    write_file(FILE_NAME, firmware.bytes, firmware.length);
+    firmware.has_out = chance(10);
+    if (firmware.has_out)
+        write_file(OUT_NAME, OLD_OUT, strlen(OLD_OUT));
+}
+
+/* Nothing but the two stands in the folder. */
+static void check_folder(void)
+{
+    DIR *folder = opendir(".");
+    for (struct dirent *one = readdir(folder); one != NULL; one = readdir(folder))
+        if (strcmp(one->d_name, ".") != 0 && strcmp(one->d_name, "..") != 0 && strcmp(one->d_name, FILE_NAME) != 0
+            && strcmp(one->d_name, OUT_NAME) != 0)
+            fault("the file %s is left", one->d_name);
+    closedir(folder);
+}
+
+static bool has(const char *name, const void *bytes, size_t length)
+{
+    static char found[200000];
+    FILE *file = fopen(name, "rb");
+    size_t count = file == NULL ? 0 : fread(found, 1, sizeof found, file);
+    if (file == NULL)
+        return false;
+    fclose(file);
+    return count == length && memcmp(found, bytes, length) == 0;
+}
+
+void firmware_check(int status)
+{
+    bool is_written = asked.is_sound && asked.job == JOB_UPLOAD && status == 0 && !asked.is_dry;
+    if (asked.is_sound)
+        check_folder();
+    if (asked.is_sound && !has(FILE_NAME, firmware.bytes, firmware.length))
+        fault("the file was changed");
+    if (asked.is_sound && !is_written && status != 3 && firmware.has_out && !has(OUT_NAME, OLD_OUT, strlen(OLD_OUT)))
+        fault("OUT was changed with status %d", status);
+    if (is_written && firmware.has_out && !asked.is_forced)
+        fault("OUT was replaced without --force");
+    if (is_written && access(OUT_NAME, F_OK) != 0)
+        fault("there is no OUT behind an upload");
+    if (asked.is_sound && !is_written && !firmware.has_out && status != 3 && access(OUT_NAME, F_OK) == 0)
+        fault("OUT was made with status %d", status);
+}

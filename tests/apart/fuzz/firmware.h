@@ -1,0 +1,27 @@
+/* The files of a run: FILE, whole or spoilt, and sometimes one that has the name of OUT already. */
+#ifndef FUZZ_FIRMWARE_H
+#define FUZZ_FIRMWARE_H
+
+#include <stdbool.h>
+#include <stdint.h>
+
+#define FILE_NAME "firmware.dfu"
+#define OUT_NAME "out"
+#define MOST_FIRMWARE 6000
+
+struct firmware {
+    uint8_t bytes[MOST_FIRMWARE + 300];
+    uint32_t payload, length; /* bytes of the image, and of the file */
+    uint16_t vendor, product, release;
+    bool has_out;             /* OUT is there */
+};
+
+extern struct firmware firmware;
+
+/* Makes them in the working folder. */
+void firmware_make(void);
+
+/* Ends the run where a file isn't what it should be behind a run with that status. */
+void firmware_check(int status);
+
+#endif
