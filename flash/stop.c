@@ -2,6 +2,7 @@
    that comes just before a wait ends it too, whichever thread of libusb got it. */
 #define _POSIX_C_SOURCE 200809L
 #include "stop.h"
+#include "clock.h"
 
 #include <errno.h>
 #include <fcntl.h>
@@ -9,7 +10,11 @@
 #include <stddef.h>
 #include <unistd.h>
 
+#define SAME_MS 100 /* within which a second signal of a kind is the first one again */
+
 volatile sig_atomic_t stop_cause;
+static const int kinds[] = {SIGINT, SIGTERM, SIGHUP, SIGALRM};
+static int64_t came_ms[sizeof kinds / sizeof kinds[0]]; /* when the first of each came; 0 before */
 static int wake[2] = {-1, -1};
 static bool is_timed;
 
@@ -18,10 +23,27 @@ int stop_descriptor(void)
     return wake[0];
 }
 
+/* A second signal of a kind ends the program; but timeout(1) sends each twice, to its child and to the group that this stands in. */
+static void end_at_second(int number)
+{
+    int64_t now_ms = clock_ms() + 1;
+    for (size_t at = 0; at < sizeof kinds / sizeof kinds[0]; at++) {
+        if (kinds[at] != number)
+            continue;
+        if (came_ms[at] != 0 && now_ms - came_ms[at] >= SAME_MS) {
+            signal(number, SIG_DFL);
+            raise(number);
+        }
+        if (came_ms[at] == 0)
+            came_ms[at] = now_ms;
+    }
+}
+
 static void on_stop(int number)
 {
     int before = errno;
     ssize_t written;
+    end_at_second(number);
     if (stop_cause == STOP_NONE)
         stop_cause = number == SIGALRM ? STOP_TIME : STOP_SIGNAL;
     written = write(wake[1], "", 1);
@@ -40,11 +62,10 @@ static void make_pipe(void)
     }
 }
 
-/* A second signal of a kind ends the program, since the handler stands for one alone. */
 static void catch_one(int number)
 {
-    struct sigaction action = {.sa_handler = on_stop, .sa_flags = (int)(SA_RESETHAND | SA_RESTART)};
-    sigemptyset(&action.sa_mask);
+    struct sigaction action = {.sa_handler = on_stop, .sa_flags = SA_RESTART};
+    sigfillset(&action.sa_mask);
     sigaction(number, &action, NULL);
 }
 

@@ -52,6 +52,17 @@ wait "$!" || code=$?
 expect 'a second Ctrl-C' test "$code" -eq 130
 expect 'a second Ctrl-C: no report' test ! -s out
 
+# timeout sends its signal twice, to the program and to its group, which is one signal.
+code=0
+env LD_LIBRARY_PATH="$work" USB_SLOW=1000 USB_LOG="$work/log" ./dfu-flash new.dfu > out 2> err &
+sleep 0.5
+kill -TERM "$!"
+kill -TERM "$!"
+sleep 0.02
+kill -TERM "$!"
+wait "$!" || code=$?
+expect 'a signal that comes twice at once' test "$code-$(last_request)" = 11-ABORT
+
 # --timeout: the session is broken off as by a signal, wherever it is; the time of a session that is over is not waited for.
 row 7 old 'timed-out: the time is spent' USB_BUSY=16777215 --timeout 1 new.dfu
 expect 'time is spent: ABORT' test "$(last_request)" = ABORT
