@@ -1,6 +1,7 @@
 /* The bus of the stand-in: the device's clock, its enumerations, and the fates of transfers. */
 #include "bus.h"
 #include "abi.h"
+#include "fates.h"
 #include "keep.h"
 #include "log.h"
 #include "model.h"
@@ -92,20 +93,6 @@ void bus_pass_time(void)
     elapse(ms);
 }
 
-static bool is_lasting(const struct fate *fate)
-{
-    return fate->kind == FATE_DEAF || fate->kind == FATE_MUTE;
-}
-
-static const struct fate *fate_of(unsigned number)
-{
-    static const struct fate pass;
-    for (unsigned i = 0; i < settings.fate_count; i++)
-        if (settings.fates[i].number == number || (is_lasting(&settings.fates[i]) && settings.fates[i].number < number))
-            return &settings.fates[i];
-    return &pass;
-}
-
 /* The program heard nothing for as long as it wanted to wait. */
 static int wait_in_vain(unsigned timeout)
 {
@@ -125,7 +112,6 @@ static int leave(void)
 }
 
 #define GETSTATUS 3
-
 /* What an application leaves out, whichever device it runs on. */
 static bool is_left_out(const uint8_t setup[8])
 {

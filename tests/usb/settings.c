@@ -53,6 +53,7 @@
  * way, takes as long as the program waits for it: so much time has passed on the device. Once the program has ended,
  * ten seconds more pass there, and then the device is looked at. */
 #include "settings.h"
+#include "fates.h"
 
 #include <stdarg.h>
 #include <stdio.h>
@@ -133,34 +134,6 @@ static void read_path(const char *path)
         fail_loudly("USB_PATH has no port, or over %d", PORTS);
 }
 
-static enum fate_kind kind_of(const char *word)
-{
-    static const char *const words[] = { "pass", "lost-out", "lost-back", "twice", "short", "leave", "swap", "kill", "deaf", "mute" };
-    for (unsigned kind = 0; kind < sizeof words / sizeof *words; kind++)
-        if (strcmp(word, words[kind]) == 0)
-            return (enum fate_kind)kind;
-    fail_loudly("USB_FATE: no such fate: %s", word);
-}
-
-static void read_fates(const char *line)
-{
-    char word[16];
-    int used = 0;
-    for (struct fate fate = { 0 }; sscanf(line, " %15[a-z-] %u%n", word, &fate.number, &used) == 2; fate.bytes = 0) {
-        int more = 0;
-        fate.kind = kind_of(word);
-        line += used;
-        if (fate.kind == FATE_SHORT && (sscanf(line, "%u%n", &fate.bytes, &more) != 1))
-            fail_loudly("USB_FATE: short N BYTES");
-        line += more + (line[more] == ',');
-        if (settings.fate_count == FATES)
-            fail_loudly("USB_FATE: at most %d fates", FATES);
-        settings.fates[settings.fate_count++] = fate;
-    }
-    if (*line != '\0')
-        fail_loudly("USB_FATE is not understood: %s", line);
-}
-
 static void read_app(void)
 {
     int has = which("USB_APP", (const char *const[]){ "dfu", "plain", "none" });
@@ -229,7 +202,7 @@ void settings_read(void)
     settings.away = number("USB_AWAY", 0, 10);
     settings.absent = number("USB_ABSENT", 0, 10);
     settings.slow_ms = number("USB_SLOW", 0, 10);
-    read_fates(text("USB_FATE", ""));
+    fates_read(text("USB_FATE", ""));
     settings.log = getenv("USB_LOG");
     settings.save = getenv("USB_SAVE");
     settings.state = getenv("USB_STATE");

@@ -5,8 +5,8 @@
  * at the end a configuration is set. So a reset is told where a configuration was set before, and once an enumeration. What the
  * device says of itself behind it may differ, and then the kernel enumerates it anew.
  *
- * A device that leaves, by itself or by its fate, closes its socket, and is attached again, unless its application has no USB. A transfer that is lost is not answered,
- * until the program's time for it is over.
+ * A device that leaves, by itself or by its fate, closes its socket, and is attached again, unless its application has no USB. A
+ * transfer that is lost is not answered, until the program's time for it is over.
  *
  * usage: attached    (as root, until SIGTERM; the settings are those of the stand-in, in tests/usb/settings.c) */
 #define _GNU_SOURCE

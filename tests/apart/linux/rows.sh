@@ -8,6 +8,8 @@ for name in new large; do
     cp $name $name.dfu
     dfu-suffix -v 1209 -p 0001 -d 0100 -a $name.dfu > said
 done
+cp new any.dfu
+dfu-suffix -v ffff -p ffff -d ffff -a any.dfu > said
 chmod 777 .
 
 # is_there: the device is on the bus, and udev is done with it.
@@ -99,6 +101,37 @@ sed -n 's/^SUBSYSTEM/&/p' err | sed 's/0660/0666/' > /etc/udev/rules.d/60-dfu-12
 udevadm control --reload
 row 0 new 'verified: ' USB_ATTRIBUTES=07 su -s /bin/sh nobody -c './dfu-flash new.dfu'
 row 0 new 'verified: ' USB_START=app su -s /bin/sh nobody -c './dfu-flash new.dfu'
+
+# The rules for every device with DFU, by their line for a group, which here is that of all users; udev's own rules read the classes.
+rm /etc/udev/rules.d/60-dfu-1209.rules
+printf 'SUBSYSTEM=="usb", ENV{DEVTYPE}=="usb_device", IMPORT{builtin}="usb_id"\n' > /etc/udev/rules.d/50-usb.rules
+udevadm control --reload
+row 5 old '' USB_ATTRIBUTES=07 su -s /bin/sh nobody -c './dfu-flash new.dfu'
+sed -n 's/^#\(ACTION.*\)MODE="0660", .*/\1MODE="0666"/p' 70-dfu.rules > /etc/udev/rules.d/70-dfu.rules
+udevadm control --reload
+row 0 new 'verified: ' 'USB_IDS=1234:4321:0100' su -s /bin/sh nobody -c './dfu-flash --device 1234:4321 any.dfu'
+row 0 new 'verified: ' USB_START=app su -s /bin/sh nobody -c './dfu-flash --wait=20 new.dfu'
+
+# A device that comes once it is waited for, with the rights that come behind it; and signals while it asks for a long wait.
+late() {
+    code=0
+    "$@" > out 2> err &
+    waiting=$!
+    sleep 3
+    env USB_IMAGE=old USB_SAVE=saved ./attached > said 2>&1 &
+    device=$!
+    wait "$waiting" || code=$?
+    kill "$device"
+    wait "$device" 2> /dev/null
+    echo "row $*: $(tail -n 1 out) $(tail -n 1 err)"
+    expect test "$code" -eq 0
+    expect cmp saved new
+}
+late ./dfu-flash --wait new.dfu
+late su -s /bin/sh nobody -c './dfu-flash --wait=60 new.dfu'
+row 11 old 'aborted: ' USB_BUSY=16777215 timeout 3 ./dfu-flash new.dfu
+row 7 old 'timed-out: ' USB_BUSY=16777215 ./dfu-flash --timeout 2 new.dfu
+row 0 old 'detached: ' USB_START=app ./dfu-flash --detach
 
 # dfu-util, by the same statuses as over the stand-in (docs/INTEROP.md).
 row 0 new 'Done!' USB_ATTRIBUTES=07 dfu-util -D new.dfu
