@@ -58,7 +58,7 @@ static void forget_end(struct wire *wire)
 /* The device left: its restart is told once it can be asked again. */
 static struct answer restarted(struct wire *wire)
 {
-    struct answer answer = told(wire, DFU_RESTARTED);
+    struct answer answer = told(wire, DFU_SEEN_RESTART);
     forget_end(wire);
     answer.is_gone = !device_reopen(wire->device);
     return answer;
@@ -71,7 +71,7 @@ static struct answer left(struct wire *wire)
         return restarted(wire);
     forget_end(wire);
     device_close(wire->device);
-    return told(wire, DFU_LEFT);
+    return told(wire, DFU_SEEN_LEFT);
 }
 
 /* The host's setups have wIndex 0 (bytes 4 and 5); USB wants the number of the interface there. Nothing else is changed. */
@@ -85,17 +85,17 @@ static int transfer(struct wire *wire, const uint8_t setup[8], uint16_t length)
 
 static struct answer answer_of(struct wire *wire, bool is_in, uint16_t length, int result)
 {
-    struct answer answer = told(wire, DFU_NOTHING);
+    struct answer answer = told(wire, DFU_SEEN_NOTHING);
     answer.error = result < 0 ? result : 0;
     if (result == LIBUSB_ERROR_NO_DEVICE)
         return left(wire);
     if (result == LIBUSB_ERROR_PIPE)
-        answer.seen = DFU_STALLED;
+        answer.seen = DFU_SEEN_STALL;
     else if (is_in && result >= 0 && result <= length) {
-        answer.seen = DFU_BYTES;
+        answer.seen = DFU_SEEN_BYTES;
         answer.count = (size_t)result;
     } else if (!is_in && result == length)
-        answer.seen = DFU_ACK;
+        answer.seen = DFU_SEEN_ACK;
     return answer;
 }
 
@@ -105,9 +105,9 @@ static void note_end(struct wire *wire, const struct dfu_action *action, const s
     bool is_status = action->setup[0] == 0xa1 && action->setup[1] == 3;
     bool is_end = action->setup[0] == 0x21 && action->setup[1] == 1 && action->length == 0;
     if (!is_status) {
-        wire->is_closed = is_end && answer->seen == DFU_ACK;
+        wire->is_closed = is_end && answer->seen == DFU_SEEN_ACK;
         wire->is_manifesting = false;
-    } else if (answer->seen == DFU_BYTES && answer->count == 6 && (answer->bytes[4] == 6 || answer->bytes[4] == 7))
+    } else if (answer->seen == DFU_SEEN_BYTES && answer->count == 6 && (answer->bytes[4] == 6 || answer->bytes[4] == 7))
         wire->is_manifesting = wire->is_closed;
 }
 
@@ -117,7 +117,7 @@ static struct answer send_to(struct wire *wire, const struct dfu_action *action,
     uint16_t length = (uint16_t)(action->setup[6] | action->setup[7] << 8);
     struct answer answer;
     if (wire->device->handle == NULL && !device_reopen(wire->device)) {
-        answer = told(wire, DFU_NOTHING);
+        answer = told(wire, DFU_SEEN_NOTHING);
         answer.is_gone = true;
         return answer;
     }
@@ -125,7 +125,7 @@ static struct answer send_to(struct wire *wire, const struct dfu_action *action,
         memcpy(wire->bytes, body, length);
     wire->is_leaving = false;
     answer = answer_of(wire, is_in, length, transfer(wire, action->setup, length));
-    wire->is_leaving = answer.seen == DFU_ACK && action->setup[0] == 0x21 && action->setup[1] == 0;
+    wire->is_leaving = answer.seen == DFU_SEEN_ACK && action->setup[0] == 0x21 && action->setup[1] == 0;
     note_end(wire, action, &answer);
     return answer;
 }
@@ -156,7 +156,7 @@ static bool is_there(const struct wire *wire)
 struct answer answer_wait(struct wire *wire, uint32_t ms)
 {
     int64_t began_ms = clock_ms();
-    struct answer answer = told(wire, clock_wait(ms) ? DFU_WAITED : DFU_NOTHING);
+    struct answer answer = told(wire, clock_wait(ms) ? DFU_SEEN_WAIT : DFU_SEEN_NOTHING);
     trace_wait(&wire->trace, ms, &answer, clock_ms() - began_ms);
     /* With bitWillDetach it leaves by itself, and is opened again before the next request. */
     if (wire->is_leaving && !is_there(wire))
@@ -174,7 +174,7 @@ static int reset(struct device *device)
 
 static struct answer reset_told(struct wire *wire)
 {
-    struct answer answer = told(wire, DFU_WAS_RESET);
+    struct answer answer = told(wire, DFU_SEEN_RESET);
     int error;
     if (wire->device->handle == NULL) /* it left before this reset */
         return wire->is_leaving ? answer : restarted(wire);
@@ -185,8 +185,8 @@ static struct answer reset_told(struct wire *wire)
     if (error == LIBUSB_ERROR_NOT_FOUND || error == LIBUSB_ERROR_NO_DEVICE)
         device_close(wire->device);
     else if (error != 0)
-        answer.seen = DFU_NOTHING;
-    if (answer.seen == DFU_WAS_RESET)
+        answer.seen = DFU_SEEN_NOTHING;
+    if (answer.seen == DFU_SEEN_RESET)
         forget_end(wire);
     return answer;
 }

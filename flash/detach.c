@@ -27,7 +27,7 @@ struct answer detach_send(struct wire *wire)
     struct answer answer;
     wire->trace.is_own = true;
     answer = answer_send(wire, &action, wire->bytes);
-    if (answer.seen == DFU_ACK && leaves)
+    if (answer.seen == DFU_SEEN_ACK && leaves)
         answer_wait(wire, ms > 0 ? ms : 1);
     wire->trace.is_own = false;
     return answer;
@@ -48,7 +48,7 @@ bool detach_await(struct wire *wire)
 bool detach(struct wire *wire)
 {
     struct answer answer = detach_send(wire);
-    if (answer.is_gone || answer.seen == DFU_STALLED)
+    if (answer.is_gone || answer.seen == DFU_SEEN_STALL)
         return false;
     wire->trace.is_own = true;
     if (!wire->device->is.is_upgrade)

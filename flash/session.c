@@ -39,9 +39,9 @@ static void show(struct session *session, const struct dfu_action *action, const
 {
     uint64_t number = (uint64_t)(action->setup[2] | action->setup[3] << 8);
     uint64_t length = (uint64_t)(action->setup[6] | action->setup[7] << 8);
-    if (answer->seen == DFU_ACK && is_download(action) && action->length > 0)
+    if (answer->seen == DFU_SEEN_ACK && is_download(action) && action->length > 0)
         progress_at(&session->progress, PROGRESS_SENDING, action->from + action->length);
-    if (answer->seen == DFU_BYTES && is_upload(action))
+    if (answer->seen == DFU_SEEN_BYTES && is_upload(action))
         progress_at(&session->progress, session->goal == GOAL_UPLOAD ? PROGRESS_FETCHING : PROGRESS_COMPARING,
                     number * length + answer->count);
 }
@@ -61,13 +61,13 @@ static bool is_ready(struct session *session, bool *is_gone)
 
 static struct answer send_request(struct session *session, const struct dfu_action *action)
 {
-    struct answer answer = {DFU_NOTHING, session->wire.bytes, 0, false, 0};
+    struct answer answer = {DFU_SEEN_NOTHING, session->wire.bytes, 0, false, 0};
     if (!is_ready(session, &answer.is_gone))
         return answer;
     session->has_sent = session->has_sent || is_download(action);
     answer = answer_send(&session->wire, action, session->file + action->from);
     if (is_download(action))
-        session->is_whole = action->length == 0 && answer.seen == DFU_ACK;
+        session->is_whole = action->length == 0 && answer.seen == DFU_SEEN_ACK;
     stalls_note(&session->stalls, &session->wire.device->is, answer.seen);
     show(session, action, &answer);
     return answer;
@@ -81,7 +81,7 @@ static struct answer perform(struct session *session, const struct dfu_action *a
         return answer_wait(&session->wire, action->value);
     }
     answer = action->what == DFU_RESET ? stalls_reset(&session->stalls, &session->wire) : send_request(session, action);
-    session->silent = answer.seen == DFU_NOTHING ? session->silent + 1 : 0;
+    session->silent = answer.seen == DFU_SEEN_NOTHING ? session->silent + 1 : 0;
     return answer;
 }
 
@@ -117,7 +117,7 @@ static bool tell(struct session *session, const struct answer *answer)
 {
     grow(session);
     session->taken++;
-    session->restarted += answer->seen == DFU_RESTARTED;
+    session->restarted += answer->seen == DFU_SEEN_RESTART;
     if (dfu_host_take(&session->host, session->file, session->payload_length, session->kept, session->room, answer->seen,
                       answer->bytes, answer->count) != 0)
         return end(session, END_BROKEN);
@@ -175,7 +175,7 @@ static bool step(struct session *session, const struct dfu_action *action)
     if (answer.is_gone && !*device->is_stop)
         return end(session, device->is_many ? END_MANY : END_GONE);
     if (answer.is_gone)
-        answer.seen = DFU_NOTHING;
+        answer.seen = DFU_SEEN_NOTHING;
     if (session->silent >= MOST_SILENT)
         return end(session, END_SILENT);
     if (device->handle != NULL && !session_meets(session))

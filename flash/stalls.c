@@ -9,8 +9,8 @@
 
 void stalls_note(struct stalls *stalls, const struct found *is, uint32_t seen)
 {
-    stalls->is_last = seen == DFU_STALLED && !is->is_upgrade;
-    if (is->is_upgrade || seen == DFU_ACK || seen == DFU_BYTES)
+    stalls->is_last = seen == DFU_SEEN_STALL && !is->is_upgrade;
+    if (is->is_upgrade || seen == DFU_SEEN_ACK || seen == DFU_SEEN_BYTES)
         stalls->resets = 0;
 }
 
@@ -26,13 +26,13 @@ struct answer stalls_reset(struct stalls *stalls, struct wire *wire)
     struct answer answer = {0};
     if (is_first)
         answer = detach_send(wire);
-    if (is_first && (answer.is_gone || answer.seen == DFU_RESTARTED)) {
+    if (is_first && (answer.is_gone || answer.seen == DFU_SEEN_RESTART)) {
         trace_reset(&wire->trace, &answer, 0);
         return answer;
     }
-    is_first = is_first && answer.seen == DFU_ACK;
+    is_first = is_first && answer.seen == DFU_SEEN_ACK;
     answer = answer_reset(wire);
-    if (stalls->is_last && answer.seen == DFU_WAS_RESET)
+    if (stalls->is_last && answer.seen == DFU_SEEN_RESET)
         stalls->resets++;
     if (is_first)
         detach_await(wire);

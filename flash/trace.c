@@ -40,20 +40,20 @@ static void print_answer(const struct answer *answer)
     const char *error = answer->error < 0 ? libusb_error_name(answer->error) : "";
     if (answer->is_gone)
         fputs("gone", stderr);
-    else if (answer->seen == DFU_BYTES)
+    else if (answer->seen == DFU_SEEN_BYTES)
         print_bytes(answer);
     else
         fputs(NAME(told, answer->seen), stderr);
-    if (answer->seen == DFU_NOTHING && !answer->is_gone && *error != '\0')
+    if (answer->seen == DFU_SEEN_NOTHING && !answer->is_gone && *error != '\0')
         fprintf(stderr, ":%s", strncmp(error, prefix, sizeof prefix - 1) == 0 ? error + sizeof prefix - 1 : error);
 }
 
 /* The state that an answer to GETSTATUS or GETSTATE has in it (USB DFU 1.1, sections 6.1.2 and 6.1.5). */
 static const char *state_in(uint8_t request, const struct answer *answer)
 {
-    if (answer->seen == DFU_BYTES && request == 3 && answer->count == 6)
+    if (answer->seen == DFU_SEEN_BYTES && request == 3 && answer->count == 6)
         return NAME(states, answer->bytes[4]);
-    if (answer->seen == DFU_BYTES && request == 5 && answer->count == 1)
+    if (answer->seen == DFU_SEEN_BYTES && request == 5 && answer->count == 1)
         return NAME(states, answer->bytes[0]);
     return "-";
 }

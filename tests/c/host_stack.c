@@ -22,10 +22,10 @@ static void *run(void *word) {
     case 1: dfu_host_file(ones, 20, &said); break;
     case 2: dfu_host_verified(&session, ones, 20, descriptor, 9, &ids, 100, 1); break;
     case 3: dfu_host_next(&session, ones, 4, &action); break;
-    case 4: dfu_host_take(&session, ones, 4, buffer, 0, DFU_BYTES, idle, 6); break;
+    case 4: dfu_host_take(&session, ones, 4, buffer, 0, DFU_SEEN_BYTES, idle, 6); break;
     case 5: dfu_host_upload(&session, descriptor, 9, 100, 1); break;
-    case 6: dfu_host_take(&session, ones, 0, buffer, sizeof buffer, DFU_BYTES, idle, 6); break;
-    case 7: dfu_host_take(&session, ones, 0, buffer, sizeof buffer, DFU_BYTES, part, sizeof part); break;
+    case 6: dfu_host_take(&session, ones, 0, buffer, sizeof buffer, DFU_SEEN_BYTES, idle, 6); break;
+    case 7: dfu_host_take(&session, ones, 0, buffer, sizeof buffer, DFU_SEEN_BYTES, part, sizeof part); break;
     case 8: dfu_host_abort(&session, ones, 0); break;
     case 9: dfu_host_name(DFU_INSTALLED, buffer, sizeof buffer); break;
     }

@@ -35,14 +35,14 @@ static uint32_t act(const struct dfu_action *a, int32_t *sent) {
     *sent = 0;
     if (a->what == DFU_RESET) {
         dfu_device_usb_reset(&config, &device, medium, sizeof medium);
-        return DFU_WAS_RESET;
+        return DFU_SEEN_RESET;
     }
     if (a->what == DFU_WAIT) {
         dfu_device_elapse(&config, &device, medium, sizeof medium, a->value);
-        return DFU_WAITED;
+        return DFU_SEEN_WAIT;
     }
     *sent = dfu_device_handle(&config, &device, medium, sizeof medium, a->setup, ones + a->from, a->length, answer, sizeof answer);
-    return *sent < 0 ? DFU_STALLED : a->setup[0] & 0x80 ? DFU_BYTES : DFU_ACK;
+    return *sent < 0 ? DFU_SEEN_STALL : a->setup[0] & 0x80 ? DFU_SEEN_BYTES : DFU_SEEN_ACK;
 }
 
 /* Goes on until the session is over, with a device that resets itself in the first wait behind the close: the report. */
@@ -52,11 +52,11 @@ static uint32_t run_left(struct dfu_session *s) {
     while (dfu_host_next(s, ones, 4, &a) == 0 && a.what != DFU_DONE) {
         int32_t sent;
         uint32_t seen = act(&a, &sent);
-        if (seen == DFU_ACK && a.setup[1] == 1 && a.length == 0)
+        if (seen == DFU_SEEN_ACK && a.setup[1] == 1 && a.length == 0)
             closed = 1;
-        if (seen == DFU_WAITED && closed == 1) {
+        if (seen == DFU_SEEN_WAIT && closed == 1) {
             dfu_device_usb_reset(&config, &device, medium, sizeof medium);
-            seen = DFU_LEFT;
+            seen = DFU_SEEN_LEFT;
             closed = 2;
         }
         is("take", dfu_host_take(s, ones, 4, buffer, 0, seen, answer, sent > 0 ? (size_t)sent : 0), 0);
@@ -81,7 +81,7 @@ static uint32_t run(struct dfu_session *s, size_t payload, size_t room, int lost
         int32_t sent;
         uint32_t seen = act(&a, &sent);
         if (step == lost && a.what == DFU_SEND)
-            seen = DFU_NOTHING;
+            seen = DFU_SEEN_NOTHING;
         is("take", dfu_host_take(s, ones, payload, buffer, room, seen, answer, sent > 0 ? (size_t)sent : 0), 0);
     }
     return a.value;
@@ -153,7 +153,7 @@ int main(void) {
     dfu_host_download(&s, ones, 20, descriptor, 9, &ids, 1000, 0);
     old = s;
     is("no seen", dfu_host_take(&s, ones, 4, buffer, 0, 8, answer, 0), DFU_NO_SEEN);
-    is("no payload", dfu_host_take(&s, ones, 0, buffer, 0, DFU_ACK, answer, 0), DFU_NO_SESSION);
+    is("no payload", dfu_host_take(&s, ones, 0, buffer, 0, DFU_SEEN_ACK, answer, 0), DFU_NO_SESSION);
     is("as it was", memcmp(&s, &old, sizeof s), 0);
     s.goal = 9;
     is("no goal", dfu_host_next(&s, ones, 4, &a), DFU_NO_SESSION);
