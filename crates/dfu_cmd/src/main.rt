@@ -2,9 +2,15 @@
 //! library crates answer. It doesn't talk to a USB device.
 #![tactic(auto)]
 
+ghost use Rattle.std.specs.Prelude.{◌≡◌, IfSome, codes};
+ghost use Rattle.std.specs.Fmt.{decimal};
+ghost use Rattle.std.specs.String.{string_bytes};
+ghost use Rattle.dfu_text.specs.ReasonLines.{reason_line};
+
 use dfu_commands::run_explained;
 use dfu_suffix::SuffixFault;
-use dfu_text::{Exit, bad_words, fault_text, unread_word};
+use dfu_text::{Exit, bad_words, fault_text, reason_line};
+use std::alloc::Global;
 use std::env::{Env, FillError};
 use std::io::{self, ErrorKind, IsTerminal};
 use std::process::ExitCode;
@@ -42,6 +48,22 @@ fn looked_at(rt: &HostRuntime) -> (usize, bool) {
         }
     }
     (wrong, explain)
+}
+
+/// Why a word isn't understood that isn't UTF-8 text, as some names of files: `place` is its place,
+/// counted from 1 behind the program's name.
+fn unread_word(alloc: Global, place: usize) -> Option<String>
+    ensures { IfSome result (λ t. string_bytes t ≡ reason_line (codes "word ") (decimal place)
+        (codes "it has to be UTF-8 text; a file with another name can be given as standard input")) }
+{
+    let Ok(place) = place.to_string(alloc) else {
+        return None;
+    };
+    let why = "it has to be UTF-8 text; a file with another name can be given as standard input";
+    match reason_line(alloc, "word ", &place, why) {
+        Ok(line) => Some(line),
+        Err(_) => None,
+    }
 }
 
 /// Refuses words of which one isn't text.

@@ -1,2 +1,5 @@
 pub mod RunText
 pub mod Buffering
+pub mod Identifiers
+pub mod NumberText
+pub mod WordReasons

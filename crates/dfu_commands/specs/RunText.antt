@@ -10,8 +10,8 @@ use Rattle.dfu_link.specs.ScriptHeadline.{WroteHeadline, StopsWithHeadline}
 use Rattle.dfu_text.specs.declared.exit.Exit.{Exit}
 use Rattle.dfu_text.specs.declared.exit.Exit.TheVariants.{Done, Refused, Fault}
 use Rattle.dfu_text.specs.AnswerLines.{fault_line}
-use Rattle.dfu_text.specs.NumberText.{WritesNumber}
 use Rattle.dfu_text.specs.Output.{Wrote}
+use Rattle.dfu_commands.specs.NumberText.{WritesNumber}
 
 -- What is written of a script that stopped, behind what it wrote, is the line of its fault, and nothing more where the
 -- writer failed.

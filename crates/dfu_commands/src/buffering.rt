@@ -25,7 +25,7 @@ pub fn run_buffered<R: Read + Drop, W: Write + Drop>(
 }
 
 /// Does what `run_buffered` does, and returns the fault at which the script stopped too.
-pub fn run_buffered_with_fault<R: Read + Drop, W: Write + Drop>(
+pub(crate) fn run_buffered_with_fault<R: Read + Drop, W: Write + Drop>(
     alloc: Global,
     reader: R,
     mut buffer: BufWriter<W>,

@@ -5,11 +5,18 @@
 #![tactic(auto)]
 
 mod buffering;
+mod field;
+mod form;
+mod identifiers;
+mod line;
+mod numbering;
 mod performing;
 mod running;
 mod scripts;
+mod setup;
 mod watching;
+mod words;
 
-pub use buffering::{run_buffered, run_buffered_with_fault};
+pub use buffering::run_buffered;
 pub use performing::{run_explained, run_words};
-pub use running::{run_text, run_with_fault};
+pub use running::run_text;

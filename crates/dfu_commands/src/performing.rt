@@ -1,12 +1,11 @@
 //! What the words of a command line ask for is done.
 
+use crate::identifiers::{IdTexts, ids_said};
 use crate::scripts::run_script;
+use crate::words::{bad_identifier, bad_kind, bad_out};
 use dfu_files::{Owned, add_file, check_file};
 use dfu_suffix::SuffixFault;
-use dfu_text::{
-    Answer, Exit, IdTexts, bad_identifier, bad_kind, bad_out, bad_words, fault_text, ids_said,
-    show_text,
-};
+use dfu_text::{Answer, Exit, bad_words, fault_text, show_text};
 use dfu_words::{Asked, Job, JobFault, asked};
 use std::io::{self, IsTerminal};
 use std::rt::Files;

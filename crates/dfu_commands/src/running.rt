@@ -3,9 +3,10 @@
 ghost use Rattle.std.specs.Prelude.{◌≡◌, None};
 ghost use Rattle.dfu_commands.specs.RunText.{WritesStop, WritesRun, WritesLegally, WritesWithHeadline};
 
+use crate::numbering::number_text;
 use dfu_link::{ScriptFault, script};
 use dfu_suffix::SuffixFault;
-use dfu_text::{Exit, fault_text, number_text, write_out};
+use dfu_text::{Exit, fault_text, write_out};
 use std::alloc::Global;
 use std::io::{Read, Write};
 
@@ -44,7 +45,7 @@ pub fn run_text<R: Read + Drop, W: Write>(alloc: Global, reader: R, writer: &mut
 }
 
 /// Does what `run_text` does, and returns beside the end the fault at which the script stopped.
-pub fn run_with_fault<R: Read + Drop, W: Write>(
+pub(crate) fn run_with_fault<R: Read + Drop, W: Write>(
     alloc: Global,
     reader: R,
     writer: &mut W,

@@ -2,7 +2,8 @@
 
 ghost use Rattle.std.specs.Prelude.{◌≤◌, length, IfOk};
 
-use dfu_text::{SetUp, line_why};
+use crate::line::line_why;
+use crate::setup::SetUp;
 use std::alloc::Global;
 use std::io::{self, Read};
 

@@ -11,11 +11,6 @@ use dfu_wire::Ids;
 use std::io;
 use std::rt::Files;
 
-/// Checks a file, or standard input where the name is `-`.
-pub fn run_check<R: Files + Input + Print + AllocGlobal>(rt: &R, file: &str) -> Exit {
-    check_file(rt, file, false).exit
-}
-
 /// The answer where a file can't be opened for reading.
 fn unread<R: Print + AllocGlobal>(rt: &R, file: &str, error: &io::Error) -> Answer {
     Answer {
@@ -24,7 +19,7 @@ fn unread<R: Print + AllocGlobal>(rt: &R, file: &str, error: &io::Error) -> Answ
     }
 }
 
-/// Does what `run_check` does, with the reason of a refusal where that is wanted.
+/// Checks a file, or standard input where the name is `-`, and says why it is refused where that is wanted.
 pub fn check_file<R: Files + Input + Print + AllocGlobal>(
     rt: &R,
     file: &str,
@@ -43,20 +38,6 @@ pub fn check_file<R: Files + Input + Print + AllocGlobal>(
         }
         Err(error) => unread(rt, file, &error),
     }
-}
-
-/// Adds a suffix to a file, or to standard input where its name is `-`, and makes the other file
-/// only where that succeeded.
-pub fn run_add<R: Files + Input + Print + AllocGlobal>(
-    rt: &R,
-    file: &str,
-    to: &str,
-    ids: Ids,
-) -> Exit
-where
-    R::File: Owned,
-{
-    add_file(rt, file, to, ids).exit
 }
 
 /// Puts what was made in OUT's place, and writes the line for it.
@@ -79,7 +60,8 @@ fn finish<R: Files + Print + AllocGlobal>(
     }
 }
 
-/// Does what `run_add` does, with the reason of a fault.
+/// Adds a suffix to a file, or to standard input where its name is `-`, and makes the other file
+/// only where that succeeded. The reason of a fault stands beside the end.
 pub fn add_file<R: Files + Input + Print + AllocGlobal>(
     rt: &R,
     file: &str,

@@ -1,6 +1,6 @@
 //! The files that the commands of `dfu` open, and the file that `dfu add` makes.
 //!
-//! `run_check` and `run_add` are two commands over the library's traits for files, input and printing, so that tests run
+//! `check_file` and `add_file` are two commands over the library's traits for files, input and printing, so that tests run
 //! them on a machine in memory.
 #![tactic(auto)]
 
@@ -12,8 +12,10 @@ mod part;
 mod place;
 mod reasons;
 mod replacing;
+mod suffixes;
+mod sums;
 
-pub use files::{add_file, check_file, run_add, run_check};
+pub use files::{add_file, check_file};
 pub use given::{Given, open};
 pub use owner::Owned;
 pub use part::rights_after;

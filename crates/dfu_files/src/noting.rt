@@ -1,6 +1,6 @@
 //! A reader that notes what a reason is made of.
 
-use dfu_text::Sums;
+use crate::sums::Sums;
 use std::io::{self, Read};
 
 /// A reader, the error at which it failed, and where they are wanted the sums of what it gave.

@@ -1,25 +1,20 @@
 //! Why a file could not be read, written or accepted.
 
 use crate::noting::Noting;
+use crate::suffixes::{length_why, sums_why};
 use dfu_suffix::SuffixFault;
-use dfu_text::{length_why, reason_line, shown, sums_why};
+use dfu_text::reason_line;
 use std::alloc::{AllocError, Global};
 use std::io;
 
 /// What a file is called in a reason.
-fn called(alloc: Global, name: &str) -> Result<String, AllocError> {
-    if name == "-" {
-        return String::from_str(alloc, "standard input");
-    }
-    shown(alloc, name)
+fn called(name: &str) -> &str {
+    if name == "-" { "standard input" } else { name }
 }
 
 /// The line that says why, of a file; none where there is no memory for it.
 pub fn file_reason(alloc: Global, name: &str, why: &str) -> Option<String> {
-    let Ok(name) = called(alloc, name) else {
-        return None;
-    };
-    match reason_line(alloc, &name, why) {
+    match reason_line(alloc, "", called(name), why) {
         Ok(line) => Some(line),
         Err(_) => None,
     }

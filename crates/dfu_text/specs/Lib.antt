@@ -2,9 +2,8 @@ pub mod Exits
 pub mod Output
 pub mod AnswerLines
 pub mod CheckText
-pub mod Identifiers
 pub mod ShowLines
 pub mod ShowText
 pub mod AddText
-pub mod NumberText
 pub mod ReasonLines
+pub mod ShownText

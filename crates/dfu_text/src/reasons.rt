@@ -4,25 +4,20 @@ ghost use Rattle.std.specs.Prelude.{◌≡◌, IfOk};
 ghost use Rattle.std.specs.String.{string_bytes};
 ghost use Rattle.dfu_text.specs.ReasonLines.{reason_line};
 
-pub(crate) mod field;
-pub(crate) mod files;
-pub(crate) mod form;
-pub(crate) mod line;
-pub(crate) mod setup;
-pub(crate) mod shown;
-pub(crate) mod sums;
-pub(crate) mod words;
+mod shown;
 
 use crate::numbers::{field, push};
+use crate::reasons::shown::shown;
 use std::alloc::{AllocError, Global};
 
-/// The line of a reason: what it is of, as a file's name, and why.
+/// The line of a reason: a label, a name as a terminal may show it, which are what it is of, and why.
 #[tactic(auto, unfolding(crate::specs::ReasonLines::reason_line))]
-pub fn reason_line(alloc: Global, of: &str, why: &str) -> Result<String, AllocError>
-    ensures { IfOk result (λ t. string_bytes t ≡ reason_line of.now why.now) }
+pub fn reason_line(alloc: Global, label: &str, name: &str, why: &str) -> Result<String, AllocError>
+    ensures { IfOk result (λ t. string_bytes t ≡ reason_line label.now name.now why.now) }
 {
     let mut line = String::from_str(alloc, "dfu: ")?;
-    push(&mut line, of)?;
+    let name = shown(alloc, name)?;
+    field(&mut line, label, &name)?;
     field(&mut line, ": ", why)?;
     push(&mut line, "\n")?;
     Ok(line)

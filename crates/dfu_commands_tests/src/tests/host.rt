@@ -78,6 +78,7 @@ impl Input for Host<'_> {
         Typed {
             rest: self.machine.input,
             is_terminal: self.machine.is_typed,
+            piece: self.machine.piece,
         }
     }
 }

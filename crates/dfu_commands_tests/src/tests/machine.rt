@@ -43,6 +43,8 @@ pub struct Machine {
     pub input: &'static [u8],
     /// It is typed at a terminal.
     pub is_typed: bool,
+    /// How many bytes standard input gives at a time, at most.
+    pub piece: usize,
     /// The calls that fail, each time.
     pub failing: &'static str,
     pub state: RefCell<State>,
@@ -84,6 +86,7 @@ impl Machine {
             alloc,
             input,
             is_typed: false,
+            piece: usize::MAX,
             failing,
             state: RefCell::new(state),
         }

@@ -9,7 +9,7 @@ use std::process::Abort;
 use std::test::Fail;
 
 /// The words end with this status, and this is printed and said.
-fn says(
+pub fn says(
     rt: &impl Abort,
     machine: &Machine,
     line: &str,
@@ -75,4 +75,25 @@ fn says_it_where_it_is_wanted(rt: HostRuntime) -> Result<(), Fail> {
 fn ends_the_same_unsaid(rt: HostRuntime) -> Result<(), Fail> {
     let machine = machine_over(rt.alloc(), Kind::File, OLD, "eprint")?;
     says(&rt, &machine, "dfu check c", true, (3, "fault Read\n", ""))
+}
+
+/// Words that are refused, and what is said of them.
+#[rattlefmt::skip]
+static WORDS: [(&str, &str); 7] = [
+    ("dfu add a b --vid 0x12", "dfu: --vid 0x12: it has to be four hexadecimal digits, as 1209\n"),
+    ("dfu add a b --vid 1209 --pid 0x01 --did 1", "dfu: --pid 0x01: it has to be four hexadecimal digits, as 1209\n"),
+    ("dfu add a b --vid 1209 --pid 0001 --did 1", "dfu: --did 1: it has to be four hexadecimal digits, as 1209\n"),
+    ("dfu add a b --did 1 --vid 12095", "dfu: --vid 12095: it has to be four hexadecimal digits, as 1209\n"),
+    ("dfu add a -", "dfu: OUT -: it has to be a file, as ./- for one with this name\n"),
+    ("dfu show setup 00", "dfu: KIND setup: it has to be functional or status\n"),
+    ("dfu show a\u{1b}[31m\u{7f}\u{fc} 00", "dfu: KIND a?[31m?\u{fc}: it has to be functional or status\n"),
+];
+
+#[test]
+fn says_which_word_is_wrong(rt: HostRuntime) -> Result<(), Fail> {
+    for (line, told) in &WORDS {
+        let machine = machine_over(rt.alloc(), Kind::File, OLD, "")?;
+        says(&rt, &machine, line, true, (2, "bad words\n", told))?;
+    }
+    Ok(())
 }

@@ -7,11 +7,14 @@ use std::io::{self, BufRead, IsTerminal, Read};
 pub struct Typed {
     pub rest: &'static [u8],
     pub is_terminal: bool,
+    /// How many bytes it gives at a time, at most.
+    pub piece: usize,
 }
 
 impl Read for Typed {
     fn read(&mut self, buf: &mut [u8]) -> io::Result<usize> {
-        self.rest.read(buf)
+        let count = buf.len().min(self.piece);
+        self.rest.read(&mut buf[..count])
     }
 }
 

@@ -1,6 +1,6 @@
 //! The forms of a script's lines.
 
-use crate::reasons::field::Field;
+use crate::field::Field;
 
 /// Which words a line has: so many that are its name, and then these.
 #[derive(Clone, Copy)]

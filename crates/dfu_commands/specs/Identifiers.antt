@@ -12,8 +12,8 @@ ids_in vendor product device = None
 abbrev pub ids_said : (vendor product device : List ℕ) → Option Ids
 ids_said vendor product device = ids_in (identifier_in vendor) (identifier_in product) (identifier_in device)
 
--- The first option whose text is no identifier, and the text.
+-- The first option whose text is no identifier, as a label, and the text.
 abbrev pub wrong_option : (vendor product device : List ℕ) → Option (List ℕ × List ℕ)
 wrong_option vendor product device =
     if is_some (identifier_in vendor) then (if is_some (identifier_in product) then (if is_some (identifier_in device) then None
-    else Some (codes "--did", device)) else Some (codes "--pid", product)) else Some (codes "--vid", vendor)
+    else Some (codes "--did ", device)) else Some (codes "--pid ", product)) else Some (codes "--vid ", vendor)

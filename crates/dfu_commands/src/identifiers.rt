@@ -1,13 +1,13 @@
 //! The identifiers that the options of `dfu add` give.
 
 ghost use Rattle.std.specs.Prelude.{◌≡◌, option_map};
-ghost use Rattle.dfu_text.specs.Identifiers.{ids_said, wrong_option};
+ghost use Rattle.dfu_commands.specs.Identifiers.{ids_said, wrong_option};
 
 use dfu_wire::{Ids, identifier};
 
 /// The texts of the three options.
 #[derive(Clone, Copy)]
-pub struct IdTexts<'t> {
+pub(crate) struct IdTexts<'t> {
     /// `--vid`.
     pub vendor: &'t str,
     /// `--pid`.
@@ -17,7 +17,7 @@ pub struct IdTexts<'t> {
 }
 
 /// The identifiers, where each text is four hexadecimal digits.
-pub fn ids_said(texts: &IdTexts<'_>) -> Option<Ids>
+pub(crate) fn ids_said(texts: &IdTexts<'_>) -> Option<Ids>
     ensures { result ≡ ids_said texts.now.vendor.now texts.now.product.now texts.now.device.now }
 {
     let vendor = identifier(texts.vendor.as_bytes())?;
@@ -30,19 +30,19 @@ pub fn ids_said(texts: &IdTexts<'_>) -> Option<Ids>
     })
 }
 
-/// The first option whose text is no identifier, and the text.
+/// The first option whose text is no identifier, as a label, and the text.
 pub(crate) fn wrong_option<'t>(texts: &IdTexts<'t>) -> Option<(&'static str, &'t str)>
     ensures { option_map (λ o. (o.0.now, o.1.now)) result
         ≡ wrong_option texts.now.vendor.now texts.now.product.now texts.now.device.now }
 {
     if identifier(texts.vendor.as_bytes()).is_none() {
-        return Some(("--vid", texts.vendor));
+        return Some(("--vid ", texts.vendor));
     }
     if identifier(texts.product.as_bytes()).is_none() {
-        return Some(("--pid", texts.product));
+        return Some(("--pid ", texts.product));
     }
     if identifier(texts.device.as_bytes()).is_none() {
-        return Some(("--did", texts.device));
+        return Some(("--did ", texts.device));
     }
     None
 }

@@ -6,7 +6,7 @@ use dfu_suffix::Crc;
 
 /// The check sums and lengths of a file, over the bytes so far.
 #[derive(Clone, Copy, Debug)]
-pub struct Sums {
+pub(crate) struct Sums {
     // Over all bytes but the last four.
     crc: Crc,
     last: [u8; 4],
@@ -19,7 +19,7 @@ pub struct Sums {
 
 impl Sums {
     /// Of no bytes.
-    pub fn new() -> Sums {
+    pub(crate) fn new() -> Sums {
         Sums {
             crc: Crc::new(),
             last: [0; 4],
@@ -61,7 +61,7 @@ impl Sums {
     }
 
     /// Takes more bytes.
-    pub fn take(&mut self, bytes: &[u8]) {
+    pub(crate) fn take(&mut self, bytes: &[u8]) {
         if bytes.len() >= 4 {
             self.take_long(bytes);
         } else {
@@ -74,22 +74,22 @@ impl Sums {
     }
 
     /// dwCRC, where these are the bytes of a file with a suffix.
-    pub fn written(&self) -> u32 {
+    pub(crate) fn written(&self) -> u32 {
         u32::from_le_bytes(self.last)
     }
 
     /// The register over all bytes but the last four, which dwCRC has to be.
-    pub fn found(&self) -> u32 {
+    pub(crate) fn found(&self) -> u32 {
         self.crc.value()
     }
 
     /// bLength, where these are the bytes of a file with a suffix.
-    pub fn length(&self) -> u8 {
+    pub(crate) fn length(&self) -> u8 {
         self.before
     }
 
     /// How many bytes there are.
-    pub fn count(&self) -> u32 {
+    pub(crate) fn count(&self) -> u32 {
         self.count
     }
 }

@@ -1,6 +1,6 @@
 //! Why a device can't be set up as a script says.
 
-use crate::reasons::field::number_of;
+use crate::field::number_of;
 
 /// A number that a line sets, and the line; 0 where no line does.
 #[derive(Clone, Copy, Debug)]
@@ -12,7 +12,7 @@ struct Set {
 /// What the lines so far set up, of that what `BadConfig` goes by. At first it is what holds without
 /// any line.
 #[derive(Clone, Copy, Debug)]
-pub struct SetUp {
+pub(crate) struct SetUp {
     tolerant: bool,
     transfer: u32,
     least: u32,
@@ -51,7 +51,7 @@ fn length_in(word: Option<&str>) -> u32 {
 
 impl SetUp {
     /// What holds where no line sets anything.
-    pub fn new() -> SetUp {
+    pub(crate) fn new() -> SetUp {
         SetUp {
             tolerant: true,
             transfer: 8,
@@ -92,7 +92,7 @@ impl SetUp {
     }
 
     /// Does what a line of the language says, if it sets up the device; `line` is its number.
-    pub fn set(&mut self, text: &[u8], line: u32) {
+    pub(crate) fn set(&mut self, text: &[u8], line: u32) {
         let mut words = [""; 7];
         if let Ok(text) = std::str::from_utf8(text) {
             for (place, word) in text.split_ascii_whitespace().enumerate() {
@@ -123,7 +123,7 @@ impl SetUp {
 
     /// Why the device can't be set up so, in the order of docs/SCRIPT.md, and the line that says it; of
     /// two lines the later one.
-    pub fn cause(&self) -> Option<(u32, &'static str)> {
+    pub(crate) fn cause(&self) -> Option<(u32, &'static str)> {
         if let Some(why) = self.device_cause() {
             return Some((self.device_line, why));
         }

@@ -1,6 +1,6 @@
 //! Why a line of a script is none of the language.
 
-use crate::reasons::form::{Form, form_of};
+use crate::form::{Form, form_of};
 use std::alloc::{AllocError, Global};
 
 /// The most bytes of a line.
@@ -68,7 +68,7 @@ fn words_why(alloc: Global, text: &str) -> Result<String, AllocError> {
 }
 
 /// Why a line that is none of the language is none: the first rule that it breaks.
-pub fn line_why(alloc: Global, line: &[u8]) -> Result<String, AllocError> {
+pub(crate) fn line_why(alloc: Global, line: &[u8]) -> Result<String, AllocError> {
     match plain_text(line) {
         Ok(text) => words_why(alloc, text),
         Err(why) => String::from_str(alloc, why),

@@ -1,0 +1,52 @@
+//! Why words are refused.
+
+ghost use Rattle.std.specs.Prelude.{◌≡◌, IfOk, IfSome, None, codes, is_some, true};
+ghost use Rattle.std.specs.String.{string_bytes};
+ghost use Rattle.dfu_text.specs.ReasonLines.{reason_line};
+ghost use Rattle.dfu_commands.specs.Identifiers.{ids_said};
+ghost use Rattle.dfu_commands.specs.WordReasons.{kind_why, out_why};
+
+use crate::identifiers::{IdTexts, wrong_option};
+use dfu_text::reason_line;
+use std::alloc::{AllocError, Global};
+
+/// The line, where there was memory for it.
+fn made(line: Result<String, AllocError>) -> Option<String>
+    ensures { (t : _) → IfOk line (λ s. string_bytes s ≡ t) → IfSome result (λ s. string_bytes s ≡ t) }
+{
+    match line {
+        Ok(line) => Some(line),
+        Err(_) => None,
+    }
+}
+
+/// Why one of the three identifiers is none: of the first one that is wrong.
+pub(crate) fn bad_identifier(alloc: Global, texts: &IdTexts<'_>) -> Option<String>
+    ensures sound { is_some (ids_said texts.now.vendor.now texts.now.product.now texts.now.device.now) ≡ true → result ≡ None }
+{
+    match wrong_option(texts) {
+        Some((option, text)) => {
+            let why = "it has to be four hexadecimal digits, as 1209";
+            made(reason_line(alloc, option, text, why))
+        }
+        None => None,
+    }
+}
+
+/// Why KIND is none.
+#[tactic(auto, unfolding(crate::specs::WordReasons::kind_why))]
+pub(crate) fn bad_kind(alloc: Global, kind: &str) -> Option<String>
+    ensures { IfSome result (λ t. string_bytes t ≡ reason_line (codes "KIND ") kind.now kind_why) }
+{
+    let why = "it has to be functional or status";
+    made(reason_line(alloc, "KIND ", kind, why))
+}
+
+/// Why OUT can't be standard output.
+#[tactic(auto, unfolding(crate::specs::WordReasons::out_why))]
+pub(crate) fn bad_out(alloc: Global) -> Option<String>
+    ensures { IfSome result (λ t. string_bytes t ≡ reason_line (codes "OUT ") (codes "-") out_why) }
+{
+    let why = "it has to be a file, as ./- for one with this name";
+    made(reason_line(alloc, "OUT ", "-", why))
+}

@@ -1,0 +1,11 @@
+-- A text as a terminal may show it.
+use Rattle.std.specs.Prelude.{ℕ, List, map, take, if◌then◌else◌, chars, encode_utf8_all}
+use Rattle.std.specs.Char.{is_control}
+
+-- A control character is shown as `?`, and another character as it is.
+abbrev pub plain : ℕ → ℕ
+plain c = if is_control c then 63 else c
+
+-- So many characters of a text are shown, at most.
+unfoldable pub shown_of : ℕ → List ℕ → List ℕ
+shown_of most text = encode_utf8_all (map plain (take most (chars text)))
