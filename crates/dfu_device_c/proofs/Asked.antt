@@ -88,7 +88,7 @@ module _ (s : Setting) (r : DfuDevice) (size : ℕ) (setup : List ℕ) (p : Setu
     (the_setup : (x : Setup) → IsSetup x setup → p ≡ x) (the_request : (x : Asked) → Asks p x → q ≡ x)
     (the_mode : (x : Mode) → HasMode r x → m ≡ x)
     (said : (c : Profile) (image spare unwritten body : List ℕ) → HasLimits c s.functional s.least (size / 2 - 32)
-        → HoldsWritten m spare → HasLength q body → b ≡ stalls (plan c image (stage_of m spare unwritten) (meant q body))) where
+    → HoldsWritten m spare → HasLength q body → b ≡ stalls (plan c image (stage_of m spare unwritten) (meant q body))) where
   -- So it is said of the device.
   stalls_device : (bytes : List ℕ) (d : Shown) → IsDevice s r bytes d → length bytes ≡ size → (body : List ℕ) → length body ≡ body_length p
       → Asks p q → b ≡ stalls (setup_plan d p q body)
@@ -111,25 +111,27 @@ module _ (s : Setting) (r : DfuDevice) (size : ℕ) (setup : List ℕ) (p : Setu
       ∙ sym (served_stalls d m (spare_of store) (block_in r) p q body stage_is (eq-eqb (length body) (body_length p) fits))
 
   -- And 1 says so of its answer, or 0.
-  module _ (result : ℤ) (yes : b ≡ true → result ≡ pos 1) (no : b ≡ false → result ≡ pos 0) where
-    says_stall : (d : Shown) (w : Plan) (len : ℕ) (a : Answer) (sent : List ℕ) (d' : Shown) → d.slots.medium.fuse ≡ Whole
-        → Done w len d a sent d' → b ≡ stalls w → (c : Bool) → b ≡ c → SaysStall result a
-    says_stall d w len a sent d' whole done is true e = record {
-      stall = λ _. yes e;
-      other = λ ne. absurd (ne (done_stall len d a sent d' whole w done (sym is ∙ e)));
-    }
-    says_stall d w len a sent d' whole done is false e = record {
-      stall = λ stall. absurd (done_other len d a sent d' whole w done (sym is ∙ e) stall);
-      other = λ _. no e;
-    }
+  says_stall : (result : ℤ) → (b ≡ true → result ≡ pos 1) → (b ≡ false → result ≡ pos 0) → (d : Shown) (w : Plan) (len : ℕ) (a : Answer)
+      (sent : List ℕ) (d' : Shown) → d.slots.medium.fuse ≡ Whole → Done w len d a sent d' → b ≡ stalls w → (c : Bool) → b ≡ c
+      → SaysStall result a
+  says_stall result is_one is_zero d w len a sent d' whole done is true e = record {
+    stall = λ _. is_one e;
+    other = λ ne. absurd (ne (done_stall len d a sent d' whole w done (sym is ∙ e)));
+  }
+  says_stall result is_one is_zero d w len a sent d' whole done is false e = record {
+    stall = λ stall. absurd (done_other len d a sent d' whole w done (sym is ∙ e) stall);
+    other = λ _. is_zero e;
+  }
 
-    pub told_stall : ToldStall s r size setup result
-    told_stall bytes d device size_is body body_is a sent d' (handled_as x y is asks done) =
-        let p_is : p ≡ x = the_setup x is in
-        let asks_p : Asks p y = subst (λ z. Asks z y) (sym p_is) asks in
-        let q_is : q ≡ y = the_request y asks_p in
-        let fits : length body ≡ body_length p = body_is x is ∙ sym (ap body_length p_is) in
-        says_stall d (setup_plan d p q body) (asked_length q) a sent d' (ap (λ (w : Shown). w.slots.medium.fuse) device.device_is)
-        (subst (λ z. Done (setup_plan d p z body) (asked_length z) d a sent d') (sym q_is)
-        (subst (λ z. Done (setup_plan d z y body) (asked_length y) d a sent d') (sym p_is) done))
-        (stalls_device bytes d device size_is body fits (subst (λ z. Asks p z) (sym q_is) asks_p)) b refl
+  -- So the call says of each device that these are whether it stalls the setup.
+  pub told_stall : (result : ℤ) → (b ≡ true → result ≡ pos 1) → (b ≡ false → result ≡ pos 0) → ToldStall s r size setup result
+  told_stall result is_one is_zero bytes d device size_is body body_is a sent d' (handled_as x y is asks done) =
+      let p_is : p ≡ x = the_setup x is in
+      let asks_p : Asks p y = subst (λ z. Asks z y) (sym p_is) asks in
+      let q_is : q ≡ y = the_request y asks_p in
+      let fits : length body ≡ body_length p = body_is x is ∙ sym (ap body_length p_is) in
+      says_stall result is_one is_zero d (setup_plan d p q body) (asked_length q) a sent d'
+      (ap (λ (w : Shown). w.slots.medium.fuse) device.device_is)
+      (subst (λ z. Done (setup_plan d p z body) (asked_length z) d a sent d') (sym q_is)
+      (subst (λ z. Done (setup_plan d z y body) (asked_length y) d a sent d') (sym p_is) done))
+      (stalls_device bytes d device size_is body fits (subst (λ z. Asks p z) (sym q_is) asks_p)) b refl

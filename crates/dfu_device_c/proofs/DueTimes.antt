@@ -62,7 +62,7 @@ module _ (ms : ℕ) (d d' : Shown) where
   detach : (timer passed : ℕ) → d.stage ≡ InAppDetach timer passed → (z w o : Bool) → (ms == 0) ≡ z
       → nat_le (max 1 timer) (passed + ms) ≡ o
       → Went (if z then ack (InAppDetach timer passed) else if w then ack InDfuIdle else if o then ack InAppIdle
-          else ack (InAppDetach timer (passed + ms)))
+      else ack (InAppDetach timer (passed + ms)))
       → IsDue (if w then 1 else max 1 (timer - passed)) ms d d'
   detach timer passed is true true o zero over done =
       same 1 (stayed (InAppDetach timer passed) is done) (λ some past. omega (arith, eqb-true ms 0 zero, past))
@@ -82,8 +82,8 @@ module _ (ms : ℕ) (d d' : Shown) where
   busy : (limit : ℕ) (before block : List ℕ) (number passed : ℕ) → d.stage ≡ InDownloadBusy before block number passed
       → (z o : Bool) → (ms == 0) ≡ z → nat_le limit (passed + ms) ≡ o
       → Went (if z then ack (InDownloadBusy before block number passed)
-          else if o then Writes before block Ack (InDownloadSyncWritten (before ++ block) number) (λ fault. Ack)
-          else ack (InDownloadBusy before block number (passed + ms)))
+      else if o then Writes before block Ack (InDownloadSyncWritten (before ++ block) number) (λ fault. Ack)
+      else ack (InDownloadBusy before block number (passed + ms)))
       → IsDue (max 1 (limit - passed)) ms d d'
   busy limit before block number passed is true o zero over done =
       same (max 1 (limit - passed)) (stayed (InDownloadBusy before block number passed) is done)
@@ -102,8 +102,8 @@ module _ (ms : ℕ) (d d' : Shown) where
   manifest : (limit : ℕ) (taken : List ℕ) (passed : ℕ) → d.stage ≡ InManifest taken passed
       → (z o t : Bool) → (ms == 0) ≡ z → nat_le limit (passed + ms) ≡ o
       → Went (if z then ack (InManifest taken passed)
-          else if o then Commits taken Ack (if t then InManifestSyncComplete else InManifestWaitReset) (λ fault. Ack)
-          else ack (InManifest taken (passed + ms)))
+      else if o then Commits taken Ack (if t then InManifestSyncComplete else InManifestWaitReset) (λ fault. Ack)
+      else ack (InManifest taken (passed + ms)))
       → IsDue (max 1 (limit - passed)) ms d d'
   manifest limit taken passed is true o t zero over done =
       same (max 1 (limit - passed)) (stayed (InManifest taken passed) is done) (λ some past. omega (arith, eqb-true ms 0 zero, past))

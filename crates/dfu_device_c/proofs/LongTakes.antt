@@ -85,12 +85,14 @@ module _ (s : Setting) (r r' : DfuDevice) (setup : List ℕ) (p : Setup) (m : Mo
 
     stalled : (w : Plan) → w ≡ Sure Stall (stage_of (after_long m) (spare_of (store_in r bytes)) (block_in r)) → (len : ℕ)
         → Done w len d answer.Stall [] after
-    stalled w is len = subst (λ (x : Plan). Done x len d answer.Stall [] after) (sym is)
-        ((refl, refl), (λ i. record {
-          config = ap (λ (w : Shown). w.config) (sym device.device_is) i;
-          slots = ap (λ (w : Shown). w.slots) (sym device.device_is) i;
-          stage = stage_of (after_long m) (spare_of (store_in r bytes)) (block_in r);
-        }))
+    stalled w is len = subst (λ (x : Plan). Done x len d answer.Stall [] after) (sym is) (
+      (refl, refl),
+      (λ i. record {
+        config = ap (λ (w : Shown). w.config) (sym device.device_is) i;
+        slots = ap (λ (w : Shown). w.slots) (sym device.device_is) i;
+        stage = stage_of (after_long m) (spare_of (store_in r bytes)) (block_in r);
+      }),
+    )
 
     served : (length body == body_length p) ≡ true
     served = eq-eqb (length body) (body_length p) fits
