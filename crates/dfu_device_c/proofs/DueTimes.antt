@@ -1,7 +1,6 @@
 -- When a change of state is due is so for the device that the record is.
 use Rattle.std.proofs.Common.{◌≡◌, ◌≢◌, ◌+◌, ◌-◌, ◌<◌, ◌≤◌, ◌==◌, ◌++◌, max, nat_le, Bool, true, false, ℕ, ℤ, pos, negsuc, List, [], inl, inr, refl, sym, ap, ◌∙◌, subst, arith, if◌then◌else◌}
 use Rattle.std.proofs.lemmas.Bool.{eqb-true, eqb-false, leb-true, leb-false}
-use Rattle.dfu_wire.specs.declared.states.State.{State}
 use Rattle.dfu_slots.specs.Seen.{spare_of}
 use Rattle.dfu_device.specs.declared.answer.Answer.TheVariants as answer
 use Rattle.dfu_device.specs.declared.mode.Mode.{Mode}
@@ -62,7 +61,7 @@ module _ (ms : ℕ) (d d' : Shown) where
   detach : (timer passed : ℕ) → d.stage ≡ InAppDetach timer passed → (z w o : Bool) → (ms == 0) ≡ z
       → nat_le (max 1 timer) (passed + ms) ≡ o
       → Went (if z then ack (InAppDetach timer passed) else if w then ack InDfuIdle else if o then ack InAppIdle
-          else ack (InAppDetach timer (passed + ms)))
+      else ack (InAppDetach timer (passed + ms)))
       → IsDue (if w then 1 else max 1 (timer - passed)) ms d d'
   detach timer passed is true true o zero over done =
       same 1 (stayed (InAppDetach timer passed) is done) (λ some past. omega (arith, eqb-true ms 0 zero, past))
@@ -82,8 +81,8 @@ module _ (ms : ℕ) (d d' : Shown) where
   busy : (limit : ℕ) (before block : List ℕ) (number passed : ℕ) → d.stage ≡ InDownloadBusy before block number passed
       → (z o : Bool) → (ms == 0) ≡ z → nat_le limit (passed + ms) ≡ o
       → Went (if z then ack (InDownloadBusy before block number passed)
-          else if o then Writes before block Ack (InDownloadSyncWritten (before ++ block) number) (λ fault. Ack)
-          else ack (InDownloadBusy before block number (passed + ms)))
+      else if o then Writes before block Ack (InDownloadSyncWritten (before ++ block) number) (λ fault. Ack)
+      else ack (InDownloadBusy before block number (passed + ms)))
       → IsDue (max 1 (limit - passed)) ms d d'
   busy limit before block number passed is true o zero over done =
       same (max 1 (limit - passed)) (stayed (InDownloadBusy before block number passed) is done)
@@ -102,8 +101,8 @@ module _ (ms : ℕ) (d d' : Shown) where
   manifest : (limit : ℕ) (taken : List ℕ) (passed : ℕ) → d.stage ≡ InManifest taken passed
       → (z o t : Bool) → (ms == 0) ≡ z → nat_le limit (passed + ms) ≡ o
       → Went (if z then ack (InManifest taken passed)
-          else if o then Commits taken Ack (if t then InManifestSyncComplete else InManifestWaitReset) (λ fault. Ack)
-          else ack (InManifest taken (passed + ms)))
+      else if o then Commits taken Ack (if t then InManifestSyncComplete else InManifestWaitReset) (λ fault. Ack)
+      else ack (InManifest taken (passed + ms)))
       → IsDue (max 1 (limit - passed)) ms d d'
   manifest limit taken passed is true o t zero over done =
       same (max 1 (limit - passed)) (stayed (InManifest taken passed) is done) (λ some past. omega (arith, eqb-true ms 0 zero, past))

@@ -44,7 +44,7 @@ pub extern "C" fn dfu_device_too_long(
     ensures outcome { let s = setting_of config.now in
         ((result ≡ STALL) × IsLong s setup.now × TakesLong s device.old setup.now device.new)
         ⊎ ((device.new ≡ device.old)
-            × (((result ≡ NOT_LONG) × IsAllowed s × ¬ IsLong s setup.now) ⊎ RefusesAsking s device.old result)) }
+        × (((result ≡ NOT_LONG) × IsAllowed s × ¬ IsLong s setup.now) ⊎ RefusesAsking s device.old result)) }
 {
     if !is_allowed(config) {
         return -2;
