@@ -1,6 +1,6 @@
 -- What is said of a setup before its body is there is so for the device that the record is.
-use Rattle.std.proofs.Common.{◌≡◌, ◌-◌, ◌*◌, ◌/◌, ◌≤◌, ◌==◌, ◌&&◌, nat_lt, nat_le, Bool, true, false, IsTrue, Option, Some, None, ℕ, ℤ, pos, List, length, take, refl, sym, ap, ◌∙◌, subst, arith, if◌then◌else◌}
-use Rattle.std.proofs.lemmas.Bool.{true≢false, eq-eqb}
+use Rattle.std.proofs.Common.{◌≡◌, ◌-◌, ◌/◌, ◌==◌, Bool, true, false, IsTrue, Option, Some, None, ℕ, ℤ, pos, List, length, refl, sym, ap, ◌∙◌, subst, arith, if◌then◌else◌}
+use Rattle.std.proofs.lemmas.Bool.{eq-eqb}
 use Rattle.std.proofs.lemmas.List.{length-take-le}
 use Rattle.dfu_wire.specs.declared.setups.Setup.{Setup}
 use Rattle.dfu_wire.specs.declared.requests.Request.{Request as Asked}
@@ -8,21 +8,20 @@ use Rattle.dfu_wire.specs.declared.requests.Request.TheVariants as asked
 use Rattle.dfu_wire.specs.Setup.{IsSetup}
 use Rattle.dfu_wire.specs.Request.{Asks}
 use Rattle.dfu_slots.specs.Medium.Fuse.{Whole}
-use Rattle.dfu_slots.specs.Seen.{SlotsState, image_of, spare_of, room_of, is_shaped}
+use Rattle.dfu_slots.specs.Seen.{SlotsState, image_of, spare_of, room_of}
 use Rattle.dfu_device.specs.declared.answer.Answer.{Answer}
-use Rattle.dfu_device.specs.declared.answer.Answer.TheVariants as answer
 use Rattle.dfu_device.specs.declared.mode.Mode.{Mode}
 use Rattle.dfu_device.specs.declared.mode.Mode.TheVariants as mode
-use Rattle.dfu_device.specs.Stage.{Profile, OtherRequest, Stall}
-use Rattle.dfu_device.specs.Table.{Plan, Sure, plan}
+use Rattle.dfu_device.specs.Stage.{Profile, OtherRequest}
+use Rattle.dfu_device.specs.Table.{Plan, plan}
 use Rattle.dfu_device.specs.Setting.{Setting}
 use Rattle.dfu_device.specs.Shown.{Shown, profile}
-use Rattle.dfu_device.specs.Parts.{shows, stage_of, is_sound}
-use Rattle.dfu_device.specs.Rows.{Done, Handles, handled_as, meant, asked_length, body_length, setup_plan}
+use Rattle.dfu_device.specs.Parts.{stage_of, is_sound}
+use Rattle.dfu_device.specs.Rows.{Done, handled_as, meant, asked_length, body_length, setup_plan}
 use Rattle.dfu_device_c.specs.declared.record.DfuDevice.{DfuDevice}
 use Rattle.dfu_device_c.specs.Record.{HasMode, block_in}
 use Rattle.dfu_device_c.specs.Device.{IsDevice, store_in}
-use Rattle.dfu_device_c.specs.Stalls.{stalls, HasLimits, HoldsWritten, HasLength, IsBodyOf, SaysStall, ToldStall}
+use Rattle.dfu_device_c.specs.Stalls.{stalls, HasLimits, HoldsWritten, HasLength, SaysStall, ToldStall}
 use Rattle.dfu_device_c.proofs.StallPlans.{done_stall, done_other}
 use Rattle.dfu_device_c.proofs.LongPlans.{plan_other}
 

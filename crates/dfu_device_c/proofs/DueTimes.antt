@@ -1,7 +1,6 @@
 -- When a change of state is due is so for the device that the record is.
 use Rattle.std.proofs.Common.{◌≡◌, ◌≢◌, ◌+◌, ◌-◌, ◌<◌, ◌≤◌, ◌==◌, ◌++◌, max, nat_le, Bool, true, false, ℕ, ℤ, pos, negsuc, List, [], inl, inr, refl, sym, ap, ◌∙◌, subst, arith, if◌then◌else◌}
 use Rattle.std.proofs.lemmas.Bool.{eqb-true, eqb-false, leb-true, leb-false}
-use Rattle.dfu_wire.specs.declared.states.State.{State}
 use Rattle.dfu_slots.specs.Seen.{spare_of}
 use Rattle.dfu_device.specs.declared.answer.Answer.TheVariants as answer
 use Rattle.dfu_device.specs.declared.mode.Mode.{Mode}

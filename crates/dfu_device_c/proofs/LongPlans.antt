@@ -1,11 +1,11 @@
 -- A body that is longer than a block may be leads where an unknown request does.
-use Rattle.std.proofs.Common.{◌≡◌, ◌≢◌, ◌+◌, ◌<◌, ◌==◌, nat_lt, Bool, true, false, not, ℕ, List, [], ◌∷◌, length, refl, sym, ap, ◌∙◌, subst, arith, if◌then◌else◌}
+use Rattle.std.proofs.Common.{◌≡◌, nat_lt, Bool, true, false, not, ℕ, List, [], ◌∷◌, length, refl, arith, if◌then◌else◌}
 use Rattle.std.proofs.lemmas.Bool.{leb-true}
 use Rattle.dfu_wire.specs.declared.codes.Code.TheVariants.{StalledPkt}
 use Rattle.dfu_device.specs.declared.mode.Mode.{Mode}
 use Rattle.dfu_device.specs.declared.mode.Mode.TheVariants as mode
 use Rattle.dfu_device.specs.Stage.{Profile, Dnload, OtherRequest, Stall}
-use Rattle.dfu_device.specs.Table.{Plan, Sure, plan, error, block_plan, is_empty}
+use Rattle.dfu_device.specs.Table.{Sure, plan, error, block_plan}
 use Rattle.dfu_device.specs.Parts.{stage_of}
 use Rattle.dfu_device_c.specs.Long.{after_long}
 

@@ -1,12 +1,12 @@
 -- So it is for the device that a record is.
-use Rattle.std.proofs.Common.{◌≡◌, ◌≢◌, ◌⊎◌, ◌<◌, ◌==◌, nat_lt, Bool, true, false, IsTrue, ℕ, List, [], length, inl, inr, ⊎_elim, refl, sym, ap, ◌∙◌, subst, arith, if◌then◌else◌}
+use Rattle.std.proofs.Common.{◌≡◌, ◌≢◌, ◌⊎◌, ◌<◌, ◌==◌, Bool, true, false, ℕ, List, [], length, inl, inr, ⊎_elim, refl, sym, ap, ◌∙◌, subst, arith, if◌then◌else◌}
 use Rattle.std.proofs.lemmas.Bool.{eq-eqb, le-leb}
 use Rattle.std.proofs.lemmas.Bool.Decides.{eqb_tells}
 use Rattle.dfu_wire.specs.declared.setups.Setup.{Setup}
 use Rattle.dfu_wire.specs.declared.requests.Request.{Request as Asked}
 use Rattle.dfu_wire.specs.declared.requests.Request.TheVariants as asked
 use Rattle.dfu_wire.specs.Setup.{IsSetup}
-use Rattle.dfu_wire.specs.Request.{Asks, IsNamed}
+use Rattle.dfu_wire.specs.Request.{IsNamed}
 use Rattle.dfu_slots.specs.Seen.{SlotsState, image_of, spare_of}
 use Rattle.dfu_device.specs.declared.answer.Answer.TheVariants as answer
 use Rattle.dfu_device.specs.declared.mode.Mode.{Mode}
@@ -16,11 +16,11 @@ use Rattle.dfu_device.specs.Table.{Plan, Sure, plan}
 use Rattle.dfu_device.specs.Setting.{Setting}
 use Rattle.dfu_device.specs.Shown.{Shown, profile}
 use Rattle.dfu_device.specs.Parts.{shows, stage_of, is_filled}
-use Rattle.dfu_device.specs.Rows.{Done, Handles, handled_as, body_length, asked_length, setup_plan}
+use Rattle.dfu_device.specs.Rows.{Done, Handles, handled_as, body_length}
 use Rattle.dfu_device_c.specs.declared.record.DfuDevice.{DfuDevice}
 use Rattle.dfu_device_c.specs.Record.{HasMode, block_in}
 use Rattle.dfu_device_c.specs.Device.{IsDevice, Takes, store_in}
-use Rattle.dfu_device_c.specs.Long.{after_long, IsLong, TakesLong}
+use Rattle.dfu_device_c.specs.Long.{after_long, TakesLong}
 use Rattle.dfu_device_c.proofs.LongPlans.{plan_other, plan_long}
 use Rattle.dfu_device_c.proofs.Standing.{moved_device}
 

@@ -1,5 +1,5 @@
 -- A plan that was carried out answers Stall exactly where it says so, on a medium that fails no write.
-use Rattle.std.proofs.Common.{◌≡◌, ◌≢◌, ◌==◌, true, false, ℕ, List, [], ◌∷◌, length, inl, inr, sym, ◌∙◌}
+use Rattle.std.proofs.Common.{◌≡◌, ◌≢◌, true, false, ℕ, List, [], ◌∷◌, length, inl, inr, sym}
 use Rattle.std.proofs.lemmas.Bool.{true≢false}
 use Rattle.dfu_slots.specs.Medium.Fuse.{Whole}
 use Rattle.dfu_slots.specs.Seen.{Commit}

@@ -1,5 +1,5 @@
 -- A body that is longer than a block may be.
-use Rattle.std.specs.Prelude.{◌≡◌, ◌<◌, ℕ, ℤ, List, [], length}
+use Rattle.std.specs.Prelude.{◌≡◌, ◌<◌, ℕ, List, [], length}
 use Rattle.dfu_wire.specs.declared.setups.Setup.{Setup}
 use Rattle.dfu_wire.specs.declared.codes.Code.TheVariants.{StalledPkt}
 use Rattle.dfu_wire.specs.Setup.{IsSetup}
