@@ -20,7 +20,7 @@ use Rattle.dfu_device_c.specs.Memory.{plain_store, plain_device}
 
 -- Which parts are a device's does not depend on the tag.
 
-shaped_plain : (s : SlotsState) → is_shaped (plain_store s) ≡ is_shaped s
+pub shaped_plain : (s : SlotsState) → is_shaped (plain_store s) ≡ is_shaped s
 shaped_plain s =
     λ i.
     (length (spare_tagged s [] i) == room_tagged s [] i)

@@ -1,24 +1,25 @@
 -- Which device a record is: that of a device that was put where it says, and that of the device that it keeps.
-use Rattle.std.proofs.Common.{◌≡◌, ◌≤◌, ◌%◌, ℕ, List, [], ◌∷◌, get_or, length, take, true, ap, sym, ◌∙◌, subst, IsTrue, arith}
+use Rattle.std.proofs.Common.{◌≡◌, ◌≤◌, ◌%◌, ℕ, List, [], ◌∷◌, get_or, length, take, true, refl, ap, sym, ◌∙◌, subst, IsTrue, arith}
 use Rattle.std.proofs.lemmas.List.{nil_from_length}
 use Rattle.std.specs.Borrow.{MutBor}
 use Rattle.dfu_slots.specs.declared.unit.Unit.TheVariants.{Byte}
 use Rattle.dfu_slots.specs.Units.{unit_size}
 use Rattle.dfu_slots.specs.Medium.{MediumState}
+use Rattle.dfu_slots.specs.Image.{HasImage}
 use Rattle.dfu_slots.specs.Store.{IsStore}
-use Rattle.dfu_slots.specs.Tagged.{is_store_tagged}
+use Rattle.dfu_slots.specs.Tagged.{has_image_tagged, is_store_tagged}
 use Rattle.dfu_device.specs.declared.mode.Mode.{Mode}
-use Rattle.dfu_slots.specs.Seen.{SlotsState, store_of}
+use Rattle.dfu_slots.specs.Seen.{SlotsState, store_on, store_of, spare_of, is_shaped}
 use Rattle.dfu_device.specs.Setting.{Setting, IsAllowed}
 use Rattle.dfu_device.specs.Stage.{InAppIdle}
-use Rattle.dfu_device.specs.Shown.{Shown}
-use Rattle.dfu_device.specs.Parts.{shows, is_filled, is_sound}
+use Rattle.dfu_device.specs.Shown.{Shown, powered_on}
+use Rattle.dfu_device.specs.Parts.{shows, stage_of, is_filled, is_sound}
 use Rattle.dfu_device_c.specs.declared.record.DfuDevice.{DfuDevice}
 use Rattle.dfu_device_c.specs.declared.refusal.Refusal.TheVariants as refusal
 use Rattle.dfu_device_c.specs.Memory.{memory_of, memory_at, plain_medium, plain_store, plain_device}
 use Rattle.dfu_device_c.specs.Record.{HasMode, block_in}
 use Rattle.dfu_device_c.specs.Device.{store_in, store_at, IsDevice, IsOpened, IsRefused, StandsAs, StandsNowhere}
-use Rattle.dfu_device_c.proofs.Plain.{sound_plain, shows_plain}
+use Rattle.dfu_device_c.proofs.Plain.{shaped_plain, sound_plain, shows_plain}
 
 -- A device that was started on an opened medium and put where the record says is the record's.
 pub stands_device : (s : Setting) (r : DfuDevice) (memory : MutBor (List ℕ)) (slots : SlotsState) (d d' : Shown) → IsAllowed s
@@ -112,4 +113,28 @@ moved_device s r r' bytes d m device has_mode end size block free =
       sound = subst (λ (x : SlotsState). IsTrue (is_sound m r'.length x)) same
           (free_sound m device.mode r.length r'.length (store_in r bytes) free device.sound);
       device_is = λ i. shows s (same i) m (take (sym size i) (sym block i));
+    }
+
+-- A record in which nothing is put, on a medium that was opened, is that of a device that got power.
+pub fresh_device : (s : Setting) (r : DfuDevice) (memory : MutBor (List ℕ)) (slots : SlotsState) (m : Mode) → IsAllowed s
+    → slots ≡ store_on (memory_at memory) → HasImage (memory_at memory) → is_shaped slots ≡ true → HasMode r m → r.put_end ≡ 0
+    → r.length ≡ 0 → ((n : ℕ) (x : SlotsState) → is_filled m n x ≡ true)
+    → ((spare block : List ℕ) → stage_of m spare block ≡ stage_of m [] [])
+    → IsDevice s r memory.now (record (powered_on s (memory_of memory.now)) { stage = stage_of m [] [] })
+fresh_device s r memory slots m allowed slots_is image shape has_mode end size free plain =
+    let same : store_on (memory_of memory.now) ≡ store_in r memory.now = λ i. store_of (memory_of memory.now) [] (sym end i) in
+    let shaped : is_shaped (store_on (memory_of memory.now)) ≡ true =
+    shaped_plain (store_on (memory_at memory)) ∙ ap is_shaped (sym slots_is) ∙ shape in
+    record {
+      allowed = allowed;
+      store = subst (λ (x : SlotsState). IsStore x) same (record {
+        has_image = has_image_tagged (memory_at memory) [] image;
+        puts = record { fits = omega arith; part = refl };
+      });
+      mode = m;
+      has_mode = has_mode;
+      fits = omega (arith, size);
+      sound = subst (λ (x : SlotsState). IsTrue (is_sound m r.length x)) same
+          (rw (shaped, free r.length (store_on (memory_of memory.now))) refl);
+      device_is = λ i. record { config = s; slots = same i; stage = sym (plain (spare_of (store_in r memory.now)) (block_in r)) i };
     }

@@ -1,10 +1,10 @@
 //! What a program in C does to a medium, and to a device that gets power.
-ghost use Rattle.std.specs.Prelude.{◌≡◌, ◌≢◌, ◌⊎◌, IfErr, OnOk, OnErr};
+ghost use Rattle.std.specs.Prelude.{◌≡◌, ◌≢◌, ◌⊎◌, [], IfErr, OnOk, OnErr};
 ghost use Rattle.dfu_slots.specs.declared.fault.FormatFault.{FormatFault};
 ghost use Rattle.dfu_slots.specs.Image.{HasImage};
 ghost use Rattle.dfu_slots.specs.Changes.{IsFormatFault};
-ghost use Rattle.dfu_device.specs.Stage.{InDfuIdle};
-ghost use Rattle.dfu_device.specs.Setting.{IsAllowed};
+ghost use Rattle.dfu_device.specs.Setting.{Setting, IsAllowed};
+ghost use Rattle.dfu_device.specs.Parts.{stage_of};
 ghost use Rattle.dfu_device.specs.Shown.{powered_on};
 ghost use Rattle.dfu_device_c.specs.Config.{setting_of};
 ghost use Rattle.dfu_device_c.specs.Memory.{memory_of};
@@ -13,12 +13,11 @@ ghost use Rattle.dfu_device_c.specs.Calls.{IsBack};
 ghost use Rattle.dfu_device_c.specs.Numbers.{format_number};
 ghost use Rattle.dfu_device_c.specs.Power.{Formats, Powers, Begins, Stands, RefusesFormat, RefusesPower, RefusesPlace, IsFormatted, IsThere};
 
-use crate::config::{DfuConfig, config_of};
-use crate::keeping::{keep, started};
+use crate::config::{DfuConfig, is_allowed};
 use crate::memory::{Memory, is_short, take};
 use crate::place::DfuPlace;
-use crate::record::{DfuDevice, set_mode};
-use dfu_device::{Config, Mode};
+use crate::record::{DfuDevice, set_block, set_mode};
+use dfu_device::Mode;
 use dfu_slots::{FormatFault, Slots};
 
 // The number of a fault of `Slots::format`.
@@ -68,19 +67,22 @@ pub extern "C" fn dfu_device_format(medium: &mut [u8], image: &[u8]) -> i32
     }
 }
 
-// A device gets power on this memory, if that has an image.
-fn power_on(setting: Config, device: &mut DfuDevice, memory: &mut Memory<'_>) -> Result<(), ()>
-    requires { IsAllowed setting }
-    ensures ok { OnOk result (IsDevice setting device.new memory.old.bytes.now (powered_on setting (memory_of memory.old.bytes.now))) }
+// A device gets power on this memory, if that has an image, and stands in one of these two modes. No `Device` is made, which takes
+// a block of 4,096 bytes of the stack.
+fn power_on(device: &mut DfuDevice, memory: &mut Memory<'_>, mode: Mode) -> Result<(), ()>
+    requires { (mode ≡ Mode.AppIdle) ⊎ (mode ≡ Mode.DfuIdle) }
+    ensures ok { OnOk result ((s : Setting) → IsAllowed s → IsDevice s device.new memory.old.bytes.now
+        (record (powered_on s (memory_of memory.old.bytes.now)) { stage = stage_of mode [] [] })) }
     ensures err { OnErr result (¬ HasImage (memory_of memory.old.bytes.now)) }
     ensures unchanged { OnErr result (device.new ≡ device.old) }
     ensures back { IsBack memory.old.bytes memory.new.bytes }
 {
     match Slots::open(take(memory)) {
         Ok(slots) => {
-            let on = started(setting, slots);
-            keep(&on, device);
-            *memory = on.into_medium();
+            set_block(device, &[]);
+            set_mode(device, mode);
+            device.put_end = slots.put_end();
+            *memory = slots.into_medium();
             Ok(())
         }
         Err(refused) => {
@@ -102,34 +104,16 @@ pub extern "C" fn dfu_device_power_on(
         Powers s medium.old result device.new medium.new
         ⊎ RefusesPower s device.old medium.old result device.new medium.new }
 {
-    let Some(setting) = config_of(config) else {
+    if !is_allowed(config) {
         return -2;
-    };
+    }
     if !is_short(medium) {
         return -3;
     }
     let mut memory = Memory { bytes: medium };
-    match power_on(setting, device, &mut memory) {
+    match power_on(device, &mut memory, Mode::AppIdle) {
         Ok(_) => 0,
         Err(_) => -3,
-    }
-}
-
-// So does it, and begins in dfuIDLE.
-fn begin(setting: Config, device: &mut DfuDevice, memory: &mut Memory<'_>) -> Result<(), ()>
-    requires { IsAllowed setting }
-    ensures ok { OnOk result (IsDevice setting device.new memory.old.bytes.now
-        (record (powered_on setting (memory_of memory.old.bytes.now)) { stage = InDfuIdle })) }
-    ensures err { OnErr result (¬ HasImage (memory_of memory.old.bytes.now)) }
-    ensures unchanged { OnErr result (device.new ≡ device.old) }
-    ensures back { IsBack memory.old.bytes memory.new.bytes }
-{
-    match power_on(setting, device, memory) {
-        Ok(_) => {
-            set_mode(device, Mode::DfuIdle);
-            Ok(())
-        }
-        Err(_) => Err(()),
     }
 }
 
@@ -144,14 +128,14 @@ pub extern "C" fn dfu_device_begin(
         Begins s medium.old result device.new medium.new
         ⊎ RefusesPower s device.old medium.old result device.new medium.new }
 {
-    let Some(setting) = config_of(config) else {
+    if !is_allowed(config) {
         return -2;
-    };
+    }
     if !is_short(medium) {
         return -3;
     }
     let mut memory = Memory { bytes: medium };
-    match begin(setting, device, &mut memory) {
+    match power_on(device, &mut memory, Mode::DfuIdle) {
         Ok(_) => 0,
         Err(_) => -3,
     }
