@@ -24,15 +24,17 @@ int64_t signal_came(void)
     return came_ms;
 }
 
-/* Where the program catches none, that ends it. */
+/* Where the program catches none, that ends it; and a second one of a kind may. */
 static void send(int number)
 {
+    static bool was_sent[64];
     struct sigaction now;
     sigaction(number, NULL, &now);
     trace("signal %d", number);
-    if (now.sa_handler == SIG_DFL)
+    if (now.sa_handler == SIG_DFL || was_sent[number])
         outcome->is_killed = true;
-    else if (now.sa_handler != SIG_IGN && came_ms < 0)
+    was_sent[number] = true;
+    if (now.sa_handler != SIG_DFL && now.sa_handler != SIG_IGN && came_ms < 0)
         came_ms = now_ms;
     raise(number);
 }
