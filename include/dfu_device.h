@@ -131,7 +131,7 @@ enum {
 /* Writes an image into the first slot and makes it the active one, whatever stood on the medium: 0; or the first that
  * holds of DFU_NO_MEDIUM (2^32 bytes or more), DFU_WRONG_SIZE, DFU_TOO_LARGE. A medium for images of at most C bytes has
  * 2 * (32 + C) bytes, C from 1 to 16,777,216. It is for when a board is made: a loss of power within it may leave no image.
- * An image of length 0 is allowed, and means that there is no application yet: dfu_device_image tells it by the length. */
+ * An image of length 0 is allowed, and means that there is no application yet: dfu_device_image then gives length 0. */
 int32_t dfu_device_format(uint8_t *medium, size_t size, const uint8_t *image, size_t length);
 
 /* The device gets power: 0, and the record is that of a device in appIDLE, whatever it held; or the first that holds of
