@@ -17,16 +17,12 @@ pub fn one_cut()
 {}
 
 /// Whatever is seen, a host is done after as many calls of `take` as it has actions, and after
-/// one where it has none; and then nothing changes any more.
-pub fn done_in_time()
-    ensures ends { DoneInTime }
+/// one where it has none; and then nothing changes any more. An abort spends no action, and unless
+/// the session was done, the next `take` ends it with the report Aborted.
+pub fn sessions_end()
+    ensures in_time { DoneInTime }
     ensures stays { StaysDone }
-{}
-
-/// An abort spends no action, and unless the session was done, the next `take` ends it with the
-/// report Aborted, whatever is seen.
-pub fn abort_ends_the_session()
-    ensures ends { EndsAborted }
+    ensures aborted { EndsAborted }
     ensures spends { SpendsNothing }
 {}
 
@@ -39,22 +35,14 @@ pub fn understood_as_meant()
 {}
 
 /// No row of the table leads to Installed but the one where a tolerant device tells, after the
-/// close, that it stands in dfuIDLE with OK.
-pub fn installed_once_confirmed()
-    ensures { OnlyConfirmed }
-{}
-
-/// No row of the table leads to Verified but the one where the last of the payload comes back: its
-/// shorter block, or nothing behind its last full one.
-pub fn verified_once_compared()
-    ensures { OnlyMatched }
-{}
-
-/// Whatever is seen, a session that verifies what it installs goes on with its payload, and is over
-/// with no report of an upload or of a download that isn't verified: neither Installed nor
-/// Unconfirmed.
-pub fn verified_reports_its_own()
-    ensures { ReportsItsOwn }
+/// close, that it stands in dfuIDLE with OK; and none to Verified but the one where the last of the
+/// payload comes back: its shorter block, or nothing behind its last full one. Whatever is seen, a
+/// session that verifies what it installs goes on with its payload, and is over with no report of an
+/// upload or of a download that isn't verified: neither Installed nor Unconfirmed.
+pub fn reports_once_known()
+    ensures installed { OnlyConfirmed }
+    ensures verified { OnlyMatched }
+    ensures own { ReportsItsOwn }
 {}
 
 /// A device that left of itself did the last reset: behind the close a download is over as
