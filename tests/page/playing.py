@@ -1,0 +1,100 @@
+"""The view to play with: the examples of its menu, and buttons clicked at random, whose script `dfu run` plays too."""
+import pathlib
+import random
+import subprocess
+import tempfile
+
+from counting import check, check_that
+from scripts import NOT_HERE, TOP, examples
+from views import is_labelled, is_narrow, is_quiet, is_readable, open_page, shot, shown
+
+PROGRAM = TOP / 'crates/dfu_cmd/out/dfu_cmd'
+CHOOSE = 'const it = document.getElementById("example"); it.value = arguments[0]; it.dispatchEvent(new Event("change"))'
+PRINTED = 'return document.getElementById("printed").textContent'
+SCRIPT = 'return document.getElementById("script").textContent'
+BUTTONS = """return Array.from(document.querySelectorAll('#play .buttons button')).filter(it => !it.disabled).map((it, at) => {
+  it.dataset.button = at; return it.textContent })"""
+
+
+def menu(browser):
+    for name, script, wanted in examples():
+        browser.run(CHOOSE, name.removesuffix('.script'))
+        if NOT_HERE in shown(browser, '#play-refused'):
+            check(name, 'unit ' in script, True)
+            continue
+        browser.run('if (!document.getElementById("rest").disabled) document.getElementById("rest").click()')
+        check(f'{name}, from the menu', browser.run(PRINTED), wanted)
+
+
+def by_program(script):
+    """What `dfu run` prints, where the program is built."""
+    with tempfile.NamedTemporaryFile('w', suffix='.script') as file:
+        file.write(script)
+        file.flush()
+        return subprocess.run([PROGRAM, 'run', file.name], capture_output=True, text=True, check=False).stdout
+
+
+def at_random(browser, seed):
+    """Clicks, and what is printed by them and by their script."""
+    choice = random.Random(seed)
+    browser.run(CHOOSE, '')
+    for _ in range(60):
+        browser.run('document.getElementById("write").value = arguments[0]; document.getElementById("tear").value = arguments[1]',
+                    choice.randrange(3), choice.choice(['-', 'a5', '00', 'a50102030405']))
+        names = browser.run(BUTTONS)
+        at = choice.choices(range(len(names)), [12 if name == 'It goes well' else 1 for name in names])[0]
+        browser.run(f'document.querySelector("[data-button=\\"{at}\\"]").click()')
+    script, printed = browser.run(SCRIPT), browser.run(PRINTED)
+    browser.run(CHOOSE, '')
+    if PROGRAM.exists():
+        check(f'clicks at random, {seed}: as dfu run prints\n{script}', printed, by_program(script))
+    return script, printed
+
+
+def by_hand(browser):
+    browser.run(CHOOSE, '')
+    check_that('no session', 'No session' in shown(browser, '#wanted'))
+    browser.click('#offer-verified')
+    check_that('what the host wants', 'GETSTATUS' in shown(browser, '#wanted'), shown(browser, '#wanted'))
+    for _ in range(4):
+        browser.click('[data-line="go pass 1"]')
+    browser.click('[data-line="go lostback"]')
+    check('the state lights up', browser.run('return document.querySelector("#diagram .now").dataset.state'), 'dfuDNLOAD-SYNC')
+    check_that('the fate is listed', 'the answer is lost' in shown(browser, '#transfers tbody tr:last-child'))
+    check_that('what changed is marked', browser.run('return document.querySelectorAll("#medium mark").length') == 0)
+    for _ in range(3):
+        browser.click('[data-line="go pass 1"]')
+    check_that('what was written is marked', browser.run('return document.querySelectorAll("#medium mark").length') > 0)
+    shot(browser, 'play')
+    browser.click('#to-end')
+    check_that('the report', 'report verified' in browser.run(PRINTED), browser.run(PRINTED))
+    check_that('the second slot is active', 'active' in shown(browser, '#medium figure:nth-child(2) figcaption'))
+    check_that('the script', 'go lostback' in browser.run(SCRIPT))
+    browser.cdp('Browser.grantPermissions', permissions=['clipboardReadWrite', 'clipboardSanitizedWrite'])
+    browser.click('#copy')
+    browser.wait('document.getElementById("copied").textContent !== ""')
+    check('copied', shown(browser, '#copied'), 'Copied.')
+    is_labelled(browser, 'play')
+    is_readable(browser, 'play')
+    is_narrow(browser, 'play')
+
+
+def refusals(browser, address):
+    """The page asks nobody else, whatever a script in it wants."""
+    found = browser.wait_run("async () => fetch('http://127.0.0.1:9/').then(() => 'answered', error => error.name)")
+    check('a request to elsewhere', found, 'TypeError')
+    check_that('it is the policy that refuses it', any('Content Security Policy' in line for line in browser.console()))
+
+
+def size(folder):
+    return sum(file.stat().st_size for file in pathlib.Path(folder).iterdir())
+
+
+def run(browser, address):
+    open_page(browser, address, view='play')
+    menu(browser)
+    for seed in range(6):
+        at_random(browser, seed)
+    by_hand(browser)
+    is_quiet(browser, 'play')
+    refusals(browser, address)

@@ -1,0 +1,87 @@
+// What tests/page/run.py asks for: sessions of the page's modules over the stand-in, in its own time, and scripts. All comes and goes as
+// JSON: files and images as text of Latin 1, one character a byte.
+import { functionalIn } from '/descriptors.js'
+import { Board } from '/board.js'
+import { Host } from '/host.js'
+import { load, runsWasm64 } from '/library.js'
+import { LAYOUT, RECORDS } from '/records.js'
+import { refusalOf } from '/refusals.js'
+import { lineOf, verdictOf } from '/reports.js'
+import { linesOf } from '/script.js'
+import { Session } from '/session.js'
+import { Trace } from '/trace.js'
+import { Wire } from '/wire.js'
+import { runScript } from '/world.js'
+import { StandInUsb } from './standin.js'
+
+const modules = { host: await load('dfu_host_c'), device: await load('dfu_device_c') }
+const bytesOf = text => Uint8Array.from(text, one => one.charCodeAt(0))
+const textOf = bytes => Array.from(bytes, byte => String.fromCharCode(byte)).join('')
+
+export { LAYOUT, RECORDS, refusalOf, runsWasm64 }
+export const scripts = texts => texts.map(text => runScript(modules, linesOf(text)).join('\n'))
+export const functional = (bytes, number, alternate) => Array.from(functionalIn(Uint8Array.from(bytes), number, alternate))
+
+// What a person does who is asked. chooses: 'it', 'none', or 'bystander' once and then none; replugs: whether the plug is pulled.
+class Person {
+  constructor(usb, { chooses = 'none', replugs = false }) {
+    Object.assign(this, { usb, chooses, replugs, asked: 0 })
+  }
+
+  async choose(bystanders) {
+    this.asked++
+    if (this.chooses === 'it') return this.usb.requestDevice()
+    if (this.chooses === 'bystander') return bystanders.has(this.usb.others[0]) ? null : this.usb.others[0]
+    return null
+  }
+
+  async replug(isGone) {
+    this.asked++
+    if (this.replugs) this.usb.replug()
+    return isGone()
+  }
+
+  end() {}
+}
+
+// A system by its name, as system.js asks for it.
+function beOn(platform) {
+  Object.defineProperty(navigator, 'userAgentData', { value: { platform }, configurable: true })
+}
+
+function answerOf(usb, { verdict, session, wire, trace, person }) {
+  usb.clock.isStopped = false
+  usb.pass(10000)
+  return { line: lineOf(verdict), status: verdict.status, name: verdict.name, image: textOf(usb.device.image()), asked: person?.asked,
+    actions: session?.taken, restarts: session?.restarted, transfers: wire?.transfers, goal: session?.goal, trace: trace?.lines,
+    faults: usb.faults, state: usb.device.state() }
+}
+
+// stopAt: the number of the action before which a person cancels.
+async function run({ file, settings = {}, wantsVerified = true, limits = null, place = {}, platform = 'Linux', stopAt = -1, ...rest }) {
+  beOn(platform)
+  const image = settings.image === undefined ? {} : { image: bytesOf(settings.image) }
+  const usb = new StandInUsb(modules.device, { ...settings, ...image })
+  const host = new Host(modules.host, bytesOf(file))
+  const said = host.readFile()
+  if (said.refusal) return answerOf(usb, { verdict: refusalOf(said.refusal) })
+  const person = new Person(usb, rest)
+  const board = new Board(usb, usb.clock, person, place)
+  await board.choose(await usb.requestDevice())
+  const trace = new Trace()
+  const wire = new Wire(board, usb.clock, person, trace)
+  const ids = { device: board.is.release, product: board.is.product, vendor: board.is.vendor }
+  const onStep = (_, answer) => { if (answer === null && session.taken === stopAt) usb.clock.stop() }
+  const session = new Session(host, wire, { wantsVerified, ids, limits, onStep })
+  const refusal = session.begin()
+  const ended = refusal === 0 ? await session.run() : { end: 'refusal', refusal }
+  const verdict = ended.end === 'refusal' ? refusalOf(ended.refusal) : verdictOf(ended, session)
+  await board.done()
+  return answerOf(usb, { verdict, session, wire, trace, person })
+}
+
+export async function sessions(list) {
+  const found = []
+  for (const words of list) found.push(await run(words).catch(error => ({ error: `${error}\n${error.stack}` })))
+  return found
+}

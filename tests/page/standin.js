@@ -1,0 +1,330 @@
+// The proved device behind what a page sees of WebUSB: a stand-in for navigator.usb. The fates of transfers are chosen by number, as in
+// tests/usb:
+//   lost-out   it never comes there            lost-back  it is handled, and nothing is heard
+//   late       it comes there behind the next one, unless the device was closed before
+//   twice      it is handled twice             short      of the answer come so many bytes
+//   stall      the device refuses it unseen    fails      it ends in an error of the system, unseen
+//   leave      the power goes, before it, and comes back     leave-after  the same, behind its answer
+//   swap       another board comes in its place              deaf         this one and all behind it are lost on the way out
+//   mute       this one and all behind it are handled, and nothing is heard
+import { Clock, LATE } from '/clock.js'
+import { Device } from '/device.js'
+import { REQUESTS, STATES, hexOf, partsOf } from '/names.js'
+
+const MOST_WAITS = 20000
+
+export const USUAL = {
+  config: { device: 0x0100, product: 1, vendor: 0x1209, detach_ms: 1000, transfer: 8, attributes: 7, busy_ms: 1, manifest_ms: 1, least: 1 },
+  capacity: 100000,
+  image: new TextEncoder().encode('the old image'),
+  dfuIds: null,           // { product, device } in DFU mode, where others than those of config
+  serial: 'F1',
+  dfuSerial: null,        // in DFU mode, where another one than `serial`
+  interface: 0,
+  alternates: 1,          // settings in DFU mode, and the one in which requests are to be made
+  setting: 0,
+  descriptor: 9,          // bytes of the functional descriptor; 0 for none
+  version: 0x0110,        // bcdDFUVersion
+  appDescriptor: null,    // bytes of that of run-time mode, where others
+  startsInApp: false,
+  startsItself: false,    // it leaves behind dfuMANIFEST by itself, and starts its image, as small bootloaders do
+  stallsStatus: false,    // an application that stalls GETSTATUS
+  hasAppUsb: true,        // false: an application without USB
+  away: 0,                // ms away from the bus when it comes as another one
+  keepsPermission: true,  // false: as a device without a serial number in Chromium, which has to be chosen again
+  reset: 'rejects',       // what reset() does where the device comes back as another one: rejects, or resolves; or fails: always
+  closing: 'unheard',     // what it makes of being closed and opened: unheard, or resets: it is in its first state again
+  others: 0,              // boards beside it, which the page may see, without a serial number
+  fates: [],              // { kind, number, bytes }
+  isReal: false,          // time passes by itself, and not by `clock`
+}
+
+const failure = (name, text) => new DOMException(text, name)
+const viewOf = bytes => new DataView(bytes.buffer, bytes.byteOffset, bytes.byteLength)
+
+// A device as it was enumerated once. It has what a USBDevice has, as far as DFU needs it.
+class StandInDevice {
+  constructor(usb, { isOther = false, isSwapped = false } = {}) {
+    const { settings } = usb
+    const { config } = settings
+    const isApp = !isOther && !isSwapped && usb.isApp()
+    const ids = isApp || settings.dfuIds === null ? config : { ...config, ...settings.dfuIds }
+    Object.assign(this, { usb, isOther, isSwapped, isApp, opened: false, claimed: false, setting: 0, pending: [] })
+    this.vendorId = config.vendor
+    this.productId = isSwapped ? 0x0bad : ids.product
+    this.serialNumber = isOther ? '' : isApp ? settings.serial : settings.dfuSerial ?? settings.serial
+    this.productName = isOther ? 'another board' : 'the proved device'
+    this.deviceVersionMajor = ids.device >> 8
+    this.deviceVersionMinor = (ids.device >> 4) & 15
+    this.deviceVersionSubminor = ids.device & 15
+    const alternates = Array.from({ length: isApp ? 1 : settings.alternates }, (_, at) => ({
+      alternateSetting: at, interfaceClass: 0xfe, interfaceSubclass: 1, interfaceProtocol: isApp ? 1 : 2, interfaceName: ['Flash', 'EEPROM', 'RAM'][at],
+    }))
+    this.configuration = { configurationValue: 1, interfaces: [{ interfaceNumber: settings.interface, alternates }] }
+    this.configurations = [this.configuration]
+    this.bytes = this.describe(alternates)
+  }
+
+  describe(alternates) {
+    const { config, interface: number, descriptor, appDescriptor, version } = this.usb.settings
+    const size = this.isApp ? appDescriptor ?? descriptor : descriptor
+    const settings = alternates.flatMap(one => [9, 4, number, one.alternateSetting, 0, 0xfe, 1, one.interfaceProtocol, 0])
+    const whole = [size, 0x21, config.attributes, config.detach_ms & 255, config.detach_ms >> 8, config.transfer & 255, config.transfer >> 8,
+      version & 255, version >> 8]
+    const body = [...settings, ...whole.slice(0, size)]
+    return new Uint8Array([9, 2, (9 + body.length) & 255, (9 + body.length) >> 8, 1, 1, 0, 0x80, 50, ...body])
+  }
+
+  isThere() {
+    return this.isOther || (this.usb.current === this && this.usb.isHere())
+  }
+
+  held() {
+    this.usb.catchUp()
+    if (!this.isThere()) throw failure('NotFoundError', 'The device was disconnected.')
+    if (!this.opened) throw failure('InvalidStateError', 'The device must be opened first.')
+    if (this.isOther) throw failure('NetworkError', 'This stand-in has nothing behind the other board.')
+  }
+
+  async open() {
+    this.usb.catchUp()
+    if (!this.isThere()) throw failure('NotFoundError', 'The device was disconnected.')
+    this.opened = true
+    if (this.wasClosed && this.usb.settings.closing === 'resets') this.usb.loseState()
+  }
+
+  async close() {
+    Object.assign(this, { opened: false, claimed: false, wasClosed: true })
+    this.cancel('AbortError', 'The transfer was cancelled.')
+  }
+
+  cancel(name, text) {
+    for (const { reject } of this.pending.splice(0)) reject(failure(name, text))
+  }
+
+  async selectConfiguration() { this.held() }
+
+  async claimInterface(number) {
+    this.held()
+    if (number !== this.usb.settings.interface)
+      throw failure('NotFoundError', 'The interface number provided is not supported by the device in its current configuration.')
+    this.claimed = true
+  }
+
+  async selectAlternateInterface(number, setting) {
+    this.held()
+    this.setting = setting
+  }
+
+  async reset() {
+    this.held()
+    return this.usb.resetBus()
+  }
+
+  async controlTransferIn(fields, length) {
+    this.held()
+    if (fields.requestType === 'standard')
+      return fields.value === 0x0200 ? { status: 'ok', data: viewOf(this.bytes.slice(0, length)) } : { status: 'stall' }
+    return this.usb.transfer(this, this.setupOf(0xa1, fields, length), new Uint8Array(0))
+  }
+
+  async controlTransferOut(fields, data = new Uint8Array(0)) {
+    this.held()
+    return this.usb.transfer(this, this.setupOf(0x21, fields, data.length), data.slice())
+  }
+
+  setupOf(kind, { requestType, recipient, request, value, index }, length) {
+    const { interface: number, setting } = this.usb.settings
+    if (requestType !== 'class' || recipient !== 'interface' || index !== number || !this.claimed)
+      throw failure('InvalidStateError', 'The specified interface has not been claimed.')
+    if (!this.isApp && this.setting !== setting) this.usb.faults.push(`a request is made in the setting ${this.setting}`)
+    if (this.isSwapped) this.usb.faults.push('a request goes to another board')
+    return new Uint8Array([kind, request, value & 255, value >> 8, 0, 0, length & 255, length >> 8])
+  }
+}
+
+// The clock of the stand-in: time passes where somebody waits.
+class StandInClock extends Clock {
+  constructor(usb) {
+    super()
+    Object.assign(this, { usb, waits: 0 })
+  }
+
+  now() {
+    return this.usb.ms
+  }
+
+  async wait(ms) {
+    if (++this.waits > MOST_WAITS) throw new Error('what is tried comes to no end')
+    if (!this.isStopped) this.usb.pass(ms)
+    return !this.isStopped
+  }
+
+  async limit(promise, ms) {
+    promise.catch(() => {})
+    if (!this.usb.isLost) return promise
+    this.usb.isLost = false
+    this.usb.pass(ms)
+    return Promise.race([promise, Promise.resolve(LATE)])
+  }
+}
+
+export class StandInUsb extends EventTarget {
+  constructor(module, settings = {}) {
+    super()
+    this.settings = { ...USUAL, ...settings, config: { ...USUAL.config, ...settings.config } }
+    Object.assign(this, { count: 0, log: [], faults: [], ms: 0, backAt: 0, isLost: false, told: performance.now() })
+    this.device = new Device(module, this.settings.config, this.settings.capacity, this.settings.image)
+    if (!this.settings.startsInApp) this.enterDfuMode()
+    this.current = new StandInDevice(this)
+    this.others = Array.from({ length: this.settings.others }, () => new StandInDevice(this, { isOther: true }))
+    this.permitted = new Set(this.others)
+    this.clock = new StandInClock(this)
+  }
+
+  enterDfuMode() {
+    this.device.handle([0x21, 0, 0xe8, 3, 0, 0, 0, 0])
+    if (this.settings.config.attributes & 8) this.device.elapse(1)
+    else this.device.reset()
+  }
+
+  isApp() { return this.device.state() <= 1 }
+  isHere() { return this.ms >= this.backAt && (this.settings.hasAppUsb || !this.isApp()) }
+
+  pass(ms) {
+    const wasHere = this.isHere()
+    this.ms += ms
+    const wasAtEnd = this.device.state() === 7
+    this.device.elapse(ms)
+    if (wasAtEnd && this.device.state() !== 7 && this.settings.startsItself) this.leaves('starts its image')
+    this.look()
+    if (!wasHere && this.isHere()) this.tell('connect', this.current)
+  }
+
+  // The real time that passed.
+  catchUp() {
+    if (!this.settings.isReal) return
+    const ms = Math.floor(performance.now() - this.told)
+    this.told += ms
+    if (ms > 0) this.pass(ms)
+  }
+
+  tell(what, device) {
+    this.dispatchEvent(Object.assign(new Event(what), { device }))
+  }
+
+  // Where its mode is another one it comes as another device.
+  look() {
+    if (this.current.isApp !== this.isApp() && !this.current.isSwapped) this.enumerate()
+  }
+
+  enumerate(isSwapped = false) {
+    const before = this.current
+    this.current = new StandInDevice(this, { isSwapped })
+    this.backAt = this.ms + this.settings.away
+    if (this.settings.keepsPermission && this.permitted.has(before)) this.permitted.add(this.current)
+    this.permitted.delete(before)
+    before.opened = false
+    before.cancel('NotFoundError', 'The device was disconnected.')
+    this.tell('disconnect', before)
+    if (this.isHere()) this.tell('connect', this.current)
+  }
+
+  // It loses its power, and comes back.
+  leaves(what, isSwapped = false) {
+    this.device.power()
+    this.note({ what })
+    this.enumerate(isSwapped)
+  }
+
+  // A device in DFU mode that is in its first state again, and tells nobody.
+  loseState() {
+    if (this.isApp()) return
+    this.device.power()
+    this.enterDfuMode()
+  }
+
+  async getDevices() {
+    this.catchUp()
+    return [...(this.isHere() && this.permitted.has(this.current) ? [this.current] : []), ...this.others]
+  }
+
+  async requestDevice() {
+    this.catchUp()
+    if (!this.isHere()) throw failure('NotFoundError', 'No device selected.')
+    this.permitted.add(this.current)
+    return this.current
+  }
+
+  fate() {
+    const number = this.count
+    return this.settings.fates.find(one => one.number === number || (one.number < number && ['deaf', 'mute'].includes(one.kind))) ?? { kind: 'pass' }
+  }
+
+  resetBus() {
+    if (this.settings.reset === 'fails' || this.fate().kind === 'deaf') throw failure('NetworkError', 'Unable to reset the device.')
+    const before = this.current
+    this.device.reset()
+    before.setting = 0
+    this.note({ what: 'reset' })
+    this.look()
+    if (this.current !== before && this.settings.reset === 'rejects') throw failure('NetworkError', 'Unable to reset the device.')
+  }
+
+  // A person takes its plug out and puts it in again.
+  replug() {
+    this.leaves('replug')
+  }
+
+  note(entry) {
+    this.log.push({ ...entry, state: STATES[this.device.state()], code: this.device.code() })
+  }
+
+  transfer(from, setup, body) {
+    const fate = this.fate()
+    const { request, value, length } = partsOf(setup)
+    for (const one of from.pending.splice(0)) if (one.late) this.handle(one.late.setup, one.late.body)
+    const entry = { what: 'transfer', number: this.count++, request: REQUESTS[request], value, length, fate: fate.kind }
+    return this.meet(fate, from, setup, body, entry)
+  }
+
+  handle(setup, body) {
+    if (this.isApp() && this.settings.stallsStatus && setup[1] === 3) return null
+    return this.device.handle(setup, body)
+  }
+
+  meet(fate, from, setup, body, entry) {
+    if (fate.kind === 'leave' || fate.kind === 'swap') {
+      this.leaves(fate.kind, fate.kind === 'swap')
+      throw failure('NotFoundError', 'The device was disconnected.')
+    }
+    if (['lost-out', 'late', 'deaf'].includes(fate.kind)) return this.lose(from, entry, fate.kind === 'late' ? { setup, body } : null)
+    if (fate.kind === 'fails') throw failure('NetworkError', 'A transfer error has occurred.')
+    if (fate.kind === 'stall') {
+      this.note({ ...entry, answer: 'stall' })
+      return { status: 'stall', bytesWritten: 0 }
+    }
+    let bytes = this.handle(setup, body)
+    if (fate.kind === 'twice') bytes = this.handle(setup, body)
+    if (fate.kind === 'lost-back' || fate.kind === 'mute') return this.lose(from, entry, null)
+    if (fate.kind === 'short' && bytes !== null) bytes = bytes.slice(0, fate.bytes)
+    const answer = this.answer(setup, body, bytes, entry)
+    if (fate.kind === 'leave-after') this.leaves('leaves behind its answer')
+    return answer
+  }
+
+  answer(setup, body, bytes, entry) {
+    const isIn = setup[0] === 0xa1
+    this.note({ ...entry, answer: bytes === null ? 'stall' : isIn ? hexOf(bytes) : 'ack' })
+    this.look()
+    if (bytes === null) return { status: 'stall', bytesWritten: 0 }
+    return isIn ? { status: 'ok', data: viewOf(bytes) } : { status: 'ok', bytesWritten: body.length }
+  }
+
+  lose(from, entry, late) {
+    this.note({ ...entry, answer: 'nothing' })
+    this.isLost = true
+    this.look()
+    return new Promise((_, reject) => from.pending.push({ reject, late }))
+  }
+}

@@ -1,0 +1,61 @@
+// What a session asks a person for: to choose the device that came back, and to pull the plug.
+import { FILTERS } from './board.js'
+import { by } from './elements.js'
+
+export class Asking {
+  constructor(usb, clock) {
+    Object.assign(this, { usb, clock, finish: null })
+    clock.stopped.then(() => this.end())
+  }
+
+  show(text, yes, no) {
+    by('ask-text').textContent = text
+    for (const [id, label] of [['ask-yes', yes], ['ask-no', no]]) {
+      by(id).textContent = label
+      by(id).hidden = label === ''
+    }
+    by('ask').hidden = false
+    by(yes === '' ? 'ask-no' : 'ask-yes').focus()
+  }
+
+  end() {
+    by('ask').hidden = true
+    this.finish?.(null)
+    this.finish = null
+  }
+
+  // The device that a person chooses, or null where it doesn't come back. One that was there all the time isn't it.
+  choose(bystanders) {
+    const pick = async () => {
+      const device = await this.usb.requestDevice({ filters: FILTERS }).catch(() => null)
+      if (device === null) return
+      if (bystanders.has(device)) by('ask-text').textContent = 'That is another device: it was there before. Choose the one that came back.'
+      else this.finish?.(device)
+    }
+    return this.asked('The device left to come back as another one, which this page may not see yet. Choose it once more.',
+      'Choose the device', 'It does not come back', pick)
+  }
+
+  // Whether the device was unplugged: what counts is that it left, and not what is clicked.
+  async replug(isGone) {
+    this.show('This system could not reset the device. Pull its plug now, and put it in again.', '', 'It can\'t be unplugged')
+    let isGivenUp = false
+    by('ask-no').onclick = () => { isGivenUp = true }
+    while (!isGone() && !isGivenUp && await this.clock.wait(50));
+    by('ask').hidden = true
+    return isGone()
+  }
+
+  asked(text, yes, no, onYes) {
+    return new Promise(done => {
+      this.finish = answer => {
+        by('ask').hidden = true
+        this.finish = null
+        done(answer)
+      }
+      by('ask-yes').onclick = onYes
+      by('ask-no').onclick = () => this.finish?.(null)
+      this.show(text, yes, no)
+    })
+  }
+}

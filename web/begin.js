@@ -1,0 +1,56 @@
+// How a session begins: what it is for, with which functional descriptor, and within which limits. As flash/begin.c.
+import { willDetach } from './stalls.js'
+import { canReset } from './system.js'
+
+// Linux carries at most 4,096 bytes in a control transfer. A host may send smaller blocks than a device takes (USB DFU 1.1, section
+// 4.1.3: wTransferSize is the most that it takes).
+const MOST_BYTES = 4096
+const RESTARTS = 3
+const MOST_ACTIONS = 0xffffffff
+
+export const transferOf = descriptor => descriptor[5] | (descriptor[6] << 8)
+export const canUpload = ({ descriptor }) => descriptor.length >= 7 && (descriptor[2] & 2) !== 0
+
+// A device of DfuSe would take the blocks for commands. Its functional descriptor has version 011Ah.
+export const isDfuse = ({ descriptor }) => descriptor.length === 9 && descriptor[7] === 0x1a && descriptor[8] === 0x01
+
+// A device that is to be reset, and neither leaves by itself nor can be reset here, doesn't come to DFU mode.
+export const cannotDetach = is => !is.isUpgrade && !canReset() && !willDetach(is)
+
+// To compare, a device is brought to DFU mode again behind its last reset.
+export const canCompare = is => canUpload(is) && (canReset() || willDetach(is))
+
+export const goalOf = (is, wantsVerified) => (wantsVerified && canCompare(is) ? 'verified' : 'download')
+
+// A descriptor with no more bytes of a block than are carried.
+export function cut(descriptor) {
+  const bytes = descriptor.slice()
+  if (bytes.length < 7 || transferOf(bytes) <= MOST_BYTES) return bytes
+  bytes[5] = MOST_BYTES & 0xff
+  bytes[6] = MOST_BYTES >> 8
+  return bytes
+}
+
+// A clean session takes up to 4 actions a block, one more where it is compared, and some 20 around them. Twice that for losses and for
+// a device that asks to be polled often, the same again for each restart that is taken, and 300 for a device that was left in the
+// midst of something.
+export function limitsOf(payload, descriptor) {
+  const transfer = transferOf(descriptor)
+  const blocks = transfer > 0 ? Math.floor(payload / transfer) + 1 : 65536
+  return { actions: Math.min(10 * blocks * (RESTARTS + 1) + 300, MOST_ACTIONS), restarts: RESTARTS }
+}
+
+// The host's refusals of a functional descriptor that is missing, or is none that a session can go by.
+const BAD_DESCRIPTOR = -25
+const isOdd = refusal => refusal === BAD_DESCRIPTOR || (refusal <= -31 && refusal >= -34)
+
+// In run-time mode the functional descriptor says no more than how the device is brought to DFU mode, and there it has one that counts
+// (USB DFU 1.1, section 4.2.4, has them alike). So where that of an interface of run-time mode is odd another one stands in for it.
+// session.js sees to it that no block is sent by that. Null where none does.
+export function standIn(is, refusal) {
+  if (!is.saysRuntime || !isOdd(refusal)) return null
+  const another = new Uint8Array([9, 0x21, 3, 1000 & 0xff, 1000 >> 8, 64, 0, 0x10, 0x01])
+  // With wTransferSize 0 the rest counts: bmAttributes and wDetachTimeOut.
+  if (refusal === BAD_DESCRIPTOR) another.set(is.descriptor.slice(2, 5), 2)
+  return another
+}

@@ -1,0 +1,155 @@
+// The device of a session: opened, let go, and found again where it left. WebUSB tells of no device where it is plugged in. So it
+// is found again as one that was not there before, of which there is no second: with the same serial number, where both have one.
+// One that the page may not see a person has to choose. That it is no other board session.js sees, by what it was before in the
+// same mode.
+import { LATE } from './clock.js'
+import { functionalOf, releaseOf, settingsOf } from './descriptors.js'
+import { closesUnheard } from './system.js'
+
+export const FILTERS = [{ classCode: 0xfe, subclassCode: 1 }]
+const OPEN_MS = 5000
+const LOOK_MS = 50
+const ASK_MS = 3000 // a device that a page may see is back by then; else a person is asked
+
+export const NOT_DFU = 'NotDfuError'
+export const SEVERAL = 'SeveralSettingsError'
+
+// The setting that is meant: in run-time mode each one is (there is one of each, USB DFU 1.1, section 4.1.2).
+export function settingOf(device, place) {
+  const fits = settingsOf(device).filter(one => !one.isUpgrade
+    || ((place.interface ?? one.interface) === one.interface && (place.alternate ?? one.alternate) === one.alternate))
+  if (fits.length === 0) throw new DOMException('The device has no such DFU interface.', NOT_DFU)
+  if (fits.length > 1) throw new DOMException('The device has several alternate settings.', SEVERAL)
+  return fits[0]
+}
+
+export class Board {
+  // place: { interface, alternate } in DFU mode, where one was chosen. ask: what a person is asked for, as flash.js has it.
+  constructor(usb, clock, ask, place = {}) {
+    Object.assign(this, { usb, clock, ask, place, handle: null, hasLeft: false, isMany: false, bystanders: new Set() })
+    this.onDisconnect = event => {
+      if (event.device !== this.handle) return
+      this.handle = null
+      this.hasLeft = true
+    }
+    usb.addEventListener('disconnect', this.onDisconnect)
+  }
+
+  isOpen() {
+    return this.handle !== null
+  }
+
+  // The devices that are there with this one are others, also where this one is away.
+  async choose(device) {
+    for (const one of await this.usb.getDevices()) if (one !== device) this.bystanders.add(one)
+    await this.open(device)
+    this.serial = this.is.serial
+  }
+
+  // Opens it and claims its interface, and reads what it is.
+  async open(device, isSet = true) {
+    await this.within(device.open())
+    try {
+      if (device.configuration === null) await this.within(device.selectConfiguration(device.configurations[0].configurationValue))
+      const setting = settingOf(device, this.place)
+      await this.within(device.claimInterface(setting.interface))
+      if (isSet || setting.alternate !== 0) await this.set(device, setting)
+      const descriptor = await functionalOf(device, this.clock, setting)
+      const ids = { vendor: device.vendorId, product: device.productId, release: releaseOf(device) }
+      this.is = { ...setting, ...ids, serial: device.serialNumber ?? '', title: device.productName ?? '', descriptor }
+    } catch (error) {
+      await this.clock.limit(device.close(), OPEN_MS).catch(() => {})
+      throw error
+    }
+    Object.assign(this, { handle: device, hasLeft: false, isMany: false })
+  }
+
+  async within(promise) {
+    const result = await this.clock.limit(promise, OPEN_MS)
+    if (result === LATE) throw new DOMException('The device does not answer.', 'TimeoutError')
+    return result
+  }
+
+  // Where there is one setting a device may stall the request, and stands in it all the same.
+  async set(device, setting) {
+    try {
+      await this.within(device.selectAlternateInterface(setting.interface, setting.alternate))
+    } catch (error) {
+      if (setting.alternate !== 0 || error.name === 'NotFoundError') throw error
+    }
+  }
+
+  // Lets it go. Whether that is done: a device that can't be closed may still be at a transfer.
+  async close() {
+    const device = this.handle
+    Object.assign(this, { handle: null, hasLeft: false })
+    return device === null || await this.clock.limit(device.close(), OPEN_MS).catch(() => {}) !== LATE
+  }
+
+  // It left, and that is known.
+  letGo() {
+    Object.assign(this, { handle: null, hasLeft: false })
+  }
+
+  done() {
+    this.usb.removeEventListener('disconnect', this.onDisconnect)
+    return this.close()
+  }
+
+  // Closes it and opens it again, which ends a transfer that is under way. 'same' where the device heard nothing of that, 'anew'
+  // where it may have, 'left' where it isn't there, and 'stuck' where it can't be closed or had again.
+  async renew() {
+    const device = this.handle
+    if (!await this.close()) return 'stuck'
+    try {
+      await this.open(device, false)
+    } catch (error) {
+      const isThere = error.name !== 'NotFoundError' && (await this.usb.getDevices()).includes(device)
+      return isThere ? 'stuck' : 'left'
+    }
+    return this.is.alternate === 0 && closesUnheard() ? 'same' : 'anew'
+  }
+
+  // Those that may be it.
+  async again() {
+    const all = await this.usb.getDevices()
+    return all.filter(one => !this.bystanders.has(one) && settingsOf(one).length > 0
+      && (this.serial === '' || !one.serialNumber || one.serialNumber === this.serial))
+  }
+
+  // One that left may stand in the list for a moment, and can't be opened.
+  async isOpened(device) {
+    try {
+      await this.open(device)
+      return true
+    } catch (error) {
+      this.isMany = error.name === SEVERAL
+      return false
+    }
+  }
+
+  // Whether it is back and open. A person is asked for it once it is overdue, and may say that it doesn't come.
+  async reopen() {
+    await this.close()
+    this.isMany = false
+    const end = this.clock.now() + ASK_MS
+    let asked
+    let chosen
+    try {
+      while (!this.clock.isStopped) {
+        const picked = chosen
+        const found = picked ? [picked] : await this.again()
+        this.isMany = found.length > 1
+        if (found.length === 1 && await this.isOpened(found[0])) return true
+        if (this.isMany || picked === null) return false
+        if (picked !== undefined) asked = chosen = undefined
+        if (asked === undefined && this.clock.now() >= end)
+          asked = this.ask.choose(this.bystanders).then(device => { chosen = device })
+        await this.clock.wait(LOOK_MS)
+      }
+      return false
+    } finally {
+      this.ask.end()
+    }
+  }
+}

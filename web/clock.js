@@ -1,0 +1,43 @@
+// Time, and waits that a stop ends.
+export const LATE = Symbol('late')
+
+export class Clock {
+  constructor() {
+    this.isStopped = false
+    this.stopped = new Promise(done => { this.tellStopped = done })
+  }
+
+  now() {
+    return performance.now()
+  }
+
+  // From here on waits end at once.
+  stop() {
+    this.isStopped = true
+    this.tellStopped()
+  }
+
+  // Whether so many milliseconds have passed, and no fewer: a timer may come a little early.
+  async wait(ms) {
+    const end = this.now() + ms
+    while (!this.isStopped && this.now() < end) {
+      let timer
+      const passed = new Promise(done => { timer = setTimeout(done, Math.ceil(end - this.now())) })
+      await Promise.race([passed, this.stopped])
+      clearTimeout(timer)
+    }
+    return !this.isStopped
+  }
+
+  // What the promise comes to within so many milliseconds, or LATE. One that fails later is heard by nobody.
+  async limit(promise, ms) {
+    let timer
+    const late = new Promise(done => { timer = setTimeout(done, ms, LATE) })
+    promise.catch(() => {})
+    try {
+      return await Promise.race([promise, late])
+    } finally {
+      clearTimeout(timer)
+    }
+  }
+}

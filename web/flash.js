@@ -1,0 +1,215 @@
+// The view that flashes a board: the file, the device, the session, and its report.
+import { Asking } from './asking.js'
+import { canCompare, canUpload, cannotDetach, transferOf } from './begin.js'
+import { Board, FILTERS } from './board.js'
+import { Clock } from './clock.js'
+import { settingsOf } from './descriptors.js'
+import { by, download, make, plain, say, showFields } from './elements.js'
+import { Host } from './host.js'
+import { digits } from './names.js'
+import { Progress } from './progress.js'
+import { refusalOf } from './refusals.js'
+import { lineOf, verdictOf } from './reports.js'
+import { Session } from './session.js'
+import { Trace } from './trace.js'
+import { noAccess } from './access.js'
+import { Wire } from './wire.js'
+
+const MOST_FILE = 16777216
+const WRONG_TARGET = -22
+const NOBODY = 'No device is connected.'
+const ANY = 0xffff
+
+const idsOf = ({ vendor, product }) => `${digits(vendor, 4)}:${digits(product, 4)}`
+const orAny = number => (number === ANY ? 'any' : digits(number, 4))
+
+export class FlashView {
+  constructor(modules, usb) {
+    Object.assign(this, { modules, usb, file: null, board: null, clock: null, isGoing: false, log: '' })
+    this.listen()
+    this.refresh()
+  }
+
+  listen() {
+    by('file').onchange = event => event.target.files[0] && this.takeFile(event.target.files[0])
+    const drop = by('drop')
+    drop.ondragover = event => { event.preventDefault(); drop.className = 'over' }
+    drop.ondragleave = () => { drop.className = '' }
+    drop.ondrop = event => {
+      event.preventDefault()
+      drop.className = ''
+      if (event.dataTransfer.files[0]) this.takeFile(event.dataTransfer.files[0])
+    }
+    by('connect').onclick = () => this.connect()
+    by('sure').onchange = () => this.look()
+    by('begin').onclick = () => this.flash()
+    by('stop').onclick = () => this.clock.stop()
+    by('log').onclick = () => download('dfu-session.log', this.log)
+    window.addEventListener('beforeunload', event => { if (this.isGoing) event.preventDefault() })
+    this.usb?.addEventListener('disconnect', ({ device }) => {
+      if (!this.isGoing && this.board !== null && (this.board.hasLeft || this.board.handle === device)) this.forget(`It left. ${NOBODY}`)
+    })
+  }
+
+  refresh() {
+    const isReady = this.file?.said.refusal === undefined && this.file !== null && this.board?.isOpen() && !this.refused
+    by('begin').disabled = this.isGoing || !isReady
+    by('stop').disabled = !this.isGoing
+    by('connect').disabled = this.isGoing || this.usb === undefined
+    for (const id of ['file', 'verify', 'sure']) by(id).disabled = this.isGoing
+  }
+
+  // One byte more than a file may have shows the host that it is too large.
+  async takeFile(file) {
+    if (this.isGoing) return
+    const bytes = new Uint8Array(await file.slice(0, MOST_FILE + 1).arrayBuffer())
+    const said = new Host(this.modules.host, bytes).readFile()
+    this.file = { bytes, said }
+    by('fields').hidden = true
+    by('report').replaceChildren()
+    const refusal = said.refusal === undefined ? null : refusalOf(said.refusal)
+    say('file-refused', refusal === null ? '' : `${refusal.name}: ${refusal.words}. ${refusal.advice}`)
+    if (refusal === null) showFields('fields', [['Name', plain(file.name)], ['Image', `${said.payload} bytes`],
+      ['For the device', `${orAny(said.vendor)}:${orAny(said.product)}, version ${orAny(said.device)}`],
+      ['Check sum', `${digits(said.crc, 8)}, and it is right`]])
+    this.look()
+  }
+
+  // Lets the device go that was connected.
+  forget(text = NOBODY) {
+    this.board?.done()
+    Object.assign(this, { board: null, refused: false })
+    by('device').textContent = text
+    by('settings').hidden = by('sure-row').hidden = true
+    this.refresh()
+  }
+
+  async connect() {
+    this.forget()
+    say('device-refused', '')
+    by('report').replaceChildren()
+    try {
+      const device = await this.usb.requestDevice({ filters: FILTERS })
+      const settings = settingsOf(device).filter(one => one.isUpgrade)
+      if (settings.length > 1) this.offerSettings(device, settings)
+      else await this.open(device, {})
+    } catch (error) {
+      if (error.name !== 'NotFoundError') this.sayNoAccess(error)
+    }
+  }
+
+  // A device may have several alternate settings, each for another part of its memory: nothing goes to another one than the chosen.
+  offerSettings(device, settings) {
+    const rows = settings.map(one => {
+      const input = make('input', { type: 'radio', name: 'setting' })
+      input.onchange = () => this.open(device, one).catch(error => this.sayNoAccess(error))
+      return make('label', {}, input, ` ${plain(one.name) || `setting ${one.alternate}`} (interface ${one.interface}, setting ${one.alternate})`)
+    })
+    by('settings').replaceChildren(by('settings').firstElementChild, ...rows)
+    by('settings').hidden = false
+    by('device').textContent = plain(device.productName ?? '')
+  }
+
+  sayNoAccess(error) {
+    say('device-refused', noAccess(error))
+    by('device').textContent = NOBODY
+  }
+
+  async open(device, place) {
+    await this.board?.done()
+    const clock = this.clock = new Clock()
+    const asking = this.asking = new Asking(this.usb, clock)
+    const board = new Board(this.usb, clock, asking, { interface: place.interface, alternate: place.alternate })
+    await board.choose(device).catch(error => { board.done(); throw error })
+    this.board = board
+    this.describe(board.is)
+    this.look()
+  }
+
+  describe(is) {
+    const words = [is.title, idsOf(is), is.serial === '' ? '' : `serial number ${is.serial}`, is.isUpgrade ? 'in DFU mode' : 'in run-time mode']
+    by('device').textContent = words.filter(word => word !== '').map(plain).join(', ')
+    const transfer = is.descriptor.length >= 7 ? `, in blocks of ${transferOf(is.descriptor)} bytes` : ''
+    by('device').title = `interface ${is.interface}, setting ${is.alternate}${transfer}`
+    say('no-verify', canCompare(is) ? '' : canUpload(is)
+      ? 'On this system the image of this device can\'t be read back: that takes a reset of the bus.'
+      : 'This device can\'t give its image back, so it can\'t be compared.')
+  }
+
+  // A session of this file and this device, which has begun, or was refused. Nothing is sent.
+  prepare() {
+    const { board, clock } = this
+    const host = new Host(this.modules.host, this.file.bytes)
+    const said = host.readFile()
+    const isSure = by('sure').checked && board.is.isUpgrade
+    const named = (ofFile, ofDevice) => (isSure && ofFile !== ANY ? ofFile : ofDevice)
+    const ids = { device: board.is.release, product: named(said.product, board.is.product), vendor: named(said.vendor, board.is.vendor) }
+    const trace = new Trace()
+    const wire = new Wire(board, clock, this.asking, trace)
+    const progress = new Progress(host.payload, () => clock.now(), how => this.show(how))
+    const session = new Session(host, wire, { wantsVerified: by('verify').checked, ids, onStep: (...step) => progress.step(...step) })
+    return { session, trace, refusal: session.begin() }
+  }
+
+  // Looks whether file and device belong together, before anything is sent.
+  look() {
+    this.refused = false
+    say('device-refused', '')
+    by('sure-row').hidden = !by('sure').checked
+    if (this.file !== null && this.file.said.refusal === undefined && this.board?.isOpen()) {
+      const { refusal } = this.prepare()
+      if (refusal !== 0) this.refuse(refusal)
+      else if (cannotDetach(this.board.is)) this.refuseHere()
+    }
+    this.refresh()
+  }
+
+  refuse(number) {
+    const { name, words, advice } = refusalOf(number)
+    this.refused = true
+    say('device-refused', `${name}: ${words}. ${advice}`)
+    by('sure-row').hidden = number !== WRONG_TARGET || !this.board.is.isUpgrade
+  }
+
+  refuseHere() {
+    this.refused = true
+    say('device-refused', 'This system does not let a page reset the bus, and this device waits for that to come to DFU mode. ' +
+      'Bring it to DFU mode by hand, as by its button, and connect it again.')
+  }
+
+  show({ phase, part, left }) {
+    by('phase').textContent = phase
+    by('left').textContent = left
+    if (part === null) by('progress').removeAttribute('value')
+    else by('progress').value = part
+  }
+
+  async flash() {
+    const { session, trace, refusal } = this.prepare()
+    if (refusal !== 0) return this.refuse(refusal)
+    this.isGoing = true
+    by('report').replaceChildren()
+    by('going').hidden = false
+    this.refresh()
+    const ended = await session.run().catch(error => ({ end: 'broken', error }))
+    if (ended.error !== undefined) console.error(ended.error)
+    this.isGoing = false
+    by('going').hidden = true
+    this.asking.end()
+    this.forget('Connect it again for another session.')
+    return ended.end === 'refusal' ? this.report(refusalOf(ended.refusal), trace) : this.report(verdictOf(ended, session), trace)
+  }
+
+  // The report, in large plain words.
+  report(verdict, trace) {
+    const { title = 'Refused', means = '', not = '', words, advice = '', status, code, name } = verdict
+    const kind = status === 0 ? 'good' : name === 'unconfirmed' ? 'unsure' : 'bad'
+    const parts = [means === '' ? `${words}. ${advice}` : means, code === '' ? '' : `It says ${code}.`, not].filter(text => text !== '')
+    by('report').replaceChildren(make('h3', { className: kind }, title), ...parts.map(text => make('p', {}, text)),
+      make('p', { className: 'small' }, make('code', {}, lineOf({ name, code, words }))))
+    by('report').focus()
+    this.log = `${[...trace.lines, lineOf({ name, code, words })].join('\n')}\n`
+    by('log-row').hidden = false
+  }
+}
+

@@ -1,0 +1,96 @@
+// The proved host: a file, and one session with it. An instance is for one session.
+import { Library } from './library.js'
+import { LAYOUT } from './records.js'
+
+// The numbers of dfu_host.h.
+export const WHAT = { SEND: 0, WAIT: 1, RESET: 2, DONE: 3 }
+export const SEEN = { ACK: 0, BYTES: 1, STALL: 2, NOTHING: 3, WAIT: 4, RESET: 5, RESTART: 6, LEFT: 7 }
+export const REPORT = { INSTALLED: 1, UNCONFIRMED: 2, ABORTED: 3, REFUSED: 5, UPLOADED: 7, VERIFIED: 10, DIFFERENT: 11 }
+
+const MOST_ANSWER = 65536
+const NAME_ROOM = 16
+
+export class Host extends Library {
+  constructor(module, file = new Uint8Array(0)) {
+    super(module)
+    this.file = this.put(file)
+    this.fileLength = file.length
+    this.session = this.record('dfu_session')
+    this.action = this.record('dfu_action')
+    this.answer = this.reserve(MOST_ANSWER)
+    this.payload = 0
+    this.kept = this.reserve(0)
+    this.room = 0
+    this.isUpload = false
+  }
+
+  // What the file says, or { refusal }, a negative number.
+  readFile() {
+    const at = this.record('dfu_file')
+    const refusal = this.calls.dfu_host_file(BigInt(this.file), BigInt(this.fileLength), BigInt(at))
+    if (refusal < 0) return { refusal }
+    const said = this.read('dfu_file', at)
+    this.payload = said.payload
+    return said
+  }
+
+  // goal: 'download', 'verified' or 'upload'. 0, or a refusal. The file is read anew with it.
+  begin(goal, descriptor, ids, actions, restarts) {
+    const words = [BigInt(this.put(descriptor)), BigInt(descriptor.length)]
+    this.isUpload = goal === 'upload'
+    if (goal === 'upload') return this.calls.dfu_host_upload(BigInt(this.session), ...words, actions, restarts)
+    const call = goal === 'verified' ? this.calls.dfu_host_verified : this.calls.dfu_host_download
+    const file = [BigInt(this.file), BigInt(this.fileLength)]
+    return call(BigInt(this.session), ...file, ...words, BigInt(this.record('dfu_ids', ids)), actions, restarts)
+  }
+
+  // What is to be done, with its setup and its body; null where the library refuses the record.
+  next() {
+    const words = [this.session, this.file, this.payload, this.action].map(BigInt)
+    if (this.calls.dfu_host_next(...words) !== 0) return null
+    const action = this.read('dfu_action', this.action)
+    action.setup = this.copy(this.action + LAYOUT.dfu_action.fields.setup.at, 8)
+    action.body = this.copy(this.file + action.from, action.length)
+    return action
+  }
+
+  // What came of the action; `bytes` is what came with BYTES. Whether the library took it.
+  take(seen, bytes = new Uint8Array(0)) {
+    this.growKept()
+    this.bytes(this.answer, bytes.length).set(bytes)
+    return this.calls.dfu_host_take(BigInt(this.session), BigInt(this.file), BigInt(this.payload), BigInt(this.kept),
+      BigInt(this.room), seen, BigInt(this.answer), BigInt(bytes.length)) === 0
+  }
+
+  // The session is given up: what it wants next is ABORT. Whether the library took that.
+  abort() {
+    return this.calls.dfu_host_abort(BigInt(this.session), BigInt(this.file), BigInt(this.payload)) === 0
+  }
+
+  // The name of a report, as gave-up.
+  name(report) {
+    const at = this.reserve(NAME_ROOM)
+    const length = this.calls.dfu_host_name(report, BigInt(at), BigInt(NAME_ROOM))
+    return new TextDecoder().decode(this.copy(at, length))
+  }
+
+  // The record, to be read: what is left of the limits, the bytes of a block.
+  state() {
+    return this.read('dfu_session', this.session)
+  }
+
+  // What came of an upload.
+  uploaded() {
+    return this.copy(this.kept, this.state().kept)
+  }
+
+  // An upload has room for one more answer behind what came. The buffer stands last in the memory, and grows there.
+  growKept() {
+    if (!this.isUpload) return
+    const wanted = this.state().kept + MOST_ANSWER
+    if (this.room === 0) this.kept = this.reserve(0)
+    if (wanted <= this.room) return
+    this.reserve(2 * wanted - this.room)
+    this.room = 2 * wanted
+  }
+}

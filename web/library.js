@@ -1,0 +1,73 @@
+// A proved library in WebAssembly, with its memory. Of both sizes a pointer and a size_t are BigInt (wasm64). The libraries take no
+// memory of their own: what stands behind __heap_base is this file's. It is handed out from the front, and given back as a whole,
+// with the instance. Each instance is its own: two sessions in two instances share nothing.
+import { LAYOUT, readRecord, writeRecord } from './records.js'
+
+const PAGE = 65536
+
+export class Library {
+  constructor(module) {
+    this.calls = new WebAssembly.Instance(module).exports
+    this.end = Number(this.calls.__heap_base.value)
+  }
+
+  // So many bytes, all 0; where they begin. Memory that grows loses the views on it, so none is kept.
+  reserve(size) {
+    const at = Math.ceil(this.end / 16) * 16
+    this.end = at + size
+    const missing = this.end - this.calls.memory.buffer.byteLength
+    if (missing > 0) this.calls.memory.grow(BigInt(Math.ceil(missing / PAGE)))
+    return at
+  }
+
+  // These bytes in the memory of the library; where they begin.
+  put(bytes) {
+    const at = this.reserve(bytes.length)
+    this.bytes(at, bytes.length).set(bytes)
+    return at
+  }
+
+  bytes(at, length) {
+    return new Uint8Array(this.calls.memory.buffer, at, length)
+  }
+
+  copy(at, length) {
+    return this.bytes(at, length).slice()
+  }
+
+  view() {
+    return new DataView(this.calls.memory.buffer)
+  }
+
+  // A record with these fields, and 0 in the others; where it begins. Where it has a version it gets that of the library.
+  record(name, values = {}) {
+    const at = this.reserve(LAYOUT[name].size)
+    writeRecord(this.view(), name, at, { version: this.version(), ...values })
+    return at
+  }
+
+  read(name, at) {
+    return readRecord(this.view(), name, at)
+  }
+
+  write(name, at, values) {
+    writeRecord(this.view(), name, at, values)
+  }
+
+  version() {
+    const { dfu_device_version: ofDevice, dfu_host_version: ofHost } = this.calls
+    return (ofDevice ?? ofHost ?? (() => 0))()
+  }
+}
+
+// Whether this browser runs wasm64: it takes a module that has nothing but a memory with addresses of 64 bits.
+export function runsWasm64() {
+  return WebAssembly.validate(new Uint8Array([0, 0x61, 0x73, 0x6d, 1, 0, 0, 0, 5, 3, 1, 4, 0]))
+}
+
+// A static host may serve the module under any type, so it isn't compiled as it comes.
+export async function load(name) {
+  const answer = await fetch(new URL(`${name}.wasm`, import.meta.url))
+  if (!answer.ok) throw new Error(`${name}.wasm can't be had: ${answer.status}; web/build makes it`)
+  return WebAssembly.compile(await answer.arrayBuffer())
+}

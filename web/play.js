@@ -1,0 +1,155 @@
+// The view without a board: the proved device and the proved host, with a wire between them on which a person decides what becomes of
+// each action. Whatever is done is a line of a script, so that `dfu run` does the same.
+import { Diagram } from './diagram.js'
+import { by, make, say } from './elements.js'
+import { SEEN } from './host.js'
+import { showMedium } from './medium.js'
+import { CODES, REQUESTS, STATES, hexOf, partsOf } from './names.js'
+import { fileOf } from './sample.js'
+import { bytesOf, lineOf, linesOf } from './script.js'
+import { ScriptEnd, World } from './world.js'
+
+const MOST_ROWS = 500
+const MOST_AT_ONCE = 10000
+const SETUP = ['blank', 'ids', 'device', 'unit', 'capacity', 'image', 'limits']
+const HEARS = ['it is acknowledged', '', 'a stall', 'nothing', 'the time has passed', 'the bus was reset', 'the device restarted']
+
+const FATES = { pass: 'it goes well', lostout: 'the request is lost', lostback: 'the answer is lost', twice: 'it comes twice',
+  twicelostback: 'it comes twice, the answer is lost' }
+
+function fateOf({ fate, ms, writes, tear }) {
+  if (fate === 'slip') return `${ms} ms pass`
+  if (writes === undefined) return FATES[fate]
+  const what = { cut: 'the power is cut', fail: 'it fails', lie: 'it lies' }[fate]
+  return `${what} in write ${writes}${tear.length > 0 ? `, which leaves ${hexOf(tear)}` : ''}`
+}
+
+function actionOf({ what, value, setup }) {
+  if (what !== 0) return what === 1 ? `wait ${value} ms` : 'reset the bus'
+  const parts = partsOf(setup)
+  return `${REQUESTS[parts.request]} ${parts.value}, ${parts.length} bytes`
+}
+
+const hearsOf = ({ seen, bytes }) =>
+  (seen === SEEN.BYTES ? `${bytes.length === 0 ? 'no bytes' : hexOf(bytes.slice(0, 16))}${bytes.length > 16 ? ' ..' : ''}` : HEARS[seen])
+
+export class PlayView {
+  constructor(modules, examples) {
+    Object.assign(this, { modules, examples, diagram: new Diagram(by('diagram')) })
+    by('example').replaceChildren(make('option', { value: '' }, 'nothing: the device alone'),
+      ...examples.map(({ name }) => make('option', { value: name }, name.replaceAll('-', ' '))))
+    this.listen()
+    this.restart()
+  }
+
+  listen() {
+    by('example').onchange = () => this.restart()
+    by('restart').onclick = () => this.restart()
+    by('line').onclick = () => { this.next(); this.refresh() }
+    by('rest').onclick = () => { while (this.next()); this.refresh() }
+    by('to-end').onclick = () => this.toEnd()
+    by('offer').onclick = () => this.offer('offer')
+    by('offer-verified').onclick = () => this.offer('verify')
+    by('copy').onclick = () => this.copy()
+    for (const button of document.querySelectorAll('#play [data-line]')) button.onclick = () => this.click(button.dataset)
+  }
+
+  // A world of its own, as the example begins it.
+  restart() {
+    const example = this.examples.find(({ name }) => name === by('example').value)
+    this.world = new World(this.modules, entry => this.addRow(entry))
+    Object.assign(this, { lines: example === undefined ? [] : linesOf(example.text), script: [], isOver: false, before: null, offers: 0 })
+    by('transfers').tBodies[0].replaceChildren()
+    by('copied').textContent = ''
+    say('play-refused', '')
+    by('comment').textContent = this.lines.filter(line => line.startsWith('#')).map(line => line.slice(1).trim()).join(' ')
+    while (this.lines.length > 0 && SETUP.includes(lineOf(this.lines[0])?.what)) this.next()
+    this.play(null, () => this.world.start())
+    this.refresh()
+  }
+
+  // Plays the next line of the example. Whether there is one more.
+  next() {
+    if (this.lines.length === 0 || this.isOver) return false
+    this.play(this.lines.shift())
+    return this.lines.length > 0 && !this.isOver
+  }
+
+  play(line, call = () => this.world.play(line)) {
+    if (this.isOver) return
+    if (line !== null) this.note(line)
+    try {
+      call()
+    } catch (error) {
+      this.isOver = true
+      say('play-refused', error instanceof ScriptEnd ? error.message : 'The proved library ended in a trap, which is a mistake of this page.')
+      if (!(error instanceof ScriptEnd)) throw error
+    }
+  }
+
+  // Passes in a row are one line.
+  note(line) {
+    const [last, now] = [this.script.at(-1), line].map(text => /^go pass ([0-9]+)$/.exec(text ?? ''))
+    if (last && now && Number(last[1]) + Number(now[1]) <= 1000000) this.script[this.script.length - 1] = `go pass ${Number(last[1]) + Number(now[1])}`
+    else this.script.push(line)
+  }
+
+  click({ line, with: fields }) {
+    const write = `${by('write').value || 0} ${bytesOf(by('tear').value) === undefined ? '-' : by('tear').value}`
+    this.play(fields === undefined ? line : `${line} ${fields === 'ms' ? by('ms').value || 0 : write}`)
+    this.refresh()
+  }
+
+  toEnd() {
+    for (let turn = 0; turn < MOST_AT_ONCE && this.world.host !== null && !this.isOver; turn++) this.play('go pass 1')
+    this.refresh()
+  }
+
+  // An image that no earlier one is.
+  offer(word) {
+    const payload = new TextEncoder().encode(`image ${++this.offers} of this page`).slice(0, this.world.capacity)
+    this.play(`${word} ${hexOf(fileOf(payload, this.world.config))}`)
+    this.refresh()
+  }
+
+  addRow(entry) {
+    const body = by('transfers').tBodies[0]
+    const cells = [entry.number, actionOf(entry.action), fateOf(entry.line), hearsOf(entry), entry.state]
+    const isHarmed = entry.line.fate !== 'pass'
+    body.append(make('tr', { className: isHarmed ? 'fault' : '' }, ...cells.map(text => make('td', {}, String(text)))))
+    if (body.rows.length > MOST_ROWS) body.rows[0].remove()
+  }
+
+  copy() {
+    navigator.clipboard.writeText(this.text()).then(
+      () => { by('copied').textContent = 'Copied.' }, () => { by('copied').textContent = 'It could not be copied: select it.' })
+  }
+
+  text() {
+    return `${this.script.join('\n')}\n`
+  }
+
+  refresh() {
+    const { world } = this
+    const wanted = world.wanted()
+    by('wanted').textContent = wanted !== null ? `The host wants: ${wanted}.` : 'No session goes on.'
+    for (const button of document.querySelectorAll('#play .buttons button'))
+      button.disabled = this.isOver || ('host' in button.dataset && wanted === null) || ('idle' in button.dataset && wanted !== null)
+    by('line').disabled = by('rest').disabled = this.isOver || this.lines.length === 0
+    by('line').textContent = this.lines.length > 0 ? `Next line: ${this.lines[0].slice(0, 40) || '(none)'}` : 'Next line'
+    by('script').textContent = this.text()
+    if (world.device !== null) this.showDevice()
+    const last = by('transfers').tBodies[0].lastElementChild
+    last?.parentElement.parentElement.parentElement.scrollTo(0, last.offsetTop)
+  }
+
+  showDevice() {
+    const { device, printed } = this.world
+    this.diagram.show(device.state())
+    by('state').textContent = `It stands in ${STATES[device.state()]}, with the status ${CODES[device.code()]}.`
+    this.before = showMedium(by('medium'), device, this.before)
+    const image = device.image()
+    const last = this.isOver ? by('play-refused').textContent : `image ${image.length === 0 ? '-' : hexOf(image)}`
+    by('printed').textContent = `${[...printed, last].join('\n')}\n`
+  }
+}

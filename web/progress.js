@@ -1,0 +1,53 @@
+// How far a session is: its phase, the bytes of it, and the time that is left of it.
+import { SEEN, WHAT } from './host.js'
+import { isDetach, isDownload, isUpload, partsOf } from './names.js'
+
+const LONG_MS = 3000 // a wait of more than this is said
+const SOON_MS = 1500 // until then a rate says little
+
+const PHASES = { ask: 'Asking the device where it stands', detach: 'Bringing the device to DFU mode', reset: 'Resetting the device',
+  send: 'Sending the image', compare: 'Reading the image back, and comparing it' }
+
+function phaseOf({ what, setup }) {
+  if (what === WHAT.RESET) return 'reset'
+  if (what !== WHAT.SEND) return null
+  return isDownload(setup) ? 'send' : isUpload(setup) ? 'compare' : isDetach(setup) ? 'detach' : null
+}
+
+export class Progress {
+  // show({ phase, part, left }): words, a part of 1 or null, and words.
+  constructor(total, now, show) {
+    Object.assign(this, { total, now, show, phase: 'ask', bytes: 0, began: 0 })
+  }
+
+  // A step of the session: before its action is carried out, and with its answer behind it.
+  step(action, answer) {
+    const phase = phaseOf(action) ?? this.phase
+    if (phase !== this.phase) Object.assign(this, { phase, bytes: 0, began: this.now() })
+    if (answer !== null) this.bytes = this.bytesOf(action, answer) ?? this.bytes
+    this.tell(answer === null && action.what === WHAT.WAIT && action.value > LONG_MS ? action.value : 0)
+  }
+
+  bytesOf(action, { seen, bytes }) {
+    if (action.what !== WHAT.SEND) return null
+    const { value, length } = partsOf(action.setup)
+    if (seen === SEEN.ACK && isDownload(action.setup) && action.length > 0) return action.from + action.length
+    return seen === SEEN.BYTES && isUpload(action.setup) ? Math.min(value * length + bytes.length, this.total) : null
+  }
+
+  tell(wait) {
+    const isMeasured = this.phase === 'send' || this.phase === 'compare'
+    const part = isMeasured && this.total > 0 ? this.bytes / this.total : null
+    const ofBytes = isMeasured ? `: ${this.bytes} of ${this.total} bytes` : ''
+    const waits = wait > 0 ? ` (the device asks for ${Math.round(wait / 1000)} s)` : ''
+    this.show({ phase: `${PHASES[this.phase]}${ofBytes}${waits}`, part, left: this.left(part) })
+  }
+
+  // Of this phase alone, at the rate that it has had.
+  left(part) {
+    const passed = this.now() - this.began
+    if (part === null || part === 0 || part === 1 || passed < SOON_MS) return ''
+    const seconds = Math.ceil(passed * (1 - part) / part / 1000)
+    return seconds >= 90 ? `, about ${Math.round(seconds / 60)} minutes left` : `, about ${seconds} s left`
+  }
+}

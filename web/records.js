@@ -1,0 +1,62 @@
+// The records of include/dfu_host.h and include/dfu_device.h, as they lie in the memory of the libraries. This is the one place
+// that knows them: the fields in their order, with their types. tests/web holds them against the headers. Where each field
+// stands follows by the rules of C: a number stands at a multiple of its size, and a record ends at one of its largest.
+export const RECORDS = {
+  dfu_ids: 'u16 device, u16 product, u16 vendor',
+  dfu_file: 'u64 payload, u32 suffix, u32 crc, u16 device, u16 product, u16 vendor, u16 dfu',
+  dfu_session:
+    'u64 number, u64 kept, u32 goal, u32 phase, u32 more, u32 actions, u16 restarts, u16 transfer, u16 detach_ms, ' +
+    'u8 tolerant, u8 will_detach',
+  dfu_action: 'u32 what, u32 value, u64 from, u64 length, u32 code, u8[8] setup',
+  dfu_config:
+    'u16 device, u16 product, u16 vendor, u16 detach_ms, u16 transfer, u8 attributes, u32 busy_ms, u32 manifest_ms, u32 least',
+  dfu_device: 'u32 mode, u32 first, u32 second, u32 put_end, u16 number, u16 length, u8[4096] block',
+  dfu_place: 'u32 at, u32 length',
+}
+
+const SIZES = { u8: 1, u16: 2, u32: 4, u64: 8 }
+
+function placed(text) {
+  const fields = {}
+  let at = 0
+  let widest = 1
+  for (const field of text.split(', ')) {
+    const [, type, count, name] = /^(u\d+)(?:\[(\d+)\])? (\w+)$/.exec(field)
+    const size = SIZES[type]
+    at = Math.ceil(at / size) * size
+    fields[name] = { at, size, count: count === undefined ? 0 : Number(count) }
+    at += size * (count === undefined ? 1 : Number(count))
+    widest = Math.max(widest, size)
+  }
+  return { fields, size: Math.ceil(at / widest) * widest }
+}
+
+// By the name of the record: its size, and of each field where it stands, how many bytes a number of it has, and how many numbers
+// an array has, 0 for none.
+export const LAYOUT = Object.fromEntries(Object.entries(RECORDS).map(([name, text]) => [name, placed(text)]))
+
+// Writes these fields of the record that stands there; the others stay as they are. A field that the record hasn't is left out.
+export function writeRecord(view, name, record, values) {
+  for (const [field, value] of Object.entries(values)) {
+    const place = LAYOUT[name].fields[field]
+    if (place === undefined) continue
+    const at = record + place.at
+    if (place.size === 1) view.setUint8(at, value)
+    else if (place.size === 2) view.setUint16(at, value, true)
+    else if (place.size === 4) view.setUint32(at, value, true)
+    else view.setBigUint64(at, BigInt(value), true)
+  }
+}
+
+// The fields of a record that are one number. Those of 8 bytes are of files and buffers, far below 2^53.
+export function readRecord(view, name, record) {
+  const values = {}
+  for (const [field, { at, size, count }] of Object.entries(LAYOUT[name].fields)) {
+    if (count > 0) continue
+    if (size === 1) values[field] = view.getUint8(record + at)
+    else if (size === 2) values[field] = view.getUint16(record + at, true)
+    else if (size === 4) values[field] = view.getUint32(record + at, true)
+    else values[field] = Number(view.getBigUint64(record + at, true))
+  }
+  return values
+}

@@ -1,0 +1,79 @@
+// What a session came to: the words and the status of dfu-flash (flash/verdict.c), and for a person what it means and what it doesn't.
+import { CODES } from './names.js'
+
+const MAYBE = 'The device may have the old image, the new one or neither. Connect it again, and flash it again.'
+const UNTOUCHED = 'No block was sent: the device has the image that it had.'
+const AGAIN = 'Connect it again, and flash it again.'
+
+// By name: status, words, title, what it means, and what it doesn't; the last is left out where it would say nothing more.
+const REPORTS = {
+  'installed': [0, 'the device took the whole image, told that it is in place, and was reset', 'Installed',
+    'The device took the whole image, said itself that it is in place, and was reset.',
+    'The image was not read back: that it is in place is what the device says. And it doesn\'t mean that the new firmware runs.'],
+  'verified': [0, "after a reset the device gave the image back, and it is the file's", 'Verified',
+    'After a reset the device gave back the image that it has, and each byte is the file\'s.',
+    'It doesn\'t mean that the new firmware runs, or that the file is the right one for this board. And a device that tells untruths ' +
+    'can give back what was sent.'],
+  'unconfirmed': [8, "the device took the whole image and was reset; it can't tell whether it is in place", 'Sent, not confirmed',
+    'The device took the whole image and started anew, and nothing tells more than that.',
+    'It doesn\'t mean that the image is in place. Look at what the board does, or at the version that it shows.'],
+  'different': [9, "after a reset the device gave back another image than the file's", 'Not the same image',
+    'After a reset the device gave back other bytes than the file has.',
+    'It need not be broken: some devices give back more than the image, as a whole part of their memory. ' + AGAIN],
+  'refused': [6, 'the device refused it; it may have the old image, the new one or neither', 'Refused by the device',
+    'The device stopped with an error of its own.', MAYBE],
+  'aborted': [11, 'given up by Ctrl-C or a signal; the device may have the old image, the new one or neither', 'Given up',
+    'You gave it up, and the device was told so.', MAYBE],
+  'gave-up': [7, 'the limit of actions is spent; the device may have the old image, the new one or neither', 'Given up',
+    'It took far more requests than it should, and came to no end.', MAYBE],
+  'restarts-spent': [7, 'the device restarted too often; it may have the old image, the new one or neither', 'The device restarts',
+    'The device restarted too often, or its cable has a bad contact.', MAYBE],
+  'too-many-blocks': [7, 'the image has 65535 full blocks or more: too many for an upload, or to compare it', 'Too large to compare',
+    'The image has too many blocks to be read back.', 'Flash it without comparing.'],
+  'no-memory': [7, 'there was no memory for the image', 'Out of memory', 'There was no memory for the image.', ''],
+  // The page's own ends, which are no reports of the host.
+  'gone': [10, 'the device left and did not come back; it may have the old image, the new one or neither', 'The device is gone',
+    'The device left, and did not come back.', MAYBE],
+  'silent': [10, 'the device answers no more; it may have the old image, the new one or neither', 'No answer',
+    'The device answers no more.', MAYBE],
+  'many': [12, 'the device came back with more than one setting: choose by --interface or --alt', 'Which one?',
+    'The device came back with several alternate settings, or there are two that may be it.',
+    'Connect it again, now in DFU mode, and choose the setting.'],
+  'other': [13, 'another device came back; the one of before may have the old image, the new one or neither', 'Another device',
+    'Another device came back in its place. Nothing was sent to it.', MAYBE],
+  'stalled': [15, 'in run-time mode it stalls GETSTATUS: bring it to DFU mode by hand, as by its button, and run this again',
+    'It stays in run-time mode', 'The device doesn\'t come to DFU mode by itself.',
+    'Bring it to DFU mode by hand, as by its button, and connect it again.'],
+  'broken': [14, 'the host refused its own record, which is a mistake of this program', 'A mistake of this page',
+    'The page lost track of the session.', MAYBE],
+}
+
+// The same, where the device took the whole image and was to give it back.
+const UNCOMPARED = {
+  'gone': [10, 'the device took the whole image, left, and did not come back to be compared; see --no-verify and --wait',
+    'Sent, not compared', 'The device took the whole image, left, and did not come back to be compared.',
+    'It may be in place: a device that starts its new firmware need not come back. For such a one, flash without comparing.'],
+  'stalled': [15, 'the device took the whole image, and stalls GETSTATUS in run-time mode: it was not compared; see --no-verify',
+    'Sent, not compared', 'The device took the whole image, and stays in run-time mode, where it can\'t be compared.',
+    'It may be in place. For such a device, flash without comparing.'],
+}
+
+const HARM = ' may have the old image, the new one or neither'
+
+// What a device may have is said only where a block was sent.
+function ofUnsent([status, words, title, means, not]) {
+  if (!words.endsWith(HARM)) return [status, words, title, means, not]
+  return [status, `${words.slice(0, words.lastIndexOf(';'))}; no block was sent`, title, means, UNTOUCHED]
+}
+
+// ended: what Session.run answers, and no refusal.
+export function verdictOf(ended, { hasSent, isWhole, goal }) {
+  const name = ended.end === 'report' ? ended.name : ended.end
+  const isUncompared = ended.end !== 'report' && goal === 'verified' && isWhole && name in UNCOMPARED
+  const row = isUncompared ? UNCOMPARED[name] : REPORTS[name]
+  const [status, words, title, means, not] = hasSent ? row : ofUnsent(row)
+  return { name, status, words, title, means, not, code: name === 'refused' ? CODES[ended.code] : '' }
+}
+
+// As dfu-flash prints it.
+export const lineOf = ({ name, code, words }) => `${name}${code === '' ? '' : ` ${code}`}: ${words}`

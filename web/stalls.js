@@ -1,0 +1,70 @@
+// Devices that stall what they are asked for in run-time mode, and the one request that is this page's own. A device in run-time
+// mode may stall GETSTATUS: in appIDLE the standard has it answered (USB DFU 1.1, appendix A.2.1), and many leave it out. Where it is
+// stalled twice the host has the bus reset, and asks again. So before the first of these resets the page sends a DETACH of its own,
+// which makes it the reset that leads to DFU mode; and it makes three of them at most, since what is reset is a running application.
+// As flash/stalls.c and flash/detach.c.
+import { SEEN } from './host.js'
+
+const MOST_RESETS = 3
+const NO_DESCRIPTOR_MS = 1000 // wDetachTimeOut where there is no functional descriptor to tell it
+const ARRIVAL_MS = 5000       // a device may stand in run-time mode still, and leave a while after the reset
+const LOOK_MS = 200
+const NONE = new Uint8Array(0)
+
+// wDetachTimeOut, as the device wants it.
+const detachTime = ({ descriptor }) => (descriptor.length < 7 ? NO_DESCRIPTOR_MS : descriptor[3] | (descriptor[4] << 8))
+
+// bitWillDetach: it leaves and comes back by itself, within that time.
+export const willDetach = ({ descriptor }) => descriptor.length >= 7 && (descriptor[2] & 8) !== 0
+
+export class Stalls {
+  constructor(wire) {
+    Object.assign(this, { wire, isLast: false, resets: 0 })
+  }
+
+  // What came of a request.
+  note(is, seen) {
+    this.isLast = seen === SEEN.STALL && !is.isUpgrade
+    if (is.isUpgrade || seen === SEEN.ACK || seen === SEEN.BYTES) this.resets = 0
+  }
+
+  // Whether one more reset would be one too many.
+  isStuck() {
+    return this.isLast && this.resets >= MOST_RESETS
+  }
+
+  async detach() {
+    const { wire } = this
+    const ms = detachTime(wire.board.is)
+    wire.trace.isOwn = true
+    const answer = await wire.send(new Uint8Array([0x21, 0, ms & 0xff, ms >> 8, 0, 0, 0, 0]), NONE)
+    if (answer.seen === SEEN.ACK && willDetach(wire.board.is)) await wire.wait(Math.max(ms, 1))
+    wire.trace.isOwn = false
+    return answer
+  }
+
+  // Waits for it in DFU mode.
+  async arrival() {
+    const { board, clock } = this.wire
+    const end = clock.now() + ARRIVAL_MS
+    while (board.isOpen() || await board.reopen()) {
+      if (board.is.isUpgrade || clock.isStopped || clock.now() >= end) return
+      await clock.wait(LOOK_MS)
+    }
+  }
+
+  // Resets the bus, as the host asks for it. Where the device left behind that DETACH it is reset already.
+  async reset() {
+    const { wire } = this
+    const isFirst = this.isLast && this.resets === 0 && wire.board.is.saysRuntime
+    const own = isFirst ? await this.detach() : null
+    if (own !== null && (own.isGone || own.seen === SEEN.RESTART)) {
+      wire.trace.reset(own, 0)
+      return own
+    }
+    const answer = await wire.reset()
+    if (this.isLast && answer.seen === SEEN.RESET) this.resets++
+    if (own !== null && own.seen === SEEN.ACK) await this.arrival()
+    return answer
+  }
+}

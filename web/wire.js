@@ -1,0 +1,199 @@
+// Which answer of WebUSB is told the host as what. As flash/answer.c is for dfu-flash, this file is what the proof of Installed and
+// Verified stands on: a transfer that is told as acknowledged or answered was really made, and a restart is told where the device
+// lost its state, before anything that it answers later.
+//
+// Of a transfer:
+//   ok, with as many bytes out as the body has   Ack       it was made, and acknowledged
+//   ok, with bytes in                            Bytes     what came, as it came
+//   stall                                        Stall     the device refused the request
+//   it left before or in it                      Left      behind the end of a download, as below
+//                                                Restart   else: told once it is back and open again
+//   no answer for 5 s                            Nothing   once the device is closed and open again: a transfer of WebUSB has no time
+//                                                          of its own, and may be made at any time until then
+//                                                Restart   where the device may have heard of that (board.js, renew)
+//   any other                                    Nothing   it may have been handled or not, and the host asks
+//
+// Of a reset:
+//   it is made                                   Reset     once its interface is in its setting again, where that is another than 0
+//   the device leaves with it                    Reset     at once: it comes back as a new one, whose enumeration is a reset
+//   it can't be made, and a person pulls         Reset     the same, once the device is seen to leave; nothing else that a person
+//   the plug                                               says counts
+//   it left before, unasked                      Left, Restart, as of a transfer
+//   any other                                    Nothing   the host asks for it again
+// Behind a reset the host is done, or asks for the device's state, as behind a restart. So it may have lost its power too.
+//
+// Of a wait: Wait, once the time has passed; Nothing, where a stop ended it.
+//
+// Left is told where the device acknowledged the DNLOAD of no bytes, a GETSTATUS behind it was answered with dfuMANIFEST-SYNC or
+// dfuMANIFEST, nothing but GETSTATUS was sent since, and the device is gone then. It is told at once, and only once. The host takes it
+// as the last reset, and never reports Installed for it.
+//
+// A device that leaves behind an acknowledged DETACH does what it was asked to, up to the next request: that is no restart.
+import { LATE } from './clock.js'
+import { SEEN } from './host.js'
+import { isDetach, isDownload, isStatus, partsOf } from './names.js'
+
+const TRANSFER_MS = 5000
+const STOPPED_MS = 1000 // the same of what is sent behind a stop
+const LEAVE_MS = 1000   // from a reset that fails to the event that tells that the device left,
+const GRACE_MS = 100    // and from one that is made
+const LOOK_MS = 20
+const NONE = new Uint8Array(0)
+const ERRORS = { NotFoundError: 'NO_DEVICE', NetworkError: 'IO', TimeoutError: 'TIMEOUT', SecurityError: 'ACCESS', AbortError: 'INTERRUPTED' }
+
+const told = (seen, more = {}) => ({ seen, bytes: NONE, isGone: false, error: '', ...more })
+
+export class Wire {
+  constructor(board, clock, ask, trace) {
+    Object.assign(this, { board, clock, ask, trace, transfers: 0, isLeaving: false, isClosed: false, isManifesting: false })
+  }
+
+  // Whether a request goes out at once, or has the device waited for first.
+  isReady() {
+    return this.board.isOpen() || (this.board.hasLeft && !this.isLeaving)
+  }
+
+  forgetEnd() {
+    this.isClosed = this.isManifesting = false
+  }
+
+  async restarted() {
+    this.forgetEnd()
+    return told(SEEN.RESTART, { isGone: !await this.board.reopen() })
+  }
+
+  async left() {
+    if (!this.isManifesting) return this.restarted()
+    this.forgetEnd()
+    await this.board.close()
+    return told(SEEN.LEFT)
+  }
+
+  // How a download ends: its last request, and what the device says of itself behind it.
+  noteEnd(setup, length, answer) {
+    if (!isStatus(setup)) {
+      this.isClosed = isDownload(setup) && length === 0 && answer.seen === SEEN.ACK
+      this.isManifesting = false
+    } else if (answer.seen === SEEN.BYTES && answer.bytes.length === 6 && (answer.bytes[4] === 6 || answer.bytes[4] === 7))
+      this.isManifesting = this.isClosed
+  }
+
+  async send(setup, body) {
+    const began = this.clock.now()
+    const answer = await this.sent(setup, body)
+    this.trace.request(setup, answer, this.clock.now() - began)
+    return answer
+  }
+
+  async sent(setup, body) {
+    const { board } = this
+    if (board.hasLeft && !this.isLeaving) {
+      this.transfers++ // as of a request that finds it gone
+      return this.left()
+    }
+    if (!board.isOpen() && !await board.reopen()) return told(SEEN.NOTHING, { isGone: true })
+    this.isLeaving = false
+    const answer = await this.answered(setup, body)
+    this.isLeaving = answer.seen === SEEN.ACK && isDetach(setup)
+    this.noteEnd(setup, body.length, answer)
+    return answer
+  }
+
+  // The host's setups have wIndex 0; USB wants the number of the interface there. Nothing else is changed.
+  transfer(setup, body) {
+    const { kind, request, value, length } = partsOf(setup)
+    const { handle, is } = this.board
+    const fields = { requestType: 'class', recipient: 'interface', request, value, index: is.interface }
+    this.transfers++
+    return (kind & 0x80) !== 0 ? handle.controlTransferIn(fields, length) : handle.controlTransferOut(fields, body)
+  }
+
+  async answered(setup, body) {
+    const device = this.board.handle
+    let result
+    try {
+      result = await this.clock.limit(this.transfer(setup, body), this.clock.isStopped ? STOPPED_MS : TRANSFER_MS)
+    } catch (error) {
+      if (error.name === 'NotFoundError' || this.board.handle !== device) return this.left()
+      return told(SEEN.NOTHING, { error: ERRORS[error.name] ?? 'OTHER' })
+    }
+    if (result === LATE) return this.late()
+    return this.answerOf(setup, body, result)
+  }
+
+  answerOf(setup, body, { status, data, bytesWritten }) {
+    const { kind, length } = partsOf(setup)
+    if (status === 'stall') return told(SEEN.STALL)
+    if (status !== 'ok') return told(SEEN.NOTHING, { error: 'OVERFLOW' })
+    if ((kind & 0x80) === 0) return told(bytesWritten === body.length ? SEEN.ACK : SEEN.NOTHING)
+    const bytes = data === undefined ? NONE : new Uint8Array(data.buffer, data.byteOffset, data.byteLength)
+    return bytes.length <= length ? told(SEEN.BYTES, { bytes: bytes.slice() }) : told(SEEN.NOTHING, { error: 'OVERFLOW' })
+  }
+
+  // Before the host asks again, what is under way has to be at its end.
+  async late() {
+    if (!this.board.isOpen()) return this.left()
+    const how = await this.board.renew()
+    if (how === 'same') return told(SEEN.NOTHING, { error: 'TIMEOUT' })
+    if (how === 'stuck') return told(SEEN.NOTHING, { isGone: true })
+    if (how === 'left') return this.left()
+    this.forgetEnd()
+    return told(SEEN.RESTART)
+  }
+
+  async wait(ms) {
+    const began = this.clock.now()
+    const answer = told(await this.clock.wait(ms) ? SEEN.WAIT : SEEN.NOTHING)
+    this.trace.wait(ms, answer, this.clock.now() - began)
+    return answer
+  }
+
+  async reset() {
+    const began = this.clock.now()
+    const answer = await this.wasReset()
+    this.trace.reset(answer, this.clock.now() - began)
+    return answer
+  }
+
+  async wasReset() {
+    const { board } = this
+    if (!board.isOpen()) {
+      if (!this.isLeaving) return board.hasLeft ? this.left() : this.restarted()
+      board.letGo()
+      return told(SEEN.RESET)
+    }
+    const error = await this.resetBus(board.handle)
+    if (error !== null) return told(SEEN.NOTHING, { error })
+    if (!board.isOpen()) board.letGo()
+    this.forgetEnd()
+    return told(SEEN.RESET)
+  }
+
+  // Null where the bus was reset, else the error. A device that left is no longer open.
+  async resetBus(device) {
+    const { board } = this
+    try {
+      if (await this.clock.limit(device.reset(), TRANSFER_MS) === LATE) return await this.lateReset()
+      if (!await this.hasLeft(GRACE_MS) && board.is.alternate !== 0) await board.set(device, board.is)
+      return null
+    } catch (error) {
+      if (error.name === 'NotFoundError') board.letGo()
+      if (await this.hasLeft(LEAVE_MS)) return null
+      if (await this.ask.replug(() => !board.isOpen())) return null
+      return ERRORS[error.name] ?? 'OTHER'
+    }
+  }
+
+  // A reset that isn't answered is over once the device is closed; whether it was made isn't known.
+  async lateReset() {
+    const how = await this.board.renew()
+    return how === 'left' ? null : 'TIMEOUT'
+  }
+
+  // Whether the device leaves within so many milliseconds.
+  async hasLeft(ms) {
+    const end = this.clock.now() + ms
+    while (this.board.isOpen() && !this.clock.isStopped && this.clock.now() < end) await this.clock.wait(LOOK_MS)
+    return !this.board.isOpen()
+  }
+}

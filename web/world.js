@@ -1,0 +1,172 @@
+// A proved device and a proved host, and the link between them: what each line of a script makes of them, and what `dfu run` prints of
+// that (docs/SCRIPT.md).
+import { Device, Refused } from './device.js'
+import { Host, REPORT, SEEN, WHAT } from './host.js'
+import { harm } from './harm.js'
+import { CODES, REQUESTS, STATES, hexOf, partsOf } from './names.js'
+import { refusalOf } from './refusals.js'
+import { lineOf } from './script.js'
+
+const NONE = new Uint8Array(0)
+const SETTINGS = ['ids', 'device', 'unit', 'capacity', 'image']
+const textOf = bytes => (bytes.length === 0 ? '-' : hexOf(bytes))
+
+// A script ends here: what is printed last.
+export class ScriptEnd extends Error {}
+
+export class World {
+  // onAction is told each action of the host: what it was, what became of it, and what it was answered.
+  constructor(modules, onAction = () => {}) {
+    Object.assign(this, { modules, onAction, device: null, host: null, number: 0, actions: 0, printed: [] })
+    this.config = { device: 0x0100, product: 1, vendor: 0x1209, attributes: 7, detach_ms: 255, transfer: 8, least: 1, busy_ms: 5, manifest_ms: 10 }
+    Object.assign(this, { capacity: 64, image: new Uint8Array(1), unit: 1, limits: { actions: 1000000, restarts: 0 } })
+  }
+
+  print(line) {
+    this.printed.push(line)
+  }
+
+  // The device is set up by the first line that does something.
+  start() {
+    if (this.device !== null) return
+    if (this.unit !== 1) throw new ScriptEnd(`not played here: the device of this page is written in bytes, and not in units of ${this.unit}`)
+    try {
+      this.device = new Device(this.modules.device, this.config, this.capacity, this.image)
+    } catch (error) {
+      throw error instanceof Refused ? new ScriptEnd('refused BadConfig') : error
+    }
+  }
+
+  // Plays a line. Where it is refused the script is over, and a ScriptEnd says what is printed.
+  play(text) {
+    this.number++
+    const line = lineOf(text)
+    if (line === null) throw new ScriptEnd(`refused BadLine ${this.number}`)
+    if (line.what === 'blank') return
+    if (SETTINGS.includes(line.what)) this.set(line)
+    else if (line.what === 'limits') this.limits = { actions: line.actions, restarts: line.restarts }
+    else {
+      this.start()
+      this.happen(line)
+    }
+  }
+
+  set({ what, ...values }) {
+    if (this.device !== null) throw new ScriptEnd(`refused LateConfig ${this.number}`)
+    if (what === 'ids' || what === 'device') Object.assign(this.config, values)
+    else Object.assign(this, values)
+  }
+
+  happen(line) {
+    const { device } = this
+    if (line.what === 'show') this.print(`state ${STATES[device.state()]} status ${CODES[device.code()]} image ${textOf(device.image())}`)
+    else if (line.what === 'offer') this.offer(line.goal, line.file)
+    else if (line.what === 'upload') this.offer('upload', NONE)
+    else if (line.what === 'abort') this.giveUp()
+    else if (line.what === 'go') for (let turn = 0; turn < line.times; turn++) this.go(line)
+    else if (line.what === 'time') device.elapse(line.ms)
+    else if (line.what === 'reset') this.outside(() => device.reset())
+    else this.outside(() => device.power())
+  }
+
+  offer(goal, file) {
+    if (this.host !== null) return this.print('refused HostBusy')
+    const host = new Host(this.modules.host, file)
+    const said = goal === 'upload' ? {} : host.readFile()
+    const refusal = said.refusal ?? host.begin(goal, this.device.functional(), this.config, this.limits.actions, this.limits.restarts)
+    if (refusal === 0) this.host = host
+    else this.print(`refused BadOffer ${refusalOf(refusal).name}`)
+    return undefined
+  }
+
+  giveUp() {
+    if (this.host === null) this.print('refused NoHost')
+    else this.host.abort()
+  }
+
+  // What comes from outside, a reset of the bus or a cut of the power, is told the host.
+  outside(call) {
+    call()
+    this.host?.take(SEEN.RESTART)
+    this.end()
+  }
+
+  // The host's report, where it is done.
+  end() {
+    const action = this.host?.next() ?? null
+    if (action === null || action.what !== WHAT.DONE) return
+    const name = this.host.name(action.value)
+    if (action.value === REPORT.REFUSED) this.print(`report ${name} ${CODES[action.code]}`)
+    else this.print(`report ${name}${action.value === REPORT.UPLOADED ? ` ${textOf(this.host.uploaded())}` : ''}`)
+    this.host = null
+  }
+
+  // One action of the host, with its fate.
+  go(line) {
+    if (this.host === null) return this.print('refused NoHost')
+    const action = this.host.next()
+    const { seen, bytes = NONE } = action.what === WHAT.SEND ? this.send(action, line) : this.local(action, line)
+    this.host.take(seen, bytes)
+    this.actions++
+    this.onAction({ number: this.actions, action, line, seen, bytes, state: STATES[this.device.state()] })
+    return this.end()
+  }
+
+  // Makes calls of the device, of which a write may be harmed, and the power cut.
+  call(line, calls) {
+    const { device } = this
+    if (line.writes === undefined) return calls()
+    const isHarmed = harm(device, line.fate, line.writes, line.tear, calls)
+    if (line.fate === 'cut') device.power()
+    return isHarmed
+  }
+
+  // A wait, or a reset of the bus.
+  local(action, line) {
+    const { device } = this
+    const isWait = action.what === WHAT.WAIT
+    const slip = line.fate === 'slip' ? line.ms : null
+    this.call(line, () => (isWait ? device.elapse(slip ?? action.value) : device.reset()))
+    if (!isWait && slip !== null) device.elapse(slip)
+    return { seen: line.fate === 'cut' ? SEEN.RESTART : isWait ? SEEN.WAIT : SEEN.RESET }
+  }
+
+  send({ setup, body }, line) {
+    const { device } = this
+    if (line.fate === 'lostout') return { seen: SEEN.NOTHING }
+    let bytes = null
+    const isHarmed = this.call(line, () => { bytes = device.handle(setup, body) })
+    if (line.fate === 'cut') return { seen: SEEN.RESTART }
+    // A device that found its write harmed says so in the same answer; to ask for it once more changes nothing in dfuERROR.
+    if (isHarmed === true) bytes = device.handle(setup, body)
+    if (line.fate === 'twice' || line.fate === 'twicelostback') bytes = device.handle(setup, body)
+    if (line.fate === 'slip') device.elapse(line.ms)
+    if (line.fate === 'lostback' || line.fate === 'twicelostback') return { seen: SEEN.NOTHING }
+    if (bytes === null) return { seen: SEEN.STALL }
+    return setup[0] === 0x21 ? { seen: SEEN.ACK } : { seen: SEEN.BYTES, bytes }
+  }
+
+  // What the host wants next, in words; null where there is none.
+  wanted() {
+    const action = this.host?.next() ?? null
+    if (action === null || action.what === WHAT.DONE) return null
+    if (action.what === WHAT.WAIT) return `wait ${action.value} ms`
+    if (action.what === WHAT.RESET) return 'reset the bus'
+    const { request, value, length } = partsOf(action.setup)
+    return `${REQUESTS[request]} ${value}, ${length} bytes`
+  }
+}
+
+// A whole script: what `dfu run` prints of it.
+export function runScript(modules, lines) {
+  const world = new World(modules)
+  try {
+    for (const line of lines) world.play(line)
+    world.start()
+    world.print(`image ${textOf(world.device.image())}`)
+  } catch (error) {
+    if (!(error instanceof ScriptEnd)) throw error
+    world.print(error.message)
+  }
+  return world.printed
+}
