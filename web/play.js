@@ -134,7 +134,7 @@ export class PlayView {
   refresh() {
     const { world } = this
     const wanted = world.wanted()
-    by('wanted').textContent = wanted !== null ? `The host wants: ${wanted}.` : 'No session goes on.'
+    by('wanted').textContent = wanted !== null ? `The host wants: ${wanted}. What becomes of it?` : 'No session goes on. Offer an image.'
     for (const button of document.querySelectorAll('#play .buttons button'))
       button.disabled = this.isOver || ('host' in button.dataset && wanted === null) || ('idle' in button.dataset && wanted !== null)
     by('line').disabled = by('rest').disabled = this.isOver || this.lines.length === 0

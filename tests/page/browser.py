@@ -101,8 +101,12 @@ class Browser:
     def dark(self, is_dark):
         self.cdp('Emulation.setEmulatedMedia', features=[{'name': 'prefers-color-scheme', 'value': 'dark' if is_dark else 'light'}])
 
-    def shot(self, name):
-        pathlib.Path(name).write_bytes(base64.b64decode(self.post('/screenshot', method='GET')))
+    def shot(self, name, most=1150, scale=0.75):
+        """The page from its top on, smaller."""
+        width, height = self.run('scrollTo(0, 0); return [innerWidth, document.body.scrollHeight]')
+        clip = {'x': 0, 'y': 0, 'width': width, 'height': min(height, most), 'scale': scale}
+        picture = self.cdp('Page.captureScreenshot', format='png', clip=clip, captureBeyondViewport=True)
+        pathlib.Path(name).write_bytes(base64.b64decode(picture['data']))
 
     def console(self):
         """Errors and warnings since the last call."""

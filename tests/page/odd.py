@@ -66,19 +66,24 @@ def every(browser, what, words, kinds, may=None):
 
 def fates(browser):
     clean = in_page(browser, {})[0]['trace']
-    sent = [line.split(' ')[1] for line in clean[1:] if line.split(' ')[1] not in ('WAIT', 'RESET')]
+    sent = [line.split(' ')[1:4] for line in clean[1:] if line.split(' ')[1] not in ('WAIT', 'RESET')]
     found = every(browser, 'WebUSB', {}, ['late', 'stall', 'fails', 'leave-after'], {'verified', 'different'})
     for (kind, number), one in found.items():
         has_left = any(' left ' in line for line in one['trace'])
         # Where the power goes behind dfuMANIFEST the device may have started its image: it is compared, and the old one stands.
         check(f'{kind} {number}: its report', one['name'], 'different' if has_left and one['image'] == text(OLD) else 'verified')
-        if kind == 'leave-after' and sent[number] != 'DETACH':
+        if kind == 'leave-after' and sent[number][0] != 'DETACH':
             check(f'leave-after {number}: that it left is told', one['restarts'] + has_left, 1)
     several = {'settings': {'alternates': 3, 'setting': 1}, 'place': {'alternate': 1}}
     every(browser, 'several settings', several, ['lost-out', 'lost-back', 'late'], {'verified'})
-    # A device that starts its image by itself is never Installed, whatever is lost.
-    every(browser, 'starts itself', {'wantsVerified': False, 'settings': {'startsItself': True}},
-          ['lost-out', 'lost-back', 'twice', 'short', 'leave', 'stall'], {'unconfirmed', 'refused', 'gone'})
+    blocks = [number for number, line in enumerate(sent) if line[0] == 'DNLOAD' and line[2] != '0']
+    for number, one in zip(blocks, in_page(browser, *(with_fate({}, 'part', number) for number in blocks))):
+        check(f'fewer bytes out {number}', (one['name'], one['image']), ('verified', text(NEW)))
+    # A device that starts its image by itself is never Installed, whatever is lost. Where the answer to the close is lost it looks like
+    # one that restarted.
+    found = every(browser, 'starts itself', {'wantsVerified': False, 'settings': {'startsItself': True}},
+                  ['lost-out', 'lost-back', 'twice', 'short', 'leave', 'stall'], {'unconfirmed', 'refused', 'gone'})
+    check('starts itself, the answer to the close lost: a restart is told', found['lost-back', 13]['restarts'], 1)
 
 
 def closing(browser):

@@ -4,6 +4,7 @@
 //   late       it comes there behind the next one, unless the device was closed before
 //   twice      it is handled twice             short      of the answer come so many bytes
 //   stall      the device refuses it unseen    fails      it ends in an error of the system, unseen
+//   part       it ends with fewer bytes out than it has, unseen
 //   leave      the power goes, before it, and comes back     leave-after  the same, behind its answer
 //   swap       another board comes in its place              deaf         this one and all behind it are lost on the way out
 //   mute       this one and all behind it are handled, and nothing is heard
@@ -202,6 +203,7 @@ export class StandInUsb extends EventTarget {
     }
     if (['lost-out', 'late', 'deaf'].includes(fate.kind)) return this.lose(from, entry, fate.kind === 'late' ? { setup, body } : null)
     if (fate.kind === 'garble') return this.madeUp(setup, body)
+    if (fate.kind === 'part') return { status: 'ok', bytesWritten: Math.max(0, body.length - 1), data: viewOf(new Uint8Array(0)) }
     if (fate.kind === 'fails') throw failure('NetworkError', 'A transfer error has occurred.')
     if (fate.kind === 'stall') {
       this.note({ ...entry, answer: 'stall' })

@@ -57,7 +57,7 @@ export class StandInDevice {
   }
 
   async close() {
-    Object.assign(this, { opened: false, claimed: false, wasClosed: true })
+    Object.assign(this, { opened: false, claimed: false, wasClosed: true, setting: 0 })
     this.cancel('AbortError', 'The transfer was cancelled.')
   }
 

@@ -36,7 +36,7 @@ def open_page(browser, address, settings=None, view='flash', platform='Linux'):
 
 def shot(browser, name):
     if 'SHOTS' in os.environ:
-        browser.shot(pathlib.Path(os.environ['SHOTS']) / f'{name}.png')
+        browser.shot(pathlib.Path(os.environ['SHOTS']) / f'page-{name}.png')
 
 
 def shown(browser, selector):
