@@ -1,5 +1,5 @@
-# The tables of tests/interop and tests/interop-flash: made of the results of runs, and held against docs/INTEROP.md. A
-# result is a line with tabs between: scene, fate, transfer, outcome, last line, transfers, state, what stands or was made.
+# The tables of tests/interop and tests/interop-flash: made of the results of runs, and compared with the files of docs/interop.
+# A result is a line with tabs between: scene, fate, transfer, outcome, last line, transfers, state, what stands or was made.
 # A scene's first letter is its place. The scripts say what an outcome is, and what its column is called.
 
 passed=0
@@ -42,7 +42,7 @@ upload() {
 }
 # The last line of the stream that the script takes for a run's words, without the program's name.
 last_line() {
-    tr '\r' '\n' < "$(words "$1")" | sed 's/^dfu-[a-z]*: //; s/[[:space:]]*$//; s/|/\//g' | grep . | tail -n 1
+    tr '\r' '\n' < "$(words "$1")" | sed 's/^dfu-[a-z]*: //; s/[[:space:]]*$//' | grep . | tail -n 1
 }
 # tell SCENE FATE NUMBER PLACE: what came out, as PLACE/result. An upload leaves the image as it is.
 tell() {
@@ -55,67 +55,55 @@ tell() {
     printf '%s\t%s\t%s\n' "$3" "$4" "$made" >> "$1/result"
 }
 # The sessions in which all goes well, a row each.
-clean_rows() {
-    echo "| Session | $outcomes | Last line | Transfers | State | Image, or what was made |"
-    echo '|---|---|---|---|---|---|'
-    awk -F '\t' '$2 == "clean" { print "| " substr($1, 3) " | " $4 " | " $5 " | " $6 " | " $7 " | " $8 " |" }' "$1"
+session_rows() {
+    printf 'session\t%s\tlast line\ttransfers\tstate\timage, or what was made\n' "$outcomes"
+    awk -F '\t' -v OFS='\t' '$2 == "clean" { print substr($1, 3), $4, $5, $6, $7, $8 }' "$1"
 }
-# fate_rows RESULTS SCENE: a row for each transfer, a cell for each fate: outcome, after how many transfers, state, image.
-fate_rows() {
-    [ -s "$work/runs/$2-clean-/shown" ] || return 0
-    echo
-    echo "**${2#??}**"
-    echo
-    echo '| Transfer | Lost on the way out | Its answer lost | Handled twice | Cut to 3 bytes | Power gone | Killed, run again |'
-    echo '|---|---|---|---|---|---|---|'
-    while read -r number request value length rest; do
-        awk -F '\t' -v scene="$2" -v number="$number" -v name="$number $request $value $length" '
-            $1 == scene && $3 == number && $2 != "clean" { cell[$2] = $4 " after " $6 ", " $7 ", " $8 }
-            function shown(fate) { return (fate in cell) ? cell[fate] : "-" }
-            END {
-                if ("again" in cell)
-                    cell["killed"] = cell["killed"] "; then " cell["again"]
-                print "| " name " | " shown("lost-out") " | " shown("lost-back") " | " shown("twice") " | " shown("short") \
-                    " | " shown("leave") " | " shown("killed") " |"
-            }' "$1"
-    done < "$work/runs/$2-clean-/shown"
+# fault_rows RESULTS: a row for each transfer of each session, a cell for each fate: outcome, after how many transfers, state, image.
+fault_rows() {
+    printf 'session\ttransfer\trequest, wValue, wLength\tlost on the way out\tits answer lost\thandled twice\tcut to 3 bytes\tpower gone\tkilled, run again\n'
+    cut -f 1,2 "$1" | grep -v 'clean$' | cut -f 1 | LC_ALL=C sort -u | while read -r scene; do
+        while read -r number request value length rest; do
+            awk -F '\t' -v OFS='\t' -v scene="$scene" -v number="$number" -v request="$request $value $length" '
+                $1 == scene && $3 == number && $2 != "clean" { cell[$2] = $4 " after " $6 ", " $7 ", " $8 }
+                function shown(fate) { return (fate in cell) ? cell[fate] : "-" }
+                END {
+                    if ("again" in cell)
+                        cell["killed"] = cell["killed"] "; then " cell["again"]
+                    print substr(scene, 3), number, request, shown("lost-out"), shown("lost-back"), shown("twice"), shown("short"), \
+                        shown("leave"), shown("killed")
+                }' "$1"
+        done < "$work/runs/$scene-clean-/shown"
+    done
 }
-# All runs, by what they said and what stood then.
-sum_rows() {
-    echo
-    echo "| Device | $outcomes | Image, or what was made | Runs |"
-    echo '|---|---|---|---|'
-    awk -F '\t' '
-        { runs[($1 ~ /U-Boot/ ? "U-Boot" : $1 ~ /small/ ? "small" : "proved") " | " $4 " | " $8]++ }
-        END { for (said in runs) print "| " said " | " runs[said] " |" }' "$1" | LC_ALL=C sort
+# All runs, by how they ended and what stood then.
+end_rows() {
+    printf 'device\t%s\timage, or what was made\truns\n' "$outcomes"
+    awk -F '\t' -v OFS='\t' '
+        { runs[($1 ~ /U-Boot/ ? "U-Boot" : $1 ~ /small/ ? "small" : "proved") OFS $4 OFS $8]++ }
+        END { for (end in runs) print end, runs[end] }' "$1" | LC_ALL=C sort
 }
 # What was said last, and in how many runs.
 line_rows() {
-    echo
-    echo "| $outcomes | Last line | Runs |"
-    echo '|---|---|---|'
-    awk -F '\t' '{ runs[$4 " | " $5]++ } END { for (said in runs) print "| " said " | " runs[said] " |" }' "$1" | LC_ALL=C sort
+    printf '%s\tlast line\truns\n' "$outcomes"
+    awk -F '\t' -v OFS='\t' '{ runs[$4 OFS $5]++ } END { for (end in runs) print end, runs[end] }' "$1" | LC_ALL=C sort
 }
-# tables NAME RESULTS: prints them all, and counts whether the document has exactly these between the lines for them; with
-# WRITE in the environment they are written there.
+# tables NAME RESULTS: makes the program's tables, and counts whether docs/interop has exactly these; with WRITE in the
+# environment they are written there.
 tables() {
-    {
-        clean_rows "$2"
-        cut -f 1,2 "$2" | grep -v 'clean$' | cut -f 1 | LC_ALL=C sort -u | while read -r scene; do fate_rows "$2" "$scene"; done
-        sum_rows "$2"
-        [ "$outcomes" != Exit ] || line_rows "$2"
-    } > printed
-    cat printed
-    document=$top/docs/INTEROP.md
+    mkdir made kept
+    session_rows "$2" > "made/$1-sessions.tsv"
+    fault_rows "$2" > "made/$1-faults.tsv"
+    end_rows "$2" > "made/$1-ends.tsv"
+    [ "$outcomes" != exit ] || line_rows "$2" > "made/$1-lines.tsv"
+    folder=$top/docs/interop
     if [ -n "${WRITE-}" ]; then
-        awk -v begin="<!-- $1 -->" '
-            $0 == begin { print; while ((getline line < "printed") > 0) print line; within = 1 }
-            $0 == "<!-- end -->" { within = 0 }
-            !within' "$document" > changed
-        cat changed > "$document"
+        rm -f "$folder/$1"-*.tsv
+        mkdir -p "$folder"
+        cp made/* "$folder/"
     fi
-    sed -n "/^<!-- $1 -->\$/,/^<!-- end -->\$/p" "$document" | sed '1d;$d' > written
-    check "docs/INTEROP.md has the tables of $1" '' "$(diff written printed)"
+    cp "$folder/$1"-*.tsv kept/ 2> /dev/null || :
+    check "docs/interop has the tables of $1" '' "$(diff -r kept made)"
     echo "$passed passed, $failed failed"
     [ "$failed" -eq 0 ] && [ "$passed" -gt 1 ]
 }
