@@ -1,9 +1,9 @@
 //! Which slot is active is known beforehand: for a caller who keeps it between two calls. No image is read.
 ghost use Rattle.std.specs.Prelude.{◌≡◌, ◌+◌, ◌≤◌, ◌↔◌, length, get_or, take, drop, not, IsTrue, IsOk, IfOk, IfErr, OnOk, IsSome, IfSome, OnSome};
 ghost use Rattle.std.specs.Int.{w32, from_le_bytes};
-ghost use Rattle.dfu_slots.specs.Layout.{slot_size, header, HasHeader};
+ghost use Rattle.dfu_slots.specs.Layout.{slot_size, header};
 ghost use Rattle.dfu_slots.specs.Image.{gate_of, IsSized, slot_of, first_is_active, active_at, spare_at, HasImage};
-ghost use Rattle.dfu_slots.specs.Seen.{store_of, active_slot, image_of};
+ghost use Rattle.dfu_slots.specs.Seen.{store_of};
 ghost use Rattle.dfu_slots.specs.Store.{HasPuts, IsStore};
 ghost use Rattle.dfu_slots.specs.Known.{CountsUnread, MayCount, IsNewestUnread, place_of, IsActiveUnread};
 
@@ -118,14 +118,6 @@ impl<M: Medium> Slots<M> {
         ensures { let m = self.now.medium in result ≡ first_is_active (gate_of m) m.bytes }
     {
         self.places.active == 0
-    }
-
-    /// The 16 bytes of the active slot's header, as they stand on the medium.
-    pub fn active_header(&self) -> [u8; 16]
-        ensures bytes { result ≡ (active_slot self.now).header }
-        ensures header { HasHeader (active_slot self.now) (length (image_of self.now)) }
-    {
-        header_of(&self.medium, self.places.active)
     }
 
     /// Puts a store together of a medium, the bytes held back, where the puts end, and which slot is active: the first or

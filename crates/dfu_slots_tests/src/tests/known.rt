@@ -7,11 +7,6 @@ use std::alloc::Global;
 use std::process::Abort;
 use std::test::Fail;
 
-// The header of one byte 00h that `format` writes, and of the bytes 5, 6 and 7 after it, up to its register.
-static FORMATTED: [u8; 16] = [0, 2, 0, 0, 1, 0, 0, 0, 0x72, 0x10, 0xfd, 0x2d, 0, 0, 0, 0];
-
-static INSTALLED: [u8; 8] = [1, 2, 0, 0, 3, 0, 0, 0];
-
 // Places of one more byte and that byte, on a medium of two open slots of version 1, the second one generation ahead;
 // whether the first slot is named; and whether gates and headers alone tell that the named one is active.
 #[rattlefmt::skip]
@@ -100,12 +95,11 @@ fn not_known(rt: &impl Abort, medium: SimMedium, first: bool) -> SimMedium {
 // A slot of version 2 is not known by its header alone, and `from_known` refuses it under either name.
 #[rattlefmt::skip]
 #[test]
-fn the_header_and_the_place_of_the_active_slot_are_told(rt: HostRuntime) -> Result<(), Fail> {
+fn the_active_slot_is_told_and_is_not_known_by_a_header_of_version_2(rt: HostRuntime) -> Result<(), Fail> {
     let mut slots = formatted(rt.alloc())?;
-    assert!(rt; slots.is_first() && slots.active_header() == FORMATTED);
+    assert!(rt; slots.is_first());
     install(&mut slots, &[5, 6, 7])?;
-    let header = slots.active_header();
-    assert!(rt; !slots.is_first() && &header[..8] == &INSTALLED[..]);
+    assert!(rt; !slots.is_first());
     let mut medium = slots.into_medium();
     for first in [true, false] {
         medium = not_known(&rt, medium, first);
