@@ -12,8 +12,9 @@ const ASIDE = 7
 const PLACES = [[0, 0], [1, 0], [0, 1], [1, 1], [2, 1], [2, 2], [1, 3], [2, 3], [3, 3], [0, 2], [3, 0]]
 
 // From, to, and by what. Errors and resets lead from any state to dfuERROR and to appIDLE, and aren't drawn.
-const ARROWS = [[0, 1, 'DETACH'], [1, 2, 'reset'], [2, 3, 'DNLOAD'], [3, 4, 'status'], [4, 3, 'time'], [3, 5, 'GETSTATUS'], [5, 3, 'DNLOAD'],
-  [5, 6, 'last DNLOAD'], [6, 7, 'status'], [7, 6, 'time'], [7, 8, 'time'], [6, 2, 'GETSTATUS'], [2, 9, 'UPLOAD'], [9, 2, 'last']]
+const ARROWS = [[0, 1, 'DETACH'], [1, 2, 'reset'], [2, 3, 'DNLOAD'], [3, 4, 'status'], [4, 3, 'time'], [3, 5, 'GETSTATUS'],
+  [5, 3, 'DNLOAD'], [5, 6, 'last DNLOAD'], [6, 7, 'status'], [7, 6, 'time'], [7, 8, 'time'], [6, 2, 'GETSTATUS'], [2, 9, 'UPLOAD'],
+  [9, 2, 'last']]
 
 function shape(tag, attributes, text) {
   const element = document.createElementNS(SVG, tag)

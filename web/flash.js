@@ -103,7 +103,8 @@ export class FlashView {
     const rows = settings.map(one => {
       const input = make('input', { type: 'radio', name: 'setting' })
       input.onchange = () => this.open(device, one).catch(error => this.sayNoAccess(error))
-      return make('label', {}, input, ` ${plain(one.name) || `setting ${one.alternate}`} (interface ${one.interface}, setting ${one.alternate})`)
+      const name = plain(one.name) || `setting ${one.alternate}`
+      return make('label', {}, input, ` ${name} (interface ${one.interface}, setting ${one.alternate})`)
     })
     by('settings').replaceChildren(by('settings').firstElementChild, ...rows)
     by('settings').hidden = false
@@ -127,7 +128,8 @@ export class FlashView {
   }
 
   describe(is) {
-    const words = [is.title, idsOf(is), is.serial === '' ? '' : `serial number ${is.serial}`, is.isUpgrade ? 'in DFU mode' : 'in run-time mode']
+    const serial = is.serial === '' ? '' : `serial number ${is.serial}`
+    const words = [is.title, idsOf(is), serial, is.isUpgrade ? 'in DFU mode' : 'in run-time mode']
     by('device').textContent = words.filter(word => word !== '').map(plain).join(', ')
     const transfer = is.descriptor.length >= 7 ? `, in blocks of ${transferOf(is.descriptor)} bytes` : ''
     by('device').title = `interface ${is.interface}, setting ${is.alternate}${transfer}`

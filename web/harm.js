@@ -55,7 +55,7 @@ export function harm(device, kind, number, tear, call) {
   const { bytes, isTrue } = harmedBytes(before, made.writes, number, tear)
   if (kind === 'lie' && isTrue) return false
   device.mediumBytes().set(bytes)
-  if (kind !== 'cut')
-    device.write('dfu_device', device.device, { mode: ERROR_MODE, first: 0, second: 0, put_end: 0, number: CODES[made.kind][kind], length: 0 })
+  const error = { mode: ERROR_MODE, first: 0, second: 0, put_end: 0, length: 0 }
+  if (kind !== 'cut') device.write('dfu_device', device.device, { ...error, number: CODES[made.kind][kind] })
   return true
 }

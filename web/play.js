@@ -11,6 +11,7 @@ import { ScriptEnd, World } from './world.js'
 
 const MOST_ROWS = 500
 const MOST_AT_ONCE = 10000
+const MOST_PASSES = 1000000 // of a line
 const SETUP = ['blank', 'ids', 'device', 'unit', 'capacity', 'image', 'limits']
 const HEARS = ['it is acknowledged', '', 'a stall', 'nothing', 'the time has passed', 'the bus was reset', 'the device restarted']
 
@@ -82,7 +83,7 @@ export class PlayView {
       call()
     } catch (error) {
       this.isOver = true
-      say('play-refused', error instanceof ScriptEnd ? error.message : 'The proved library ended in a trap, which is a mistake of this page.')
+      say('play-refused', error instanceof ScriptEnd ? error.message : 'A library ended in a trap, which is a mistake of this page.')
       if (!(error instanceof ScriptEnd)) throw error
     }
   }
@@ -90,7 +91,8 @@ export class PlayView {
   // Passes in a row are one line.
   note(line) {
     const [last, now] = [this.script.at(-1), line].map(text => /^go pass ([0-9]+)$/.exec(text ?? ''))
-    if (last && now && Number(last[1]) + Number(now[1]) <= 1000000) this.script[this.script.length - 1] = `go pass ${Number(last[1]) + Number(now[1])}`
+    const passes = last && now ? Number(last[1]) + Number(now[1]) : Infinity
+    if (passes <= MOST_PASSES) this.script[this.script.length - 1] = `go pass ${passes}`
     else this.script.push(line)
   }
 
@@ -132,7 +134,7 @@ export class PlayView {
   refresh() {
     const { world } = this
     const wanted = world.wanted()
-    by('wanted').textContent = wanted !== null ? `The host wants: ${wanted}.` : 'No session goes on.'
+    by('wanted').textContent = wanted !== null ? `The host wants: ${wanted}. What becomes of it?` : 'No session goes on. Offer an image.'
     for (const button of document.querySelectorAll('#play .buttons button'))
       button.disabled = this.isOver || ('host' in button.dataset && wanted === null) || ('idle' in button.dataset && wanted !== null)
     by('line').disabled = by('rest').disabled = this.isOver || this.lines.length === 0

@@ -39,7 +39,9 @@ const LEAVE_MS = 1000   // from a reset that fails to the event that tells that 
 const GRACE_MS = 100    // and from one that is made
 const LOOK_MS = 20
 const NONE = new Uint8Array(0)
-const ERRORS = { NotFoundError: 'NO_DEVICE', NetworkError: 'IO', TimeoutError: 'TIMEOUT', SecurityError: 'ACCESS', AbortError: 'INTERRUPTED' }
+// For the trace: what libusb calls them.
+const ERRORS = { NotFoundError: 'NO_DEVICE', NetworkError: 'IO', TimeoutError: 'TIMEOUT', SecurityError: 'ACCESS',
+  AbortError: 'INTERRUPTED' }
 
 const told = (seen, more = {}) => ({ seen, bytes: NONE, isGone: false, error: '', ...more })
 

@@ -18,7 +18,8 @@ export class World {
   // onAction is told each action of the host: what it was, what became of it, and what it was answered.
   constructor(modules, onAction = () => {}) {
     Object.assign(this, { modules, onAction, device: null, host: null, number: 0, actions: 0, printed: [] })
-    this.config = { device: 0x0100, product: 1, vendor: 0x1209, attributes: 7, detach_ms: 255, transfer: 8, least: 1, busy_ms: 5, manifest_ms: 10 }
+    const functional = { attributes: 7, detach_ms: 255, transfer: 8 }
+    this.config = { device: 0x0100, product: 1, vendor: 0x1209, ...functional, least: 1, busy_ms: 5, manifest_ms: 10 }
     Object.assign(this, { capacity: 64, image: new Uint8Array(1), unit: 1, limits: { actions: 1000000, restarts: 0 } })
   }
 
@@ -29,7 +30,7 @@ export class World {
   // The device is set up by the first line that does something.
   start() {
     if (this.device !== null) return
-    if (this.unit !== 1) throw new ScriptEnd(`not played here: the device of this page is written in bytes, and not in units of ${this.unit}`)
+    if (this.unit !== 1) throw new ScriptEnd(`not played here: the device of this page is written in bytes, not in units of ${this.unit}`)
     try {
       this.device = new Device(this.modules.device, this.config, this.capacity, this.image)
     } catch (error) {

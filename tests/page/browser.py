@@ -5,6 +5,7 @@ import http.server
 import json
 import pathlib
 import re
+import shutil
 import subprocess
 import threading
 import time
@@ -42,7 +43,7 @@ class Browser:
         line = next(line for line in self.driver.stdout if 'started successfully on port' in line)
         self.at = f"http://127.0.0.1:{re.search(r'port ([0-9]+)', line)[1]}"
         threading.Thread(target=self.driver.stdout.read, daemon=True).start()
-        options = {'binary': '/usr/bin/chromium', 'args': ARGUMENTS, 'prefs': {'download.default_directory': downloads}}
+        options = {'binary': shutil.which('chromium'), 'args': ARGUMENTS, 'prefs': {'download.default_directory': downloads}}
         wanted = {'browserName': 'chrome', 'goog:chromeOptions': options, 'goog:loggingPrefs': {'browser': 'ALL'}}
         made = self.post('/session', {'capabilities': {'alwaysMatch': wanted}})
         self.at += f"/session/{made['sessionId']}"
@@ -71,7 +72,7 @@ class Browser:
 
     def wait_run(self, script, *words):
         """The value of a promise."""
-        script = f'const [done] = Array.from(arguments).slice(-1); ({script})(...Array.from(arguments).slice(0, -1)).then(done, e => done(String(e.stack)))'
+        script = f'const words = Array.from(arguments), done = words.pop(); ({script})(...words).then(done, e => done(String(e.stack)))'
         return self.post('/execute/async', {'script': script, 'args': words})
 
     def cdp(self, command, **words):
@@ -100,8 +101,12 @@ class Browser:
     def dark(self, is_dark):
         self.cdp('Emulation.setEmulatedMedia', features=[{'name': 'prefers-color-scheme', 'value': 'dark' if is_dark else 'light'}])
 
-    def shot(self, name):
-        pathlib.Path(name).write_bytes(base64.b64decode(self.post('/screenshot', method='GET')))
+    def shot(self, name, most=1150, scale=0.75):
+        """The page from its top on, smaller."""
+        width, height = self.run('scrollTo(0, 0); return [innerWidth, document.body.scrollHeight]')
+        clip = {'x': 0, 'y': 0, 'width': width, 'height': min(height, most), 'scale': scale}
+        picture = self.cdp('Page.captureScreenshot', format='png', clip=clip, captureBeyondViewport=True)
+        pathlib.Path(name).write_bytes(base64.b64decode(picture['data']))
 
     def console(self):
         """Errors and warnings since the last call."""

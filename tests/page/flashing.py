@@ -39,8 +39,9 @@ def prepare(browser, address, work, settings, payload=suffixed(NEW), **words):
 def by_mouse(browser, address, work):
     prepare(browser, address, work, {})
     is_ready(browser)
-    check_that('the fields of the file', '26 bytes' in shown(browser, '#fields') and '1209:0001' in shown(browser, '#fields'))
-    check_that('the device', '1209:0001' in shown(browser, '#device') and 'DFU mode' in shown(browser, '#device'), shown(browser, '#device'))
+    fields, device = shown(browser, '#fields'), shown(browser, '#device')
+    check_that('the fields of the file', '26 bytes' in fields and '1209:0001' in fields, fields)
+    check_that('the device', '1209:0001' in device and 'DFU mode' in device, device)
     is_labelled(browser, 'flash, ready')
     browser.click('#begin')
     check('by mouse', (report(browser), image(browser)), ('Verified', NEW))
@@ -80,6 +81,14 @@ def by_keyboard(browser, address, work):
         if name == 'connect':
             is_ready(browser)
     check('by keyboard', (report(browser), image(browser)), ('Verified', NEW))
+
+
+def bad_names(browser, address, work):
+    """A device may call itself what it likes: it is shown as text, and turns no line round."""
+    prepare(browser, address, work, {'title': '<img src=x onerror=alert(1)>\u202etxet', 'serial': '<b>\n</b>'})
+    is_ready(browser)
+    check_that('its name', shown(browser, '#device').startswith('<img src=x onerror=alert(1)>·txet, '), shown(browser, '#device'))
+    check('it makes no element', browser.run('return document.querySelectorAll("#device *").length'), 0)
 
 
 def by_drop(browser, address):
@@ -186,6 +195,7 @@ def run(browser, address, work):
     check('a Chromium lacks nothing', shown(browser, '#lacks'), '')
     by_mouse(browser, address, work)
     by_keyboard(browser, address, work)
+    bad_names(browser, address, work)
     by_drop(browser, address)
     bad_files(browser, address, work)
     chooses(browser, address, work)

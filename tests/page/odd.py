@@ -6,22 +6,24 @@ from sessions import in_page, is_true, with_fate
 APP = {'startsInApp': True}
 WINDOWS = {'platform': 'Windows'}
 NO_RESET = {'reset': 'fails'}
+UNNAMED = {'keepsPermission': False, 'serial': ''}
+ITSELF = {'config': {'attributes': 15, 'detach_ms': 5}}
 
 # What, words, the report, and whether the image is the new one then.
 ROWS = [
-    ('it has to be chosen again', {'settings': {'keepsPermission': False, 'serial': ''}, 'chooses': 'it'}, 'verified', True),
-    ('nobody chooses it', {'settings': {'keepsPermission': False, 'serial': ''}}, 'gone', True),
-    ('a board that was there before is chosen', {'settings': {'keepsPermission': False, 'serial': '', 'others': 1}, 'chooses': 'bystander'}, 'gone', True),
+    ('it has to be chosen again', {'settings': UNNAMED, 'chooses': 'it'}, 'verified', True),
+    ('nobody chooses it', {'settings': UNNAMED}, 'gone', True),
+    ('a board that was there before is chosen', {'settings': {**UNNAMED, 'others': 1}, 'chooses': 'bystander'}, 'gone', True),
     ('a board that was there before', {'settings': {'others': 1, 'serial': ''}}, 'verified', True),
     ('another serial number in DFU mode', {'settings': {**APP, 'dfuSerial': 'F2'}, 'chooses': 'it'}, 'verified', True),
     ('a reset that resolves', {'settings': {'reset': 'resolves'}}, 'verified', True),
     ('no reset, and nobody at the plug', {'wantsVerified': False, 'settings': NO_RESET}, 'silent', True),
     ('no reset, and the plug', {'wantsVerified': False, 'settings': NO_RESET, 'replugs': True}, 'installed', True),
     ('Windows: no reset, so it is not compared', {**WINDOWS, 'settings': NO_RESET, 'replugs': True}, 'installed', True),
-    ('Windows: one that is not tolerant', {**WINDOWS, 'settings': {**NO_RESET, 'config': {'attributes': 3}}, 'replugs': True}, 'unconfirmed', True),
-    ('Windows: it detaches itself', {**WINDOWS, 'settings': {**NO_RESET, 'config': {'attributes': 15, 'detach_ms': 5}}, 'replugs': True}, 'verified', True),
-    ('Windows: from run-time mode', {**WINDOWS, 'settings': {**NO_RESET, **APP, 'config': {'attributes': 15, 'detach_ms': 5}}, 'replugs': True},
-     'verified', True),
+    ('Windows: one that is not tolerant', {**WINDOWS, 'settings': {**NO_RESET, 'config': {'attributes': 3}}, 'replugs': True},
+     'unconfirmed', True),
+    ('Windows: it detaches itself', {**WINDOWS, 'settings': {**NO_RESET, **ITSELF}, 'replugs': True}, 'verified', True),
+    ('Windows: from run-time mode', {**WINDOWS, 'settings': {**NO_RESET, **APP, **ITSELF}, 'replugs': True}, 'verified', True),
     ('limits', {'limits': {'actions': 3, 'restarts': 0}}, 'gave-up', False),
     ('another board comes in its place', {'settings': {'fates': [{'kind': 'swap', 'number': 4}]}}, 'other', False),
     ('it answers no more', {'settings': {'fates': [{'kind': 'deaf', 'number': 4}]}}, 'silent', False),
@@ -32,10 +34,12 @@ ROWS = [
     ('no suffix', {'file': text(NEW)}, 'NoSignature', False),
     ('another target', {'file': text(suffixed(NEW, product=2))}, 'WrongTarget', False),
     ('any target', {'file': text(suffixed(NEW, 0xffff, 0xffff))}, 'verified', True),
-    ('it starts its image by itself, and can not upload', {'settings': {'startsItself': True, 'config': {'attributes': 5}}}, 'unconfirmed', True),
+    ('it starts its image by itself, and can not upload', {'settings': {'startsItself': True, 'config': {'attributes': 5}}},
+     'unconfirmed', True),
     ('it starts its image by itself', {'settings': {'startsItself': True}}, 'verified', True),
     ('it starts its image by itself, not compared', {'wantsVerified': False, 'settings': {'startsItself': True}}, 'unconfirmed', True),
-    ('it starts an application without USB', {'wantsVerified': False, 'settings': {'startsItself': True, 'hasAppUsb': False}}, 'unconfirmed', True),
+    ('it starts an application without USB', {'wantsVerified': False, 'settings': {'startsItself': True, 'hasAppUsb': False}},
+     'unconfirmed', True),
     ('an application without USB', {'wantsVerified': False, 'settings': {'hasAppUsb': False}}, 'installed', True),
     ('an application without USB, to be compared', {'settings': {'hasAppUsb': False}}, 'gone', True),
     ('the second of three settings', {'settings': {'alternates': 3, 'setting': 1}, 'place': {'alternate': 1}}, 'verified', True),
@@ -62,19 +66,24 @@ def every(browser, what, words, kinds, may=None):
 
 def fates(browser):
     clean = in_page(browser, {})[0]['trace']
-    sent = [line.split(' ')[1] for line in clean[1:] if line.split(' ')[1] not in ('WAIT', 'RESET')]
+    sent = [line.split(' ')[1:4] for line in clean[1:] if line.split(' ')[1] not in ('WAIT', 'RESET')]
     found = every(browser, 'WebUSB', {}, ['late', 'stall', 'fails', 'leave-after'], {'verified', 'different'})
     for (kind, number), one in found.items():
         has_left = any(' left ' in line for line in one['trace'])
         # Where the power goes behind dfuMANIFEST the device may have started its image: it is compared, and the old one stands.
         check(f'{kind} {number}: its report', one['name'], 'different' if has_left and one['image'] == text(OLD) else 'verified')
-        if kind == 'leave-after' and sent[number] != 'DETACH':
+        if kind == 'leave-after' and sent[number][0] != 'DETACH':
             check(f'leave-after {number}: that it left is told', one['restarts'] + has_left, 1)
-    every(browser, 'several settings', {'settings': {'alternates': 3, 'setting': 1}, 'place': {'alternate': 1}}, ['lost-out', 'lost-back', 'late'],
-          {'verified'})
-    # A device that starts its image by itself is never Installed, whatever is lost.
-    every(browser, 'starts itself', {'wantsVerified': False, 'settings': {'startsItself': True}},
-          ['lost-out', 'lost-back', 'twice', 'short', 'leave', 'stall'], {'unconfirmed', 'refused', 'gone'})
+    several = {'settings': {'alternates': 3, 'setting': 1}, 'place': {'alternate': 1}}
+    every(browser, 'several settings', several, ['lost-out', 'lost-back', 'late'], {'verified'})
+    blocks = [number for number, line in enumerate(sent) if line[0] == 'DNLOAD' and line[2] != '0']
+    for number, one in zip(blocks, in_page(browser, *(with_fate({}, 'part', number) for number in blocks))):
+        check(f'fewer bytes out {number}', (one['name'], one['image']), ('verified', text(NEW)))
+    # A device that starts its image by itself is never Installed, whatever is lost. Where the answer to the close is lost it looks like
+    # one that restarted.
+    found = every(browser, 'starts itself', {'wantsVerified': False, 'settings': {'startsItself': True}},
+                  ['lost-out', 'lost-back', 'twice', 'short', 'leave', 'stall'], {'unconfirmed', 'refused', 'gone'})
+    check('starts itself, the answer to the close lost: a restart is told', found['lost-back', 13]['restarts'], 1)
 
 
 def closing(browser):
@@ -95,6 +104,18 @@ def cancels(browser):
         is_last = at == count - 1
         check(f'cancelled at {at}', (one['name'], 'abort' in one['trace']), ('verified', True) if is_last else ('aborted', True))
         check_that(f'cancelled at {at}: one image or the other', one['image'] in (text(OLD), text(NEW)), one['image'])
+
+
+def garbled(browser):
+    """Answers that are made up end a session, in one of the ends that it has."""
+    def of(seed):
+        return {'seed': seed, 'startsInApp': seed % 3 == 0, 'fates': [{'kind': 'garble', 'number': seed % 25}]}
+    found = in_page(browser, *({'settings': of(seed)} for seed in range(300)))
+    ends = {one['name'] for one in found}
+    check_that('they come to several ends', len(ends) > 3, ends)
+    check('none is a mistake of the page', 'broken' in ends, False)
+    for one in found:
+        check_that('what was verified is there', one['name'] != 'verified' or is_true(one), one)
 
 
 def descriptors(browser):
@@ -119,4 +140,5 @@ def run(browser):
     fates(browser)
     closing(browser)
     cancels(browser)
+    garbled(browser)
     descriptors(browser)

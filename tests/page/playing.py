@@ -1,5 +1,4 @@
 """The view to play with: the examples of its menu, and buttons clicked at random, whose script `dfu run` plays too."""
-import pathlib
 import random
 import subprocess
 import tempfile
@@ -84,10 +83,6 @@ def refusals(browser, address):
     found = browser.wait_run("async () => fetch('http://127.0.0.1:9/').then(() => 'answered', error => error.name)")
     check('a request to elsewhere', found, 'TypeError')
     check_that('it is the policy that refuses it', any('Content Security Policy' in line for line in browser.console()))
-
-
-def size(folder):
-    return sum(file.stat().st_size for file in pathlib.Path(folder).iterdir())
 
 
 def run(browser, address):

@@ -11,6 +11,7 @@ import odd
 import playing
 import scripts
 import sessions
+import texts
 from browser import Browser, Handler, serve
 from counting import check
 
@@ -29,6 +30,7 @@ def main(page, flash):
             browser.open(address + '/tests/sessions.html')
             browser.wait('window.runs !== undefined')
             check('wasm64', browser.run('return runs.runsWasm64()'), True)
+            timed('texts', texts.run, browser, page)
             timed('scripts', scripts.play, browser)
             timed('sessions', sessions.run, browser, flash)
             timed('what only WebUSB has', odd.run, browser)

@@ -4,7 +4,7 @@ import { functionalIn } from '/descriptors.js'
 import { Board } from '/board.js'
 import { Host } from '/host.js'
 import { load, runsWasm64 } from '/library.js'
-import { LAYOUT, RECORDS } from '/records.js'
+import { RECORDS } from '/records.js'
 import { refusalOf } from '/refusals.js'
 import { lineOf, verdictOf } from '/reports.js'
 import { linesOf } from '/script.js'
@@ -18,7 +18,12 @@ const modules = { host: await load('dfu_host_c'), device: await load('dfu_device
 const bytesOf = text => Uint8Array.from(text, one => one.charCodeAt(0))
 const textOf = bytes => Array.from(bytes, byte => String.fromCharCode(byte)).join('')
 
-export { LAYOUT, RECORDS, refusalOf, runsWasm64 }
+export { RECORDS, refusalOf, runsWasm64 }
+export const wordsOf = name => {
+  const ended = { end: 'report', name, code: 0 }
+  const { status, words } = verdictOf(ended, { hasSent: true, isWhole: false, goal: 'download' })
+  return [status, words]
+}
 export const scripts = texts => texts.map(text => runScript(modules, linesOf(text)).join('\n'))
 export const functional = (bytes, number, alternate) => Array.from(functionalIn(Uint8Array.from(bytes), number, alternate))
 

@@ -68,8 +68,8 @@ class Flash:
 
     def run(self, words, variables, kind=None, number=0):
         fate = f'{kind} {number}{" 3" if kind == "short" else ""}' if kind else ''
-        env = {**os.environ, 'LD_LIBRARY_PATH': self.folder, 'USB_IMAGE': f'{self.at}/old', 'USB_SAVE': f'{self.at}/saved', 'USB_FATE': fate,
-               **variables}
+        env = {**os.environ, 'LD_LIBRARY_PATH': self.folder, 'USB_IMAGE': f'{self.at}/old', 'USB_SAVE': f'{self.at}/saved',
+               'USB_FATE': fate, **variables}
         options = [] if words.get('wantsVerified', True) else ['--no-verify']
         command = [f'{self.folder}/dfu-flash', '--json', '--quiet', '--verbose', '--path', '1-1', *options, f'{self.at}/new.dfu']
         done = subprocess.run(command, env=env, capture_output=True, text=True, check=False)

@@ -4,17 +4,21 @@
 //   late       it comes there behind the next one, unless the device was closed before
 //   twice      it is handled twice             short      of the answer come so many bytes
 //   stall      the device refuses it unseen    fails      it ends in an error of the system, unseen
+//   part       it ends with fewer bytes out than it has, unseen
 //   leave      the power goes, before it, and comes back     leave-after  the same, behind its answer
 //   swap       another board comes in its place              deaf         this one and all behind it are lost on the way out
 //   mute       this one and all behind it are handled, and nothing is heard
+//   garble     this one and all behind it get answers that are made up, by chance; the device sees none of them
 import { Clock, LATE } from '/clock.js'
 import { Device } from '/device.js'
 import { REQUESTS, STATES, hexOf, partsOf } from '/names.js'
+import { StandInDevice, failure, viewOf } from './standin_device.js'
 
 const MOST_WAITS = 20000
 
 export const USUAL = {
-  config: { device: 0x0100, product: 1, vendor: 0x1209, detach_ms: 1000, transfer: 8, attributes: 7, busy_ms: 1, manifest_ms: 1, least: 1 },
+  config: { device: 0x0100, product: 1, vendor: 0x1209, detach_ms: 1000, transfer: 8, attributes: 7, busy_ms: 1, manifest_ms: 1,
+    least: 1 },
   capacity: 100000,
   image: new TextEncoder().encode('the old image'),
   dfuIds: null,           // { product, device } in DFU mode, where others than those of config
@@ -34,113 +38,11 @@ export const USUAL = {
   keepsPermission: true,  // false: as a device without a serial number in Chromium, which has to be chosen again
   reset: 'rejects',       // what reset() does where the device comes back as another one: rejects, or resolves; or fails: always
   closing: 'unheard',     // what it makes of being closed and opened: unheard, or resets: it is in its first state again
+  seed: 1,                // of `garble`
+  title: 'the proved device', // its name
   others: 0,              // boards beside it, which the page may see, without a serial number
   fates: [],              // { kind, number, bytes }
   isReal: false,          // time passes by itself, and not by `clock`
-}
-
-const failure = (name, text) => new DOMException(text, name)
-const viewOf = bytes => new DataView(bytes.buffer, bytes.byteOffset, bytes.byteLength)
-
-// A device as it was enumerated once. It has what a USBDevice has, as far as DFU needs it.
-class StandInDevice {
-  constructor(usb, { isOther = false, isSwapped = false } = {}) {
-    const { settings } = usb
-    const { config } = settings
-    const isApp = !isOther && !isSwapped && usb.isApp()
-    const ids = isApp || settings.dfuIds === null ? config : { ...config, ...settings.dfuIds }
-    Object.assign(this, { usb, isOther, isSwapped, isApp, opened: false, claimed: false, setting: 0, pending: [] })
-    this.vendorId = config.vendor
-    this.productId = isSwapped ? 0x0bad : ids.product
-    this.serialNumber = isOther ? '' : isApp ? settings.serial : settings.dfuSerial ?? settings.serial
-    this.productName = isOther ? 'another board' : 'the proved device'
-    this.deviceVersionMajor = ids.device >> 8
-    this.deviceVersionMinor = (ids.device >> 4) & 15
-    this.deviceVersionSubminor = ids.device & 15
-    const alternates = Array.from({ length: isApp ? 1 : settings.alternates }, (_, at) => ({
-      alternateSetting: at, interfaceClass: 0xfe, interfaceSubclass: 1, interfaceProtocol: isApp ? 1 : 2, interfaceName: ['Flash', 'EEPROM', 'RAM'][at],
-    }))
-    this.configuration = { configurationValue: 1, interfaces: [{ interfaceNumber: settings.interface, alternates }] }
-    this.configurations = [this.configuration]
-    this.bytes = this.describe(alternates)
-  }
-
-  describe(alternates) {
-    const { config, interface: number, descriptor, appDescriptor, version } = this.usb.settings
-    const size = this.isApp ? appDescriptor ?? descriptor : descriptor
-    const settings = alternates.flatMap(one => [9, 4, number, one.alternateSetting, 0, 0xfe, 1, one.interfaceProtocol, 0])
-    const whole = [size, 0x21, config.attributes, config.detach_ms & 255, config.detach_ms >> 8, config.transfer & 255, config.transfer >> 8,
-      version & 255, version >> 8]
-    const body = [...settings, ...whole.slice(0, size)]
-    return new Uint8Array([9, 2, (9 + body.length) & 255, (9 + body.length) >> 8, 1, 1, 0, 0x80, 50, ...body])
-  }
-
-  isThere() {
-    return this.isOther || (this.usb.current === this && this.usb.isHere())
-  }
-
-  held() {
-    this.usb.catchUp()
-    if (!this.isThere()) throw failure('NotFoundError', 'The device was disconnected.')
-    if (!this.opened) throw failure('InvalidStateError', 'The device must be opened first.')
-    if (this.isOther) throw failure('NetworkError', 'This stand-in has nothing behind the other board.')
-  }
-
-  async open() {
-    this.usb.catchUp()
-    if (!this.isThere()) throw failure('NotFoundError', 'The device was disconnected.')
-    this.opened = true
-    if (this.wasClosed && this.usb.settings.closing === 'resets') this.usb.loseState()
-  }
-
-  async close() {
-    Object.assign(this, { opened: false, claimed: false, wasClosed: true })
-    this.cancel('AbortError', 'The transfer was cancelled.')
-  }
-
-  cancel(name, text) {
-    for (const { reject } of this.pending.splice(0)) reject(failure(name, text))
-  }
-
-  async selectConfiguration() { this.held() }
-
-  async claimInterface(number) {
-    this.held()
-    if (number !== this.usb.settings.interface)
-      throw failure('NotFoundError', 'The interface number provided is not supported by the device in its current configuration.')
-    this.claimed = true
-  }
-
-  async selectAlternateInterface(number, setting) {
-    this.held()
-    this.setting = setting
-  }
-
-  async reset() {
-    this.held()
-    return this.usb.resetBus()
-  }
-
-  async controlTransferIn(fields, length) {
-    this.held()
-    if (fields.requestType === 'standard')
-      return fields.value === 0x0200 ? { status: 'ok', data: viewOf(this.bytes.slice(0, length)) } : { status: 'stall' }
-    return this.usb.transfer(this, this.setupOf(0xa1, fields, length), new Uint8Array(0))
-  }
-
-  async controlTransferOut(fields, data = new Uint8Array(0)) {
-    this.held()
-    return this.usb.transfer(this, this.setupOf(0x21, fields, data.length), data.slice())
-  }
-
-  setupOf(kind, { requestType, recipient, request, value, index }, length) {
-    const { interface: number, setting } = this.usb.settings
-    if (requestType !== 'class' || recipient !== 'interface' || index !== number || !this.claimed)
-      throw failure('InvalidStateError', 'The specified interface has not been claimed.')
-    if (!this.isApp && this.setting !== setting) this.usb.faults.push(`a request is made in the setting ${this.setting}`)
-    if (this.isSwapped) this.usb.faults.push('a request goes to another board')
-    return new Uint8Array([kind, request, value & 255, value >> 8, 0, 0, length & 255, length >> 8])
-  }
 }
 
 // The clock of the stand-in: time passes where somebody waits.
@@ -258,7 +160,8 @@ export class StandInUsb extends EventTarget {
 
   fate() {
     const number = this.count
-    return this.settings.fates.find(one => one.number === number || (one.number < number && ['deaf', 'mute'].includes(one.kind))) ?? { kind: 'pass' }
+    const lasts = ({ kind }) => ['deaf', 'mute', 'garble'].includes(kind)
+    return this.settings.fates.find(one => one.number === number || (one.number < number && lasts(one))) ?? { kind: 'pass' }
   }
 
   resetBus() {
@@ -299,6 +202,8 @@ export class StandInUsb extends EventTarget {
       throw failure('NotFoundError', 'The device was disconnected.')
     }
     if (['lost-out', 'late', 'deaf'].includes(fate.kind)) return this.lose(from, entry, fate.kind === 'late' ? { setup, body } : null)
+    if (fate.kind === 'garble') return this.madeUp(setup, body)
+    if (fate.kind === 'part') return { status: 'ok', bytesWritten: Math.max(0, body.length - 1), data: viewOf(new Uint8Array(0)) }
     if (fate.kind === 'fails') throw failure('NetworkError', 'A transfer error has occurred.')
     if (fate.kind === 'stall') {
       this.note({ ...entry, answer: 'stall' })
@@ -311,6 +216,17 @@ export class StandInUsb extends EventTarget {
     const answer = this.answer(setup, body, bytes, entry)
     if (fate.kind === 'leave-after') this.leaves('leaves behind its answer')
     return answer
+  }
+
+  // Any answer that WebUSB may give, and some that it may not.
+  madeUp(setup, body) {
+    this.chance = (Math.imul(this.chance ?? this.settings.seed, 1664525) + 1013904223) >>> 0
+    const below = count => Math.floor(this.chance / 4294967296 * count)
+    if (below(10) === 0) return { status: ['stall', 'babble', 'what'][below(300) % 3], bytesWritten: 0 }
+    if (setup[0] === 0x21) return { status: 'ok', bytesWritten: below(8) === 1 ? below(9000) : body.length }
+    const length = below(5) === 1 ? below(20) : partsOf(setup).length
+    const bytes = Uint8Array.from({ length }, (_, at) => (this.chance >>> at % 24) % (at === 0 ? 3 : at === 4 ? 12 : 2))
+    return { status: 'ok', data: viewOf(bytes) }
   }
 
   answer(setup, body, bytes, entry) {

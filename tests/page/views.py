@@ -36,7 +36,7 @@ def open_page(browser, address, settings=None, view='flash', platform='Linux'):
 
 def shot(browser, name):
     if 'SHOTS' in os.environ:
-        browser.shot(pathlib.Path(os.environ['SHOTS']) / f'{name}.png')
+        browser.shot(pathlib.Path(os.environ['SHOTS']) / f'page-{name}.png')
 
 
 def shown(browser, selector):
@@ -61,9 +61,17 @@ def is_narrow(browser, view):
 
 CONTRAST = """
 const part = value => { const one = value / 255; return one <= 0.03928 ? one / 12.92 : ((one + 0.055) / 1.055) ** 2.4 }
-const light = text => { const [r, g, b] = text.match(/[0-9.]+/g).map(Number); return 0.2126 * part(r) + 0.7152 * part(g) + 0.0722 * part(b) }
-const ground = at => { for (; at; at = at.parentElement) { const it = getComputedStyle(at).backgroundColor; if (!/, 0\\)|transparent/.test(it)) return it }
-  return 'rgb(255, 255, 255)' }
+const light = text => {
+  const [r, g, b] = text.match(/[0-9.]+/g).map(Number)
+  return 0.2126 * part(r) + 0.7152 * part(g) + 0.0722 * part(b)
+}
+const ground = at => {
+  for (; at; at = at.parentElement) {
+    const it = getComputedStyle(at).backgroundColor
+    if (!/, 0\\)|transparent/.test(it)) return it
+  }
+  return 'rgb(255, 255, 255)'
+}
 const found = []
 for (const it of document.querySelectorAll('main:not([hidden]) *, header *, footer *')) {
   const text = Array.from(it.childNodes).some(node => node.nodeType === 3 && node.data.trim() !== '')
@@ -88,14 +96,17 @@ def is_readable(browser, view):
     browser.dark(False)
 
 
-ROLES = {'button': 'button', 'select': 'combobox', 'a': 'link', 'progress': 'progressbar', 'main': 'main', 'section': 'region', 'dialog': 'dialog'}
+ROLES = {'button': 'button', 'select': 'combobox', 'a': 'link', 'progress': 'progressbar', 'section': 'region'}
 
 
 def is_labelled(browser, view):
     """Each thing that a person uses has a role and a name."""
     script = """
-      const list = Array.from(document.querySelectorAll(`main:not([hidden]) :is(button, input, select, section, fieldset, [role]), header a`))
-      return list.filter(it => it.offsetParent !== null).map((it, at) => { it.dataset.at = at; return [it.tagName, it.id, it.type ?? ''] })"""
+      const wanted = 'main:not([hidden]) :is(button, input, select, section, fieldset, progress, [role]), header a'
+      return Array.from(document.querySelectorAll(wanted)).filter(it => it.offsetParent !== null).map((it, at) => {
+        it.dataset.at = at
+        return [it.tagName, it.id, it.type ?? '']
+      })"""
     for at, (tag, name, kind) in enumerate(browser.run(script)):
         role, label = browser.role(f'[data-at="{at}"]')
         wanted = ROLES.get(tag.lower(), role)
