@@ -58,8 +58,9 @@
 #include <stddef.h>
 #include <stdint.h>
 
-#if !defined(__x86_64__) && !defined(_M_X64) && !defined(__aarch64__) && !defined(_M_ARM64)
-#error "there is an archive of dfu_device_c for x86-64 and for AArch64 only"
+#if !defined(__x86_64__) && !defined(_M_X64) && !defined(__aarch64__) && !defined(_M_ARM64) \
+    && !(defined(__ARM_ARCH_PROFILE) && __ARM_ARCH_PROFILE == 'M') && !(defined(__riscv_xlen) && __riscv_xlen == 32)
+#error "there is an archive of dfu_device_c for x86-64, AArch64, Cortex-M and RV32 only"
 #endif
 
 /* The version: 10,000 for each major one, 100 for each minor one, and 1 for each patch. */

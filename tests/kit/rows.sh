@@ -27,7 +27,7 @@ is() {
 }
 
 mkdir tools kit temp
-for tool in sh find readlink cksum sort cat touch rm cp mv mktemp mkdir rmdir sed tr wc date sleep nproc printf kill chmod dirname env flock stty; do
+for tool in sh find readlink cksum sort cat touch rm cp mv ln mktemp mkdir rmdir sed tr wc date sleep nproc printf kill chmod dirname env flock stty awk; do
     where=$(command -v "$tool") || continue
     case $where in /*) ln -s "$where" "tools/$tool" ;; esac
 done
@@ -57,6 +57,7 @@ make_tree() {
     mkdir -p "$1/flash"
     cp "$top/dfu" "$top/libraries" "$top/install" "$top/install-folders" "$top/build-crates" "$top/KIT" "$1/"
     cp "$top/flash/build" "$1/flash/"
+    cp -R "$top/retarget" "$top/include" "$1/"
     cat > "$1/crates.txt"
     echo 'Handles allowed: none.' > "$1/HANDLES"
     listed=$(sed -n 's/^\([a-z_]*\)[: ].*/\1/p' "$1/crates.txt")

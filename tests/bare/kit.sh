@@ -1,0 +1,203 @@
+# What tests/c-aarch64, c-cortex-m, c-rv32 and apart/microcontrollers share: they count checks, and build programs without a C library and
+# run them in QEMU without an OS. `top` is the folder of the repository.
+# shellcheck shell=sh disable=SC2034,SC2154
+work=$(mktemp -d)
+trap 'rm -rf "$work"' EXIT
+bare=$top/tests/bare
+passed=0
+failed=0
+
+# is WHAT COMMAND..: counts a command that is to succeed.
+is() {
+    what=$1
+    shift
+    if "$@"; then
+        passed=$((passed + 1))
+    else
+        echo "$what: failed"
+        failed=$((failed + 1))
+    fi
+}
+# libraries TARGET..: proves and builds them, and takes the archives to $work/TARGET, those of x86-64 to $work.
+libraries() {
+    "$top/libraries" "$@" > "$work/log" 2>&1 || {
+        tail -n 5 "$work/log"
+        exit 1
+    }
+    for it in "${@:-.}"; do
+        mkdir -p "$work/$it"
+        cp "$top"/crates/dfu_*_c/out/"$it"/libdfu_*_c.a "$work/$it/"
+    done
+}
+
+# target NAME: what builds for it, and the machine of QEMU that runs it; `device` and `host` are its archives. What each program has
+# is compiled into a folder of its own, `here`.
+target() {
+    target=$1
+    device=$work/$1/libdfu_device_c.a
+    host=$work/$1/libdfu_host_c.a
+    compiler=arm-none-eabi-gcc
+    start=cortex_m.c
+    script=cortex_m.ld
+    flags="-mthumb -mcpu=${1%-hard}"
+    links='-Wl,--no-warn-execstack'
+    case $1 in cortex-m33) places='code=0x10000000 memory=0x38000000' ;; *) places='code=0 memory=0x20000000' ;; esac
+    places="$places memory_size=0x400000 stack_size=0x4000"
+    case $1 in
+    cortex-m0plus | cortex-m3) emulator='qemu-system-arm -M mps2-an385' ;;
+    cortex-m4) emulator='qemu-system-arm -M mps2-an386' ;;
+    cortex-m4-hard) emulator='qemu-system-arm -M mps2-an386' flags="$flags -mfloat-abi=hard -mfpu=fpv4-sp-d16" ;;
+    cortex-m7) emulator='qemu-system-arm -M mps2-an500' ;;
+    cortex-m7-hard) emulator='qemu-system-arm -M mps2-an500' flags="$flags -mfloat-abi=hard -mfpu=fpv5-sp-d16" ;;
+    cortex-m33) emulator='qemu-system-arm -M mps2-an505' ;;
+    aarch64-none)
+        compiler=aarch64-linux-gnu-gcc
+        start=aarch64.S
+        script=virt.ld
+        flags='-mgeneral-regs-only -mstrict-align -fno-pic'
+        links='-no-pie -Wl,--no-warn-rwx-segments'
+        places='memory=0x40080000'
+        emulator='qemu-system-aarch64 -M virt -cpu cortex-a53'
+        ;;
+    rv32imc)
+        compiler=riscv64-unknown-elf-gcc
+        start=rv32.S
+        script=virt.ld
+        # (the start reads a trap's cause, and libgcc is that of rv32imc)
+        flags='-march=rv32imc_zicsr -mabi=ilp32'
+        links='-march=rv32imc -Wl,--no-warn-rwx-segments'
+        places='memory=0x80000000'
+        emulator='qemu-system-riscv32 -M virt -bios none'
+        ;;
+    esac
+    prepare "$1"
+}
+prepare() {
+    here=$work/$1
+    mkdir -p "$here"
+    for source in "$start" machine.c memory.c print.c thread.c; do
+        compile "$bare/$source" "$here/${source%.*}.o"
+    done
+    for place in $places; do
+        links="$links -Wl,--defsym=$place"
+    done
+}
+# compile SOURCE OBJECT
+compile() {
+    # shellcheck disable=SC2086
+    "$compiler" $flags -O2 -std=c11 -Wall -Wextra -Werror -ffreestanding -fno-tree-loop-distribute-patterns -ffunction-sections -nostdinc \
+        -isystem "$bare/include" -isystem "$("$compiler" -print-file-name=include)" -I "$bare" -I "$top/include" -c "$1" -o "$2"
+}
+# program NAME SOURCE LIBRARY..
+program() {
+    name=$1
+    compile "$2" "$here/$name.main"
+    shift 2
+    # shellcheck disable=SC2086
+    "$compiler" $flags $links -nostdlib -static -Wl,--gc-sections -T "$bare/$script" "$here"/*.o "$here/$name.main" "$@" -lgcc -o "$here/$name"
+}
+
+# run NAME WORD..: runs one with these words. What it prints stands in $work/printed; the status is the program's, and 3 after a fault.
+run() {
+    name=$1
+    shift
+    words=$name
+    for word in "$@"; do
+        words="$words,arg=$word"
+    done
+    # shellcheck disable=SC2086
+    timeout 900 $emulator -display none -monitor none -serial none -semihosting-config "enable=on,target=native,arg=$words" \
+        -kernel "$here/$name" > "$work/printed" 2>&1
+}
+# prints FILE NAME WORD..: it prints what the file has.
+prints() {
+    wanted=$1
+    shift
+    run "$@" && cmp "$work/printed" "$wanted"
+}
+# deepest NAME MOST: it goes no deeper than so many bytes; the deepest is told.
+deepest() {
+    run "$1" "$2" && awk '$(NF - 3) > most { most = $(NF - 3) } END { print "  at most " most " bytes of stack" }' "$work/printed"
+}
+# faults NAME WORD..: it ends in on_fault.
+faults() {
+    status=0
+    run "$@" || status=$?
+    [ "$status" -eq 3 ] && grep -qx fault "$work/printed"
+}
+# is_small LIBRARY MOST: it is under so many bytes with its read-only data, and has no other data.
+is_small() {
+    "${compiler%gcc}size" "$1" | awk -v most="$2" 'NR > 1 { text += $1; data += $2 + $3 }
+        END { print "  " text " bytes of text, " data " of data"; exit !(text > 0 && text < most && data == 0) }'
+}
+# needs_only LIBRARY PATTERN: all that it wants of others.
+needs_only() {
+    "${compiler%gcc}nm" -u "$1" | awk '$1 == "U" { print $2 }' | sort -u > "$work/undefined"
+    [ -s "$work/undefined" ] && ! grep -vxE "$2" "$work/undefined"
+}
+
+# The file that the example of a flasher installs.
+ones() {
+    printf '\377\377\377\377\377\377\377\377\377\377\000\001UFD\020\161\310\121\014' > "$work/ones.dfu"
+    echo "$work/ones.dfu"
+}
+# digest_here: the digest programs for x86-64, in $work/here.
+digest_here() {
+    mkdir -p "$work/here"
+    gcc -O2 -std=c11 -Wall -Wextra -Werror -I "$top/include" "$bare/digest.c" "$work/libdfu_device_c.a" -o "$work/here/digest"
+    gcc -O2 -std=c11 -Wall -Wextra -Werror -I "$top/include" "$bare/digest_host.c" "$work/libdfu_host_c.a" -o "$work/here/digest_host"
+}
+# as_here NAME WORD..: it prints what the same program prints on x86-64.
+as_here() {
+    ("$work/here/$@") > "$work/here/printed"
+    prints "$work/here/printed" "$@"
+}
+
+# What each target runs in a minute: rows, losses of power between calls, sessions, garbled calls, the examples; and its sizes.
+run_short() {
+    for name in rows power; do
+        program "$name" "$top/tests/c/$name.c" "$device"
+        is "$target: $name" run "$name"
+    done
+    program sessions "$top/tests/c/sessions.c" "$host" "$device"
+    is "$target: sessions" run sessions
+    program garbled "$top/tests/c/garbled.c" "$device"
+    program garbled_sessions "$top/tests/c/garbled_sessions.c" "$host"
+    for name in garbled garbled_sessions; do
+        is "$target: $name" run "$name" 5000
+    done
+    for name in bootloader early_stack; do
+        program "$name" "$top/examples/c/$name.c" "$device"
+        is "$target: $name" prints "$top/examples/c/$name.out" "$name"
+    done
+    program flasher "$top/examples/c/flasher.c" "$host" "$device"
+    is "$target: flasher" prints "$top/examples/c/flasher.out" flasher "$(ones)"
+    digests 5000 10000 1
+}
+# digests CALLS CALLS SEED..: as on x86-64, over aligned and unaligned memory: so many calls of the device for each seed, and so many
+# of the host.
+digests() {
+    program digest "$bare/digest.c" "$device"
+    program digest_host "$bare/digest_host.c" "$host"
+    calls=$1
+    of_host=$2
+    shift 2
+    for odd in 0 1; do
+        for seed in "$@"; do
+            is "$target: as on x86-64 from seed $seed, $odd bytes off" as_here digest "$calls" "$seed" "$odd"
+        done
+        is "$target: the host as on x86-64, $odd bytes off" as_here digest_host "$of_host" "$odd"
+    done
+}
+# sizes CODE NEEDS: both libraries are under so many bytes and need no other names; and how deep their calls go.
+sizes() {
+    echo "$target"
+    for library in "$device" "$host"; do
+        is "$target: size of ${library##*/}" is_small "$library" "$1"
+        is "$target: what ${library##*/} needs" needs_only "$library" "$2"
+    done
+    program stack "$top/tests/c/stack.c" "$device"
+    is "$target: stack of the device" deepest stack 9000
+    program host_stack "$top/tests/c/host_stack.c" "$host"
+    is "$target: stack of the host" deepest host_stack 1000
+}
