@@ -31,8 +31,8 @@ class Handler(http.server.SimpleHTTPRequestHandler):
         Handler.asked.append(self.path)
 
 
-def serve(folder):
-    server = http.server.ThreadingHTTPServer(('127.0.0.1', 0), functools.partial(Handler, directory=folder))
+def serve(folder, port=0):
+    server = http.server.ThreadingHTTPServer(('127.0.0.1', port), functools.partial(Handler, directory=folder))
     threading.Thread(target=server.serve_forever, daemon=True).start()
     return f'http://localhost:{server.server_port}'
 
