@@ -56,6 +56,8 @@ export class FlashView {
     by('begin').disabled = this.isGoing || !isReady
     by('stop').disabled = !this.isGoing
     by('connect').disabled = this.isGoing || this.usb === undefined
+    by('hint').textContent = this.isGoing ? 'Leave the device plugged in, and this page open.' : isReady ? ''
+      : this.file === null ? 'A file is missing.' : this.board === null ? 'A device is missing.' : ''
     for (const id of ['file', 'verify', 'sure']) by(id).disabled = this.isGoing
   }
 

@@ -193,6 +193,7 @@ def goes_on(browser, address, work):
 def run(browser, address, work):
     open_page(browser, address)
     check('a Chromium lacks nothing', shown(browser, '#lacks'), '')
+    check('it says what is missing', shown(browser, '#hint'), 'A file is missing.')
     by_mouse(browser, address, work)
     by_keyboard(browser, address, work)
     bad_names(browser, address, work)

@@ -1,4 +1,5 @@
 """What runs in the machine: the page over the WebUSB of Chromium and the kernel's USB, against the device of `attached`."""
+import json
 import os
 import pathlib
 import signal
@@ -6,12 +7,14 @@ import subprocess
 import sys
 import tempfile
 import time
+import urllib.request
 
 sys.path.insert(0, str(pathlib.Path(__file__).resolve().parent.parent.parent / 'page'))
-from browser import Browser, serve
+from browser import ARGUMENTS, Browser, serve
 from files import NEW, OLD, suffixed
 
 PORT = 8123 # as the policy has it
+PATIENCE = 10 # the machine may be an emulated one
 # A headless browser shows no chooser.
 CHOOSE = """
 if (navigator.usb !== undefined) USB.prototype.requestDevice = async function () {
@@ -117,11 +120,29 @@ def row(browser, address, program, work, words):
     return is_right
 
 
+def start_browser(work):
+    """A Chromium that takes its time: chromedriver waits for one that it starts by itself for a minute at most."""
+    words = ['chromium', *ARGUMENTS, '--remote-debugging-port=9222', f'--user-data-dir={work}/profile', 'about:blank']
+    with open(work / 'chromium.log', 'w', encoding='utf-8') as log:
+        started = subprocess.Popen(words, stdout=log, stderr=log)
+    for _ in range(600):
+        try:
+            with urllib.request.urlopen('http://127.0.0.1:9222/json/version', timeout=60) as answer:
+                print(f'row {json.load(answer)["Browser"]}', flush=True)
+                return Browser(str(work), PATIENCE, '127.0.0.1:9222')
+        except OSError:
+            if started.poll() is not None:
+                break
+            time.sleep(1)
+    print('\n'.join(f'row {line}' for line in (work / 'chromium.log').read_text().splitlines()[-20:]), flush=True)
+    raise SystemExit('Chromium does not start')
+
+
 def main(page, program):
     work = pathlib.Path(tempfile.mkdtemp())
     (work / 'old').write_bytes(OLD)
     (work / 'new.dfu').write_bytes(suffixed(NEW))
-    browser = Browser(str(work))
+    browser = start_browser(work)
     browser.cdp('Page.addScriptToEvaluateOnNewDocument', source=CHOOSE)
     address = serve(page, PORT)
     right = [row(browser, address, program, work, words) for words in ROWS]
