@@ -51,7 +51,7 @@ class Browser:
         wanted = {'browserName': 'chrome', 'goog:chromeOptions': options, 'goog:loggingPrefs': {'browser': 'ALL'}}
         made = self.post('/session', {'capabilities': {'alwaysMatch': wanted}})
         self.at += f"/session/{made['sessionId']}"
-        self.post('/timeouts', {'script': 300000})
+        self.post('/timeouts', {'script': 300000 * patience})
         self.cdp('Browser.setDownloadBehavior', behavior='allow', downloadPath=downloads)
 
     def post(self, path, body=None, method='POST'):

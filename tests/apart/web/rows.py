@@ -2,6 +2,7 @@
 import json
 import os
 import pathlib
+import re
 import signal
 import subprocess
 import sys
@@ -27,22 +28,22 @@ APP = 'USB_START=app'
 # What, settings, whether it is to be compared, the title of the report, the image, the restarts.
 ROWS = [
     ('in DFU mode', '', True, 'Verified', NEW, 0),
-    ('not compared', '', False, 'Installed', NEW, 0),
-    ('not tolerant', 'USB_ATTRIBUTES=03', True, 'Verified', NEW, 0),
-    ('in run-time mode', APP, True, 'Verified', NEW, 0),
     ('other identifiers in DFU mode', f'{APP} USB_DFU_IDS=1209:00ff:0100', True, 'Verified', NEW, 0),
-    ('it detaches itself', f'{APP} USB_ATTRIBUTES=0f USB_DETACH=50', True, 'Verified', NEW, 0),
-    ('interface 3', 'USB_INTERFACE=3', True, 'Verified', NEW, 0),
-    ('the second of three settings', 'USB_ALTERNATES=3 USB_SETTING=1', True, 'Verified', NEW, 0),
     ('a block is lost', 'USB_FATE=lost-out 1', True, 'Verified', NEW, 0),
     ('the answer to a block is lost', 'USB_FATE=lost-back 1', True, 'Verified', NEW, 0),
-    ('a status is lost', 'USB_FATE=lost-out 2', True, 'Verified', NEW, 0),
-    ('a block is lost, in the second setting', 'USB_ALTERNATES=3 USB_SETTING=1 USB_FATE=lost-out 1', True, 'Verified', NEW, 1),
     ('it leaves at a block', 'USB_FATE=leave 4', True, 'Verified', NEW, 1),
+    ('in run-time mode', APP, True, 'Verified', NEW, 0),
+    ('a block is lost, in the second setting', 'USB_ALTERNATES=3 USB_SETTING=1 USB_FATE=lost-out 1', True, 'Verified', NEW, 1),
+    ('a small bootloader, not compared', 'USB_DEVICE=small USB_ATTRIBUTES=0b', False, 'Sent, not confirmed', NEW, 0),
+    ('it detaches itself', f'{APP} USB_ATTRIBUTES=0f USB_DETACH=50', True, 'Verified', NEW, 0),
+    ('not compared', '', False, 'Installed', NEW, 0),
+    ('not tolerant', 'USB_ATTRIBUTES=03', True, 'Verified', NEW, 0),
+    ('interface 3', 'USB_INTERFACE=3', True, 'Verified', NEW, 0),
+    ('the second of three settings', 'USB_ALTERNATES=3 USB_SETTING=1', True, 'Verified', NEW, 0),
+    ('a status is lost', 'USB_FATE=lost-out 2', True, 'Verified', NEW, 0),
     ('it leaves at the comparison', 'USB_FATE=leave 19', True, 'Verified', NEW, 1),
     ('a block comes twice', 'USB_FATE=twice 4', True, 'Verified', NEW, 0),
     ('a small bootloader', 'USB_DEVICE=small USB_ATTRIBUTES=0b', True, 'Verified', NEW, 0),
-    ('a small bootloader, not compared', 'USB_DEVICE=small USB_ATTRIBUTES=0b', False, 'Sent, not confirmed', NEW, 0),
     ('an application that stalls GETSTATUS', f'{APP} USB_APP_STALLS=status', True, 'Verified', NEW, 0),
     ('U-Boot', 'USB_DEVICE=uboot', True, 'Verified', NEW, 0),
     ('too small', 'USB_CAPACITY=13', True, 'Refused by the device', OLD, 0),
@@ -54,10 +55,9 @@ class Device:
     def __init__(self, program, settings, work):
         self.saved = work / 'saved'
         self.saved.unlink(missing_ok=True)
-        words = settings.replace('USB_FATE=lost-', 'USB_FATE=lost-').split(' USB_') if settings else []
-        words = [word if word.startswith('USB_') else f'USB_{word}' for word in words]
+        words = re.findall('(USB_[A-Z_]+)=((?:(?! USB_).)+)', settings)
         env = {**os.environ, 'USB_IMAGE': str(work / 'old'), 'USB_SAVE': str(self.saved), 'USB_SERIAL': 'F1',
-               **dict(word.split('=', 1) for word in words)}
+               **dict(words)}
         self.process = subprocess.Popen([program], env=env, stdout=subprocess.PIPE, stderr=subprocess.STDOUT, text=True)
         for _ in range(100):
             if pathlib.Path('/sys/bus/usb/devices/1-1').exists():
@@ -72,47 +72,34 @@ class Device:
         return self.saved.read_bytes() if self.saved.exists() else b'', said.strip()
 
 
-def session(browser, address, file, settings, is_compared):
-    browser.open('about:blank')
-    browser.open(f'{address}/index.html#flash')
-    browser.wait('document.body.dataset.ready')
-    browser.type('#file', str(file))
-    browser.wait('!document.getElementById("fields").hidden')
-    browser.click('#connect')
-    if 'ALTERNATES' in settings:
-        browser.wait('!document.getElementById("settings").hidden')
-        browser.click('#settings label:nth-of-type(2) input')
-    browser.wait('!document.getElementById("begin").disabled')
-    if not is_compared:
-        browser.click('#verify')
-    browser.click('#begin')
-    browser.wait('document.querySelector("#report h3")', 90)
-    return browser.run('return document.querySelector("#report h3").innerText')
+# One session, in one call: of a machine that is emulated each call takes its time. The setting that is chosen is the second one.
+SESSION = """async (isCompared, isChosen) => {
+  const by = id => document.getElementById(id)
+  const until = async what => { while (!what()) await new Promise(done => setTimeout(done, 50)) }
+  let log
+  URL.createObjectURL = blob => { log = blob; return 'blob:none' }
+  by('connect').click()
+  if (isChosen) {
+    await until(() => !by('settings').hidden || !by('device-refused').hidden)
+    document.querySelector('#settings label:nth-of-type(2) input').click()
+  }
+  await until(() => !by('begin').disabled || !by('device-refused').hidden)
+  by('verify').checked = isCompared
+  by('begin').click()
+  await until(() => document.querySelector('#report h3') !== null || !by('ask').hidden)
+  by('log').click()
+  const title = by('ask').hidden ? document.querySelector('#report h3').textContent : by('ask').textContent
+  return [title, log === undefined ? '' : await log.text()]
+}"""
 
 
-def trace_of(browser, work):
-    log = work / 'dfu-session.log'
-    log.unlink(missing_ok=True)
-    browser.click('#log')
-    for _ in range(100):
-        if log.exists():
-            return log.read_text().splitlines()
-        time.sleep(0.05)
-    return []
-
-
-def row(browser, address, program, work, words):
+def row(browser, program, work, words):
     what, settings, is_compared, title, image, restarts = words
     device = Device(program, settings, work)
-    trace = []
-    try:
-        found = session(browser, address, work / 'new.dfu', settings, is_compared)
-        trace = trace_of(browser, work)
-    except RuntimeError as error:
-        shown = 'return Array.from(document.querySelectorAll(".notice, #device, #phase")).map(it => it.innerText).join(" | ")'
-        found = f'{error}: {browser.run(shown)} {browser.console()}'
+    found = browser.wait_run(SESSION, is_compared, 'ALTERNATES' in settings)
     saved, said = device.end()
-    seen = (found, saved, sum(' restarted ' in line for line in trace))
+    trace = found[1].splitlines()
+    seen = (found[0], saved, sum(' restarted ' in line for line in trace))
     is_right = seen == (title, image, restarts)
     print(f'row {"" if is_right else "WRONG: "}{what}: {seen[0]}, restarts {seen[2]} {said}'[:600], flush=True)
     if not is_right or 'TRACE' in os.environ:
@@ -145,7 +132,11 @@ def main(page, program):
     browser = start_browser(work)
     browser.cdp('Page.addScriptToEvaluateOnNewDocument', source=CHOOSE)
     address = serve(page, PORT)
-    right = [row(browser, address, program, work, words) for words in ROWS]
+    browser.open(f'{address}/index.html#flash')
+    browser.wait('document.body.dataset.ready')
+    browser.type('#file', str(work / 'new.dfu'))
+    browser.wait('!document.getElementById("fields").hidden')
+    right = [row(browser, program, work, words) for words in ROWS]
     browser.quit()
     print(f'{sum(right)} passed, {len(right) - sum(right)} failed', flush=True)
 
