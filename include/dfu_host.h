@@ -9,6 +9,7 @@
  * The loop of a flashing tool:
  *
  *     struct dfu_session s; struct dfu_action a; struct dfu_file f; uint8_t answer[65535];
+ *     if (dfu_host_version() != DFU_VERSION) the archive is that of another header
  *     if (dfu_host_file(file, length, &f) != 0) refused
  *     if (dfu_host_download(&s, file, length, descriptor, size, &device, 100000, 3) != 0) refused
  *     for (;;) {
@@ -48,12 +49,14 @@
  * - The payload is the same for the whole session: the first dfu_file.payload bytes of the file that it began with. For an
  *   upload it is any pointer with length 0.
  * - The buffer is the same for the whole upload, and the program changes nothing in it.
+ * - The archive is that of one version from the beginning to the end: a record of another version is refused.
  *
  * What is proved of programs that do:
  * - A session begins as its file, its descriptor and its limits say.
  * - Each dfu_host_take is a row of Fustrelan's host table. Each action is the one of its phase, with its body cut from the
  *   payload. A session is over after as many calls of dfu_host_take as it had actions.
  * - DFU_INSTALLED, DFU_VERIFIED and DFU_UPLOADED come only as the laws of dfu_host say.
+ * - An upload ends as DFU_NO_MEMORY exactly where dfu_host_take says. No byte of the buffer changes but where a part is stored.
  * What is proved also where the record, the payload or the buffer are others: a call answers or refuses, it ends, and it
  * touches nothing but what its pointers say. */
 #ifndef DFU_HOST_H
@@ -61,6 +64,16 @@
 
 #include <stddef.h>
 #include <stdint.h>
+
+#if !defined(__x86_64__) && !defined(_M_X64) && !defined(__aarch64__) && !defined(_M_ARM64)
+#error "there is an archive of dfu_host_c for x86-64 and for AArch64 only"
+#endif
+
+/* The version: 10,000 for each major one, 100 for each minor one, and 1 for each patch. */
+#ifndef DFU_VERSION
+#define DFU_VERSION 100
+#define DFU_VERSION_TEXT "0.1.0"
+#endif
 
 #ifdef __cplusplus
 extern "C" {
@@ -78,16 +91,18 @@ struct dfu_file {
     uint16_t device, product, vendor, dfu; /* bcdDevice, idProduct, idVendor (FFFFh: of any), bcdDFU */
 };
 
-/* The record: a session between two calls. A program reads kept, and writes nothing in it. */
+/* The record: a session between two calls. A program reads kept, and writes nothing in it. The calls that begin a session
+ * write the version, and a record of another one is none of a session. A number that a phase does not have is 0. */
 struct dfu_session {
+    uint32_t version, goal;                 /* DFU_VERSION of the archive; goal 1 to 4 */
     uint64_t number;                        /* the block, the part or the report of the phase */
     uint64_t kept;                          /* how many bytes of the buffer count; all that came, once DFU_UPLOADED */
-    uint32_t goal, phase, more, actions;    /* goal 1 to 4; phase 0 to 24; a poll time or a code; actions left */
+    uint32_t phase, more, actions;          /* phase 0 to 24; a poll time or a code; actions left */
     uint16_t restarts, transfer, detach_ms; /* restarts left; wTransferSize; wDetachTimeOut */
-    uint8_t tolerant, will_detach;          /* bitManifestationTolerant and bitWillDetach: 0 or else */
+    uint8_t tolerant, will_detach;          /* bitManifestationTolerant and bitWillDetach: 0 or 1 */
 };
 
-/* What is to be done. */
+/* What is to be done. A number that an action does not have is 0. */
 struct dfu_action {
     uint32_t what;    /* DFU_SEND, DFU_WAIT, DFU_RESET or DFU_DONE */
     uint32_t value;   /* DFU_WAIT: how many milliseconds; DFU_DONE: the report */
@@ -136,7 +151,7 @@ enum {
     DFU_RESTARTS_SPENT = 6,  /* the device was restarted too often */
     DFU_UPLOADED = 7,        /* the whole image came: the first kept bytes of the buffer */
     DFU_TOO_MANY_BLOCKS = 8, /* 65,535 full parts came */
-    DFU_NO_MEMORY = 9,       /* a part found no room in the buffer */
+    DFU_NO_MEMORY = 9,       /* a part found no room in the buffer: dfu_host_take says when */
     DFU_VERIFIED = 10,       /* after its reset the device gave the whole payload back */
     DFU_DIFFERENT = 11       /* after its reset the device gave other bytes back */
 };
@@ -158,7 +173,7 @@ enum {
     DFU_LONG = -32,             /* the descriptor has more bytes than its first says */
     DFU_WRONG_LENGTH = -33,     /* the descriptor has neither 7 nor 9 as its first byte */
     DFU_WRONG_TYPE = -34,       /* the descriptor has not 21h as its second byte */
-    DFU_NO_SESSION = -41,       /* the record is none of a session over that payload and buffer */
+    DFU_NO_SESSION = -41,       /* the record is none of a session over that payload and buffer, or of another version */
     DFU_NO_SEEN = -42           /* seen is over 7 */
 };
 
@@ -190,7 +205,10 @@ int32_t dfu_host_next(const struct dfu_session *session, const uint8_t *payload,
                       struct dfu_action *action);
 
 /* Reports to the session what came of its action: 0; or DFU_NO_SESSION; or DFU_NO_SEEN. kept with room is the buffer of an
- * upload, and any pointer with 0 for a download. bytes with count is what came with DFU_SEEN_BYTES. */
+ * upload, and any pointer with 0 for a download. bytes with count is what came with DFU_SEEN_BYTES. The parts of an
+ * upload that have wTransferSize bytes or fewer are stored one behind the other, from the buffer's first byte on, but for the
+ * 65,535th full one. Exactly where one of these has, with those before it, more bytes than room, it is not stored, and the
+ * report is DFU_NO_MEMORY. */
 int32_t dfu_host_take(struct dfu_session *session, const uint8_t *payload, size_t length, uint8_t *kept, size_t room,
                       uint32_t seen, const uint8_t *bytes, size_t count);
 
@@ -201,6 +219,9 @@ int32_t dfu_host_abort(struct dfu_session *session, const uint8_t *payload, size
 /* Writes a report's name, as gave-up, with no end mark: how many bytes it has, at most 15. The number is 0 where there is
  * no such report, or out has no room for it. */
 int32_t dfu_host_name(uint32_t report, uint8_t *out, size_t room);
+
+/* The version of the archive: DFU_VERSION, where header and archive belong together. */
+int32_t dfu_host_version(void);
 
 #ifdef __cplusplus
 }

@@ -1,4 +1,4 @@
-"""The diagram of the device's states: the same arrows as in the drawing of docs/PROFILE.md.
+"""The diagram of the device's states, for docs/PROFILE.md.
 
 The program says what each state is called.
 """

@@ -38,6 +38,8 @@ static int32_t act(const struct dfu_action *a, uint32_t *seen, size_t *count) {
 }
 
 int main(int words, char **word) {
+    if (dfu_host_version() != DFU_VERSION || dfu_device_version() != DFU_VERSION)
+        return 2;
     FILE *in = words == 2 ? fopen(word[1], "rb") : NULL;
     if (!in)
         return 2;

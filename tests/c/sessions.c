@@ -140,10 +140,8 @@ int main(void) {
     is("verified", dfu_host_verified(&s, ones, 20, descriptor, 9, &ids, 1000, 0), 0);
     is("is compared", run_left(&s), DFU_VERIFIED);
     is("image", has(ones, 4), 1);
-    is("whole", upload(64), DFU_UPLOADED);
-    is("exactly full", upload(17), DFU_UPLOADED);
-    is("one byte short", upload(16), DFU_NO_MEMORY);
-    is("no room", upload(0), DFU_NO_MEMORY);
+    for (size_t room = 0; room <= sizeof buffer; room++)
+        is("room", upload(room), room < 17 ? DFU_NO_MEMORY : DFU_UPLOADED);
     is("descriptor", dfu_host_download(&s, ones, 20, descriptor, 8, &ids, 1, 0), DFU_SHORT);
     is("no bytes", dfu_host_upload(&s, descriptor, 0, 1, 0), DFU_SHORT);
     const uint8_t mute[7] = {7, 0x21, 4, 255, 0, 8, 0}, narrow[7] = {7, 0x21, 3, 255, 0, 0, 0};
@@ -151,10 +149,19 @@ int main(void) {
     is("no upload", dfu_host_upload(&s, mute, 7, 1, 0), DFU_CANNOT_UPLOAD);
     is("narrow", dfu_host_upload(&s, narrow, 7, 1, 0), DFU_BAD_DESCRIPTOR);
     dfu_host_download(&s, ones, 20, descriptor, 9, &ids, 1000, 0);
+    is("version", dfu_host_version(), DFU_VERSION);
+    is("its version", s.version, DFU_VERSION);
     old = s;
     is("no seen", dfu_host_take(&s, ones, 4, buffer, 0, 8, answer, 0), DFU_NO_SEEN);
     is("no payload", dfu_host_take(&s, ones, 0, buffer, 0, DFU_SEEN_ACK, answer, 0), DFU_NO_SESSION);
     is("as it was", memcmp(&s, &old, sizeof s), 0);
+    s.version++;
+    old = s;
+    is("next of another version", dfu_host_next(&s, ones, 4, &a), DFU_NO_SESSION);
+    is("take of another version", dfu_host_take(&s, ones, 4, buffer, 0, DFU_SEEN_ACK, answer, 0), DFU_NO_SESSION);
+    is("abort of another version", dfu_host_abort(&s, ones, 4), DFU_NO_SESSION);
+    is("as it was", memcmp(&s, &old, sizeof s), 0);
+    s.version = DFU_VERSION;
     s.goal = 9;
     is("no goal", dfu_host_next(&s, ones, 4, &a), DFU_NO_SESSION);
     uint8_t name[16];

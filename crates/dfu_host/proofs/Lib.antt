@@ -1,6 +1,7 @@
 pub mod Counts
 pub mod Steps
 pub mod ImageParts
+pub mod Rooms
 pub mod Aborting
 pub mod Budget
 pub mod Installing

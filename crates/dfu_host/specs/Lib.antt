@@ -17,6 +17,8 @@ pub mod Leaving
 pub mod Aborting
 pub mod WireLaws
 pub mod Uploading
+pub mod Rooms
+pub mod Storing
 pub mod Keeping
 pub mod Taking
 pub mod TaskLaws

@@ -3,3 +3,4 @@ pub mod View
 pub mod Comparing
 pub mod HeardParts
 pub mod Memories
+pub mod Refusing

@@ -1,10 +1,12 @@
 //! The rows of the phases that fetch the image, and its parts in memory.
 
-ghost use Rattle.std.specs.Prelude.{◌≡◌, ◌⊎◌, ◌+◌, ◌<◌, Bool, true, false, IfSome, None, List, ℕ, length};
+ghost use Rattle.std.specs.Prelude.{◌≡◌, ◌⊎◌, ◌+◌, ◌<◌, nat_lt, Bool, true, false, if◌then◌else◌, IfSome, None, List, ℕ, length, take};
 ghost use Rattle.dfu_host.specs.inside.HeardParts.{Joined, Keeps, KeepsPart, RefusedRoom};
 ghost use Rattle.dfu_host.specs.Table as table;
 ghost use Rattle.dfu_host.specs.Keeping.{KeptPart, Stored};
 ghost use Rattle.dfu_host.specs.InParts.{IsWithin, kept_at, phase_of};
+ghost use Rattle.dfu_host.specs.Rooms.{overflows};
+ghost use Rattle.dfu_host.specs.Storing.{IsAsBefore, IsStored, StoresPart};
 ghost use Rattle.dfu_host.specs.inside.View.{heard_of, task_of};
 ghost use Rattle.dfu_host.specs.Wire.{is_kept};
 
@@ -27,6 +29,8 @@ impl Task<'_> {
         ensures keeps { (memory memory' : List ℕ) → KeptPart self.now.transfer number part.now refused memory memory'
             → KeepsPart self.now.transfer number memory part.now result memory' }
         ensures room { RefusedRoom self.now (Phase.Fetch number) part.now result }
+        ensures by { (memory memory' : List ℕ) → KeptPart self.now.transfer number part.now refused memory memory'
+            → result ≡ (if refused then Heard.NoRoom else Heard.Part (length part.now)) }
     {
         if refused && !part.is_empty() && self.is_kept(number, part.len()) {
             Heard::NoRoom
@@ -42,6 +46,20 @@ impl Task<'_> {
             → Stored part.number part.bytes.now refused memory memory'
             → KeptPart self.now.transfer number bytes.now refused memory memory') }
         ensures none { result ≡ None → (memory : List ℕ) → KeptPart self.now.transfer number bytes.now false memory memory }
+        ensures some_refused { IfSome result (λ part. (refused : Bool) (memory : List ℕ) (room : ℕ)
+            → refused ≡ nat_lt room (length (kept_at part.number memory) + length part.bytes.now)
+            → refused ≡ overflows room self.now.transfer number (kept_at number memory) bytes.now) }
+        ensures none_refused { result ≡ None → (memory : List ℕ) (room : ℕ)
+            → false ≡ overflows room self.now.transfer number (kept_at number memory) bytes.now }
+        ensures some_stored { IfSome result (λ part. (count : ℕ) (room : List ℕ) (count' : ℕ) (room' : List ℕ)
+            → false ≡ nat_lt (length room) (length (kept_at part.number (take count room)) + length part.bytes.now)
+            → IsStored (kept_at part.number (take count room)) part.bytes.now room count' room'
+            → StoresPart self.now.transfer number bytes.now count room count' room') }
+        ensures some_full { IfSome result (λ part. (count : ℕ) (room : List ℕ)
+            → true ≡ nat_lt (length room) (length (kept_at part.number (take count room)) + length part.bytes.now)
+            → StoresPart self.now.transfer number bytes.now count room count room) }
+        ensures none_stored { result ≡ None → (count : ℕ) (room : List ℕ)
+            → StoresPart self.now.transfer number bytes.now count room count room }
     {
         if self.is_kept(number, bytes.len()) {
             Some(Part { number, bytes })

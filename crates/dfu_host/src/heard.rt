@@ -1,8 +1,9 @@
 //! What is understood of what is seen.
 
-ghost use Rattle.std.specs.Prelude.{◌≡◌, List, ℕ};
+ghost use Rattle.std.specs.Prelude.{◌≡◌, List, ℕ, length};
 ghost use Rattle.dfu_host.specs.inside.Comparing.{Compares};
 ghost use Rattle.dfu_host.specs.inside.HeardParts.{Keeps, RefusedRoom};
+ghost use Rattle.dfu_host.specs.inside.Refusing.{HearsBy, HearsBytesBy};
 ghost use Rattle.dfu_host.specs.Table.{deed};
 ghost use Rattle.dfu_host.specs.Keeping.{Kept, KeptBytes};
 ghost use Rattle.dfu_host.specs.InParts.{IsWithin, phase_of};
@@ -48,6 +49,8 @@ impl Task<'_> {
             → Keeps self.now.transfer memory phase (part_of seen.entry) result memory' }
         ensures compares { Compares (task_of self.now) phase (part_of seen.entry) result }
         ensures room { RefusedRoom self.now phase (part_of seen.entry) result }
+        ensures by { (memory memory' : List ℕ) → Kept self.now.transfer phase seen.entry refused memory memory'
+            → HearsBy phase seen.entry refused result }
     {
         match seen {
             Seen::Ack => Heard::Acked,
@@ -70,6 +73,8 @@ impl Task<'_> {
             → Keeps self.now.transfer memory phase bytes.now result memory' }
         ensures compares { Compares (task_of self.now) phase bytes.now result }
         ensures room { RefusedRoom self.now phase bytes.now result }
+        ensures by { (memory memory' : List ℕ) → KeptBytes self.now.transfer phase bytes.now refused memory memory'
+            → HearsBytesBy phase (length bytes.now) refused result }
     {
         match phase {
             Phase::Find | Phase::FindAgain | Phase::Poll(_) | Phase::Manifest | Phase::Trouble => {

@@ -7,6 +7,7 @@ ghost use Rattle.dfu_host.specs.Budget.{DoneInTime, StaysDone};
 ghost use Rattle.dfu_host.specs.Counting.{StaysCounted};
 ghost use Rattle.dfu_host.specs.Installing.{OnlyConfirmed, OnlyMatched};
 ghost use Rattle.dfu_host.specs.Leaving.{BeginsToCompare, EndsUnconfirmed, IsRestartElsewhere};
+ghost use Rattle.dfu_host.specs.Rooms.{OnlyWhereFull};
 ghost use Rattle.dfu_host.specs.Verifying.{ReportsItsOwn};
 ghost use Rattle.dfu_host.specs.WireLaws.{OneMeaning, StateUnderstood, StatusUnderstood};
 
@@ -56,7 +57,9 @@ pub fn left_is_the_last_reset()
 
 /// Whatever is seen, an upload that fetches part k has kept k full parts, and one that ends as
 /// Uploaded keeps fewer bytes than 65,535 full parts have. No other session keeps anything or ends
-/// so.
+/// so. Where a caller's room keeps the parts, the upload is over with NoMemory exactly where a part
+/// that is kept has, with what is kept by then, more bytes than the room.
 pub fn upload_counts_its_parts()
-    ensures { StaysCounted }
+    ensures counted { StaysCounted }
+    ensures full { OnlyWhereFull }
 {}

@@ -1,9 +1,12 @@
 //! What an upload keeps, in a caller's room.
 
-ghost use Rattle.std.specs.Prelude.{◌≡◌, ◌+◌, ◌<◌, ◌≤◌, ◌++◌, IfSome, None, drop, false, length, take, true, List, ℕ};
+ghost use Rattle.std.specs.Prelude.{◌≡◌, ◌+◌, ◌<◌, ◌≤◌, ◌++◌, nat_lt, IfSome, None, drop, false, length, take, true, List, ℕ};
 ghost use Rattle.dfu_host.specs.InParts.{host_of, kept_at};
 ghost use Rattle.dfu_host.specs.Keeping.{Kept};
 ghost use Rattle.dfu_host.specs.Taking.{Takes};
+ghost use Rattle.dfu_host.specs.Rooms.{TakesPartIn};
+ghost use Rattle.dfu_host.specs.Storing.{IsStored, Stores};
+ghost use Rattle.dfu_host.specs.inside.Refusing.{RefusesIn};
 ghost use Rattle.dfu_host.specs.Goals.{Carries};
 ghost use Rattle.std.specs.Borrow.{Bor};
 
@@ -21,7 +24,10 @@ impl Session<'_> {
     pub fn take(&mut self, room: &mut [u8], kept: usize, seen: Seen<'_>) -> usize
         requires { kept ≤ length room.old }
         ensures takes { Takes (host_of (take kept room.old) self.old) seen.entry (host_of (take result room.new) self.new) }
+        ensures room { TakesPartIn (length room.old) (host_of (take kept room.old) self.old) (host_of (take kept room.old) self.old).phase
+            seen.entry (host_of (take result room.new) self.new) }
         ensures payload { (payload : Bor (List ℕ)) → Carries payload self.old.goal → Carries payload self.new.goal }
+        ensures stores { Stores self.old.transfer self.old.phase seen.entry kept room.old result room.new }
         ensures within { result ≤ length room.new }
         ensures len { length room.new ≡ length room.old }
         ensures beyond { drop result room.new ≡ drop result room.old }
@@ -46,6 +52,12 @@ fn keep(session: &Session<'_>, room: &mut [u8], kept: usize, seen: Seen<'_>) -> 
     ensures some { IfSome result (λ n.
         Kept session.now.transfer session.now.phase seen.entry false (take kept room.old) (take n room.new)) }
     ensures none { result ≡ None → Kept session.now.transfer session.now.phase seen.entry true (take kept room.old) (take kept room.old) }
+    ensures taken { IfSome result (λ n.
+        RefusesIn (length room.old) session.now.transfer session.now.phase (take kept room.old) seen.entry false) }
+    ensures stored { IfSome result (λ n. Stores session.now.transfer session.now.phase seen.entry kept room.old n room.new) }
+    ensures stays { result ≡ None → Stores session.now.transfer session.now.phase seen.entry kept room.old kept room.old }
+    ensures refused { result ≡ None
+        → RefusesIn (length room.old) session.now.transfer session.now.phase (take kept room.old) seen.entry true }
     ensures len { length room.new ≡ length room.old }
     ensures fits { IfSome result (λ n. n ≤ length room.old) }
     ensures beyond { IfSome result (λ n. drop n room.new ≡ drop n room.old) }
@@ -66,9 +78,13 @@ fn store(room: &mut [u8], kept: usize, part: &Part<'_>) -> Option<usize>
     ensures fits { IfSome result (λ n. n ≤ length room.old) }
     ensures joins { IfSome result (λ n. take n room.new ≡ kept_at part.now.number (take kept room.old) ++ part.now.bytes.now) }
     ensures beyond { IfSome result (λ n. drop n room.new ≡ drop n room.old) }
+    ensures stored { IfSome result (λ n. IsStored (kept_at part.now.number (take kept room.old)) part.now.bytes.now room.old n room.new) }
     ensures some { result ≡ None → 0 < length part.now.bytes.now }
     ensures same { result ≡ None → room.new ≡ room.old }
-    ensures full { result ≡ None → length room.old < length (kept_at part.now.number (take kept room.old)) + length part.now.bytes.now }
+    ensures fitted { IfSome result (λ n.
+        false ≡ nat_lt (length room.old) (length (kept_at part.now.number (take kept room.old)) + length part.now.bytes.now)) }
+    ensures full { result ≡ None
+        → true ≡ nat_lt (length room.old) (length (kept_at part.now.number (take kept room.old)) + length part.now.bytes.now) }
 {
     let from = if part.number == 0 { 0 } else { kept };
     if room.len() - from < part.bytes.len() {

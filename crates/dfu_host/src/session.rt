@@ -1,6 +1,6 @@
 //! A host without memory of its own.
 
-ghost use Rattle.std.specs.Prelude.{◌≡◌, ◌↔◌, ◌<◌, ◌≤◌, ◌-◌, Bool, true, false, Err, IfOk, IfSome, IsTrue, List, None, Some, ℕ, length};
+ghost use Rattle.std.specs.Prelude.{◌≡◌, ◌↔◌, ◌<◌, ◌≤◌, ◌-◌, ◌+◌, nat_lt, Bool, true, false, Err, IfOk, IfSome, IsTrue, List, None, Some, ℕ, length, take};
 ghost use Rattle.std.specs.Borrow.{Bor};
 
 use crate::action::Action;
@@ -48,9 +48,12 @@ impl<'f> Session<'f> {
     ghost use Rattle.dfu_host.specs.Phases.{ToFetch, ToLoad, ToVerify};
     ghost use Rattle.dfu_host.specs.Uploading.{first_upload_fault};
     ghost use Rattle.dfu_host.specs.Goals.{Carries, goal_of, payload_of, size_of};
-    ghost use Rattle.dfu_host.specs.InParts.{IsCut, IsSession, begins_at, host_of};
+    ghost use Rattle.dfu_host.specs.InParts.{IsCut, IsSession, begins_at, host_of, kept_at};
     ghost use Rattle.dfu_host.specs.Keeping.{Kept, Stored};
     ghost use Rattle.dfu_host.specs.Taking.{Takes};
+    ghost use Rattle.dfu_host.specs.Rooms.{TakesPartIn};
+    ghost use Rattle.dfu_host.specs.Storing.{IsStored, Stores};
+    ghost use Rattle.dfu_host.specs.inside.Refusing.{RefusesIn};
     ghost use Rattle.dfu_host.specs.declared.fault.HostFault.{HostFault};
 
     /// A session that is to install a file, as [`crate::Host::download`]; its faults are the same.
@@ -182,6 +185,20 @@ impl<'f> Session<'f> {
             → Stored part.number part.bytes.now refused memory memory'
             → Kept self.now.transfer self.now.phase seen.entry refused memory memory') }
         ensures none { result ≡ None → (memory : List ℕ) → Kept self.now.transfer self.now.phase seen.entry false memory memory }
+        ensures some_refused { IfSome result (λ part. (refused : Bool) (memory : List ℕ) (room : ℕ)
+            → refused ≡ nat_lt room (length (kept_at part.number memory) + length part.bytes.now)
+            → RefusesIn room self.now.transfer self.now.phase memory seen.entry refused) }
+        ensures none_refused { result ≡ None → (memory : List ℕ) (room : ℕ)
+            → RefusesIn room self.now.transfer self.now.phase memory seen.entry false }
+        ensures some_stored { IfSome result (λ part. (count : ℕ) (room : List ℕ) (count' : ℕ) (room' : List ℕ)
+            → false ≡ nat_lt (length room) (length (kept_at part.number (take count room)) + length part.bytes.now)
+            → IsStored (kept_at part.number (take count room)) part.bytes.now room count' room'
+            → Stores self.now.transfer self.now.phase seen.entry count room count' room') }
+        ensures some_full { IfSome result (λ part. (count : ℕ) (room : List ℕ)
+            → true ≡ nat_lt (length room) (length (kept_at part.number (take count room)) + length part.bytes.now)
+            → Stores self.now.transfer self.now.phase seen.entry count room count room) }
+        ensures none_stored { result ≡ None → (count : ℕ) (room : List ℕ)
+            → Stores self.now.transfer self.now.phase seen.entry count room count room }
     {
         match (self.progress.phase, seen) {
             (Phase::Fetch(number), Seen::Bytes(bytes)) => self.task.part_in(number, bytes),
@@ -195,6 +212,9 @@ impl<'f> Session<'f> {
         ensures payload { (payload : Bor (List ℕ)) → Carries payload self.old.goal → Carries payload self.new.goal }
         ensures takes { (memory memory' : List ℕ) → Kept self.old.transfer self.old.phase seen.entry refused memory memory'
             → Takes (host_of memory self.old) seen.entry (host_of memory' self.new) }
+        ensures room { (memory memory' : List ℕ) (room : ℕ) → Kept self.old.transfer self.old.phase seen.entry refused memory memory'
+            → RefusesIn room self.old.transfer self.old.phase memory seen.entry refused
+            → TakesPartIn room (host_of memory self.old) (host_of memory self.old).phase seen.entry (host_of memory' self.new) }
     {
         let phase = self.progress.phase;
         let heard = self.task.hear(phase, seen, refused);

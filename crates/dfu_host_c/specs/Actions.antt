@@ -1,16 +1,42 @@
 -- What the record of an action says.
-use Rattle.std.specs.Prelude.{◌≡◌, ◌+◌, ◌≤◌, ℕ, List, Some, length, take, drop}
+use Rattle.std.specs.Prelude.{◌≡◌, ◌+◌, ◌≤◌, ℕ, List, Some, length, replicate, take, drop}
+use Rattle.dfu_wire.specs.declared.requests.Request.{Request}
+use Rattle.dfu_host.specs.declared.report.Report.{Report}
 use Rattle.dfu_host.specs.Phases.{Deed, Send, Wait, Reset, Done}
 use Rattle.dfu_host.specs.Wire.{IsAsked}
-use Rattle.dfu_host_c.specs.ReportNumbers.{report_at}
+use Rattle.dfu_host_c.specs.ReportNumbers.{code_in, report_at}
 use Rattle.dfu_host_c.specs.declared.action.DfuAction.{DfuAction}
 
--- The record says what a host with this payload does: 0 to send a request, for which the setup asks, with so many bytes of the payload from
--- there on as its body, which end within it, 1 to wait, 2 to reset the bus, and 3 that it is done, with its report.
-abbrev pub Tells : (payload : List ℕ) → Deed → DfuAction → Type 0
-Tells payload (Send q body) r =
-    (r.what ≡ 0) × IsAsked q r.setup × (r.length ≡ length body) × (body ≡ take (length body) (drop r.from payload))
-    × (r.from + r.length ≤ length payload)
-Tells payload (Wait ms) r = (r.what ≡ 1) × (r.value ≡ ms)
-Tells payload Reset r = r.what ≡ 2
-Tells payload (Done report) r = (r.what ≡ 3) × (report_at r.value r.code ≡ Some report)
+-- The record says to send a request, for which its setup asks, with so many bytes of the payload from a place on as its body, which end
+-- within the payload.
+pub record IsSend (payload : List ℕ) (from : ℕ) (q : Request) (body : List ℕ) (r : DfuAction) : Type 0 where
+  pub what : r.what ≡ 0
+  pub value : r.value ≡ 0
+  pub asked : IsAsked q r.setup
+  pub place : r.from ≡ from
+  pub size : r.length ≡ length body
+  pub cut : body ≡ take (length body) (drop from payload)
+  pub ends : from + length body ≤ length payload
+  pub code : r.code ≡ 0
+
+-- The record says to do something else than to send a request: nothing is in it of a setup or a body.
+pub record IsOther (what value code : ℕ) (r : DfuAction) : Type 0 where
+  pub what_is : r.what ≡ what
+  pub value_is : r.value ≡ value
+  pub code_is : r.code ≡ code
+  pub from : r.from ≡ 0
+  pub size : r.length ≡ 0
+  pub setup : r.setup ≡ replicate 8 0
+
+-- The record says that a session is over, with this report.
+pub record IsDone (report : Report) (r : DfuAction) : Type 0 where
+  pub other : IsOther 3 r.value (code_in report) r
+  pub report_is : report_at r.value r.code ≡ Some report
+
+-- The record says what a host with this payload does, where a body begins at this place: 0 to send a request, 1 to wait so many
+-- milliseconds, 2 to reset the bus, and 3 that it is done. A number that an action does not have is 0.
+abbrev pub Tells : (payload : List ℕ) → (from : ℕ) → Deed → DfuAction → Type 0
+Tells payload from (Send q body) r = IsSend payload from q body r
+Tells payload from (Wait ms) r = IsOther 1 ms 0 r
+Tells payload from Reset r = IsOther 2 0 0 r
+Tells payload from (Done report) r = IsDone report r

@@ -1,5 +1,5 @@
 -- How a session begins for a program in C, and when it does not.
-use Rattle.std.specs.Prelude.{◌≡◌, ◌⊎◌, ◌+◌, ℕ, ℤ, pos, List, length, Option, Some}
+use Rattle.std.specs.Prelude.{◌≡◌, ◌⊎◌, ◌+◌, ℕ, ℤ, pos, List, length, Option, Some, None}
 use Rattle.std.specs.Borrow.{Bor}
 use Rattle.dfu_wire.specs.declared.fault.WireFault.{WireFault}
 use Rattle.dfu_wire.specs.declared.functionals.Functional.{Functional}
@@ -15,13 +15,14 @@ use Rattle.dfu_host.specs.Host.{HostState, started}
 use Rattle.dfu_host.specs.InParts.{host_of}
 use Rattle.dfu_host.specs.Phases.{Goal}
 use Rattle.dfu_host_c.specs.Refusals.{file_refusal, host_refusal, wire_refusal}
-use Rattle.dfu_host_c.specs.Sessions.{IsRecord}
+use Rattle.dfu_host_c.specs.Sessions.{IsRecord, IsWritten}
 use Rattle.dfu_host_c.specs.declared.session.DfuSession.{DfuSession}
 
 -- The record is that of a session which begins as this host, and keeps nothing yet.
 pub record HasBegun (r : DfuSession) (start : HostState) : Type 0 where
   pub parts : Parts
   pub stands : (payload : Bor (List ℕ)) → Carries payload parts.goal → IsRecord r payload parts
+  pub written : IsWritten r parts
   pub nothing : r.kept ≡ 0
   pub begins : (memory : List ℕ) → host_of memory parts ≡ start
 
@@ -29,12 +30,14 @@ pub record HasBegun (r : DfuSession) (start : HostState) : Type 0 where
 abbrev pub IsContent : Content → List ℕ → Type 0
 IsContent c bytes = (extra : List ℕ) × IsFile c.payload c.ids c.dfu extra bytes × (c.suffix ≡ 16 + length extra)
 
--- A session was begun on a file and a descriptor: it is for this goal with the file's payload.
-pub record Begins (to : List ℕ → Goal) (file descriptor : List ℕ) (limits : Limits) (result : ℤ) (r' : DfuSession) : Type 0 where
+-- A session was begun on a file and a descriptor, of which none of these faults holds: it is for this goal with the file's payload.
+pub record Begins (to : List ℕ → Goal) (first : Content → Functional → Ids → Option HostFault) (file descriptor : List ℕ) (device : Ids)
+    (limits : Limits) (result : ℤ) (r' : DfuSession) : Type 0 where
   pub content : Content
   pub functional : Functional
   pub is_content : IsContent content file
   pub is_functional : IsFunctional functional descriptor
+  pub accepted : first content functional device ≡ None
   pub begun : HasBegun r' (started functional (to content.payload) limits)
   pub number_is : result ≡ pos 0
 
@@ -66,10 +69,12 @@ pub record HostRefuses (first : Content → Functional → Ids → Option HostFa
   pub refused : first content functional device ≡ Some fault
   pub number_is : result ≡ host_refusal fault
 
--- An upload was begun by a descriptor.
-pub record BeginsUpload (to : Goal) (descriptor : List ℕ) (limits : Limits) (result : ℤ) (r' : DfuSession) : Type 0 where
+-- An upload was begun by a descriptor, of which none of these faults holds.
+pub record BeginsUpload (to : Goal) (first : Functional → Option HostFault) (descriptor : List ℕ) (limits : Limits) (result : ℤ)
+    (r' : DfuSession) : Type 0 where
   pub functional : Functional
   pub is_functional : IsFunctional functional descriptor
+  pub accepted : first functional ≡ None
   pub begun : HasBegun r' (started functional to limits)
   pub number_is : result ≡ pos 0
 

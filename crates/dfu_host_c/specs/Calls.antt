@@ -1,19 +1,22 @@
 -- What came of a call.
-use Rattle.std.specs.Prelude.{◌≡◌, ℕ, List, Some}
+use Rattle.std.specs.Prelude.{◌≡◌, ℕ, List, Some, length}
 use Rattle.std.specs.Borrow.{Bor}
 use Rattle.dfu_host.specs.declared.parts.Parts.{Parts}
 use Rattle.dfu_host.specs.declared.seen.Seen.{Seen}
 use Rattle.dfu_host.specs.Host.{HostRow, aborted}
 use Rattle.dfu_host.specs.Goals.{payload_of}
-use Rattle.dfu_host.specs.InParts.{host_of}
+use Rattle.dfu_host.specs.InParts.{begins_at, host_of}
+use Rattle.dfu_host.specs.Rooms.{TakesPartIn}
+use Rattle.dfu_host.specs.Storing.{Stores}
 use Rattle.dfu_host.specs.Table.{deed}
 use Rattle.dfu_host_c.specs.Actions.{Tells}
-use Rattle.dfu_host_c.specs.Sessions.{IsRecord, IsHeld, host_in}
+use Rattle.dfu_host_c.specs.Sessions.{IsRecord, IsHeld, IsWritten, host_in}
 use Rattle.dfu_host_c.specs.Told.{seen_at}
 use Rattle.dfu_host_c.specs.declared.action.DfuAction.{DfuAction}
 use Rattle.dfu_host_c.specs.declared.session.DfuSession.{DfuSession}
 
--- The session of a record took what was seen, as a row of the host's table.
+-- The session of a record took what was seen, as a row of the host's table; a part of an upload was stored in the buffer where it finds room,
+-- and where it finds none, that was heard in its place.
 pub record Took (r r' : DfuSession) (payload : Bor (List ℕ)) (buffer buffer' : List ℕ) (seen : ℕ) (bytes : Bor (List ℕ)) : Type 0 where
   pub parts : Parts
   pub word : Seen
@@ -21,7 +24,10 @@ pub record Took (r r' : DfuSession) (payload : Bor (List ℕ)) (buffer buffer' :
   pub before : IsHeld r payload buffer parts
   pub seen_is : seen_at seen bytes ≡ Some word
   pub later : IsHeld r' payload buffer' next
+  pub written : IsWritten r' next
   pub row : HostRow (host_in r buffer parts) word (host_in r' buffer' next)
+  pub room : TakesPartIn (length buffer) (host_in r buffer parts) (host_in r buffer parts).phase word (host_in r' buffer' next)
+  pub stores : Stores parts.transfer parts.phase word r.kept buffer r'.kept buffer'
 
 -- The record and the buffer are those of a session over this payload.
 pub record Stands (r : DfuSession) (payload : Bor (List ℕ)) (buffer : List ℕ) : Type 0 where
@@ -42,6 +48,7 @@ pub record GivenUp (r r' : DfuSession) (payload : Bor (List ℕ)) : Type 0 where
   pub next : Parts
   pub before : IsRecord r payload parts
   pub later : IsRecord r' payload next
+  pub written : IsWritten r' next
   pub same : (memory : List ℕ) → host_of memory next ≡ aborted (host_of memory parts)
   pub kept : r'.kept ≡ r.kept
 
@@ -49,4 +56,5 @@ pub record GivenUp (r r' : DfuSession) (payload : Bor (List ℕ)) : Type 0 where
 pub record IsNext (r : DfuSession) (payload : Bor (List ℕ)) (a : DfuAction) : Type 0 where
   pub parts : Parts
   pub stands : IsRecord r payload parts
-  pub tells : (memory : List ℕ) → Tells (payload_of parts.goal) (deed (host_of memory parts).task (host_of memory parts).phase) a
+  pub tells : (memory : List ℕ)
+      → Tells (payload_of parts.goal) (begins_at parts.transfer parts.phase) (deed (host_of memory parts).task (host_of memory parts).phase) a

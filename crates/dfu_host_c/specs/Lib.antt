@@ -1,6 +1,7 @@
 pub mod ReportNumbers
 pub mod ReportNames
 pub mod PhaseNumbers
+pub mod WrittenNumbers
 pub mod Sessions
 pub mod FileRecords
 pub mod Refusals

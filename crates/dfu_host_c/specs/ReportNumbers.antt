@@ -2,6 +2,7 @@
 use Rattle.std.specs.Prelude.{ℕ, ◌==◌, if◌then◌else◌, Option, Some, None, option_map}
 use Rattle.dfu_wire.specs.declared.codes.Code.{Code}
 use Rattle.dfu_wire.specs.declared.codes.Code.TheVariants as code
+use Rattle.dfu_wire.specs.Code.{code_byte}
 use Rattle.dfu_host.specs.declared.report.Report.{Report}
 use Rattle.dfu_host.specs.declared.report.Report.TheVariants as report
 
@@ -41,3 +42,31 @@ report_at number code =
     else if number == 10 then Some report.Verified
     else if number == 11 then Some report.Different
     else None
+
+-- The code that a report has: that of Refused; every other has none, and it counts as 0.
+abbrev pub code_in : Report → ℕ
+code_in (report.Refused code) = code_byte code
+code_in report.Installed = 0
+code_in report.Unconfirmed = 0
+code_in report.Aborted = 0
+code_in report.GaveUp = 0
+code_in report.RestartsSpent = 0
+code_in report.Uploaded = 0
+code_in report.TooManyBlocks = 0
+code_in report.NoMemory = 0
+code_in report.Verified = 0
+code_in report.Different = 0
+
+-- The number of a report, as `report_at` has it.
+abbrev pub report_number : Report → ℕ
+report_number report.Installed = 1
+report_number report.Unconfirmed = 2
+report_number report.Aborted = 3
+report_number report.GaveUp = 4
+report_number (report.Refused code) = 5
+report_number report.RestartsSpent = 6
+report_number report.Uploaded = 7
+report_number report.TooManyBlocks = 8
+report_number report.NoMemory = 9
+report_number report.Verified = 10
+report_number report.Different = 11

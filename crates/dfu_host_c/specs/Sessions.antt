@@ -10,8 +10,13 @@ use Rattle.dfu_host.specs.declared.parts.Parts.{Parts}
 use Rattle.dfu_host.specs.Host.{HostState}
 use Rattle.dfu_host.specs.InParts.{IsSession, host_of}
 use Rattle.dfu_host_c.specs.PhaseNumbers.{phase_at}
+use Rattle.dfu_host_c.specs.WrittenNumbers.{numbers_in}
 use Rattle.dfu_host_c.specs.declared.ids.DfuIds.{DfuIds}
 use Rattle.dfu_host_c.specs.declared.session.DfuSession.{DfuSession}
+
+-- The version of the library, 0.1.0: 10,000 for each major one, 100 for each minor one, and 1 for each patch.
+abbrev pub version : ℕ
+version = 100
 
 -- The identifiers of a device.
 abbrev pub ids_of : DfuIds → Ids
@@ -48,10 +53,18 @@ parts_in r goal phase = record {
 abbrev pub parts_of : DfuSession → (payload : Bor (List ℕ)) → Option Parts
 parts_of r payload = option_and_then (λ goal. option_map (parts_in r goal) (phase_at r.phase r.number r.more)) (goal_at r.goal payload)
 
--- The record is that of a session over this payload, with these parts.
+-- The record is that of a session over this payload, with these parts, and was written by this version of the library.
 pub record IsRecord (r : DfuSession) (payload : Bor (List ℕ)) (parts : Parts) : Type 0 where
+  pub version_is : r.version ≡ version
   pub says : parts_of r payload ≡ Some parts
   pub sound : IsSession parts
+
+-- The record of these parts has the numbers that the library writes: what a phase does not have is 0, and a bit is 0 or 1.
+pub record IsWritten (r : DfuSession) (parts : Parts) : Type 0 where
+  pub number : r.number ≡ (numbers_in parts.phase).number
+  pub more : r.more ≡ (numbers_in parts.phase).more
+  pub tolerant : r.tolerant ≤ 1
+  pub will_detach : r.will_detach ≤ 1
 
 -- The record is that of a session over this payload, with these parts, and the buffer has the bytes that it keeps.
 pub record IsHeld (r : DfuSession) (payload : Bor (List ℕ)) (buffer : List ℕ) (parts : Parts) : Type 0 where

@@ -36,7 +36,7 @@ pub struct DfuAction {
 #[tactic(auto, using(crate::proofs::Bodies::cut_ends))]
 fn record_of(action: Action<'_>, from: usize) -> DfuAction
     ensures { (deed : Deed) (payload : List ℕ) → Spells deed action.entry → IsCut payload from action.entry → from ≤ length payload
-        → Tells payload deed result }
+        → Tells payload from deed result }
 {
     let none = DfuAction {
         what: 2,

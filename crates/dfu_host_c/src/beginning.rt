@@ -61,7 +61,7 @@ pub extern "C" fn dfu_host_download(
     actions: u32,
     restarts: u16,
 ) -> i32
-    ensures outcome { Begins ToLoad file.now descriptor.now (limits_of actions restarts) result session.new
+    ensures outcome { Begins ToLoad first_download_fault file.now descriptor.now (ids_of device.now) (limits_of actions restarts) result session.new
         ⊎ (IsUnread file.now descriptor.now result × (session.new ≡ session.old))
         ⊎ (HostRefuses first_download_fault file.now descriptor.now (ids_of device.now) result × (session.new ≡ session.old)) }
 {
@@ -86,7 +86,7 @@ pub extern "C" fn dfu_host_verified(
     actions: u32,
     restarts: u16,
 ) -> i32
-    ensures outcome { Begins ToVerify file.now descriptor.now (limits_of actions restarts) result session.new
+    ensures outcome { Begins ToVerify first_verify_fault file.now descriptor.now (ids_of device.now) (limits_of actions restarts) result session.new
         ⊎ (IsUnread file.now descriptor.now result × (session.new ≡ session.old))
         ⊎ (HostRefuses first_verify_fault file.now descriptor.now (ids_of device.now) result × (session.new ≡ session.old)) }
 {
@@ -109,7 +109,7 @@ pub extern "C" fn dfu_host_upload(
     actions: u32,
     restarts: u16,
 ) -> i32
-    ensures outcome { BeginsUpload ToFetch descriptor.now (limits_of actions restarts) result session.new
+    ensures outcome { BeginsUpload ToFetch first_upload_fault descriptor.now (limits_of actions restarts) result session.new
         ⊎ (IsNoDescriptor descriptor.now result × (session.new ≡ session.old))
         ⊎ (RefusesUpload first_upload_fault descriptor.now result × (session.new ≡ session.old)) }
 {

@@ -4,11 +4,12 @@ ghost use Rattle.std.specs.Prelude.{◌≡◌, List, ℕ, IfSome, None, Some};
 ghost use Rattle.std.specs.Borrow.{Bor};
 ghost use Rattle.dfu_host.specs.Goals.{Carries};
 ghost use Rattle.dfu_host.specs.declared.parts.Parts.{Parts};
-ghost use Rattle.dfu_host_c.specs.Sessions.{IsRecord, parts_of};
+ghost use Rattle.dfu_host_c.specs.Sessions.{IsRecord, IsWritten, parts_of};
 
 use crate::goals::{goal_at, goal_number};
 use crate::phases::{numbers_of, phase_at};
 use crate::session::DfuSession;
+use crate::version::VERSION;
 use dfu_host::{Parts, Session};
 
 /// The parts that a record says; none where its goal or its phase is the number of none.
@@ -34,11 +35,14 @@ fn parts_of<'f>(given: &DfuSession, payload: &'f [u8]) -> Option<Parts<'f>>
     })
 }
 
-/// The session of a record over a payload; none where it is none's.
+/// The session of a record over a payload; none where it is none's, as one of another version.
 pub(crate) fn session_of<'f>(given: &DfuSession, payload: &'f [u8]) -> Option<Session<'f>>
     ensures some { IfSome result (λ s. IsRecord given.now payload.entry s × Carries payload.entry s.goal) }
     ensures none { result ≡ None → (parts : Parts) → IsRecord given.now payload.entry parts → ⊥ }
 {
+    if given.version != VERSION {
+        return None;
+    }
     let Some(parts) = parts_of(given, payload) else {
         return None;
     };
@@ -52,14 +56,16 @@ pub(crate) fn session_of<'f>(given: &DfuSession, payload: &'f [u8]) -> Option<Se
 /// The record of a session that keeps so many bytes.
 pub(crate) fn record_of(session: &Session<'_>, kept: u64) -> DfuSession
     ensures says { (payload : Bor (List ℕ)) → Carries payload session.now.goal → IsRecord result payload session.now }
+    ensures written { IsWritten result session.now }
     ensures kept { result.kept ≡ kept }
 {
     let parts = session.parts();
     let numbers = numbers_of(parts.phase);
     DfuSession {
+        version: VERSION,
+        goal: goal_number(parts.goal),
         number: numbers.number,
         kept,
-        goal: goal_number(parts.goal),
         phase: numbers.which,
         more: numbers.more,
         actions: parts.actions,

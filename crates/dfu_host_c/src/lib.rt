@@ -18,3 +18,4 @@ mod reports;
 mod seen;
 mod session;
 mod steps;
+mod version;

@@ -2,7 +2,8 @@
 
 ghost use Rattle.std.specs.Prelude.{◌≡◌, Some, None, nat_lt, if◌then◌else◌};
 ghost use Rattle.dfu_host_c.specs.PhaseNumbers.{phase_at};
-ghost use Rattle.dfu_host_c.specs.ReportNumbers.{report_at};
+ghost use Rattle.dfu_host_c.specs.ReportNumbers.{code_in, report_at, report_number};
+ghost use Rattle.dfu_host_c.specs.WrittenNumbers.{numbers_in};
 
 use crate::reports::{report_at, report_numbers};
 use dfu_host::{Phase, Report};
@@ -78,7 +79,8 @@ fn part_at(number: u64) -> Option<u16>
 
 /// The numbers of a phase.
 pub(crate) fn numbers_of(phase: Phase) -> Numbers
-    ensures { phase_at result.which result.number result.more ≡ Some phase }
+    ensures phase { phase_at result.which result.number result.more ≡ Some phase }
+    ensures numbers { result ≡ numbers_in phase }
 {
     match phase {
         Phase::Find => plain(0),
@@ -128,6 +130,8 @@ fn plain(which: u32) -> Numbers
 fn reported(which: u32, report: Report) -> Numbers
     ensures which { result.which ≡ which }
     ensures report { report_at result.number result.more ≡ Some report }
+    ensures number { result.number ≡ report_number report }
+    ensures code { result.more ≡ code_in report }
 {
     let (number, code) = report_numbers(report);
     of(which, u64::from(number), code)

@@ -1,7 +1,8 @@
 //! Reports as numbers, both ways.
 
 ghost use Rattle.std.specs.Prelude.{◌≡◌, Some};
-ghost use Rattle.dfu_host_c.specs.ReportNumbers.{code_at, report_at};
+ghost use Rattle.dfu_wire.specs.Code.{code_byte};
+ghost use Rattle.dfu_host_c.specs.ReportNumbers.{code_at, code_in, report_at, report_number};
 
 use dfu_host::Report;
 use dfu_wire::Code;
@@ -56,7 +57,9 @@ pub(crate) fn report_at(number: u64, code: u32) -> Option<Report>
 
 /// The number of a report, and its code, 0 but for Refused.
 pub(crate) fn report_numbers(report: Report) -> (u32, u32)
-    ensures { report_at result.0 result.1 ≡ Some report }
+    ensures report { report_at result.0 result.1 ≡ Some report }
+    ensures number { result.0 ≡ report_number report }
+    ensures code { result.1 ≡ code_in report }
 {
     match report {
         Report::Installed => (1, 0),
@@ -75,7 +78,8 @@ pub(crate) fn report_numbers(report: Report) -> (u32, u32)
 
 /// The number of a status code.
 fn code_number(code: Code) -> u32
-    ensures { code_at result ≡ Some code }
+    ensures code { code_at result ≡ Some code }
+    ensures byte { result ≡ code_byte code }
 {
     u32::from(code.byte())
 }

@@ -4,12 +4,14 @@
 #[repr(C)]
 #[derive(Drop)]
 pub struct DfuSession {
+    /// The version of the library that wrote it.
+    pub version: u32,
+    /// What the session is for, 1 to 4.
+    pub goal: u32,
     /// The block, the part or the report of the phase.
     pub number: u64,
     /// How many bytes an upload keeps.
     pub kept: u64,
-    /// What the session is for, 1 to 4.
-    pub goal: u32,
     /// Which phase, 0 to 24.
     pub phase: u32,
     /// A poll time in milliseconds, or the code of a report.

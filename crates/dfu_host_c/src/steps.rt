@@ -4,8 +4,10 @@ ghost use Rattle.std.specs.Prelude.{◌≡◌, ◌⊎◌, ◌≤◌, List, ℕ, 
 ghost use Rattle.std.specs.Borrow.{Bor};
 ghost use Rattle.dfu_host.specs.Goals.{Carries};
 ghost use Rattle.dfu_host.specs.Host.{HostRow};
+ghost use Rattle.dfu_host.specs.Rooms.{TakesPartIn};
+ghost use Rattle.dfu_host.specs.Storing.{Stores};
 ghost use Rattle.dfu_host_c.specs.Calls.{GivenUp, NoRecord, NotHeld, Stands, Took};
-ghost use Rattle.dfu_host_c.specs.Sessions.{IsHeld, host_in};
+ghost use Rattle.dfu_host_c.specs.Sessions.{IsHeld, IsWritten, host_in};
 ghost use Rattle.dfu_host_c.specs.Refusals.{no_session, no_seen};
 ghost use Rattle.dfu_host_c.specs.Told.{seen_at};
 
@@ -19,6 +21,10 @@ use dfu_host::{Seen, Session};
 fn step(given: &DfuSession, host: &mut Session<'_>, kept: &mut [u8], seen: Seen<'_>) -> DfuSession
     requires { given.now.kept ≤ length kept.old }
     ensures row { HostRow (host_in given.now kept.old host.old) seen.entry (host_in result kept.new host.new) }
+    ensures room { TakesPartIn (length kept.old) (host_in given.now kept.old host.old) (host_in given.now kept.old host.old).phase seen.entry
+        (host_in result kept.new host.new) }
+    ensures stores { Stores host.old.transfer host.old.phase seen.entry given.now.kept kept.old result.kept kept.new }
+    ensures written { IsWritten result host.new }
     ensures held { (payload : Bor (List ℕ)) → Carries payload host.old.goal → IsHeld result payload kept.new host.new }
 {
     let count = host.take(kept, given.kept as usize, seen);

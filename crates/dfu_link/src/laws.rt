@@ -13,7 +13,7 @@ ghost use Rattle.dfu_link.specs.OneResult.{OneResult};
 ghost use Rattle.dfu_link.specs.Power.{PowerComesBack};
 ghost use Rattle.dfu_link.specs.Understood.{ImageShown, BytesShow, Understood};
 
-use dfu_slots::laws::{refused_has_no_image, shown_image_is_active};
+use dfu_slots::laws::active_image_is_one;
 
 /// Each play of an event, from a link that agrees with a session machine, is one legal step of it.
 /// Agreement and the phase fact hold again, and Installed and Verified are reported only in appIDLE
@@ -91,7 +91,7 @@ pub fn uploads_give_the_image()
 pub fn image_shown()
     ensures { ImageShown }
 {
-    shown_image_is_active();
+    active_image_is_one();
 }
 
 /// The power comes back: where a bench shows the active image of its medium's bytes, as that of a
@@ -99,7 +99,7 @@ pub fn image_shown()
 pub fn power_comes_back()
     ensures { PowerComesBack }
 {
-    refused_has_no_image();
+    active_image_is_one();
 }
 
 /// The headline holds of a device with no session that has no image to put in place: its factory

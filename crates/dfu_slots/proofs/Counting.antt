@@ -35,7 +35,7 @@ counts_same s t head body is_open c = record {
 }
 
 -- In a header of version 2 that is well formed stands the register of the image.
-two_well_formed : (s : Slot) (len : ℕ) → version s ≡ 2 → HasHeader s len
+pub two_well_formed : (s : Slot) (len : ℕ) → version s ≡ 2 → HasHeader s len
     → s.header ≡ header 2 (generation s) len (register (take len s.data_bytes))
 two_well_formed s len two has = ⊎_elim
     (λ e. let one : version s ≡ 1 = ap (λ (h : List ℕ). slice_index h 1) e in absurd (omega (arith, one, two)))

@@ -11,6 +11,7 @@ mod Filled
 mod Formatted
 mod Formatting
 mod Kept
+mod Unread
 mod Newest
 mod Opening
 mod Parts

@@ -29,7 +29,7 @@ turns : (g h : ℕ) → g ≡ next_generation h → h ≡ next_generation g → 
 turns g h a b = omega arith
 
 -- Of two slots one alone is the newest.
-other_test : (mine other : Slot) → IsNewest mine other → is_newest other mine ≡ false
+pub other_test : (mine other : Slot) → IsNewest mine other → is_newest other mine ≡ false
 other_test mine other a =
     ⊎_elim
     (λ off. and_left (counts other) _ (counts_false other off))

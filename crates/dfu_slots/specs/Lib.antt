@@ -5,6 +5,7 @@ pub mod Image
 pub mod Writes
 pub mod Seen
 pub mod Store
+pub mod Known
 pub mod Changes
 pub mod Leaves
 pub mod Unarmed

@@ -9,8 +9,8 @@ use crate::read::capacity_of;
 use crate::{Medium, Slots, open};
 use arrayvec::ArrayVec;
 
-// Whether so many bytes are held back as puts that end there leave.
-fn has_puts<M: Medium>(medium: &M, held: &ArrayVec<u8, 256>, end: u32) -> bool
+/// Whether so many bytes are held back as puts that end there leave.
+pub(crate) fn has_puts<M: Medium>(medium: &M, held: &ArrayVec<u8, 256>, end: u32) -> bool
     requires { IsSized (M.state medium.now) }
     ensures { IsTrue result ↔ HasPuts (store_of (M.state medium.now) held.now.items end) }
 {

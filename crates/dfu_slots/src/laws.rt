@@ -12,20 +12,13 @@ ghost use Rattle.dfu_slots.specs.Determined.{SameStore};
 ghost use Rattle.dfu_slots.specs.declared.fault.OpenFault.{OpenFault};
 ghost use Rattle.dfu_slots.specs.declared.fault.WriteFault.{WriteFault};
 
-/// No medium has two active images.
+/// No medium has two active images. The image that a store shows is the active image of its medium, and no other is. A
+/// medium that `open` refuses has none.
 pub fn active_image_is_one()
-    ensures { (m : MediumState) (a b : List ℕ) → Active m a → Active m b → a ≡ b }
-{}
-
-/// The image that a store shows is the active image of its medium, and no other is.
-pub fn shown_image_is_active()
-    ensures active { (s : SlotsState) → HasImage s.medium → Active s.medium (image_of s) }
+    ensures one { (m : MediumState) (a b : List ℕ) → Active m a → Active m b → a ≡ b }
+    ensures shown { (s : SlotsState) → HasImage s.medium → Active s.medium (image_of s) }
     ensures only { (s : SlotsState) (image : List ℕ) → Active s.medium image → image ≡ image_of s }
-{}
-
-/// A medium that `open` refuses has no active image.
-pub fn refused_has_no_image()
-    ensures { (fault : OpenFault) (m : MediumState) → IsOpenFault fault m → ¬ HasImage m }
+    ensures refused { (fault : OpenFault) (m : MediumState) → IsOpenFault fault m → ¬ HasImage m }
 {}
 
 /// A medium whose fuse is whole (as `SimMedium::new` and `disarm` leave it) fails no write and no call, and lies in none,

@@ -6,6 +6,7 @@ mod changes;
 mod fault;
 mod format;
 mod from_parts;
+mod known;
 pub mod laws;
 mod layout;
 mod medium;

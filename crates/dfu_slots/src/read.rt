@@ -74,8 +74,8 @@ pub(crate) fn is_open<M: Medium>(medium: &M, at: u32) -> bool
     byte_at(medium, at) == OPEN_GATE
 }
 
-// The 16 bytes of the header of the slot that begins there.
-fn header_of<M: Medium>(medium: &M, at: u32) -> [u8; 16]
+/// The 16 bytes of the header of the slot that begins there.
+pub(crate) fn header_of<M: Medium>(medium: &M, at: u32) -> [u8; 16]
     requires sized { IsSized (M.state medium.now) }
     requires within { at + slot_size (M.state medium.now).bytes ≤ length (M.state medium.now).bytes }
     ensures { result ≡ (slot_of (M.state medium.now) at).header }
@@ -85,8 +85,8 @@ fn header_of<M: Medium>(medium: &M, at: u32) -> [u8; 16]
     header
 }
 
-// The length that stands in a header.
-fn length_in(header: &[u8; 16]) -> u32
+/// The length that stands in a header.
+pub(crate) fn length_in(header: &[u8; 16]) -> u32
     ensures { result ≡ from_le_bytes w32 (take 4 (drop 4 header.now)) }
 {
     u32::from_le_bytes([header[4], header[5], header[6], header[7]])

@@ -9,6 +9,7 @@ use std::test::Fail;
 
 mod apart;
 mod bytes;
+mod known;
 mod lies;
 mod media;
 mod rows;

@@ -1,6 +1,7 @@
-use Rattle.std.proofs.Common.{◌≡◌, rules, inl, inr, refl, subst, Some}
+use Rattle.std.proofs.Common.{◌≡◌, rules, inl, inr, refl, subst, Some, None}
 use Rattle.dfu_wire.specs.declared.ids.Ids.{Ids}
 use Rattle.dfu_host.specs.Download.{first_download_fault}
+use Rattle.dfu_host_c.proofs.Beginnings.{no_fault}
 use Rattle.dfu_host_c.proofs.beginning.dfu_host_download.Goals as goal
 
 pub returns-in-Ok-download : goal.returns-in-Ok-download
@@ -10,6 +11,8 @@ returns-in-Ok-download c = record {
     functional = c.in-Ok.wanted.functional;
     is_content = c.in-Ok.ensures.file;
     is_functional = c.in-Ok.ensures.functional;
+    accepted = subst (λ (device : Ids). first_download_fault c.in-Ok.wanted.file c.in-Ok.wanted.functional device ≡ None)
+        c.ids.ensures (no_fault _ _ _ c.in-Ok-download.is c.download.ensures.refused);
     begun = c.start.ensures.begun _ c.in-Ok-download.ensures.started;
     number_is = search rules;
   });

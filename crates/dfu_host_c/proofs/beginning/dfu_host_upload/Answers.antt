@@ -1,4 +1,5 @@
 use Rattle.std.proofs.Common.{rules, inl, inr, refl}
+use Rattle.dfu_host_c.proofs.Beginnings.{no_fault}
 use Rattle.dfu_host_c.proofs.beginning.dfu_host_upload.Goals as goal
 
 pub returns-in-Ok-upload : goal.returns-in-Ok-upload
@@ -6,6 +7,7 @@ returns-in-Ok-upload c = record {
   outcome = inl (record {
     functional = c.in-Ok.functional;
     is_functional = c.in-Ok.ensures.ok;
+    accepted = no_fault _ _ _ c.in-Ok-upload.is c.upload.ensures.refused;
     begun = c.start.ensures.begun _ c.in-Ok-upload.ensures.started;
     number_is = search rules;
   });

@@ -9,6 +9,7 @@ returns c =
       next = c.abort.new.self;
       before = c.in-Some.ensures.some.0;
       later = c.record_of.ensures.says c.args.payload (c.abort.ensures.payload c.args.payload c.in-Some.ensures.some.1);
+      written = c.record_of.ensures.written;
       same = c.abort.ensures.given_up;
       kept = c.record_of.ensures.kept;
     } in

@@ -16,6 +16,9 @@ returns c =
       before = held;
       seen_is = sym c.seen_at.ensures ∙ c.in-Some-seen_at.is;
       later = c.step.ensures.held c.args.payload c.in-Some.ensures.some.1;
+      written = c.step.ensures.written;
       row = c.step.ensures.row;
+      room = c.step.ensures.room;
+      stores = c.step.ensures.stores;
     } in
     record { outcome = inl (refl, took) }

@@ -6,9 +6,12 @@ use Rattle.dfu_host.specs.Keeping.{Kept}
 use Rattle.dfu_host.specs.Taking.{Takes}
 use Rattle.dfu_host.specs.Host.{HostRow, after}
 use Rattle.dfu_host.proofs.Budget.{row_takes, row_over}
+use Rattle.dfu_host.specs.Rooms.{TakesPartIn}
 use Rattle.dfu_host.specs.Uploading.{TakesPart}
+use Rattle.dfu_host.specs.inside.Refusing.{RefusesIn}
 use Rattle.dfu_host.specs.inside.View.{heard_of, part_of, state_with}
 use Rattle.dfu_host.proofs.ImageParts.{takes_part, wanted}
+use Rattle.dfu_host.proofs.Rooms.{takes_part_in}
 use Rattle.dfu_host.proofs.session.Session.told.Goals as goal
 
 pub returns-clause-takes : goal.returns-clause-takes
@@ -44,3 +47,19 @@ returns-clause-takes c = λ memory memory' kept.
 pub returns-clause-payload : goal.returns-clause-payload
 returns-clause-payload c = λ payload carries. c.after-self-inside.ensures.payload payload
     (subst (λ (z : Parts). Carries payload z.goal) (sym c.self.view_is) carries)
+
+pub returns-clause-room : goal.returns-clause-room
+returns-clause-room c = λ memory memory' room kept full.
+    let task = c.self.inside.task in
+    let p = c.self.inside.progress in
+    let seen = c.args.seen in
+    let stored : Kept task.transfer p.phase seen c.args.refused memory memory' =
+    subst (λ (z : Parts). Kept z.transfer z.phase seen c.args.refused memory memory') (sym c.self.view_is) kept in
+    let refuses : RefusesIn room task.transfer p.phase memory seen c.args.refused =
+    subst (λ (z : Parts). RefusesIn room z.transfer z.phase memory seen c.args.refused) (sym c.self.view_is) full in
+    let now = state_with memory' c.after-self-inside.new.task c.after-self-inside.result in
+    let same : now ≡ after (state_with memory task p) (heard_of (part_of seen) c.hear-heard.result) =
+    c.after-self-inside.ensures.state memory memory' (part_of seen) (c.hear-heard.ensures.keeps memory memory' stored)
+    c.hear-heard.ensures.compares in
+    subst (λ (z : Parts). TakesPartIn room (host_of memory z) (host_of memory z).phase seen now) c.self.view_is
+    (takes_part_in room memory task p seen c.args.refused c.hear-heard.result now (c.hear-heard.ensures.by memory memory' stored) refuses same)

@@ -1,0 +1,43 @@
+-- Why a part of an upload is refused, and what is heard then.
+use Rattle.std.specs.Prelude.{◌≡◌, ℕ, Bool, if◌then◌else◌, List, length}
+use Rattle.dfu_host.specs.declared.phase.Phase.{Phase}
+use Rattle.dfu_host.specs.declared.phase.Phase.TheVariants as phase
+use Rattle.dfu_host.specs.declared.heard.Heard.{Heard}
+use Rattle.dfu_host.specs.declared.heard.Heard.TheVariants as heard
+use Rattle.dfu_host.specs.declared.seen.Seen.{Seen}
+use Rattle.dfu_host.specs.declared.seen.Seen.TheVariants as seen
+use Rattle.dfu_host.specs.InParts.{kept_at}
+use Rattle.dfu_host.specs.Rooms.{overflows}
+
+-- Bytes that come in a phase are refused as a room of so many bytes says: those of a part that was asked for exactly where it finds no room.
+abbrev pub RefusesBytes : (room t : ℕ) → Phase → (memory bytes : List ℕ) → (refused : Bool) → Type 0
+RefusesBytes room t (phase.Fetch k) memory bytes refused = refused ≡ overflows room t k (kept_at k memory) bytes
+RefusesBytes room t other memory bytes refused = Unit {0}
+
+-- What is seen in a phase is refused as a room of so many bytes says.
+abbrev pub RefusesIn : (room t : ℕ) → Phase → (memory : List ℕ) → Seen → (refused : Bool) → Type 0
+RefusesIn room t phase memory (seen.Bytes bytes) refused = RefusesBytes room t phase memory bytes.now refused
+RefusesIn room t phase memory seen.Ack refused = Unit {0}
+RefusesIn room t phase memory seen.Stall refused = Unit {0}
+RefusesIn room t phase memory seen.Nothing refused = Unit {0}
+RefusesIn room t phase memory seen.Waited refused = Unit {0}
+RefusesIn room t phase memory seen.WasReset refused = Unit {0}
+RefusesIn room t phase memory seen.Restarted refused = Unit {0}
+RefusesIn room t phase memory seen.Left refused = Unit {0}
+
+-- What is heard of so many bytes that come in a phase: of a part that was asked for that there was no room, where it was refused, and else
+-- the part.
+abbrev pub HearsBytesBy : Phase → (size : ℕ) → (refused : Bool) → Heard → Type 0
+HearsBytesBy (phase.Fetch k) size refused word = word ≡ (if refused then heard.NoRoom else heard.Part size)
+HearsBytesBy other size refused word = Unit {0}
+
+-- What is heard of what is seen in a phase, by whether it was refused.
+abbrev pub HearsBy : Phase → Seen → (refused : Bool) → Heard → Type 0
+HearsBy phase (seen.Bytes bytes) refused word = HearsBytesBy phase (length bytes.now) refused word
+HearsBy phase seen.Ack refused word = Unit {0}
+HearsBy phase seen.Stall refused word = Unit {0}
+HearsBy phase seen.Nothing refused word = Unit {0}
+HearsBy phase seen.Waited refused word = Unit {0}
+HearsBy phase seen.WasReset refused word = Unit {0}
+HearsBy phase seen.Restarted refused word = Unit {0}
+HearsBy phase seen.Left refused word = Unit {0}

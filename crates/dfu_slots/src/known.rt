@@ -1,0 +1,159 @@
+//! Which slot is active is known beforehand: for a caller who keeps it between two calls. No image is read.
+ghost use Rattle.std.specs.Prelude.{◌≡◌, ◌+◌, ◌≤◌, ◌↔◌, length, get_or, take, drop, not, IsTrue, IsOk, IfOk, IfErr, OnOk, IsSome, IfSome, OnSome};
+ghost use Rattle.std.specs.Int.{w32, from_le_bytes};
+ghost use Rattle.dfu_slots.specs.Layout.{slot_size, header};
+ghost use Rattle.dfu_slots.specs.Image.{gate_of, IsSized, slot_of, first_is_active, active_at, spare_at, HasImage};
+ghost use Rattle.dfu_slots.specs.Seen.{store_of};
+ghost use Rattle.dfu_slots.specs.Store.{HasPuts, IsStore};
+ghost use Rattle.dfu_slots.specs.Known.{CountsUnread, MayCount, IsNewestUnread, place_of, IsActiveUnread};
+
+use crate::from_parts::has_puts;
+use crate::layout::{OLD_VERSION, VERSION, make_header};
+use crate::open::is_sized;
+use crate::places::Places;
+use crate::puts::Puts;
+use crate::read::{capacity_of, generation, header_of, is_open, length_in};
+use crate::{Medium, Slots};
+use arrayvec::ArrayVec;
+
+// The register that stands in a header.
+fn register_in(header: &[u8; 16]) -> u32
+    ensures { result ≡ from_le_bytes w32 (take 4 (drop 8 header.now)) }
+{
+    u32::from_le_bytes([header[8], header[9], header[10], header[11]])
+}
+
+// Whether a header is of this version with this register, and well formed, with a length up to the room.
+fn is_formed(found: &[u8; 16], room: u32, version: u8, register: u32) -> bool
+    ensures { let len = from_le_bytes w32 (take 4 (drop 4 found.now)) in
+        IsTrue result ↔ ((found.now ≡ header version (get_or found.now 0 0) len register) × (len ≤ room)) }
+{
+    let len = length_in(found);
+    *found == make_header(version, found[0], len, register) && len <= room
+}
+
+// Whether the slot that begins there is open, and its header is well formed and of version 1.
+fn counts_unread<M: Medium>(medium: &M, at: u32) -> bool
+    requires sized { IsSized (M.state medium.now) }
+    requires within { at + slot_size (M.state medium.now).bytes ≤ length (M.state medium.now).bytes }
+    ensures { IsTrue result ↔ CountsUnread (slot_of (M.state medium.now) at) }
+{
+    if !is_open(medium, at) {
+        return false;
+    }
+    is_formed(&header_of(medium, at), capacity_of(medium), OLD_VERSION, 0)
+}
+
+// Whether the slot that begins there is open, and its header, if that is of version 2, well formed but for the register.
+fn may_count<M: Medium>(medium: &M, at: u32) -> bool
+    requires sized { IsSized (M.state medium.now) }
+    requires within { at + slot_size (M.state medium.now).bytes ≤ length (M.state medium.now).bytes }
+    ensures { IsTrue result ↔ MayCount (slot_of (M.state medium.now) at) }
+{
+    if !is_open(medium, at) {
+        return false;
+    }
+    let header = header_of(medium, at);
+    if header[1] != VERSION {
+        return true;
+    }
+    is_formed(&header, capacity_of(medium), VERSION, register_in(&header))
+}
+
+// Whether the first of two slots is the newest, whatever the data of both is.
+fn is_newest_unread<M: Medium>(medium: &M, mine: u32, other: u32) -> bool
+    requires sized { IsSized (M.state medium.now) }
+    requires mine { mine + slot_size (M.state medium.now).bytes ≤ length (M.state medium.now).bytes }
+    requires other { other + slot_size (M.state medium.now).bytes ≤ length (M.state medium.now).bytes }
+    ensures { IsTrue result ↔ IsNewestUnread (slot_of (M.state medium.now) mine) (slot_of (M.state medium.now) other) }
+{
+    if !counts_unread(medium, mine) {
+        return false;
+    }
+    generation(medium, mine) == generation(medium, other).wrapping_add(1)
+        || !may_count(medium, other)
+}
+
+// Where the slots stand, if the first one or else the second one is active.
+fn places_of<M: Medium>(medium: &M, first: bool) -> Places
+    ensures active { result.active ≡ place_of first (M.state medium.now).bytes }
+    ensures spare { result.spare ≡ place_of (not first) (M.state medium.now).bytes }
+{
+    let second = medium.len() / 2;
+    if first {
+        Places {
+            active: 0,
+            spare: second,
+        }
+    } else {
+        Places {
+            active: second,
+            spare: 0,
+        }
+    }
+}
+
+// Where the slots stand, if the named one is the active one by gates and headers alone.
+fn find_known<M: Medium>(medium: &M, first: bool) -> Option<Places>
+    ensures known { IsSome result ↔ IsActiveUnread (M.state medium.now) first }
+    ensures has_image { OnSome result (HasImage (M.state medium.now)) }
+    ensures active { IfSome result (λ p. p.active ≡ active_at (gate_of (M.state medium.now)) (M.state medium.now).bytes) }
+    ensures spare { IfSome result (λ p. p.spare ≡ spare_at (gate_of (M.state medium.now)) (M.state medium.now).bytes) }
+    ensures first { OnSome result (first ≡ first_is_active (gate_of (M.state medium.now)) (M.state medium.now).bytes) }
+{
+    if !is_sized(medium) {
+        return None;
+    }
+    let places = places_of(medium, first);
+    if is_newest_unread(medium, places.active, places.spare) {
+        Some(places)
+    } else {
+        None
+    }
+}
+
+impl<M: Medium> Slots<M> {
+    /// Whether the active slot is the first one, at address 0, and not the second one. It reads nothing.
+    pub fn is_first(&self) -> bool
+        ensures { let m = self.now.medium in result ≡ first_is_active (gate_of m) m.bytes }
+    {
+        self.places.active == 0
+    }
+
+    /// Puts a store together of a medium, the bytes held back, where the puts end, and which slot is active: the first or
+    /// the second one. It does what `from_parts` does, reads the gates and headers alone, and writes nothing.
+    ///
+    /// It is Ok exactly where the parts are a store's, and gates and headers alone tell that the named slot is active:
+    /// it is open, with a well-formed header of version 1, and the other slot is closed, or has a header of version 2
+    /// that no register makes well formed, or is one generation behind.
+    ///
+    /// # Errors
+    ///
+    /// The medium as it was, exactly where it is not so. The parts may be a store's even then: `from_parts` tells.
+    pub fn from_known(
+        medium: M,
+        held: ArrayVec<u8, 256>,
+        end: u32,
+        first: bool,
+    ) -> Result<Slots<M>, M>
+        ensures known { IsOk result ↔
+            (IsActiveUnread (M.state medium) first × HasPuts (store_of (M.state medium) held.items end)) }
+        ensures parts { OnOk result (IsStore (store_of (M.state medium) held.items end)) }
+        ensures store { IfOk result (λ slots. slots ≡ store_of (M.state medium) held.items end) }
+        ensures first { OnOk result (first ≡ first_is_active (gate_of (M.state medium)) (M.state medium).bytes) }
+        ensures err { IfErr result (λ m. m ≡ medium) }
+    {
+        let places = match find_known(&medium, first) {
+            Some(places) => places,
+            None => return Err(medium),
+        };
+        if !has_puts(&medium, &held, end) {
+            return Err(medium);
+        }
+        Ok(Slots {
+            medium,
+            puts: Puts { held, end },
+            places,
+        })
+    }
+}
