@@ -53,7 +53,7 @@ export class Board {
       if (device.configuration === null) await this.within(device.selectConfiguration(device.configurations[0].configurationValue))
       const setting = settingOf(device, this.place)
       await this.within(device.claimInterface(setting.interface))
-      if (isSet || setting.alternate !== 0) await this.set(device, setting)
+      if (isSet || setting.alternate !== 0 || !closesUnheard()) await this.set(device, setting)
       const descriptor = await functionalOf(device, this.clock, setting)
       const ids = { vendor: device.vendorId, product: device.productId, release: releaseOf(device) }
       this.is = { ...setting, ...ids, serial: device.serialNumber ?? '', title: device.productName ?? '', descriptor }
@@ -70,12 +70,14 @@ export class Board {
     return result
   }
 
-  // Where there is one setting a device may stall the request, and stands in it all the same.
+  // Where there is one setting a device may stall the request, and stands in it all the same. Where there are several, a block that
+  // goes to another one is harm.
   async set(device, setting) {
     try {
       await this.within(device.selectAlternateInterface(setting.interface, setting.alternate))
     } catch (error) {
-      if (setting.alternate !== 0 || error.name === 'NotFoundError') throw error
+      const isAlone = settingsOf(device).filter(one => one.interface === setting.interface).length === 1
+      if (!isAlone || error.name === 'NotFoundError') throw error
     }
   }
 

@@ -31,6 +31,8 @@ export class FlashView {
   }
 
   listen() {
+    // The same file may be chosen again, as one that was built anew.
+    by('file').onclick = event => { event.target.value = '' }
     by('file').onchange = event => event.target.files[0] && this.takeFile(event.target.files[0])
     const drop = by('drop')
     drop.ondragover = event => { event.preventDefault(); drop.className = 'over' }
@@ -56,13 +58,18 @@ export class FlashView {
     by('begin').disabled = this.isGoing || !isReady
     by('stop').disabled = !this.isGoing
     by('connect').disabled = this.isGoing || this.usb === undefined
+    by('hint').textContent = this.isGoing ? 'Leave the device plugged in, and this page open.' : isReady ? ''
+      : this.file === null ? 'A file is missing.' : this.board === null ? 'A device is missing.' : ''
     for (const id of ['file', 'verify', 'sure']) by(id).disabled = this.isGoing
   }
 
   // One byte more than a file may have shows the host that it is too large.
   async takeFile(file) {
-    if (this.isGoing) return
-    const bytes = new Uint8Array(await file.slice(0, MOST_FILE + 1).arrayBuffer())
+    const failed = error => say('file-refused', `The file can't be read: ${error.message}`)
+    const buffer = await file.slice(0, MOST_FILE + 1).arrayBuffer().catch(failed)
+    if (this.isGoing || buffer === undefined) return
+    const bytes = new Uint8Array(buffer)
+    by('sure').checked = false
     const said = new Host(this.modules.host, bytes).readFile()
     this.file = { bytes, said }
     by('fields').hidden = true
@@ -75,12 +82,13 @@ export class FlashView {
     this.look()
   }
 
-  // Lets the device go that was connected.
+  // Lets the device go that was connected. That it is the right board, a person says of this one alone.
   forget(text = NOBODY) {
     this.board?.done()
     Object.assign(this, { board: null, refused: false })
     by('device').textContent = text
     by('settings').hidden = by('sure-row').hidden = true
+    by('sure').checked = false
     this.refresh()
   }
 

@@ -5,7 +5,7 @@ export const RECORDS = {
   dfu_ids: 'u16 device, u16 product, u16 vendor',
   dfu_file: 'u64 payload, u32 suffix, u32 crc, u16 device, u16 product, u16 vendor, u16 dfu',
   dfu_session:
-    'u64 number, u64 kept, u32 goal, u32 phase, u32 more, u32 actions, u16 restarts, u16 transfer, u16 detach_ms, ' +
+    'u32 version, u32 goal, u64 number, u64 kept, u32 phase, u32 more, u32 actions, u16 restarts, u16 transfer, u16 detach_ms, ' +
     'u8 tolerant, u8 will_detach',
   dfu_action: 'u32 what, u32 value, u64 from, u64 length, u32 code, u8[8] setup',
   dfu_config:

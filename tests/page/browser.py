@@ -31,30 +31,34 @@ class Handler(http.server.SimpleHTTPRequestHandler):
         Handler.asked.append(self.path)
 
 
-def serve(folder):
-    server = http.server.ThreadingHTTPServer(('127.0.0.1', 0), functools.partial(Handler, directory=folder))
+def serve(folder, port=0):
+    server = http.server.ThreadingHTTPServer(('127.0.0.1', port), functools.partial(Handler, directory=folder))
     threading.Thread(target=server.serve_forever, daemon=True).start()
     return f'http://localhost:{server.server_port}'
 
 
 class Browser:
-    def __init__(self, downloads):
+    def __init__(self, downloads, patience=1, debugger=None):
+        """patience: how many times as long a slow machine is waited for. debugger: the address of a browser that runs already."""
+        self.patience = patience
         self.driver = subprocess.Popen(['chromedriver', '--port=0'], stdout=subprocess.PIPE, stderr=subprocess.STDOUT, text=True)
         line = next(line for line in self.driver.stdout if 'started successfully on port' in line)
         self.at = f"http://127.0.0.1:{re.search(r'port ([0-9]+)', line)[1]}"
         threading.Thread(target=self.driver.stdout.read, daemon=True).start()
         options = {'binary': shutil.which('chromium'), 'args': ARGUMENTS, 'prefs': {'download.default_directory': downloads}}
+        if debugger is not None:
+            options = {'debuggerAddress': debugger}
         wanted = {'browserName': 'chrome', 'goog:chromeOptions': options, 'goog:loggingPrefs': {'browser': 'ALL'}}
         made = self.post('/session', {'capabilities': {'alwaysMatch': wanted}})
         self.at += f"/session/{made['sessionId']}"
-        self.post('/timeouts', {'script': 300000})
+        self.post('/timeouts', {'script': 300000 * patience})
         self.cdp('Browser.setDownloadBehavior', behavior='allow', downloadPath=downloads)
 
     def post(self, path, body=None, method='POST'):
         data = None if method != 'POST' else json.dumps(body or {}).encode()
         request = urllib.request.Request(self.at + path, data=data, method=method, headers={'Content-Type': 'application/json'})
         try:
-            with urllib.request.urlopen(request, timeout=400) as answer:
+            with urllib.request.urlopen(request, timeout=400 * self.patience) as answer:
                 return json.load(answer)['value']
         except urllib.error.HTTPError as error:
             raise RuntimeError(f'{path}: {error.read().decode()[:1000]}') from error
@@ -113,7 +117,7 @@ class Browser:
         return [one['message'] for one in self.post('/se/log', {'type': 'browser'}) if one['level'] in ('SEVERE', 'WARNING')]
 
     def wait(self, script, seconds=30):
-        end = time.time() + seconds
+        end = time.time() + seconds * self.patience
         while time.time() < end:
             found = self.run('return ' + script)
             if found:

@@ -156,6 +156,10 @@ def chooses(browser, address, work):
     is_ready(browser)
     browser.click('#begin')
     check('another target, and the right board', (report(browser), image(browser)), ('Verified', NEW))
+    browser.wait_run('async () => { (await standIn).enterDfuMode(); (await standIn).look() }')
+    browser.click('#connect')
+    browser.wait('document.getElementById("device-refused").textContent.startsWith("WrongTarget")')
+    check('that it is the right board was said of the one before', browser.run('return document.getElementById("sure").checked'), False)
     prepare(browser, address, work, {'alternates': 3, 'setting': 1})
     browser.wait('!document.getElementById("settings").hidden')
     check_that('the settings have names', 'EEPROM' in shown(browser, '#settings'))
@@ -193,6 +197,7 @@ def goes_on(browser, address, work):
 def run(browser, address, work):
     open_page(browser, address)
     check('a Chromium lacks nothing', shown(browser, '#lacks'), '')
+    check('it says what is missing', shown(browser, '#hint'), 'A file is missing.')
     by_mouse(browser, address, work)
     by_keyboard(browser, address, work)
     bad_names(browser, address, work)

@@ -42,6 +42,7 @@ ROWS = [
      'unconfirmed', True),
     ('an application without USB', {'wantsVerified': False, 'settings': {'hasAppUsb': False}}, 'installed', True),
     ('an application without USB, to be compared', {'settings': {'hasAppUsb': False}}, 'gone', True),
+    ('it stalls SET_INTERFACE', {'settings': {'stallsSet': True}}, 'verified', True),
     ('the second of three settings', {'settings': {'alternates': 3, 'setting': 1}, 'place': {'alternate': 1}}, 'verified', True),
 ]
 

@@ -31,6 +31,7 @@ export const USUAL = {
   version: 0x0110,        // bcdDFUVersion
   appDescriptor: null,    // bytes of that of run-time mode, where others
   startsInApp: false,
+  stallsSet: false,       // it stalls SET_INTERFACE
   startsItself: false,    // it leaves behind dfuMANIFEST by itself, and starts its image, as small bootloaders do
   stallsStatus: false,    // an application that stalls GETSTATUS
   hasAppUsb: true,        // false: an application without USB

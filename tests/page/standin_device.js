@@ -76,6 +76,7 @@ export class StandInDevice {
 
   async selectAlternateInterface(number, setting) {
     this.held()
+    if (this.usb.settings.stallsSet) throw failure('NetworkError', 'Unable to set device interface.')
     this.setting = setting
   }
 

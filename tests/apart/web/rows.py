@@ -1,0 +1,144 @@
+"""What runs in the machine: the page over the WebUSB of Chromium and the kernel's USB, against the device of `attached`."""
+import json
+import os
+import pathlib
+import re
+import signal
+import subprocess
+import sys
+import tempfile
+import time
+import urllib.request
+
+sys.path.insert(0, str(pathlib.Path(__file__).resolve().parent.parent.parent / 'page'))
+from browser import ARGUMENTS, Browser, serve
+from files import NEW, OLD, suffixed
+
+PORT = 8123 # as the policy has it
+PATIENCE = 10 # the machine may be an emulated one
+# A headless browser shows no chooser.
+CHOOSE = """
+if (navigator.usb !== undefined) USB.prototype.requestDevice = async function () {
+  const [first] = await this.getDevices()
+  if (first === undefined) throw new DOMException('No device selected.', 'NotFoundError')
+  return first
+}
+"""
+APP = 'USB_START=app'
+# What, settings, whether it is to be compared, the title of the report, the image, the restarts.
+ROWS = [
+    ('in DFU mode', '', True, 'Verified', NEW, 0),
+    ('other identifiers in DFU mode', f'{APP} USB_DFU_IDS=1209:00ff:0100', True, 'Verified', NEW, 0),
+    ('a block is lost', 'USB_FATE=lost-out 1', True, 'Verified', NEW, 0),
+    ('the answer to a block is lost', 'USB_FATE=lost-back 1', True, 'Verified', NEW, 0),
+    ('it leaves at a block', 'USB_FATE=leave 4', True, 'Verified', NEW, 1),
+    ('in run-time mode', APP, True, 'Verified', NEW, 0),
+    ('a block is lost, in the second setting', 'USB_ALTERNATES=3 USB_SETTING=1 USB_FATE=lost-out 1', True, 'Verified', NEW, 1),
+    ('a small bootloader, not compared', 'USB_DEVICE=small USB_ATTRIBUTES=0b', False, 'Sent, not confirmed', NEW, 0),
+    ('it detaches itself', f'{APP} USB_ATTRIBUTES=0f USB_DETACH=50', True, 'Verified', NEW, 0),
+    ('not compared', '', False, 'Installed', NEW, 0),
+    ('not tolerant', 'USB_ATTRIBUTES=03', True, 'Verified', NEW, 0),
+    ('interface 3', 'USB_INTERFACE=3', True, 'Verified', NEW, 0),
+    ('the second of three settings', 'USB_ALTERNATES=3 USB_SETTING=1', True, 'Verified', NEW, 0),
+    ('a status is lost', 'USB_FATE=lost-out 2', True, 'Verified', NEW, 0),
+    ('it leaves at the comparison', 'USB_FATE=leave 19', True, 'Verified', NEW, 1),
+    ('a block comes twice', 'USB_FATE=twice 4', True, 'Verified', NEW, 0),
+    ('a small bootloader', 'USB_DEVICE=small USB_ATTRIBUTES=0b', True, 'Verified', NEW, 0),
+    ('an application that stalls GETSTATUS', f'{APP} USB_APP_STALLS=status', True, 'Verified', NEW, 0),
+    ('U-Boot', 'USB_DEVICE=uboot', True, 'Verified', NEW, 0),
+    ('too small', 'USB_CAPACITY=13', True, 'Refused by the device', OLD, 0),
+]
+
+
+class Device:
+    """The device that `attached` has on the bus, with these settings."""
+    def __init__(self, program, settings, work):
+        self.saved = work / 'saved'
+        self.saved.unlink(missing_ok=True)
+        words = re.findall('(USB_[A-Z_]+)=((?:(?! USB_).)+)', settings)
+        env = {**os.environ, 'USB_IMAGE': str(work / 'old'), 'USB_SAVE': str(self.saved), 'USB_SERIAL': 'F1',
+               **dict(words)}
+        self.process = subprocess.Popen([program], env=env, stdout=subprocess.PIPE, stderr=subprocess.STDOUT, text=True)
+        for _ in range(100):
+            if pathlib.Path('/sys/bus/usb/devices/1-1').exists():
+                break
+            time.sleep(0.1)
+        subprocess.run(['udevadm', 'settle'], check=False)
+
+    def end(self):
+        """The image that it has then, and what it said."""
+        self.process.send_signal(signal.SIGTERM)
+        said = self.process.communicate(timeout=20)[0]
+        return self.saved.read_bytes() if self.saved.exists() else b'', said.strip()
+
+
+# One session, in one call: of a machine that is emulated each call takes its time. The setting that is chosen is the second one.
+SESSION = """async (isCompared, isChosen) => {
+  const by = id => document.getElementById(id)
+  const until = async what => { while (!what()) await new Promise(done => setTimeout(done, 50)) }
+  let log
+  URL.createObjectURL = blob => { log = blob; return 'blob:none' }
+  by('connect').click()
+  if (isChosen) {
+    await until(() => !by('settings').hidden || !by('device-refused').hidden)
+    document.querySelector('#settings label:nth-of-type(2) input').click()
+  }
+  await until(() => !by('begin').disabled || !by('device-refused').hidden)
+  by('verify').checked = isCompared
+  by('begin').click()
+  await until(() => document.querySelector('#report h3') !== null || !by('ask').hidden)
+  by('log').click()
+  const title = by('ask').hidden ? document.querySelector('#report h3').textContent : by('ask').textContent
+  return [title, log === undefined ? '' : await log.text()]
+}"""
+
+
+def row(browser, program, work, words):
+    what, settings, is_compared, title, image, restarts = words
+    device = Device(program, settings, work)
+    found = browser.wait_run(SESSION, is_compared, 'ALTERNATES' in settings)
+    saved, said = device.end()
+    trace = found[1].splitlines()
+    seen = (found[0], saved, sum(' restarted ' in line for line in trace))
+    is_right = seen == (title, image, restarts)
+    print(f'row {"" if is_right else "WRONG: "}{what}: {seen[0]}, restarts {seen[2]} {said}'[:600], flush=True)
+    if not is_right or 'TRACE' in os.environ:
+        print('\n'.join(f'row   {line}' for line in [repr(saved), *trace]), flush=True)
+    return is_right
+
+
+def start_browser(work):
+    """A Chromium that takes its time: chromedriver waits for one that it starts by itself for a minute at most."""
+    words = ['chromium', *ARGUMENTS, '--remote-debugging-port=9222', f'--user-data-dir={work}/profile', 'about:blank']
+    with open(work / 'chromium.log', 'w', encoding='utf-8') as log:
+        started = subprocess.Popen(words, stdout=log, stderr=log)
+    for _ in range(600):
+        try:
+            with urllib.request.urlopen('http://127.0.0.1:9222/json/version', timeout=60) as answer:
+                print(f'row {json.load(answer)["Browser"]}', flush=True)
+                return Browser(str(work), PATIENCE, '127.0.0.1:9222')
+        except OSError:
+            if started.poll() is not None:
+                break
+            time.sleep(1)
+    print('\n'.join(f'row {line}' for line in (work / 'chromium.log').read_text().splitlines()[-20:]), flush=True)
+    raise SystemExit('Chromium does not start')
+
+
+def main(page, program):
+    work = pathlib.Path(tempfile.mkdtemp())
+    (work / 'old').write_bytes(OLD)
+    (work / 'new.dfu').write_bytes(suffixed(NEW))
+    browser = start_browser(work)
+    browser.cdp('Page.addScriptToEvaluateOnNewDocument', source=CHOOSE)
+    address = serve(page, PORT)
+    browser.open(f'{address}/index.html#flash')
+    browser.wait('document.body.dataset.ready')
+    browser.type('#file', str(work / 'new.dfu'))
+    browser.wait('!document.getElementById("fields").hidden')
+    right = [row(browser, program, work, words) for words in ROWS]
+    browser.quit()
+    print(f'{sum(right)} passed, {len(right) - sum(right)} failed', flush=True)
+
+
+main(sys.argv[1], sys.argv[2])
