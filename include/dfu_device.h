@@ -17,7 +17,9 @@
  * - The configuration is the same in every call.
  * - The record and the medium are as the last call left them. A record begins with dfu_device_power_on.
  * Then each call is a row of Fustrelan's device table. Where a program keeps the record or the medium otherwise, a call
- * takes the device that they are now, or refuses. No call fails in another way, whatever they hold.
+ * takes the device that they are now, or refuses. No call fails in another way, whatever they hold. The register over the
+ * active image was checked when the device got power or the image was put in place: bytes of it that change later show at
+ * the next dfu_device_power_on, and no call before that refuses them.
  *
  * The loop of a bootloader:
  *
@@ -45,9 +47,9 @@
  *   the table, one in dfuIDLE leads to appIDLE.
  * - The medium is written in the dfu_device_elapse that ends the busy or the manifestation time. Where that time is 0, it
  *   is written in the dfu_device_handle that answers GETSTATUS. A DNLOAD writes nothing.
- * - Each call that is given a medium reads the whole active image, to check it. Until the next download writes its first
- *   block, it reads the image before it too. The call that puts an image in place reads the new one, and then both again.
- *   So report time in few calls: one with what dfu_device_due says will do.
+ * - dfu_device_power_on, dfu_device_begin and dfu_device_image read the whole active image, to check it, and the image
+ *   before it too until the next download writes its first block. The call that puts an image in place reads the new one
+ *   twice. No other call reads an image, as long as the record is as the last call left it.
  * - The host waits for the poll time after the answer to GETSTATUS. Report busy_ms or manifest_ms right after that answer:
  *   the medium is then written while the host waits, and not when it asks again.
  * - Where a block device keeps the medium, choose C so that no sector has bytes of both slots: 32 + C is a multiple of the
@@ -105,10 +107,12 @@ struct dfu_config {
  * 12    dfuERROR (10)                          -                -       the status code, 0 to 15
  *
  * ms: how many milliseconds passed in the state. put_end: how many bytes were put in the spare slot. block: in modes 3 and
- * 5 its first length bytes are the block that is not written yet. */
+ * 5 its first length bytes are the block that is not written yet. slot and header: which slot the last call found to be the
+ * active one, 0 or 1, and the 16 bytes of its header, as they stood on the medium. */
 struct dfu_device {
-    uint32_t mode, first, second, put_end;
+    uint32_t mode, first, second, put_end, slot;
     uint16_t number, length;
+    uint8_t header[16];
     uint8_t block[4096];
 };
 

@@ -14,6 +14,21 @@ static uint32_t roll(uint32_t sides) {
     return (dice >> 8) % sides;
 }
 
+/* Whether a header is of version 2 with a length that fits. */
+static int is_formed(const uint8_t *header) {
+    return header[1] == 2 && !header[2] && !header[3] && !header[12] && !header[13] && !header[14] && !header[15]
+        && (header[4] | header[5] << 8 | header[6] << 16 | (uint32_t)header[7] << 24) <= 64;
+}
+
+/* Whether the first of two slots is the active one by gates and headers alone. */
+static int is_newest(const uint8_t *mine, const uint8_t *other) {
+    if (mine[0] != 0xa5 || !is_formed(mine + 16))
+        return 0;
+    if (other[0] != 0xa5 || (other[17] == 2 && !is_formed(other + 16)))
+        return 1;
+    return mine[16] == (uint8_t)(other[16] + 1);
+}
+
 int main(int count, char **words) {
     /* A guard on both sides of each. */
     static uint8_t field[64 + 192 + 64], given[64 + 8 + 64], start[192], field_before[sizeof field], given_before[sizeof given];
@@ -35,9 +50,12 @@ int main(int count, char **words) {
         /* The spare's gate is closed in one of two, so that bytes may stand there. */
         if (roll(2))
             medium[96] = 0;
-        *record = (struct dfu_device){roll(14), roll(12), roll(20), roll(12), (uint16_t)roll(18), (uint16_t)roll(10), {0}};
+        *record = (struct dfu_device){roll(14), roll(12), roll(20), roll(12), roll(3), (uint16_t)roll(18), (uint16_t)roll(10), {0}, {0}};
+        /* Two of three note a header that stands on the medium. */
+        if (roll(3))
+            memcpy(record->header, medium + (record->slot ? 96 : 0) + 16, 16);
         if (roll(4) == 0)
-            ((uint8_t *)record)[roll(20)] = (uint8_t)roll(256);
+            ((uint8_t *)record)[roll(40)] = (uint8_t)roll(256);
         /* One of sixteen is refused for the room, one for the configuration, and one for both. */
         struct dfu_config used = config;
         uint32_t fault = roll(16);
@@ -62,6 +80,11 @@ int main(int count, char **words) {
         if (result < -1 && (memcmp(field_before, field, sizeof field) != 0 || memcmp(given_before, given, sizeof given) != 0
             || memcmp(&record_before, record, sizeof *record) != 0))
             return printf("garbled: call %ld was refused with %d and changed something\n", call, (int)result), 1;
+        /* The slot that the record notes is not written, where it stands there as the active one. */
+        size_t slot = record_before.slot ? 96 : 0, spare = 96 - slot;
+        if (result >= -1 && is_newest(field_before + 64 + slot, field_before + 64 + spare)
+            && memcmp(record_before.header, field_before + 64 + slot + 16, 16) == 0 && memcmp(field_before + 64 + slot, medium + slot, 96) != 0)
+            return printf("garbled: call %ld wrote in the active slot\n", call), 1;
         if (result < DFU_NO_ROOM || result > 8)
             return printf("garbled: call %ld answered %d\n", call, (int)result), 1;
         for (size_t i = 0; i < 64; i++)

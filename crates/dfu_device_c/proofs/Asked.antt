@@ -19,8 +19,8 @@ use Rattle.dfu_device.specs.Shown.{Shown, profile}
 use Rattle.dfu_device.specs.Parts.{stage_of, is_sound}
 use Rattle.dfu_device.specs.Rows.{Done, handled_as, meant, asked_length, body_length, setup_plan}
 use Rattle.dfu_device_c.specs.declared.record.DfuDevice.{DfuDevice}
-use Rattle.dfu_device_c.specs.Record.{HasMode, block_in}
-use Rattle.dfu_device_c.specs.Device.{IsDevice, store_in}
+use Rattle.dfu_device_c.specs.Record.{HasMode, block_in, store_in}
+use Rattle.dfu_device_c.specs.Device.{IsDevice}
 use Rattle.dfu_device_c.specs.Stalls.{stalls, HasLimits, HoldsWritten, HasLength, SaysStall, ToldStall}
 use Rattle.dfu_device_c.proofs.StallPlans.{done_stall, done_other}
 use Rattle.dfu_device_c.proofs.LongPlans.{plan_other}

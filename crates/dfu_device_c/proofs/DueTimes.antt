@@ -12,8 +12,7 @@ use Rattle.dfu_device.specs.Shown.{Shown, profile}
 use Rattle.dfu_device.specs.Parts.{stage_of}
 use Rattle.dfu_device.specs.Rows.{Done}
 use Rattle.dfu_device_c.specs.declared.record.DfuDevice.{DfuDevice}
-use Rattle.dfu_device_c.specs.Record.{HasMode, block_in}
-use Rattle.dfu_device_c.specs.Device.{store_in}
+use Rattle.dfu_device_c.specs.Record.{HasMode, block_in, store_in}
 use Rattle.dfu_device_c.specs.Due.{due_of, IsDue, ToldDue}
 
 -- Some time passed.

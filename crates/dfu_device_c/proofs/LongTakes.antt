@@ -18,8 +18,8 @@ use Rattle.dfu_device.specs.Shown.{Shown, profile}
 use Rattle.dfu_device.specs.Parts.{shows, stage_of, is_filled}
 use Rattle.dfu_device.specs.Rows.{Done, Handles, handled_as, body_length}
 use Rattle.dfu_device_c.specs.declared.record.DfuDevice.{DfuDevice}
-use Rattle.dfu_device_c.specs.Record.{HasMode, block_in}
-use Rattle.dfu_device_c.specs.Device.{IsDevice, Takes, store_in}
+use Rattle.dfu_device_c.specs.Record.{HasMode, block_in, store_in}
+use Rattle.dfu_device_c.specs.Device.{IsDevice, Takes}
 use Rattle.dfu_device_c.specs.Long.{after_long, TakesLong}
 use Rattle.dfu_device_c.proofs.LongPlans.{plan_other, plan_long}
 use Rattle.dfu_device_c.proofs.Standing.{moved_device}

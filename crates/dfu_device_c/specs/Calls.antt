@@ -9,14 +9,14 @@ use Rattle.dfu_device.specs.Lent.{answer_room}
 use Rattle.dfu_device_c.specs.declared.record.DfuDevice.{DfuDevice}
 use Rattle.dfu_device_c.specs.declared.refusal.Refusal.{Refusal}
 use Rattle.dfu_device_c.specs.Record.{HasMode}
-use Rattle.dfu_device_c.specs.Device.{IsRefused, Takes}
+use Rattle.dfu_device_c.specs.Device.{IsRefusedSeen, Takes}
 use Rattle.dfu_device_c.specs.Numbers.{refusal_number, answer_number, NO_CONFIG, NO_DEVICE, NO_ROOM}
 
 -- A call with this number was refused, and left the record and the medium as they were.
 pub record Refuses (s : Setting) (r : DfuDevice) (bytes : List ℕ) (result : ℤ) (r' : DfuDevice) (bytes' : List ℕ) : Type 0 where
   pub refusal : Refusal
   pub number_is : result ≡ refusal_number refusal
-  pub refused : IsRefused refusal s r bytes
+  pub refused : IsRefusedSeen refusal s r bytes
   pub unchanged : r' ≡ r
   pub untouched : bytes' ≡ bytes
 

@@ -1,6 +1,7 @@
 pub mod Config
 pub mod Memory
 pub mod Record
+pub mod Noted
 pub mod Device
 pub mod Numbers
 pub mod Calls

@@ -12,6 +12,7 @@ use Rattle.dfu_device.specs.Shown.{powered_on}
 use Rattle.dfu_device_c.specs.declared.record.DfuDevice.{DfuDevice}
 use Rattle.dfu_device_c.specs.declared.place.DfuPlace.{DfuPlace}
 use Rattle.dfu_device_c.specs.Memory.{memory_of}
+use Rattle.dfu_device_c.specs.Noted.{Notes}
 use Rattle.dfu_device_c.specs.Device.{IsDevice, IsNoMedium}
 use Rattle.dfu_device_c.specs.Numbers.{NO_CONFIG, NO_MEDIUM, format_number}
 
@@ -40,12 +41,14 @@ pub record RefusesFormat (bytes image : List ℕ) (result : ℤ) (bytes' : List 
 pub record Powers (s : Setting) (bytes : List ℕ) (result : ℤ) (r' : DfuDevice) (bytes' : List ℕ) : Type 0 where
   pub number_is : result ≡ pos 0
   pub is : IsDevice s r' bytes (powered_on s (memory_of bytes))
+  pub notes : Notes r' bytes bytes
   pub untouched : bytes' ≡ bytes
 
 -- A device got power and began in dfuIDLE on this medium, which stands as it did.
 pub record Begins (s : Setting) (bytes : List ℕ) (result : ℤ) (r' : DfuDevice) (bytes' : List ℕ) : Type 0 where
   pub number_is : result ≡ pos 0
   pub is : IsDevice s r' bytes (record (powered_on s (memory_of bytes)) { stage = InDfuIdle })
+  pub notes : Notes r' bytes bytes
   pub untouched : bytes' ≡ bytes
 
 -- No device got power: the configuration is not allowed, or else the medium has no image. All stands as it did.

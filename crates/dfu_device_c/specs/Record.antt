@@ -1,9 +1,11 @@
 -- What a program in C keeps of a device between two calls.
-use Rattle.std.specs.Prelude.{◌≡◌, ℕ, List, take}
+use Rattle.std.specs.Prelude.{◌≡◌, ℕ, List, [], take}
 use Rattle.dfu_wire.specs.Code.{code_byte}
+use Rattle.dfu_slots.specs.Seen.{SlotsState, store_of}
 use Rattle.dfu_device.specs.declared.mode.Mode.{Mode}
 use Rattle.dfu_device.specs.declared.mode.Mode.TheVariants as mode
 use Rattle.dfu_device_c.specs.declared.record.DfuDevice.{DfuDevice}
+use Rattle.dfu_device_c.specs.Memory.{memory_of}
 
 -- The record has this mode: its number, and the numbers that the mode keeps. Those it does not keep may be anything.
 abbrev pub HasMode : DfuDevice → Mode → Type 0
@@ -24,3 +26,7 @@ HasMode r (mode.Error code) = (r.mode ≡ 12) × (code_byte code ≡ r.number)
 -- The block of a record that is not written.
 abbrev pub block_in : DfuDevice → List ℕ
 block_in r = take r.length r.block
+
+-- The slot store of a record over these bytes.
+abbrev pub store_in : DfuDevice → List ℕ → SlotsState
+store_in r bytes = store_of (memory_of bytes) [] r.put_end

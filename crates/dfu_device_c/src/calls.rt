@@ -1,14 +1,17 @@
 //! The calls for a device, over what is kept of it.
-ghost use Rattle.std.specs.Prelude.{◌≡◌, ◌≤◌, length, IfOk, IfErr, OnErr, OnOk};
+ghost use Rattle.std.specs.Prelude.{◌≡◌, ◌≤◌, false, length, IfOk, IfErr, OnErr, OnOk};
 ghost use Rattle.dfu_device.specs.Setting.{IsAllowed};
 ghost use Rattle.dfu_device.specs.Lent.{answer_room};
 ghost use Rattle.dfu_device.specs.Rows.{Handles, Elapses};
 ghost use Rattle.dfu_device.specs.Table.{reset_stage};
-ghost use Rattle.dfu_device_c.specs.Device.{IsRefused, Takes};
+ghost use Rattle.dfu_device_c.specs.Memory.{is_on};
+ghost use Rattle.dfu_device_c.specs.Noted.{On};
+ghost use Rattle.dfu_device_c.specs.Device.{IsRefusedSeen, Takes};
 ghost use Rattle.dfu_device_c.specs.Calls.{Handled};
 
 use crate::keeping::{keep, open, stand, started};
 use crate::memory::Memory;
+use crate::noted::note;
 use crate::record::DfuDevice;
 use crate::refusal::Refusal;
 use dfu_device::{Answer, Config};
@@ -23,10 +26,11 @@ pub(crate) fn handle(
     out: &mut [u8],
 ) -> Result<(Answer, usize), Refusal>
     requires allowed { IsAllowed setting }
+    requires plain { is_on memory.old.cover ≡ false }
     requires room { answer_room setting ≤ length out.old }
-    ensures row { IfOk result (λ r. Handled setting kept.old memory.old.bytes.now out.old
-        (λ a sent d d'. Handles setup.now body.now d a sent d') r.0 r.1 kept.new memory.new.bytes.now out.new) }
-    ensures err { IfErr result (λ e. IsRefused e setting kept.old memory.old.bytes.now) }
+    ensures row { IfOk result (λ r. On kept.old memory.old.bytes.now kept.new memory.new.bytes.now
+        (λ b b'. Handled setting kept.old b out.old (λ a sent d d'. Handles setup.now body.now d a sent d') r.0 r.1 kept.new b' out.new)) }
+    ensures err { IfErr result (λ e. IsRefusedSeen e setting kept.old memory.old.bytes.now) }
     ensures unchanged { OnErr result ((kept.new ≡ kept.old) × (memory.new.bytes.now ≡ memory.old.bytes.now) × (out.new ≡ out.old)) }
     ensures name { memory.new.bytes.ghost_name ≡ memory.old.bytes.ghost_name }
 {
@@ -39,8 +43,9 @@ pub(crate) fn handle(
     let Some((answer, count)) = device.handle_into(setup, body, out) else {
         unreachable!()
     };
-    keep(&device, kept);
+    let first = keep(&device, kept);
     *memory = device.into_medium();
+    note(kept, memory, first);
     Ok((answer, count))
 }
 
@@ -52,8 +57,10 @@ pub(crate) fn elapse(
     ms: u32,
 ) -> Result<(), Refusal>
     requires allowed { IsAllowed setting }
-    ensures row { OnOk result (Takes setting kept.old memory.old.bytes.now (Elapses ms) kept.new memory.new.bytes.now) }
-    ensures err { IfErr result (λ e. IsRefused e setting kept.old memory.old.bytes.now) }
+    requires plain { is_on memory.old.cover ≡ false }
+    ensures row { OnOk result (On kept.old memory.old.bytes.now kept.new memory.new.bytes.now
+        (λ b b'. Takes setting kept.old b (Elapses ms) kept.new b')) }
+    ensures err { IfErr result (λ e. IsRefusedSeen e setting kept.old memory.old.bytes.now) }
     ensures unchanged { OnErr result ((kept.new ≡ kept.old) × (memory.new.bytes.now ≡ memory.old.bytes.now)) }
     ensures name { memory.new.bytes.ghost_name ≡ memory.old.bytes.ghost_name }
 {
@@ -64,8 +71,9 @@ pub(crate) fn elapse(
         return Err(Refusal::NoDevice);
     }
     device.elapse(ms);
-    keep(&device, kept);
+    let first = keep(&device, kept);
     *memory = device.into_medium();
+    note(kept, memory, first);
     Ok(())
 }
 
@@ -76,9 +84,10 @@ pub(crate) fn usb_reset(
     memory: &mut Memory<'_>,
 ) -> Result<(), Refusal>
     requires allowed { IsAllowed setting }
-    ensures row { OnOk result (Takes setting kept.old memory.old.bytes.now
-        (λ d d'. d' ≡ record d { stage = reset_stage d.stage }) kept.new memory.new.bytes.now) }
-    ensures err { IfErr result (λ e. IsRefused e setting kept.old memory.old.bytes.now) }
+    requires plain { is_on memory.old.cover ≡ false }
+    ensures row { OnOk result (On kept.old memory.old.bytes.now kept.new memory.new.bytes.now
+        (λ b b'. Takes setting kept.old b (λ d d'. d' ≡ record d { stage = reset_stage d.stage }) kept.new b')) }
+    ensures err { IfErr result (λ e. IsRefusedSeen e setting kept.old memory.old.bytes.now) }
     ensures unchanged { OnErr result ((kept.new ≡ kept.old) × (memory.new.bytes.now ≡ memory.old.bytes.now)) }
     ensures name { memory.new.bytes.ghost_name ≡ memory.old.bytes.ghost_name }
 {
@@ -89,7 +98,8 @@ pub(crate) fn usb_reset(
         return Err(Refusal::NoDevice);
     }
     device.usb_reset();
-    keep(&device, kept);
+    let first = keep(&device, kept);
     *memory = device.into_medium();
+    note(kept, memory, first);
     Ok(())
 }

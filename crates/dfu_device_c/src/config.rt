@@ -34,6 +34,7 @@ pub struct DfuConfig {
 }
 
 /// Whether a device can be set up so.
+#[inline(never)]
 pub(crate) fn is_allowed(config: &DfuConfig) -> bool
     ensures yes { IsTrue result → IsAllowed (setting_of config.now) }
     ensures no { IsTrue (not result) → ¬ IsAllowed (setting_of config.now) }

@@ -4,11 +4,13 @@ ghost use Rattle.dfu_device.specs.Rows.{Handles, Elapses};
 ghost use Rattle.dfu_device.specs.Table.{reset_stage};
 ghost use Rattle.dfu_device.specs.Lent.{answer_room};
 ghost use Rattle.dfu_device_c.specs.Config.{setting_of};
+ghost use Rattle.dfu_device_c.specs.Noted.{On};
 ghost use Rattle.dfu_device_c.specs.Numbers.{answer_number, NO_ROOM};
 ghost use Rattle.dfu_device_c.specs.Calls.{Refuses, Goes, Answered, HasNoRoom};
 
 use crate::calls;
 use crate::config::{DfuConfig, config_of};
+use crate::cover::Cover;
 use crate::memory::{Memory, is_short};
 use crate::record::DfuDevice;
 use dfu_device::Answer;
@@ -44,8 +46,8 @@ pub extern "C" fn dfu_device_handle(
     out: &mut [u8],
 ) -> i32
     ensures outcome { let s = setting_of config.now in
-        Answered s device.old medium.old out.old (λ a sent d d'. Handles setup.now body.now d a sent d')
-        result device.new medium.new out.new
+        On device.old medium.old device.new medium.new (λ b b'. Answered s device.old b out.old
+        (λ a sent d d'. Handles setup.now body.now d a sent d') result device.new b' out.new)
         ⊎ (Refuses s device.old medium.old result device.new medium.new × (out.new ≡ out.old))
         ⊎ HasNoRoom s device.old medium.old out.old result device.new medium.new out.new }
     ensures short { length out.old < answer_room (setting_of config.now) → result ≡ NO_ROOM }
@@ -59,7 +61,10 @@ pub extern "C" fn dfu_device_handle(
     if !is_short(medium) {
         return -3;
     }
-    let mut memory = Memory { bytes: medium };
+    let mut memory = Memory {
+        bytes: medium,
+        cover: Cover::NONE,
+    };
     match calls::handle(setting, device, &mut memory, setup, body, out) {
         Ok((answer, count)) => number_of(answer, count),
         Err(refusal) => refusal.number(),
@@ -75,7 +80,7 @@ pub extern "C" fn dfu_device_elapse(
     ms: u32,
 ) -> i32
     ensures outcome { let s = setting_of config.now in
-        Goes s device.old medium.old (Elapses ms) result device.new medium.new
+        On device.old medium.old device.new medium.new (λ b b'. Goes s device.old b (Elapses ms) result device.new b')
         ⊎ Refuses s device.old medium.old result device.new medium.new }
 {
     let Some(setting) = config_of(config) else {
@@ -84,7 +89,10 @@ pub extern "C" fn dfu_device_elapse(
     if !is_short(medium) {
         return -3;
     }
-    let mut memory = Memory { bytes: medium };
+    let mut memory = Memory {
+        bytes: medium,
+        cover: Cover::NONE,
+    };
     match calls::elapse(setting, device, &mut memory, ms) {
         Ok(_) => 0,
         Err(refusal) => refusal.number(),
@@ -99,7 +107,8 @@ pub extern "C" fn dfu_device_usb_reset(
     medium: &mut [u8],
 ) -> i32
     ensures outcome { let s = setting_of config.now in
-        Goes s device.old medium.old (λ d d'. d' ≡ record d { stage = reset_stage d.stage }) result device.new medium.new
+        On device.old medium.old device.new medium.new (λ b b'. Goes s device.old b
+        (λ d d'. d' ≡ record d { stage = reset_stage d.stage }) result device.new b')
         ⊎ Refuses s device.old medium.old result device.new medium.new }
 {
     let Some(setting) = config_of(config) else {
@@ -108,7 +117,10 @@ pub extern "C" fn dfu_device_usb_reset(
     if !is_short(medium) {
         return -3;
     }
-    let mut memory = Memory { bytes: medium };
+    let mut memory = Memory {
+        bytes: medium,
+        cover: Cover::NONE,
+    };
     match calls::usb_reset(setting, device, &mut memory) {
         Ok(_) => 0,
         Err(refusal) => refusal.number(),

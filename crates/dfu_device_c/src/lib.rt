@@ -4,10 +4,13 @@
 mod asking;
 mod calls;
 mod config;
+mod cover;
 mod exports;
 mod keeping;
+pub mod laws;
 mod long;
 mod memory;
+mod noted;
 mod place;
 mod power;
 mod record;

@@ -1,5 +1,5 @@
 //! What a program in C does to a medium, and to a device that gets power.
-ghost use Rattle.std.specs.Prelude.{◌≡◌, ◌≢◌, ◌⊎◌, [], IfErr, OnOk, OnErr};
+ghost use Rattle.std.specs.Prelude.{◌≡◌, ◌≢◌, ◌⊎◌, false, [], IfErr, OnOk, OnErr};
 ghost use Rattle.dfu_slots.specs.declared.fault.FormatFault.{FormatFault};
 ghost use Rattle.dfu_slots.specs.Image.{HasImage};
 ghost use Rattle.dfu_slots.specs.Changes.{IsFormatFault};
@@ -7,14 +7,17 @@ ghost use Rattle.dfu_device.specs.Setting.{Setting, IsAllowed};
 ghost use Rattle.dfu_device.specs.Parts.{stage_of};
 ghost use Rattle.dfu_device.specs.Shown.{powered_on};
 ghost use Rattle.dfu_device_c.specs.Config.{setting_of};
-ghost use Rattle.dfu_device_c.specs.Memory.{memory_of};
+ghost use Rattle.dfu_device_c.specs.Memory.{memory_of, is_on};
+ghost use Rattle.dfu_device_c.specs.Noted.{Notes};
 ghost use Rattle.dfu_device_c.specs.Device.{IsDevice};
 ghost use Rattle.dfu_device_c.specs.Calls.{IsBack};
 ghost use Rattle.dfu_device_c.specs.Numbers.{format_number};
 ghost use Rattle.dfu_device_c.specs.Power.{Formats, Powers, Begins, Stands, RefusesFormat, RefusesPower, RefusesPlace, IsFormatted, IsThere};
 
 use crate::config::{DfuConfig, is_allowed};
+use crate::cover::Cover;
 use crate::memory::{Memory, is_short, take};
+use crate::noted::note;
 use crate::place::DfuPlace;
 use crate::record::{DfuDevice, set_block, set_mode};
 use dfu_device::Mode;
@@ -33,6 +36,7 @@ fn number_of(fault: FormatFault) -> i32
 
 // `Slots::format`.
 fn format(memory: &mut Memory<'_>, image: &[u8]) -> Result<(), FormatFault>
+    requires plain { is_on memory.old.cover ≡ false }
     ensures ok { OnOk result (IsFormatted memory.old.bytes.now image.now memory.new.bytes.now) }
     ensures err { IfErr result (λ f. (f ≢ FormatFault.Failed) × IsFormatFault f (memory_of memory.old.bytes.now) image.now) }
     ensures unchanged { OnErr result (memory.new.bytes.now ≡ memory.old.bytes.now) }
@@ -60,7 +64,10 @@ pub extern "C" fn dfu_device_format(medium: &mut [u8], image: &[u8]) -> i32
     if !is_short(medium) {
         return -3;
     }
-    let mut memory = Memory { bytes: medium };
+    let mut memory = Memory {
+        bytes: medium,
+        cover: Cover::NONE,
+    };
     match format(&mut memory, image) {
         Ok(_) => 0,
         Err(fault) => number_of(fault),
@@ -70,9 +77,11 @@ pub extern "C" fn dfu_device_format(medium: &mut [u8], image: &[u8]) -> i32
 // A device gets power on this memory, if that has an image, and stands in one of these two modes. No `Device` is made, which takes
 // a block of 4,096 bytes of the stack.
 fn power_on(device: &mut DfuDevice, memory: &mut Memory<'_>, mode: Mode) -> Result<(), ()>
-    requires { (mode ≡ Mode.AppIdle) ⊎ (mode ≡ Mode.DfuIdle) }
+    requires mode { (mode ≡ Mode.AppIdle) ⊎ (mode ≡ Mode.DfuIdle) }
+    requires plain { is_on memory.old.cover ≡ false }
     ensures ok { OnOk result ((s : Setting) → IsAllowed s → IsDevice s device.new memory.old.bytes.now
         (record (powered_on s (memory_of memory.old.bytes.now)) { stage = stage_of mode [] [] })) }
+    ensures notes { OnOk result (Notes device.new memory.old.bytes.now memory.old.bytes.now) }
     ensures err { OnErr result (¬ HasImage (memory_of memory.old.bytes.now)) }
     ensures unchanged { OnErr result (device.new ≡ device.old) }
     ensures back { IsBack memory.old.bytes memory.new.bytes }
@@ -82,7 +91,11 @@ fn power_on(device: &mut DfuDevice, memory: &mut Memory<'_>, mode: Mode) -> Resu
             set_block(device, &[]);
             set_mode(device, mode);
             device.put_end = slots.put_end();
+            // Called for its clause `image`, which says that two slots have room.
+            let _ = slots.capacity();
+            let first = slots.is_first();
             *memory = slots.into_medium();
+            note(device, memory, first);
             Ok(())
         }
         Err(refused) => {
@@ -110,7 +123,10 @@ pub extern "C" fn dfu_device_power_on(
     if !is_short(medium) {
         return -3;
     }
-    let mut memory = Memory { bytes: medium };
+    let mut memory = Memory {
+        bytes: medium,
+        cover: Cover::NONE,
+    };
     match power_on(device, &mut memory, Mode::AppIdle) {
         Ok(_) => 0,
         Err(_) => -3,
@@ -134,7 +150,10 @@ pub extern "C" fn dfu_device_begin(
     if !is_short(medium) {
         return -3;
     }
-    let mut memory = Memory { bytes: medium };
+    let mut memory = Memory {
+        bytes: medium,
+        cover: Cover::NONE,
+    };
     match power_on(device, &mut memory, Mode::DfuIdle) {
         Ok(_) => 0,
         Err(_) => -3,
@@ -143,6 +162,7 @@ pub extern "C" fn dfu_device_begin(
 
 // Where the active image stands in this memory, if there is one.
 fn find(memory: &mut Memory<'_>, place: &mut DfuPlace) -> Result<(), ()>
+    requires plain { is_on memory.old.cover ≡ false }
     ensures ok { OnOk result (IsThere memory.old.bytes.now place.new) }
     ensures err { OnErr result (¬ HasImage (memory_of memory.old.bytes.now)) }
     ensures unchanged { OnErr result (place.new ≡ place.old) }
@@ -172,7 +192,10 @@ pub extern "C" fn dfu_device_image(medium: &mut [u8], place: &mut DfuPlace) -> i
     if !is_short(medium) {
         return -3;
     }
-    let mut memory = Memory { bytes: medium };
+    let mut memory = Memory {
+        bytes: medium,
+        cover: Cover::NONE,
+    };
     match find(&mut memory, place) {
         Ok(_) => 0,
         Err(_) => -3,

@@ -34,10 +34,14 @@ pub struct DfuDevice {
     pub second: u32,
     /// Where the puts end in the spare slot.
     pub put_end: u32,
+    /// Which slot was found to be the active one: 0 the first, 1 the second.
+    pub slot: u32,
     /// The number of the next block, or the status code.
     pub number: u16,
     /// How many bytes the block has, 0 to 4,096.
     pub length: u16,
+    /// The header of the active slot, as it stood on the medium.
+    pub header: [u8; 16],
     /// The block that is not written.
     pub block: [u8; 4096],
 }
@@ -56,7 +60,8 @@ fn code_of(number: u16) -> Option<Code>
     }
 }
 
-// The mode of a record, where it has one.
+/// The mode of a record, where it has one.
+#[inline(never)]
 pub(crate) fn mode_of(kept: &DfuDevice) -> Option<Mode>
     ensures some { IfSome result (λ m. HasMode kept.now m) }
     ensures only { (m : Mode) → HasMode kept.now m → result ≡ Some m }
@@ -143,6 +148,7 @@ fn numbers_of(mode: Mode) -> (u32, u32, u32, u16)
 }
 
 /// Writes a mode into a record.
+#[inline(never)]
 pub(crate) fn set_mode(kept: &mut DfuDevice, mode: Mode)
     ensures mode { HasMode kept.new mode }
     ensures others { kept.new ≡ record kept.old {
@@ -159,9 +165,9 @@ pub(crate) fn set_mode(kept: &mut DfuDevice, mode: Mode)
     kept.number = number;
 }
 
-// Copies bytes: a function of its own, in which the compiler knows that they don't overlap.
+/// Copies bytes: a function of its own, in which the compiler knows that they don't overlap.
 #[inline(never)]
-fn copy(to: &mut [u8], from: &[u8])
+pub(crate) fn copy(to: &mut [u8], from: &[u8])
     requires { length to.old ≡ length from.now }
     ensures { to.new ≡ from.now }
 {

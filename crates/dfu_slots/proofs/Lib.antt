@@ -2,7 +2,7 @@ mod AfterBegin
 mod AfterCall
 mod AfterCommit
 mod AfterPut
-mod Begun
+pub mod Begun
 mod Commit
 mod Committed
 mod Comparing
@@ -11,26 +11,26 @@ mod Filled
 mod Formatted
 mod Formatting
 mod Kept
-mod Unread
-mod Newest
+pub mod Unread
+pub mod Newest
 mod Opening
-mod Parts
+pub mod Parts
 mod Pieces
-mod Put
+pub mod Put
 mod PutSteps
 mod Refused
 mod Registering
 mod Seeing
-mod Series
+pub mod Series
 mod Simulated
 mod SlotOpened
 mod SpareData
 mod SpareOpened
-mod Stands
+pub mod Stands
 mod Stays
-mod Torn
+pub mod Torn
 mod Unique
-mod Multiples
+pub mod Multiples
 mod Within
 mod ReadBack
 mod Written

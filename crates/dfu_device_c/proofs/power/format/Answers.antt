@@ -1,10 +1,11 @@
-use Rattle.std.proofs.Common.{◌∙◌, ap, sym, subst, []}
-use Rattle.dfu_slots.specs.Medium.{AllWrites}
+use Rattle.std.proofs.Common.{◌≡◌, ◌∙◌, sym, subst, []}
+use Rattle.dfu_slots.specs.Medium.{AllWrites, MediumState}
 use Rattle.dfu_slots.specs.Image.{Active}
 use Rattle.dfu_slots.specs.Seen.{format_series}
 use Rattle.dfu_slots.specs.Tagged.{active_tagged, all_tagged, all_writes_tagged}
-use Rattle.dfu_device_c.specs.Memory.{memory_at}
-use Rattle.dfu_device_c.proofs.Standing.{back_name}
+use Rattle.dfu_device_c.specs.Memory.{memory_at, lent}
+use Rattle.dfu_device_c.proofs.Opening.{memory_off}
+use Rattle.dfu_device_c.proofs.Standing.{back_name, comes_plain}
 use Rattle.dfu_device_c.proofs.power.format.Goals as goal
 
 pub returns-in-Ok-clause-ok : goal.returns-in-Ok-clause-ok
@@ -12,16 +13,28 @@ returns-in-Ok-clause-ok c =
     let image = c.args.image.now in
     let old = c.args.memory.now.bytes in
     let new = c.into_medium.result.bytes in
+    let cover = c.into_medium.result.cover in
+    let lend = lent old.now old.ghost_name [] in
+    let taken : memory_at c.take.result.bytes c.take.result.cover ≡ lend =
+    (λ i. memory_at (c.take.ensures.bytes i) (c.take.ensures.cover i)) ∙ memory_off old c.args.memory.now.cover c.requires.plain in
+    let writes : AllWrites lend (format_series lend image) c.in-Ok.slots.medium =
+    subst (λ (m : MediumState). AllWrites m (format_series m image) c.in-Ok.slots.medium) taken c.in-Ok.ensures.writes in
+    let off = comes_plain old.ghost_name new cover c.in-Ok.slots.medium c.into_medium.ensures.medium
+    (all_tagged lend c.in-Ok.slots.medium (format_series lend image) writes) in
+    let back : c.in-Ok.slots.medium ≡ lent new.now new.ghost_name [] = sym c.into_medium.ensures.medium ∙ memory_off new cover off in
     record {
-      writes = all_writes_tagged (memory_at old) (memory_at new) [] (format_series (memory_at old) image)
-          (subst (λ m. AllWrites (memory_at old) (format_series (memory_at old) image) m) (sym c.into_medium.ensures.medium)
-          (subst (λ b. AllWrites (memory_at b) (format_series (memory_at b) image) c.in-Ok.slots.medium) c.take.ensures c.in-Ok.ensures.writes));
-      active = active_tagged (memory_at new) [] image
-          (subst (λ m. Active m image) (sym c.into_medium.ensures.medium) c.in-Ok.ensures.active);
+      writes = all_writes_tagged lend (lent new.now new.ghost_name []) [] (format_series lend image)
+          (subst (λ (m : MediumState). AllWrites lend (format_series lend image) m) back writes);
+      active = active_tagged (lent new.now new.ghost_name []) [] image (subst (λ (m : MediumState). Active m image) back c.in-Ok.ensures.active);
     }
 
 pub returns-in-Ok-clause-name : goal.returns-in-Ok-clause-name
 returns-in-Ok-clause-name c =
-    back_name c.args.memory.now.bytes c.into_medium.result.bytes c.in-Ok.slots.medium c.into_medium.ensures.medium
-    (all_tagged (memory_at c.take.result.bytes) c.in-Ok.slots.medium (format_series (memory_at c.take.result.bytes) c.args.image.now)
-    c.in-Ok.ensures.writes ∙ ap (λ b. (memory_at b).tag) c.take.ensures)
+    let old = c.args.memory.now.bytes in
+    let lend = lent old.now old.ghost_name [] in
+    let image = c.args.image.now in
+    let taken : memory_at c.take.result.bytes c.take.result.cover ≡ lend =
+    (λ i. memory_at (c.take.ensures.bytes i) (c.take.ensures.cover i)) ∙ memory_off old c.args.memory.now.cover c.requires.plain in
+    back_name old c.into_medium.result.bytes c.into_medium.result.cover [] c.in-Ok.slots.medium c.into_medium.ensures.medium
+    (all_tagged lend c.in-Ok.slots.medium (format_series lend image)
+    (subst (λ (m : MediumState). AllWrites m (format_series m image) c.in-Ok.slots.medium) taken c.in-Ok.ensures.writes))

@@ -1,12 +1,16 @@
-use Rattle.std.proofs.Common.{◌≡◌, ◌⊎◌, ◌∙◌, ap, refl, subst, true, ℕ, List, [], inl, inr}
-use Rattle.dfu_slots.specs.Image.{HasImage}
+use Rattle.std.proofs.Common.{◌≡◌, ◌⊎◌, ◌∙◌, ◌+◌, ap, refl, sym, subst, Bool, true, if◌then◌else◌, ℕ, List, [], ◌∷◌, length, slice_range, arith, inl, inr}
+use Rattle.dfu_slots.specs.Medium.{MediumState}
+use Rattle.dfu_slots.specs.Image.{HasImage, gate_of, first_is_active}
+use Rattle.dfu_slots.specs.Tagged.{has_image_tagged}
 use Rattle.dfu_slots.specs.Seen.{SlotsState, store_on}
 use Rattle.dfu_device.specs.declared.mode.Mode.{Mode}
 use Rattle.dfu_device.specs.declared.mode.Mode.TheVariants as mode
 use Rattle.dfu_device.specs.Parts.{is_filled, stage_of}
 use Rattle.dfu_device_c.specs.declared.record.DfuDevice.{DfuDevice}
-use Rattle.dfu_device_c.specs.Memory.{memory_at}
-use Rattle.dfu_device_c.proofs.Standing.{fresh_device}
+use Rattle.dfu_device_c.specs.Memory.{memory_of, memory_at, lent}
+use Rattle.dfu_device_c.specs.Noted.{header_at}
+use Rattle.dfu_device_c.proofs.Opening.{memory_off}
+use Rattle.dfu_device_c.proofs.Standing.{fresh_device, noted_device, back_plain}
 use Rattle.dfu_device_c.proofs.power.power_on.Goals as goal
 
 -- In these two modes nothing is put, and nothing is kept beside the mode.
@@ -18,12 +22,51 @@ alone : (m : Mode) → (m ≡ mode.AppIdle) ⊎ (m ≡ mode.DfuIdle) → (spare 
 alone m (inl is) spare block = rw is refl
 alone m (inr is) spare block = rw is refl
 
+pub note-requires : goal.note-requires
+note-requires c =
+    let memory = c.args.memory.now.bytes in
+    let is = c.in-Ok.ensures.ok ∙ (λ i. memory_at (c.take.ensures.bytes i) (c.take.ensures.cover i))
+    ∙ memory_off memory c.args.memory.now.cover c.requires.plain in
+    let sized = c.capacity.ensures.image.sized in
+    let back = back_plain memory c.into_medium.result.bytes c.into_medium.result.cover c.in-Ok.slots.medium c.into_medium.ensures.medium is in
+    omega (arith, sized.even, sized.room, ap (λ (m : MediumState). length m.bytes) is, ap length back.bytes)
+
 pub returns-in-Ok-clause-ok : goal.returns-in-Ok-clause-ok
 returns-in-Ok-clause-ok c = λ s allowed.
     let memory = c.args.memory.now.bytes in
-    let medium_is = c.in-Ok.ensures.ok ∙ ap memory_at c.take.ensures in
+    let taken = (λ i. memory_at (c.take.ensures.bytes i) (c.take.ensures.cover i)) ∙ memory_off memory c.args.memory.now.cover c.requires.plain in
+    let medium_is = c.in-Ok.ensures.ok ∙ taken in
     let set = c.set_mode.ensures.others in
-    fresh_device s _ memory c.in-Ok.slots c.args.mode allowed (c.in-Ok.ensures.fresh ∙ ap store_on medium_is)
-    (subst (λ m. HasImage m) (ap memory_at c.take.ensures) c.in-Ok.ensures.has_image) c.in-Ok.ensures.shape c.set_mode.ensures.mode
+    let kept : DfuDevice = record c.set_mode.new.kept { put_end = c.put_end-device.result } in
+    noted_device s kept c.note.new.kept memory.now _ c.note.ensures.others
+    (fresh_device s kept memory.now memory.ghost_name c.in-Ok.slots c.args.mode allowed (c.in-Ok.ensures.fresh ∙ ap store_on medium_is)
+    (subst (λ m. HasImage m) taken c.in-Ok.ensures.has_image) c.in-Ok.ensures.shape c.set_mode.ensures.mode
     (c.put_end-device.ensures.value ∙ c.in-Ok.ensures.end) (ap (λ (r : DfuDevice). r.length) set ∙ c.set_block.ensures.length)
-    (free c.args.mode c.requires) (alone c.args.mode c.requires)
+    (free c.args.mode c.requires.mode) (alone c.args.mode c.requires.mode))
+
+pub returns-in-Ok-clause-notes : goal.returns-in-Ok-clause-notes
+returns-in-Ok-clause-notes c =
+    let memory = c.args.memory.now.bytes in
+    let medium_is = c.in-Ok.ensures.ok ∙ (λ i. memory_at (c.take.ensures.bytes i) (c.take.ensures.cover i))
+    ∙ memory_off memory c.args.memory.now.cover c.requires.plain in
+    let back = back_plain memory c.into_medium.result.bytes c.into_medium.result.cover c.in-Ok.slots.medium c.into_medium.ensures.medium medium_is in
+    let r = c.note.new.kept in
+    record {
+      slot_is = c.note.ensures.slot ∙ ap (λ (b : Bool). if b then 0 else 1)
+          (c.is_first-first.ensures ∙ ap (λ (m : MediumState). first_is_active (gate_of m) m.bytes) medium_is);
+      header_is = c.note.ensures.header ∙ ap (λ (b : List ℕ). slice_range b (header_at r b) (header_at r b + 16)) back.bytes;
+    }
+
+pub returns-in-Ok-clause-back : goal.returns-in-Ok-clause-back
+returns-in-Ok-clause-back c =
+    let memory = c.args.memory.now.bytes in
+    back_plain memory c.into_medium.result.bytes c.into_medium.result.cover c.in-Ok.slots.medium c.into_medium.ensures.medium
+    (c.in-Ok.ensures.ok ∙ (λ i. memory_at (c.take.ensures.bytes i) (c.take.ensures.cover i))
+    ∙ memory_off memory c.args.memory.now.cover c.requires.plain)
+
+pub returns-in-Err-clause-err : goal.returns-in-Err-clause-err
+returns-in-Err-clause-err c = λ has.
+    let memory = c.args.memory.now.bytes in
+    let is : memory_at c.take.result.bytes c.take.result.cover ≡ lent memory.now memory.ghost_name [] =
+    (λ i. memory_at (c.take.ensures.bytes i) (c.take.ensures.cover i)) ∙ memory_off memory c.args.memory.now.cover c.requires.plain in
+    c.in-Err.ensures.refused (subst HasImage (sym is) (has_image_tagged (memory_of memory.now) (memory.ghost_name ∷ []) has))

@@ -1,0 +1,8 @@
+use Rattle.dfu_device_c.proofs.Spared.{handled_spared, elapsed_spared}
+use Rattle.dfu_device_c.proofs.laws.noted_slot_stays.Goals as goal
+
+pub returns-clause-handled : goal.returns-clause-handled
+returns-clause-handled c = λ s r r' bytes bytes' setup body sent a noted on. handled_spared s r r' bytes bytes' setup body sent a noted on
+
+pub returns-clause-elapsed : goal.returns-clause-elapsed
+returns-clause-elapsed c = λ s r r' bytes bytes' ms noted on. elapsed_spared s r r' bytes bytes' ms noted on

@@ -1,0 +1,30 @@
+//! Laws of what a record notes: each is the contract of a function with an empty body, which is proved and not to be called.
+ghost use Rattle.std.specs.Prelude.{◌≡◌, ◌==◌, ◌^◌, ◌<◌, ◌↔◌, List, ℕ, length};
+ghost use Rattle.dfu_slots.specs.Layout.{slot, header_length, HasHeader};
+ghost use Rattle.dfu_slots.specs.Image.{Active};
+ghost use Rattle.dfu_slots.specs.Known.{place_of};
+ghost use Rattle.dfu_device.specs.declared.answer.Answer.{Answer};
+ghost use Rattle.dfu_device.specs.Rows.{Handles, Elapses};
+ghost use Rattle.dfu_device.specs.Setting.{Setting};
+ghost use Rattle.dfu_device_c.specs.declared.record.DfuDevice.{DfuDevice};
+ghost use Rattle.dfu_device_c.specs.Device.{Takes};
+ghost use Rattle.dfu_device_c.specs.Memory.{memory_of};
+ghost use Rattle.dfu_device_c.specs.Noted.{shown, NoteStands, IsNoted, On};
+
+/// What a record notes stands on a medium, and the header of that slot is well formed there, with the register of its image: then
+/// the active image of what a call sees is the active image of the medium, and the other way round.
+pub fn shown_image_is_real()
+    ensures { (r : DfuDevice) (bytes image : List ℕ) → NoteStands r bytes → length bytes < 2 ^ 32
+        → HasHeader (slot 16 bytes (place_of (r.slot == 0) bytes)) (header_length (slot 16 bytes (place_of (r.slot == 0) bytes)))
+        → Active (memory_of (shown r bytes)) image ↔ Active (memory_of bytes) image }
+{}
+
+/// Where a call saw the header that a record notes shown, it leaves that slot as it was: what was found of it at power-on holds on.
+pub fn noted_slot_stays()
+    ensures handled { (s : Setting) (r r' : DfuDevice) (bytes bytes' setup body sent : List ℕ) (a : Answer) → IsNoted r bytes
+        → On r bytes r' bytes' (λ b b'. Takes s r b (λ d d'. Handles setup body d a sent d') r' b')
+        → slot 16 bytes' (place_of (r.slot == 0) bytes) ≡ slot 16 bytes (place_of (r.slot == 0) bytes) }
+    ensures elapsed { (s : Setting) (r r' : DfuDevice) (bytes bytes' : List ℕ) (ms : ℕ) → IsNoted r bytes
+        → On r bytes r' bytes' (λ b b'. Takes s r b (Elapses ms) r' b')
+        → slot 16 bytes' (place_of (r.slot == 0) bytes) ≡ slot 16 bytes (place_of (r.slot == 0) bytes) }
+{}
