@@ -1,0 +1,6 @@
+pub mod Fits
+pub mod Held
+pub mod MayAnswer
+pub mod Setups
+pub mod Verdict
+pub mod inside
