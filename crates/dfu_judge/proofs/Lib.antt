@@ -1,5 +1,6 @@
 mod Everywhere
 mod Exact
+pub mod ForCallers
 mod Joined
 mod Least
 mod Places

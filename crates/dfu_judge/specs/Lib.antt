@@ -1,5 +1,6 @@
 pub mod Fits
 pub mod Held
+pub mod Laws
 pub mod MayAnswer
 pub mod Setups
 pub mod Verdict

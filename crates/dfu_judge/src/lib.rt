@@ -32,6 +32,7 @@ mod event;
 mod habits;
 mod held;
 mod judge;
+pub mod laws;
 mod marks;
 mod place;
 mod reading;
