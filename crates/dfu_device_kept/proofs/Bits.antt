@@ -1,5 +1,5 @@
 -- The bits of bmAttributes.
-use Rattle.std.specs.Prelude.{◌≡◌, ℕ, Bool, true, false, not}
+use Rattle.std.specs.Prelude.{◌≡◌, Bool, true, false, not}
 use Rattle.std.proofs.Common.{refl}
 use Rattle.dfu_judge.specs.declared.row.When.TheVariants.{CanDownload, CanUpload, Tolerant, NotTolerant, WillDetach}
 use Rattle.dfu_judge.specs.Held.{meets}

@@ -1,9 +1,8 @@
 -- What passes of time, resets and power, and whole histories, are kept.
-use Rattle.std.specs.Prelude.{◌≡◌, ℕ, ◌+◌, ◌<◌, ◌==◌, nat_le, max, not, Bool, true, false, List, [], ◌∷◌, length, if◌then◌else◌}
+use Rattle.std.specs.Prelude.{◌≡◌, ℕ, ◌+◌, ◌<◌, ◌==◌, nat_le, max, not, Bool, true, false, List, [], ◌∷◌, length}
 use Rattle.std.specs.List.{list_any}
 use Rattle.std.proofs.Common.{refl, sym, ap, subst, ◌∙◌, inl, inr, lit<}
-use Rattle.std.proofs.lemmas.Bool.{and_left, not-true}
-use Rattle.dfu_slots.specs.declared.fault.WriteFault.{WriteFault}
+use Rattle.std.proofs.lemmas.Bool.{and_left}
 use Rattle.dfu_wire.specs.declared.setups.Setup.{Setup}
 use Rattle.dfu_wire.specs.declared.codes.Code.TheVariants.{Ok as NoFault}
 use Rattle.dfu_wire.specs.declared.requests.Request.{Request as Asked}
@@ -13,31 +12,27 @@ use Rattle.dfu_wire.specs.Request.{Asks}
 use Rattle.dfu_device.specs.declared.answer.Answer.{Answer}
 use Rattle.dfu_device.specs.declared.answer.Answer.TheVariants as answer
 use Rattle.dfu_device.specs.Setting.{Setting}
-use Rattle.dfu_device.specs.Stage.{Reply, Profile, Stage, InAppIdle, InAppDetach, InDfuIdle, InDownloadSync, InDownloadSyncWritten, InDownloadBusy, InDownloadIdle, InManifestSync, InManifestSyncComplete, InManifest, InManifestWaitReset, InUploadIdle, InError}
-use Rattle.dfu_device.specs.Table.{Plan, Sure, Writes, Commits, plan, time_plan, reset_stage, write_code, commit_code}
+use Rattle.dfu_device.specs.Stage.{Profile, Stage, InAppIdle, InAppDetach, InDownloadBusy, InManifestSyncComplete, InManifest, InManifestWaitReset, InUploadIdle, InError}
+use Rattle.dfu_device.specs.Table.{Plan, Sure, Writes, Commits, plan, time_plan, reset_stage}
 use Rattle.dfu_device.specs.Cases.{either_way}
 use Rattle.dfu_device.specs.Shown.{Shown, profile, profile_of}
-use Rattle.dfu_device.specs.Rows.{Done, meant, Cause, Transfer, Passing, BusReset, PowerOn, Handles, Elapses, Row, is_served, asked_length, setup_plan}
+use Rattle.dfu_device.specs.Rows.{Done, meant, Cause, Transfer, Passing, BusReset, PowerOn, Handles, Row, is_served, asked_length}
 use Rattle.dfu_device.specs.Came.{row_of, not_served}
-use Rattle.dfu_device.specs.History.{Step, IsHistory}
 use Rattle.dfu_slots.specs.Seen.{image_of, room_of}
 use Rattle.dfu_judge.specs.declared.place.Place.{Place}
 use Rattle.dfu_judge.specs.declared.place.Place.TheVariants as place
-use Rattle.dfu_judge.specs.declared.asked.Asked.TheVariants as came
 use Rattle.dfu_judge.specs.declared.row.When.{When}
 use Rattle.dfu_judge.specs.declared.row.When.TheVariants.{Always, Tolerant, NotTolerant, WillDetach}
 use Rattle.dfu_judge.specs.declared.row.Gives.TheVariants as gives
 use Rattle.dfu_judge.specs.declared.event.Event.{Event}
-use Rattle.dfu_judge.specs.declared.event.Answer.{Answer as Shows}
-use Rattle.dfu_judge.specs.declared.event.Answer.TheVariants as shown
 use Rattle.dfu_judge.specs.declared.marks.TheConstants.{MARKS}
 use Rattle.dfu_judge.specs.declared.drifts.TheConstants.{DRIFTS}
-use Rattle.dfu_judge.specs.Fits.{stays, stays_at, asks, shows}
+use Rattle.dfu_judge.specs.Fits.{stays_at, asks, shows}
 use Rattle.dfu_judge.specs.Held.{meets}
-use Rattle.dfu_judge.specs.Setups.{event_of, is_plain}
+use Rattle.dfu_judge.specs.Setups.{event_of, is_plain, reset, power}
 use Rattle.dfu_judge.specs.MayAnswer.{MayAnswer, MayMove, Run}
 use Rattle.dfu_judge.proofs.ForCallers.{is_row, by_row, is_move, by_move, moves_first}
-use Rattle.dfu_device_kept.specs.Kept.{attributes, attributes_of, place_of, seen, reset, power, Adds, Tells, AreSeen, Stands, TakesTime, HistoryIsKept, StartIsKept}
+use Rattle.dfu_device_kept.specs.Kept.{attributes, attributes_of, place_of, seen, Adds, Tells, Stands, TakesTime, HistoryIsKept, StartIsKept}
 use Rattle.dfu_device_kept.proofs.Bits.{flags}
 use Rattle.dfu_device_kept.proofs.Rows.{LedOn, PlanKept, plan_kept, write_stands, commit_stands, which}
 

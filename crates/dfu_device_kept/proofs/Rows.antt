@@ -1,7 +1,7 @@
 -- Each row of the device table is one that a device may answer which keeps the standard.
-use Rattle.std.specs.Prelude.{◌≡◌, ℕ, zero, suc, ◌+◌, ◌<◌, ◌≤◌, ◌==◌, ◌&&◌, ◌||◌, nat_lt, nat_le, not, min, max, Bool, true, false, List, [], ◌∷◌, ◌++◌, length, take, drop, slice_index, if◌then◌else◌}
+use Rattle.std.specs.Prelude.{◌≡◌, ℕ, zero, suc, ◌+◌, ◌<◌, ◌==◌, ◌||◌, nat_lt, nat_le, not, min, Bool, true, false, List, [], ◌∷◌, ◌++◌, length, take, drop, slice_index, if◌then◌else◌}
 use Rattle.std.specs.List.{list_any}
-use Rattle.std.proofs.Common.{refl, sym, ap, subst, ◌∙◌, inl, inr, arith, rules}
+use Rattle.std.proofs.Common.{refl, sym, ap, ◌∙◌, inl, inr, arith}
 use Rattle.std.proofs.lemmas.List.{length-take, get_or-take}
 use Rattle.std.proofs.lemmas.Bool.{true_from_ne_false, false≢true, eqb-true, lt-ltb, cases_lt, and_from, or_left, or_right, eq-eqb, ne_eqb, cond-true, cond-false, ltb-false, not-false}
 use Rattle.dfu_slots.specs.declared.fault.WriteFault.{WriteFault}
@@ -15,33 +15,29 @@ use Rattle.dfu_wire.specs.declared.requests.Request.TheVariants as asked
 use Rattle.dfu_wire.specs.Request.{Asks}
 use Rattle.dfu_wire.specs.Code.{code_byte}
 use Rattle.dfu_wire.specs.State.{state_byte}
-use Rattle.dfu_wire.specs.Status.{IsStatus}
 use Rattle.dfu_device.specs.declared.answer.Answer.{Answer}
-use Rattle.dfu_device.specs.declared.answer.Answer.TheVariants as answer
 use Rattle.dfu_device.specs.Stage.{Reply, Ack, StatusOf, StateOf, Data, Stall, Profile, Stage, InAppIdle, InAppDetach, InDfuIdle, InDownloadSync, InDownloadSyncWritten, InDownloadBusy, InDownloadIdle, InManifestSync, InManifestSyncComplete, InManifest, InManifestWaitReset, InUploadIdle, InError, state_of, code_of, poll_of, status_of}
-use Rattle.dfu_device.specs.Table.{Plan, Sure, Writes, Commits, plan, write_code, commit_code, block_plan, first_plan, further_plan, upload_plan, next_number, is_empty}
-use Rattle.dfu_device.specs.Outcome.{Luck, Works, FailsOld, FailsNew, outcome}
+use Rattle.dfu_device.specs.Table.{Plan, Sure, Writes, Commits, plan, write_code, commit_code, block_plan, upload_plan, next_number}
 use Rattle.dfu_device.specs.Cases.{either_way}
-use Rattle.dfu_device.specs.Rows.{Answers, meant, asked_length, is_served, body_length}
+use Rattle.dfu_device.specs.Rows.{Answers, meant, asked_length, is_served}
 use Rattle.dfu_judge.specs.declared.place.Place.{Place}
 use Rattle.dfu_judge.specs.declared.place.Place.TheVariants as place
 use Rattle.dfu_judge.specs.declared.asked.Asked.{Asked as Came}
 use Rattle.dfu_judge.specs.declared.asked.Asked.TheVariants as came
 use Rattle.dfu_judge.specs.declared.row.When.{When}
-use Rattle.dfu_judge.specs.declared.row.When.TheVariants.{Always, CanDownload, CanUpload, Tolerant, NotTolerant, WillDetach}
+use Rattle.dfu_judge.specs.declared.row.When.TheVariants.{Always, CanDownload, CanUpload, Tolerant}
 use Rattle.dfu_judge.specs.declared.row.Gives.{Gives}
 use Rattle.dfu_judge.specs.declared.row.Gives.TheVariants as gives
 use Rattle.dfu_judge.specs.declared.event.Event.{Event}
 use Rattle.dfu_judge.specs.declared.event.Answer.{Answer as Shows}
-use Rattle.dfu_judge.specs.declared.event.Answer.TheVariants as shown
 use Rattle.dfu_judge.specs.declared.standard.TheConstants.{STANDARD}
 use Rattle.dfu_judge.specs.declared.drifts.TheConstants.{DRIFTS}
 use Rattle.dfu_judge.specs.Fits.{asks, asked_number, shows, gives_bytes, has_code, number_of_state}
 use Rattle.dfu_judge.specs.Held.{meets}
-use Rattle.dfu_judge.specs.Setups.{event_of, asked_by}
+use Rattle.dfu_judge.specs.Setups.{event_of}
 use Rattle.dfu_judge.specs.MayAnswer.{MayAnswer, MayMove}
 use Rattle.dfu_judge.proofs.ForCallers.{is_row, by_row, is_move, by_move}
-use Rattle.dfu_device_kept.specs.Kept.{attributes, attributes_of, place_of, seen, Stands, TakesTime}
+use Rattle.dfu_device_kept.specs.Kept.{attributes_of, place_of, seen, Stands, TakesTime}
 use Rattle.dfu_device_kept.proofs.Bits.{flags}
 
 -- A device moves by itself, then an event leads it on.

@@ -1,7 +1,6 @@
 -- A history of the device here, as a judge sees it, and that it is kept.
 use Rattle.std.specs.Prelude.{◌≡◌, ℕ, ◌+◌, ◌*◌, ◌≤◌, Bool, true, false, List, [], ◌∷◌, length, slice_index}
 use Rattle.dfu_wire.specs.declared.setups.Setup.{Setup}
-use Rattle.dfu_wire.specs.declared.functionals.Functional.{Functional}
 use Rattle.dfu_wire.specs.declared.requests.Request.{Request as Asked}
 use Rattle.dfu_wire.specs.declared.requests.Request.TheVariants as asked
 use Rattle.dfu_wire.specs.declared.codes.Code.TheVariants.{Ok as NoFault}
@@ -16,11 +15,10 @@ use Rattle.dfu_device.specs.Rows.{Cause, Transfer, Passing, BusReset, PowerOn}
 use Rattle.dfu_device.specs.History.{Step, IsHistory}
 use Rattle.dfu_judge.specs.declared.place.Place.{Place}
 use Rattle.dfu_judge.specs.declared.place.Place.TheVariants as place
-use Rattle.dfu_judge.specs.declared.asked.Asked.TheVariants as came
 use Rattle.dfu_judge.specs.declared.event.Answer.{Answer as Shows}
 use Rattle.dfu_judge.specs.declared.event.Answer.TheVariants as shows
 use Rattle.dfu_judge.specs.declared.event.Event.{Event}
-use Rattle.dfu_judge.specs.Setups.{event_of}
+use Rattle.dfu_judge.specs.Setups.{event_of, reset, power}
 use Rattle.dfu_judge.specs.declared.verdict.Verdict.TheVariants.{Kept}
 use Rattle.dfu_judge.specs.MayAnswer.{Run}
 use Rattle.dfu_judge.specs.Verdict.{IsVerdict}
@@ -59,14 +57,6 @@ abbrev pub seen : Answer → List ℕ → Shows
 seen answer.Ack out = shows.Bytes 0 0 0
 seen answer.Stall out = shows.Stall
 seen answer.Bytes out = shows.Bytes (length out) (slice_index out 0) (slice_index out 4)
-
--- A reset of the bus, as an event.
-abbrev pub reset : Event
-reset = record { asked = came.Reset; is_plain = true; length = 0; answer = shows.Bytes 0 0 0 }
-
--- Power that comes back, as an event.
-abbrev pub power : Event
-power = record { asked = came.Power; is_plain = true; length = 0; answer = shows.Bytes 0 0 0 }
 
 -- A transfer comes before these events; one that is no request of the class for interface 0 is passed over.
 abbrev pub Adds : Setup → Asked → List ℕ → Shows → (rest events : List Event) → Type 0

@@ -1,8 +1,8 @@
 -- What proofs of other crates cite: a row is found by its fields, and two moves are one.
-use Rattle.std.specs.Prelude.{◌≡◌, ℕ, ◌+◌, ◌==◌, ◌&&◌, ◌||◌, not, Bool, true, false, List, [], ◌∷◌, slice_index_or, Contains, if◌then◌else◌}
+use Rattle.std.specs.Prelude.{◌≡◌, ℕ, ◌+◌, ◌==◌, ◌&&◌, ◌||◌, not, Bool, true, List, [], ◌∷◌, Contains, if◌then◌else◌}
 use Rattle.std.specs.List.{list_any, list_all}
 use Rattle.std.proofs.Common.{refl, sym, ap, subst, ◌∙◌, inl, inr}
-use Rattle.std.proofs.lemmas.Bool.{not-true, and_parts, and_from, or_cases, or_right, eqb-true, eq-eqb, true_from_ne_false, both_ways}
+use Rattle.std.proofs.lemmas.Bool.{not-true, and_parts, and_from, or_cases, eqb-true, eq-eqb, true_from_ne_false, both_ways}
 use Rattle.std.proofs.lemmas.List.Folds.{Any-from_list_any, list_all_at}
 use Rattle.dfu_judge.specs.declared.place.Place.{Place}
 use Rattle.dfu_judge.specs.declared.asked.Asked.{Asked}
@@ -17,7 +17,7 @@ use Rattle.dfu_judge.specs.declared.event.Event.{Event}
 use Rattle.dfu_judge.specs.declared.drifts.TheConstants.{DRIFTS}
 use Rattle.dfu_judge.specs.Fits.{place_number, asked_number, asks, shows}
 use Rattle.dfu_judge.specs.Held.{meets, reading_bit}
-use Rattle.dfu_judge.specs.MayAnswer.{GoesBy, MayAnswer, MovesBy, MayMove, Run}
+use Rattle.dfu_judge.specs.MayAnswer.{GoesBy, MovesBy, MayMove, Run}
 use Rattle.dfu_judge.proofs.Places.{same_place}
 
 -- What a row gives, by number.
@@ -153,26 +153,27 @@ one_move : (a r : ℕ) (p q s : Place) → MovesBy DRIFTS a r p q → MovesBy DR
 unfolding follow closes
 one_move a r p q s m n =
     let both : follow m.row n.row ≡ true =
-        passes (λ (e : Drift). follow m.row e) DRIFTS n.row n.listed
-            (passes (λ (d : Drift). list_all (λ (e : Drift). follow d e) DRIFTS) DRIFTS m.row m.listed all_follow) in
+    passes (λ (e : Drift). follow m.row e) DRIFTS n.row n.listed
+    (passes (λ (d : Drift). list_all (λ (e : Drift). follow d e) DRIFTS) DRIFTS m.row m.listed all_follow) in
     elim (or_cases _ _ both) [
       | inl apart ↦ absurd (both_ways (place_number m.row.next == place_number n.row.from)
           (not-true _ apart) (eq-eqb _ _ (ap place_number (m.ends ∙ sym n.begins))))
       | inr some ↦
-        let (k, row, in', is, closed) = Any-from_list_any (closes m.row n.row) DRIFTS some in
-        let c = and_parts _ _ closed in
-        let ends = and_parts _ _ c.0 in
-        record {
-          row = row;
-          listed = (k, in', is);
-          begins = same_place row.from m.row.from (eqb-true _ _ ends.0) ∙ m.begins;
-          ends = same_place row.next n.row.next (eqb-true _ _ ends.1) ∙ n.ends;
-          of_it = of_one a r row m.row n.row m.of_it n.of_it c.1;
-        }
+          let (k, row, in', is, closed) = Any-from_list_any (closes m.row n.row) DRIFTS some in
+          let c = and_parts _ _ closed in
+          let ends = and_parts _ _ c.0 in
+          record {
+            row = row;
+            listed = (k, in', is);
+            begins = same_place row.from m.row.from (eqb-true _ _ ends.0) ∙ m.begins;
+            ends = same_place row.next n.row.next (eqb-true _ _ ends.1) ∙ n.ends;
+            of_it = of_one a r row m.row n.row m.of_it n.of_it c.1;
+          }
     ]
   where
     same_when : (x y : When) → (when_number x == when_number y) ≡ true → x ≡ y
     same_when x y e = sym (when_back x) ∙ ap when_of (eqb-true _ _ e) ∙ when_back y
+
     of_one : (a r : ℕ) (f d e : Drift) → meets d.when a r ≡ true → meets e.when a r ≡ true
         → ((when_number f.when == 0) || ((when_number f.when == when_number d.when) || (when_number f.when == when_number e.when))) ≡ true
         → meets f.when a r ≡ true

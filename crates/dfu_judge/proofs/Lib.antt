@@ -1,5 +1,6 @@
 mod Everywhere
 mod Exact
+mod Fields
 pub mod ForCallers
 mod Joined
 mod Least

@@ -1,6 +1,7 @@
 pub mod Fits
 pub mod Held
 pub mod Laws
+pub mod Line
 pub mod MayAnswer
 pub mod Setups
 pub mod Verdict

@@ -4,9 +4,10 @@ use Rattle.dfu_wire.specs.declared.setups.Setup.{Setup}
 use Rattle.dfu_wire.specs.declared.requests.Request.{Request}
 use Rattle.dfu_wire.specs.declared.requests.Request.TheVariants as request
 use Rattle.dfu_judge.specs.declared.asked.Asked.{Asked}
-use Rattle.dfu_judge.specs.declared.asked.Asked.TheVariants.{Detach, Block, Close, Upload, GetStatus, ClrStatus, GetState, Abort, Other}
+use Rattle.dfu_judge.specs.declared.asked.Asked.TheVariants.{Detach, Block, Close, Upload, GetStatus, ClrStatus, GetState, Abort, Other, Reset, Power}
 use Rattle.dfu_judge.specs.declared.event.Event.{Event}
 use Rattle.dfu_judge.specs.declared.event.Answer.{Answer}
+use Rattle.dfu_judge.specs.declared.event.Answer.TheVariants as answer
 
 -- A request as the table has it: a DNLOAD of no bytes is another one.
 abbrev pub asked_by : Request → Asked
@@ -36,3 +37,11 @@ is_plain s q body = (body == (if s.kind == 0x21 then s.length else 0)) && has_it
 -- What came to a device by a setup that asks for this, with so many bytes of a body, and what was seen of the answer.
 abbrev pub event_of : Setup → Request → (body : ℕ) → Answer → Event
 event_of s q body a = record { asked = asked_by q; is_plain = is_plain s q body; length = s.length; answer = a }
+
+-- A reset of the bus came.
+abbrev pub reset : Event
+reset = record { asked = Reset; is_plain = true; length = 0; answer = answer.Bytes 0 0 0 }
+
+-- Power came back.
+abbrev pub power : Event
+power = record { asked = Power; is_plain = true; length = 0; answer = answer.Bytes 0 0 0 }
