@@ -7,7 +7,8 @@ use Rattle.dfu_device_kept.specs.Kept.{attributes}
 
 -- A device is one of those of which a row speaks by its bits.
 pub flags : (d u t w : Bool)
-    → (meets CanDownload (attributes d u t w) 0 ≡ d) × (meets CanUpload (attributes d u t w) 0 ≡ u) × (meets Tolerant (attributes d u t w) 0 ≡ t)
+    → (meets CanDownload (attributes d u t w) 0 ≡ d) × (meets CanUpload (attributes d u t w) 0 ≡ u)
+    × (meets Tolerant (attributes d u t w) 0 ≡ t)
     × (meets NotTolerant (attributes d u t w) 0 ≡ not t) × (meets WillDetach (attributes d u t w) 0 ≡ w)
 flags false false false false = (refl, refl, refl, refl, refl)
 flags true false false false = (refl, refl, refl, refl, refl)

@@ -1,6 +1,5 @@
--- What passes of time, resets and power, and whole histories, are kept.
-use Rattle.std.specs.Prelude.{◌≡◌, ℕ, ◌+◌, ◌<◌, ◌==◌, nat_le, max, not, Bool, true, false, List, [], ◌∷◌, length}
-use Rattle.std.specs.List.{list_any}
+-- Whole histories are kept.
+use Rattle.std.specs.Prelude.{◌≡◌, ℕ, ◌<◌, Bool, true, false, List, [], ◌∷◌, length}
 use Rattle.std.proofs.Common.{refl, sym, ap, subst, ◌∙◌, inl, inr, lit<}
 use Rattle.std.proofs.lemmas.Bool.{and_left}
 use Rattle.dfu_wire.specs.declared.setups.Setup.{Setup}
@@ -12,36 +11,33 @@ use Rattle.dfu_wire.specs.Request.{Asks}
 use Rattle.dfu_device.specs.declared.answer.Answer.{Answer}
 use Rattle.dfu_device.specs.declared.answer.Answer.TheVariants as answer
 use Rattle.dfu_device.specs.Setting.{Setting}
-use Rattle.dfu_device.specs.Stage.{Profile, Stage, InAppIdle, InAppDetach, InDownloadBusy, InManifestSyncComplete, InManifest, InManifestWaitReset, InUploadIdle, InError}
-use Rattle.dfu_device.specs.Table.{Plan, Sure, Writes, Commits, plan, time_plan, reset_stage}
-use Rattle.dfu_device.specs.Cases.{either_way}
+use Rattle.dfu_device.specs.Stage.{Profile, Stage, InManifestSyncComplete, InUploadIdle, InError}
+use Rattle.dfu_device.specs.Table.{Plan, Sure, Writes, Commits, plan, time_plan}
 use Rattle.dfu_device.specs.Shown.{Shown, profile, profile_of}
 use Rattle.dfu_device.specs.Rows.{Done, meant, Cause, Transfer, Passing, BusReset, PowerOn, Handles, Row, is_served, asked_length}
 use Rattle.dfu_device.specs.Came.{row_of, not_served}
 use Rattle.dfu_slots.specs.Seen.{image_of, room_of}
 use Rattle.dfu_judge.specs.declared.place.Place.{Place}
 use Rattle.dfu_judge.specs.declared.place.Place.TheVariants as place
-use Rattle.dfu_judge.specs.declared.row.When.{When}
-use Rattle.dfu_judge.specs.declared.row.When.TheVariants.{Always, Tolerant, NotTolerant, WillDetach}
-use Rattle.dfu_judge.specs.declared.row.Gives.TheVariants as gives
 use Rattle.dfu_judge.specs.declared.event.Event.{Event}
-use Rattle.dfu_judge.specs.declared.marks.TheConstants.{MARKS}
-use Rattle.dfu_judge.specs.declared.drifts.TheConstants.{DRIFTS}
-use Rattle.dfu_judge.specs.Fits.{stays_at, asks, shows}
-use Rattle.dfu_judge.specs.Held.{meets}
-use Rattle.dfu_judge.specs.Setups.{event_of, is_plain, reset, power}
-use Rattle.dfu_judge.specs.MayAnswer.{MayAnswer, MayMove, Run}
-use Rattle.dfu_judge.proofs.ForCallers.{is_row, by_row, is_move, by_move, moves_first}
+use Rattle.dfu_judge.specs.Fits.{stays_at, asks}
+use Rattle.dfu_judge.specs.Setups.{event_of, is_plain}
+use Rattle.dfu_judge.specs.MayAnswer.{Run}
+use Rattle.dfu_judge.proofs.ForCallers.{moves_first}
 use Rattle.dfu_device_kept.specs.Kept.{attributes, attributes_of, place_of, seen, Adds, Tells, Stands, TakesTime, HistoryIsKept, StartIsKept}
-use Rattle.dfu_device_kept.proofs.Bits.{flags}
-use Rattle.dfu_device_kept.proofs.Rows.{LedOn, PlanKept, plan_kept, write_stands, commit_stands, which}
+use Rattle.dfu_device_kept.proofs.Leads.{PlanKept, write_stands, commit_stands}
+use Rattle.dfu_device_kept.proofs.Rows.{plan_kept}
+use Rattle.dfu_device_kept.proofs.Seen.{LedOn}
+use Rattle.dfu_device_kept.proofs.Passing.{time_kept, time_moved, reset_led, reset_stands, power_led}
 
 -- A plan that is kept and was carried out led the device on.
-done_led : (pl : Plan) (c : Profile) (p : Setup) (q : Asked) (body : List ℕ) (st : Stage) (w : Shown) (a : Answer) (out : List ℕ) (w' : Shown)
+done_led : (pl : Plan) (c : Profile) (p : Setup) (q : Asked) (body : List ℕ) (st : Stage) (w : Shown) (a : Answer) (out : List ℕ)
+    (w' : Shown)
     → PlanKept c p q body st pl → Done pl (asked_length q) w a out w'
     → LedOn (attributes_of c) (place_of st) (event_of p q (length body) (seen a out)) (place_of w'.stage) × Stands c w'.stage
 done_led (Sure reply next) c p q body st w a out w' (leads, stands) (says, is) =
-    subst (λ (z : Shown). LedOn (attributes_of c) (place_of st) (event_of p q (length body) (seen a out)) (place_of z.stage) × Stands c z.stage)
+    subst (λ (z : Shown). LedOn (attributes_of c) (place_of st) (event_of p q (length body) (seen a out)) (place_of z.stage)
+    × Stands c z.stage)
     (sym is) (leads a out says, stands)
 done_led (Writes before block reply next bad) c p q body st w a out w' ((leads, stands), fails) (inl (says, h)) =
     subst (λ (z : Stage). LedOn (attributes_of c) (place_of st) (event_of p q (length body) (seen a out)) (place_of z) × Stands c z)
@@ -88,90 +84,11 @@ transfer_kept w setup body a out w' p q true takes stands reads asks ours on h =
 transfer_kept w setup body a out w' p q false takes stands reads asks ours off h =
     let (stall, same) = not_served p q setup body w a out w' reads asks off h in
     subst (λ (z : Shown). LedOn (attributes_of (profile w)) (place_of w.stage) (event_of p q (length body) (seen a out)) (place_of z.stage)
-    × Stands (profile w) z.stage × (z.config ≡ w.config)) (sym same)
-    ((place_of w.stage, inl refl, inr (inr (inr (refl, (λ k. stays_at (unserved p q body ours off k) (seen (stall k) out)))))), stands, refl)
-
--- What comes of a time that passes is a move, or none.
-abbrev pub TimeKept : Profile → Stage → Plan → Type 0
-TimeKept c st (Sure reply next) = MayMove (attributes_of c) 0 (place_of st) (place_of next) × Stands c next
-TimeKept c st (Writes before block reply next bad) =
-    (MayMove (attributes_of c) 0 (place_of st) (place_of next) × Stands c next) × MayMove (attributes_of c) 0 (place_of st) place.Error
-TimeKept c st (Commits taken reply next bad) =
-    (MayMove (attributes_of c) 0 (place_of st) (place_of next) × Stands c next) × MayMove (attributes_of c) 0 (place_of st) place.Error
-
--- It moves by itself.
-moves : (c : Profile) (from : Place) (when : When) (next : Place) → list_any (is_move from when next) DRIFTS ≡ true
-    → meets when (attributes_of c) 0 ≡ true → MayMove (attributes_of c) 0 from next
-moves c from when next some of_it = inr (by_move DRIFTS from when next (attributes_of c) 0 some of_it)
-
-time_kept : (c : Profile) (st : Stage) (ms : ℕ) → Stands c st → TimeKept c st (time_plan c st ms)
-time_kept c (InAppDetach timer passed) ms stands =
-    let P : Plan → Type 0 = TimeKept c (InAppDetach timer passed) in
-    either_way P (ms == 0) _ _ (inl refl, tt) (which P c.will_detach _ _
-    (λ detaches. (moves c place.AppDetach WillDetach place.DfuIdle refl ((flags c.can_download c.can_upload c.tolerant c.will_detach).4 ∙ detaches), tt))
-    (λ stays. either_way P (nat_le (max 1 timer) (passed + ms)) _ _ (moves c place.AppDetach Always place.AppIdle refl refl, tt) (inl refl, tt)))
-time_kept c (InDownloadBusy before block number passed) ms stands =
-    let P : Plan → Type 0 = TimeKept c (InDownloadBusy before block number passed) in
-    either_way P (ms == 0) _ _ (inl refl, tt) (either_way P (nat_le c.busy (passed + ms)) _ _
-    ((moves c place.DownloadBusy Always place.DownloadSync refl refl, tt), moves c place.DownloadBusy Always place.Error refl refl) (inl refl, tt))
-time_kept c (InManifest taken passed) ms stands =
-    let P : Plan → Type 0 = TimeKept c (InManifest taken passed) in
-    let Q : Stage → Type 0 = λ next. (MayMove (attributes_of c) 0 place.Manifest (place_of next) × Stands c next) × MayMove (attributes_of c) 0 place.Manifest place.Error in
-    let fault : MayMove (attributes_of c) 0 place.Manifest place.Error = moves c place.Manifest Always place.Error refl refl in
-    either_way P (ms == 0) _ _ (inl refl, tt) (either_way P (nat_le c.manifest (passed + ms)) _ _
-    (which Q c.tolerant InManifestSyncComplete InManifestWaitReset
-    (λ on. ((moves c place.Manifest Tolerant place.ManifestSync refl ((flags c.can_download c.can_upload c.tolerant c.will_detach).2 ∙ on), on), fault))
-    (λ off. (
-      (
-        moves c place.Manifest NotTolerant place.ManifestWaitReset refl
-            ((flags c.can_download c.can_upload c.tolerant c.will_detach).3 ∙ ap not off),
-        tt,
-      ),
-      fault,
-    )))
-    (inl refl, tt))
-time_kept c st ms stands = (inl refl, stands)
-
--- A time that passed moved the device, or not.
-time_moved : (pl : Plan) (c : Profile) (st : Stage) (w : Shown) (a : Answer) (out : List ℕ) (w' : Shown) → TimeKept c st pl → Done pl 0 w a out w'
-    → MayMove (attributes_of c) 0 (place_of st) (place_of w'.stage) × Stands c w'.stage
-time_moved (Sure reply next) c st w a out w' kept (says, is) =
-    subst (λ (z : Shown). MayMove (attributes_of c) 0 (place_of st) (place_of z.stage) × Stands c z.stage) (sym is) kept
-time_moved (Writes before block reply next bad) c st w a out w' kept (inl (says, h)) =
-    subst (λ (z : Stage). MayMove (attributes_of c) 0 (place_of st) (place_of z) × Stands c z) (sym h.stage_is) kept.0
-time_moved (Writes before block reply next bad) c st w a out w' kept (inr (fault, says, h)) =
-    subst (λ (z : Stage). MayMove (attributes_of c) 0 (place_of st) (place_of z) × Stands c z) (sym h.stage_is) (kept.1, write_stands c fault)
-time_moved (Commits taken reply next bad) c st w a out w' kept (inl (says, h)) =
-    subst (λ (z : Stage). MayMove (attributes_of c) 0 (place_of st) (place_of z) × Stands c z) (sym h.stage_is) kept.0
-time_moved (Commits taken reply next bad) c st w a out w' kept (inr (fault, says, h)) =
-    subst (λ (z : Stage). MayMove (attributes_of c) 0 (place_of st) (place_of z) × Stands c z) (sym h.stage_is) (kept.1, commit_stands c fault)
-
--- A mark goes by a row of the table of marks.
-marked : (att : ℕ) (from : Place) (next : Place) (e : Event) → list_any (is_row from e.asked Always gives.Silent next) MARKS ≡ true
-    → shows gives.Silent from next e.length e.answer ≡ true → asks e.asked e ≡ true → MayAnswer att 0 from e next
-marked att from next e some is_shown is_asked = inr (inl (by_row MARKS from e.asked Always gives.Silent next att 0 e some refl is_asked is_shown))
-
--- A reset leads a device on: in appDETACH to dfuIDLE, by way of dfuIDLE just entered.
-reset_led : (att : ℕ) (st : Stage) (rest : List Event) (last : Place) → Run att 0 (place_of (reset_stage st)) rest last
-    → Run att 0 (place_of st) (reset ∷ rest) last
-reset_led att (InAppDetach timer passed) rest last run = (
-  place.AppDetach,
-  place.Fresh,
-  inl refl,
-  marked att place.AppDetach place.Fresh reset refl refl refl,
-  moves_first att 0 place.Fresh place.DfuIdle rest last (inr (by_move DRIFTS place.Fresh Always place.DfuIdle att 0 refl refl)) run,
-)
-reset_led att st rest last run = (place_of st, place.AppIdle, inl refl, marked att (place_of st) place.AppIdle reset refl refl refl, run)
-
-reset_stands : (c : Profile) (st : Stage) → Stands c (reset_stage st)
-reset_stands c (InAppDetach timer passed) = tt
-reset_stands c st = tt
-
--- Power that comes back leads a device to appIDLE.
-power_led : (att : ℕ) (st : Stage) (rest : List Event) (last : Place) → Run att 0 place.AppIdle rest last → Run att 0 (place_of st) (power ∷ rest) last
-power_led att InAppIdle rest last run =
-    (place.AppIdle, place.AppIdle, inl refl, marked att place.AppIdle place.AppIdle power refl refl refl, run)
-power_led att st rest last run = (place_of st, place.AppIdle, inl refl, marked att (place_of st) place.AppIdle power refl refl refl, run)
+    × Stands (profile w) z.stage × (z.config ≡ w.config)) (sym same) (
+      (place_of w.stage, inl refl, inr (inr (inr (refl, (λ k. stays_at (unserved p q body ours off k) (seen (stall k) out)))))),
+      stands,
+      refl,
+    )
 
 -- A step is kept: a run from where it ends is one from where it begins, with what was seen of it.
 abbrev pub StepKept : Shown → Shown → (rest events : List Event) → Type 0
@@ -207,7 +124,8 @@ step_kept : (w : Shown) (cause : Cause) (a : Answer) (out : List ℕ) (w' : Show
 step_kept w (Transfer setup body) a out w' rest events takes stands row (p, q, reads, asks, adds) =
     by_request w setup body a out w' rest events p q takes stands reads asks row adds
 step_kept w (Passing ms) a out w' rest events takes stands row same =
-    let moved = time_moved (time_plan (profile w) w.stage ms) (profile w) w.stage w answer.Ack [] w' (time_kept (profile w) w.stage ms stands) row.2 in (
+    let moved = time_moved (time_plan (profile w) w.stage ms) (profile w) w.stage w answer.Ack [] w' (time_kept
+    (profile w) w.stage ms stands) row.2 in (
       λ last run. subst (λ (es : List Event). Run (attributes_of (profile w)) 0 (place_of w.stage) es last) (sym same)
           (moves_first (attributes_of (profile w)) 0 (place_of w.stage) (place_of w'.stage) rest last moved.0 run),
       moved.1,
@@ -231,20 +149,27 @@ step_kept w PowerOn a out w' rest events takes stands row adds =
 -- Whatever history a device has, it is kept.
 pub history_kept : HistoryIsKept
 history_kept [] events w w' takes stands is none_seen =
-    subst (λ (z : Shown). Run (attributes_of (profile w)) 0 (place_of w.stage) events (place_of z.stage) × Stands (profile z) z.stage) (sym is)
-    (subst (λ (es : List Event). Run (attributes_of (profile w)) 0 (place_of w.stage) es (place_of w.stage)) (sym none_seen) (inl refl), stands)
+    subst (λ (z : Shown). Run (attributes_of (profile w)) 0 (place_of w.stage) events (place_of z.stage)
+    × Stands (profile z) z.stage) (sym is) (
+      subst (λ (es : List Event). Run (attributes_of (profile w)) 0 (place_of w.stage) es (place_of w.stage)) (sym none_seen)
+          (inl refl),
+      stands,
+    )
 history_kept (s ∷ h) events w w' takes stands (begins, row, after) (rest, tells, are_seen) =
     let takes_before : TakesTime (profile s.before) = subst (λ (z : Shown). TakesTime (profile z)) (sym begins) takes in
     let stands_before : Stands (profile s.before) s.before.stage = subst (λ (z : Shown). Stands (profile z) z.stage) (sym begins) stands in
     let (runs, stands_after, config) =
     step_kept s.before s.cause s.answer s.out s.after rest events takes_before stands_before row tells in
-    let takes_after : TakesTime (profile s.after) = subst (λ (x : Setting). TakesTime (profile_of x (room_of s.after.slots))) (sym config) takes_before in
+    let takes_after : TakesTime (profile s.after) =
+    subst (λ (x : Setting). TakesTime (profile_of x (room_of s.after.slots))) (sym config) takes_before in
     let stands_there : Stands (profile s.after) s.after.stage =
     stands_with s.before s.after s.after.stage config stands_after in
     let (run, at_last) = history_kept h rest s.after w' takes_after stands_there after are_seen in
     let run_before : Run (attributes_of (profile s.before)) 0 (place_of s.after.stage) rest (place_of w'.stage) =
-    subst (λ (x : Setting). Run (attributes_of (profile_of x (room_of s.before.slots))) 0 (place_of s.after.stage) rest (place_of w'.stage)) config run in (
-      subst (λ (z : Shown). Run (attributes_of (profile z)) 0 (place_of z.stage) events (place_of w'.stage)) begins (runs (place_of w'.stage) run_before),
+    subst (λ (x : Setting). Run (attributes_of (profile_of x (room_of s.before.slots))) 0 (place_of s.after.stage) rest
+    (place_of w'.stage)) config run in (
+      subst (λ (z : Shown). Run (attributes_of (profile z)) 0 (place_of z.stage) events (place_of w'.stage)) begins (runs
+          (place_of w'.stage) run_before),
       at_last,
     )
   where

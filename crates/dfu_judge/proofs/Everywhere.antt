@@ -14,7 +14,8 @@ use Rattle.dfu_judge.proofs.Words.{all}
 at_one : (a r : ℕ) → a < 16 → r < 64 → holds (slice_index_or EVERY 0 []) a r ≡ true
 at_one a r below within =
     ap (λ (w : ℕ). bit_at w r == 1)
-    (eqb-true _ _ (agree_below_at (λ (k : ℕ). slice_index (slice_index_or EVERY 0 []) k == 0xffff_ffff_ffff_ffff) (λ (k : ℕ). true) 16 a refl below))
+    (eqb-true _ _ (agree_below_at (λ (k : ℕ). slice_index (slice_index_or EVERY 0 []) k == 0xffff_ffff_ffff_ffff) (λ
+    (k : ℕ). true) 16 a refl below))
     ∙ all r within
 
 -- Every device is held at each place.

@@ -47,13 +47,15 @@ led_by rows held e p n a r is g =
       g.row,
       g.listed.1,
       g.listed.2,
-      and_from _ _ (eq-eqb _ _ (ap place_number g.ends)) (and_from _ _ g.speaks (and_from _ _ (ap (λ (q : Place). stands held q a r) g.begins ∙ is) g.of_it)),
+      and_from _ _ (eq-eqb _ _ (ap place_number g.ends)) (and_from _ _ g.speaks (and_from _ _ (ap (λ
+          (q : Place). stands held q a r) g.begins ∙ is) g.of_it)),
     )
 
 -- Some row of three lists leads there, or the device stays.
 abbrev led_of : (s m h : List Row) (held : List (List ℕ)) (e : Event) (n : Place) (a r : ℕ) → Bool
 led_of s m h held e n a r =
-    (((stays e && stands held n a r) || list_any (leads held e n a r) s) || list_any (leads held e n a r) m) || list_any (leads held e n a r) h
+    (((stays e && stands held n a r) || list_any (leads held e n a r) s) || list_any (leads held e n a r) m) || list_any
+    (leads held e n a r) h
 
 -- What may be answered by three lists of rows.
 abbrev MayBy : (s m h : List Row) (a r : ℕ) → Place → Event → Place → Type 0

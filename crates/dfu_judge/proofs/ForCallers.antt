@@ -82,7 +82,8 @@ when_back (By ErrorWithoutCode) = refl
 abbrev pub is_row : Place → Asked → When → Gives → Place → Row → Bool
 is_row from asked when g next row =
     (place_number row.from == place_number from) && ((asked_number row.asked == asked_number asked)
-    && ((when_number row.when == when_number when) && ((gives_number row.gives == gives_number g) && (place_number row.next == place_number next))))
+    && ((when_number row.when == when_number when) && ((gives_number row.gives == gives_number g)
+    && (place_number row.next == place_number next))))
 
 -- A device goes by a row with these fields, which some row of the list has.
 pub by_row : (rows : List Row) (from : Place) (asked : Asked) (when : When) (g : Gives) (next : Place) (a r : ℕ) (e : Event)
@@ -192,6 +193,7 @@ moves_twice a r p q s (inr m) (inl same) = inr (subst (λ (x : Place). MovesBy D
 moves_twice a r p q s (inr m) (inr n) = inr (one_move a r p q s m n)
 
 -- A run from where a device moved is one from where it was.
-pub moves_first : (a r : ℕ) (p q : Place) (events : List Event) (last : Place) → MayMove a r p q → Run a r q events last → Run a r p events last
+pub moves_first : (a r : ℕ) (p q : Place) (events : List Event) (last : Place) → MayMove a r p q → Run a r q events last
+    → Run a r p events last
 moves_first a r p q [] last m run = moves_twice a r p q last m run
 moves_first a r p q (e ∷ events) last m (here, next, moved, may, rest) = (here, next, moves_twice a r p q here m moved, may, rest)

@@ -17,7 +17,11 @@ skipped p n None off so = λ r below. elim (cases_eq r n) [ inl same ↦ ap p sa
 skipped p n (Some s) off so = (
   omega (arith, so.0),
   so.1,
-  λ r below passes. elim (cases_eq r n) [ inl same ↦ absurd (both_ways (p r) (ap p same ∙ off) passes) | inr other ↦ so.2 r (omega arith) passes ],
+  λ r below passes. elim (cases_eq r n) [
+    | inl same ↦ absurd (both_ways (p r) (ap p same
+        ∙ off) passes)
+    | inr other ↦ so.2 r (omega arith) passes
+  ],
   so.3,
 )
 

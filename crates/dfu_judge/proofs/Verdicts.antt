@@ -28,7 +28,8 @@ pub is_kept_by : (held : List (List ℕ)) (events : List Event) (s : ℕ) → Is
     → Some s ≡ least_below (anywhere held) 64 → IsVerdict (KeptBy s) events
 is_kept_by held events s so not_plain is =
     let least : LeastTo (anywhere held) 64 (Some s) = subst (LeastTo (anywhere held) 64) (sym is) (least_to (anywhere held) 64) in
-    let can : (r : ℕ) → r < 64 → (anywhere held r ≡ true) ↔ CanAnswer r events = λ r within. held_can held events r (held_with held events r within so) in (
+    let can : (r : ℕ) → r < 64 → (anywhere held r ≡ true) ↔ CanAnswer r events =
+    λ r within. held_can held events r (held_with held events r within so) in (
       λ plain. both_ways (anywhere held 0) not_plain ((can 0 (omega arith)).1 plain),
       record {
         below = least.0;
@@ -78,6 +79,7 @@ departs before after anew events e at says so none_left first places = record {
       let same : slice_index_or at (place_number p) false ≡ some_held (slice_index_or before (place_number p) []) 0 =
       places (place_number p) (number_below p) in
       (λ here. is.0 (sym same ∙ here), λ x. same ∙ is.1 x);
-  none = λ may. both_ways (anywhere after 0) none_left ((held_can after (events ++ e ∷ []) 0 (held_next_plain before after events e says so)).1 may);
+  none = λ may. both_ways (anywhere after 0) none_left ((held_can after (events ++ e ∷ []) 0
+      (held_next_plain before after events e says so)).1 may);
   anew = first;
 }

@@ -8,7 +8,8 @@ use Rattle.dfu_judge.specs.declared.verdict.Departure.{Departure}
 use Rattle.dfu_judge.specs.Fits.{place_number}
 use Rattle.dfu_judge.specs.MayAnswer.{ComesTo, CanAnswer, IsHeldPlain}
 
--- With this set of readings a device may have answered so; no other set has fewer readings, and of those with as many this one has the least
+-- With this set of readings a device may have answered so; no other set has fewer readings, and of those with as many this one has the
+-- least
 -- number.
 pub record IsLeastSet (readings : ℕ) (events : List Event) : Type 0 where
   pub below : readings < 64

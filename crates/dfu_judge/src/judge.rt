@@ -48,7 +48,8 @@ impl Judge {
         ensures whole { (es : List Event) → IsHeld self.old.whole es → IsHeld self.new.whole (es ++ event.now ∷ []) }
         ensures kept { IsNone result → (es : List Event) → IsHeldPlain self.old.since es
             → CanAnswer 0 (es ++ event.now ∷ []) × IsHeldPlain self.new.since (es ++ event.now ∷ []) }
-        ensures departs { IfSome result (λ d. (d.event ≡ event.now) × ((es : List Event) → IsHeldPlain self.old.since es → Departs es d self.new.since)) }
+        ensures departs { IfSome result (λ d. (d.event ≡ event.now) × ((es : List Event) → IsHeldPlain self.old.since es
+            → Departs es d self.new.since)) }
     {
         self.whole = step(&self.whole, event);
         let before = self.since;

@@ -41,6 +41,7 @@ mod reading;
 mod row;
 mod standard;
 mod verdict;
+mod whole;
 
 pub use asked::Asked;
 pub use drifts::DRIFTS;
@@ -54,3 +55,4 @@ pub use reading::Reading;
 pub use row::{Drift, Gives, Row, Source, When};
 pub use standard::STANDARD;
 pub use verdict::{Departure, Verdict};
+pub use whole::verdict_on;

@@ -28,7 +28,8 @@ pub enum Gives {
     Ack,
     /// It stalls.
     Stall,
-    /// The front of six bytes (section 6.1.2): the code is OK outside dfuERROR, and another one in it; the state is the one that is entered.
+    /// The front of six bytes (section 6.1.2): the code is OK outside dfuERROR, and another one in it; the state is the one that is
+    /// entered.
     Status,
     /// As `Status`, but with the code OK in dfuERROR.
     NoCode,

@@ -108,7 +108,8 @@ pub static STANDARD: [Row; 126] = [
     row!(Manifest, GetState, Always, Stall, Error, Open),
     row!(Manifest, Abort, Always, Stall, Error, A),
     row!(Manifest, Other, Always, Stall, Error, A),
-    // State 8, dfuMANIFEST-WAIT-RESET. Open: a request is stalled and nothing changes, or is an error; or GETSTATUS and GETSTATE are answered.
+    // State 8, dfuMANIFEST-WAIT-RESET. Open: a request is stalled and nothing changes, or is an error; or GETSTATUS and GETSTATE are
+    // answered.
     row!(ManifestWaitReset, GetStatus, Always, Status, ManifestWaitReset, Open),
     row!(ManifestWaitReset, GetState, Always, State, ManifestWaitReset, Open),
     row!(ManifestWaitReset, Detach, Always, Stall, ManifestWaitReset, Open),

@@ -1,6 +1,8 @@
 //! What a judge says of devices that were worked out by hand, of wrong ones, and of the device of this repository.
 
+mod captures;
 mod cells;
+mod lines;
 mod runs;
 mod verdicts;
 mod walker;

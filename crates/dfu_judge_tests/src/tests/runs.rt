@@ -33,18 +33,19 @@ struct Random {
 }
 
 impl Random {
-    /// A number below 256.
-    fn next(&mut self) -> u32 {
+    /// A byte.
+    fn next(&mut self) -> u8 {
         self.seed = self
             .seed
             .wrapping_mul(1_664_525)
             .wrapping_add(1_013_904_223);
-        self.seed >> 24
+        self.seed.to_be_bytes()[0]
     }
 
-    /// A number below this one.
-    fn below(&mut self, limit: u32) -> u32 {
-        if limit == 0 { 0 } else { self.next() % limit }
+    /// A byte below this one, or 0.
+    fn below(&mut self, limit: u8) -> u8 {
+        let byte = self.next();
+        if limit == 0 { 0 } else { byte % limit }
     }
 }
 
@@ -52,9 +53,9 @@ impl Random {
 fn device(alloc: Global, run: u32, random: &mut Random) -> Result<Device<SimMedium>, Fail> {
     let attributes = (run % 16) as u8;
     let functional = Functional::of_attributes(attributes, 20, 8, 0x0110);
-    let busy = random.below(3) * 5;
+    let busy = u32::from(random.below(3)) * 5;
     let manifest = if functional.tolerant {
-        random.below(3) * 5
+        u32::from(random.below(3)) * 5
     } else {
         5
     };
@@ -73,9 +74,9 @@ fn request(random: &mut Random) -> ([u8; 8], usize) {
         None => [0; 8],
     };
     match random.next() {
-        0..8 => setup[2] = random.next() as u8,
-        8..16 => setup[6] = random.below(10) as u8,
-        16..20 => setup[1] = random.below(9) as u8,
+        0..8 => setup[2] = random.next(),
+        8..16 => setup[6] = random.below(10),
+        16..20 => setup[1] = random.below(9),
         20..22 => setup[4] = 1,
         _ => {}
     }
@@ -103,7 +104,7 @@ fn seen(said: Said, out: &[u8]) -> Answer {
 fn event(device: &mut Device<SimMedium>, random: &mut Random) -> Option<Event> {
     match random.next() {
         0..60 => {
-            device.elapse(random.below(12));
+            device.elapse(u32::from(random.below(12)));
             None
         }
         60..75 => {
@@ -115,7 +116,7 @@ fn event(device: &mut Device<SimMedium>, random: &mut Random) -> Option<Event> {
             Some(POWER)
         }
         78..84 => {
-            device.arm(random.below(4), &[], false);
+            device.arm(u32::from(random.below(4)), &[], false);
             None
         }
         84..92 => {

@@ -2,6 +2,7 @@
 
 use super::cells::{may, may_anyhow};
 use super::{ACK, POWER, REQUESTS, RESET, asked, bytes, state, status};
+use Said::{Ack, Part, Power, Reset, State, Status};
 use dfu_judge::{Answer, Event, Judge};
 use std::process::Abort;
 
@@ -19,17 +20,17 @@ enum Said {
 /// How a device comes to each state, from power on.
 #[rattlefmt::skip]
 static WAY: [&'static [Said]; 11] = [
-    &[Said::Power, Said::State(0)],
-    &[Said::Power, Said::State(0), Said::Ack(0), Said::State(1)],
-    &[Said::Power, Said::State(0), Said::Ack(0), Said::Reset, Said::State(2)],
-    &[Said::Power, Said::State(0), Said::Ack(0), Said::Reset, Said::State(2), Said::Ack(1), Said::State(3)],
-    &[Said::Power, Said::State(0), Said::Ack(0), Said::Reset, Said::State(2), Said::Ack(1), Said::Status(4)],
-    &[Said::Power, Said::State(0), Said::Ack(0), Said::Reset, Said::State(2), Said::Ack(1), Said::Status(5)],
-    &[Said::Power, Said::State(0), Said::Ack(0), Said::Reset, Said::State(2), Said::Ack(1), Said::Status(5), Said::Ack(2), Said::State(6)],
-    &[Said::Power, Said::State(0), Said::Ack(0), Said::Reset, Said::State(2), Said::Ack(1), Said::Status(5), Said::Ack(2), Said::Status(7)],
-    &[Said::Power, Said::State(0), Said::Ack(0), Said::Reset, Said::State(2), Said::Ack(1), Said::Status(5), Said::Ack(2), Said::Status(7), Said::State(8)],
-    &[Said::Power, Said::State(0), Said::Ack(0), Said::Reset, Said::State(2), Said::Part(8), Said::State(9)],
-    &[Said::Power, Said::State(10)],
+    &[Power, State(0)],
+    &[Power, State(0), Ack(0), State(1)],
+    &[Power, State(0), Ack(0), Reset, State(2)],
+    &[Power, State(0), Ack(0), Reset, State(2), Ack(1), State(3)],
+    &[Power, State(0), Ack(0), Reset, State(2), Ack(1), Status(4)],
+    &[Power, State(0), Ack(0), Reset, State(2), Ack(1), Status(5)],
+    &[Power, State(0), Ack(0), Reset, State(2), Ack(1), Status(5), Ack(2), State(6)],
+    &[Power, State(0), Ack(0), Reset, State(2), Ack(1), Status(5), Ack(2), Status(7)],
+    &[Power, State(0), Ack(0), Reset, State(2), Ack(1), Status(5), Ack(2), Status(7), State(8)],
+    &[Power, State(0), Ack(0), Reset, State(2), Part(8), State(9)],
+    &[Power, State(10)],
 ];
 
 /// The event of what is said.

@@ -1,4 +1,5 @@
-//! Wrong rows, planted by hand in a device that goes by the cells: those that the standard forbids are told, and those that it allows are not.
+//! Wrong rows, planted by hand in a device that goes by the cells: those that the standard forbids are told, and those that it allows are
+//! not.
 
 use super::walker::{Planted, first_departure};
 use dfu_judge::Verdict;

@@ -11,5 +11,6 @@ loop-a-preserved c =
       size = length-set _ _ _ ∙ i.size;
       done = joined c.loop-a.after c.args.to.now c.args.from.now c.loop-a.a c.word.result (λ (a r : ℕ). meets c.args.when a r) (omega arith)
           i.kept i.done c.word.ensures;
-      kept = λ a above. let other : a ≢ c.loop-a.a = omega arith in get_or-set_other c.loop-a.after c.loop-a.a a _ 0 other ∙ i.kept a (omega arith);
+      kept = λ a above. let other : a ≢ c.loop-a.a = omega arith in get_or-set_other c.loop-a.after c.loop-a.a a _ 0 other
+          ∙ i.kept a (omega arith);
     }

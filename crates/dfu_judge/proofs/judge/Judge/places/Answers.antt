@@ -14,6 +14,7 @@ returns c events so p =
     let held = c.self.inside.whole in
     let is = held_place held events c.args.readings p
     (held_with held events c.args.readings c.requires (subst (λ (w : Judged). IsHeld w.whole events) (sym c.self.view_is) so)) in
-    let same : slice_index_or c.places_of.result (place_number p) false ≡ some_held (slice_index_or held (place_number p) []) c.args.readings =
+    let same : slice_index_or c.places_of.result (place_number p) false ≡ some_held (slice_index_or held
+    (place_number p) []) c.args.readings =
     c.places_of.ensures (place_number p) (number_below p) in
     (λ at. is.0 (sym same ∙ at), λ x. same ∙ is.1 x)
