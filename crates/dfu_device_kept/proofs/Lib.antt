@@ -1,0 +1,6 @@
+mod Bits
+mod Histories
+mod Leads
+mod Passing
+mod Rows
+mod Seen

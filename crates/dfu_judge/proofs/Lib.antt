@@ -1,0 +1,10 @@
+mod Everywhere
+mod Exact
+mod Fields
+pub mod ForCallers
+mod Joined
+mod Least
+mod Places
+mod Somewhere
+mod Verdicts
+mod Words

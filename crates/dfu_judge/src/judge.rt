@@ -1,0 +1,87 @@
+//! The judge.
+
+ghost use Rattle.std.specs.Prelude.{◌≡◌, ◌<◌, ℕ, List, IsNone, IfSome, [], ◌∷◌, ◌++◌};
+
+use crate::held::{Places, is_any_held, least_held, places_of, step};
+use crate::{Departure, Event, Verdict};
+use std::marker::Model;
+
+/// Every device, at every place.
+const EVERY: Places = [[u64::MAX; 16]; 12];
+
+/// A judge of one device, of which nothing is known at first: it follows every device of the standard at once, with each set of habits.
+/// It takes no memory beyond its own 3,072 bytes.
+#[derive(Drop)]
+pub struct Judge {
+    since: Places,
+    whole: Places,
+}
+
+// a clause sees the devices that are held, since the last departure and since the start
+impl Model for Judge {
+    ghost use Rattle.dfu_judge.specs.Held.{Judged};
+
+    ghost Value = { Judged };
+
+    ghost view = { λ s. record { since = s.since; whole = s.whole } };
+}
+
+impl Judge {
+    ghost use Rattle.dfu_judge.specs.MayAnswer.{CanAnswer, IsHeld, IsHeldPlain};
+    ghost use Rattle.dfu_judge.specs.Verdict.{IsVerdict, ArePlaces, Departs};
+    ghost use Rattle.dfu_judge.specs.declared.event.Event.{Event};
+
+    /// A judge of a device of which nothing is known: it may be anywhere.
+    pub fn new() -> Judge
+        ensures whole { IsHeld result.whole [] }
+        ensures since { IsHeldPlain result.since [] }
+    {
+        Judge {
+            since: EVERY,
+            whole: EVERY,
+        }
+    }
+
+    /// An event comes. Where no device of the standard is left, the departure is handed out, and from then on the device may be
+    /// anywhere again, for departures; for the verdict it stays as it is.
+    pub fn take(&mut self, event: &Event) -> Option<Departure>
+        ensures whole { (es : List Event) → IsHeld self.old.whole es → IsHeld self.new.whole (es ++ event.now ∷ []) }
+        ensures kept { IsNone result → (es : List Event) → IsHeldPlain self.old.since es
+            → CanAnswer 0 (es ++ event.now ∷ []) × IsHeldPlain self.new.since (es ++ event.now ∷ []) }
+        ensures departs { IfSome result (λ d. (d.event ≡ event.now) × ((es : List Event) → IsHeldPlain self.old.since es
+            → Departs es d self.new.since)) }
+    {
+        self.whole = step(&self.whole, event);
+        let before = self.since;
+        self.since = step(&before, event);
+        if is_any_held(&self.since, 0) {
+            return None;
+        }
+        self.since = EVERY;
+        Some(Departure {
+            before: places_of(&before, 0),
+            event: *event,
+        })
+    }
+
+    /// The verdict on all events that came.
+    pub fn verdict(&self) -> Verdict
+        ensures { (es : List Event) → IsHeld self.now.whole es → IsVerdict result es }
+    {
+        if is_any_held(&self.whole, 0) {
+            return Verdict::Kept;
+        }
+        match least_held(&self.whole, 64) {
+            Some(readings) => Verdict::KeptBy { readings },
+            None => Verdict::NotKept,
+        }
+    }
+
+    /// Where the device may stand now, if it has this set of readings, 0 to 63: by place, in the order of [`crate::Place`].
+    pub fn places(&self, readings: u8) -> [bool; 12]
+        requires { readings < 64 }
+        ensures { (es : List Event) → IsHeld self.now.whole es → ArePlaces readings es result }
+    {
+        places_of(&self.whole, readings)
+    }
+}

@@ -1,0 +1,58 @@
+//! Could a device that keeps USB DFU 1.1 have answered so? A table of all that the standard leaves open, and a judge that follows every
+//! device of it at once.
+#![tactic(auto)]
+
+macro_rules! row {
+    ($from:ident, $asked:ident, $when:expr, $gives:ident, $next:ident, $source:ident) => {
+        $crate::Row {
+            from: $from,
+            asked: $asked,
+            when: $when,
+            gives: $gives,
+            next: $next,
+            source: $source,
+        }
+    };
+}
+
+macro_rules! drift {
+    ($from:ident, $when:expr, $next:ident, $source:ident) => {
+        $crate::Drift {
+            from: $from,
+            when: $when,
+            next: $next,
+            source: $source,
+        }
+    };
+}
+
+mod asked;
+mod drifts;
+mod event;
+mod habits;
+mod held;
+mod judge;
+pub mod laws;
+mod line;
+mod log;
+mod marks;
+mod place;
+mod reading;
+mod row;
+mod standard;
+mod verdict;
+mod whole;
+
+pub use asked::Asked;
+pub use drifts::DRIFTS;
+pub use event::{Answer, Event};
+pub use habits::HABITS;
+pub use judge::Judge;
+pub use log::{Line, read_line};
+pub use marks::MARKS;
+pub use place::Place;
+pub use reading::Reading;
+pub use row::{Drift, Gives, Row, Source, When};
+pub use standard::STANDARD;
+pub use verdict::{Departure, Verdict};
+pub use whole::verdict_on;
