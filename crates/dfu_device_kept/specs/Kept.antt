@@ -76,9 +76,8 @@ abbrev pub AreSeen : List Step → List Event → Type 0
 AreSeen [] events = events ≡ []
 AreSeen (s ∷ h) events = (rest : List Event) × Tells s.cause s.answer s.out rest events × AreSeen h rest
 
--- What holds of each stage that a device comes to: manifestation is complete only where it is tolerant, an upload is under way only where
--- it
--- can upload, and dfuERROR never has the code OK.
+-- What holds of each stage that a device comes to: manifestation is complete only where it is tolerant, an upload is under way
+-- only where it can upload, and dfuERROR never has the code OK.
 abbrev pub Stands : Profile → Stage → Type 0
 Stands c InManifestSyncComplete = c.tolerant ≡ true
 Stands c (InUploadIdle at number) = c.can_upload ≡ true
@@ -94,8 +93,8 @@ abbrev pub HistoryIsKept : Type 0
 HistoryIsKept = (h : List Step) (events : List Event) (w w' : Shown) → TakesTime (profile w) → Stands (profile w) w.stage → IsHistory w h w'
     → AreSeen h events → Run (attributes_of (profile w)) 0 (place_of w.stage) events (place_of w'.stage) × Stands (profile w') w'.stage
 
--- So the answers of each device that begins in appIDLE, as one does that got power, are kept: a device of the standard may have answered
--- so.
+-- So the answers of each device that begins in appIDLE, as one does that got power, are kept: a device of the standard may have
+-- answered so.
 abbrev pub StartIsKept : Type 0
 StartIsKept = (h : List Step) (events : List Event) (w w' : Shown) → IsAllowed w.config → w.stage ≡ InAppIdle → IsHistory w h w'
     → AreSeen h events → Run (attributes_of (profile w)) 0 place.AppIdle events (place_of w'.stage) × IsVerdict Kept events
