@@ -72,7 +72,8 @@ class Device:
         return self.saved.read_bytes() if self.saved.exists() else b'', said.strip()
 
 
-# One session, in one call: of a machine that is emulated each call takes its time. The setting that is chosen is the second one.
+# One session, in one call: of a machine that is emulated each call takes its time, and so does a device that comes back, for which the
+# page asks then. The setting that is chosen is the second one.
 SESSION = """async (isCompared, isChosen) => {
   const by = id => document.getElementById(id)
   const until = async what => { while (!what()) await new Promise(done => setTimeout(done, 50)) }
@@ -86,22 +87,23 @@ SESSION = """async (isCompared, isChosen) => {
   await until(() => !by('begin').disabled || !by('device-refused').hidden)
   by('verify').checked = isCompared
   by('begin').click()
-  await until(() => document.querySelector('#report h3') !== null || !by('ask').hidden)
+  await until(() => document.querySelector('#report h3') !== null)
   by('log').click()
-  const title = by('ask').hidden ? document.querySelector('#report h3').textContent : by('ask').textContent
-  return [title, log === undefined ? '' : await log.text()]
+  return [document.querySelector('#report h3').textContent, await log.text()]
 }"""
 
 
 def row(browser, program, work, words):
     what, settings, is_compared, title, image, restarts = words
     device = Device(program, settings, work)
+    began = time.time()
     found = browser.wait_run(SESSION, is_compared, 'ALTERNATES' in settings)
+    took = time.time() - began
     saved, said = device.end()
     trace = found[1].splitlines()
     seen = (found[0], saved, sum(' restarted ' in line for line in trace))
     is_right = seen == (title, image, restarts)
-    print(f'row {"" if is_right else "WRONG: "}{what}: {seen[0]}, restarts {seen[2]} {said}'[:600], flush=True)
+    print(f'row {"" if is_right else "WRONG: "}{what}: {seen[0]}, restarts {seen[2]}, {took:.0f} s {said}'[:600], flush=True)
     if not is_right or 'TRACE' in os.environ:
         print('\n'.join(f'row   {line}' for line in [repr(saved), *trace]), flush=True)
     return is_right
@@ -132,10 +134,12 @@ def main(page, program):
     browser = start_browser(work)
     browser.cdp('Page.addScriptToEvaluateOnNewDocument', source=CHOOSE)
     address = serve(page, PORT)
+    print('row it is driven', flush=True)
     browser.open(f'{address}/index.html#flash')
     browser.wait('document.body.dataset.ready')
     browser.type('#file', str(work / 'new.dfu'))
     browser.wait('!document.getElementById("fields").hidden')
+    print('row the page is there', flush=True)
     right = [row(browser, program, work, words) for words in ROWS]
     browser.quit()
     print(f'{sum(right)} passed, {len(right) - sum(right)} failed', flush=True)
