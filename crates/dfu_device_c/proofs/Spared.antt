@@ -22,7 +22,7 @@ use Rattle.dfu_slots.proofs.Put.{put_inside}
 use Rattle.dfu_slots.proofs.Unread.{named_is}
 use Rattle.dfu_device.specs.declared.answer.Answer.{Answer}
 use Rattle.dfu_device.specs.declared.answer.Answer.TheVariants.{Ack}
-use Rattle.dfu_device.specs.Table.{Plan, Sure, Writes, Commits, time_plan}
+use Rattle.dfu_device.specs.Table.{Plan, Sure, Writes, Commits, time_plan, reset_stage}
 use Rattle.dfu_device.specs.Setting.{Setting}
 use Rattle.dfu_device.specs.Shown.{Shown, profile}
 use Rattle.dfu_device.specs.Rows.{Done, Handles, Elapses, handled_as, setup_plan, asked_length, block_calls}
@@ -32,7 +32,7 @@ use Rattle.dfu_device_c.specs.Record.{store_in}
 use Rattle.dfu_device_c.specs.Noted.{header_at, plain_header, shown, IsNoted, Sees, by_note, plainly, On}
 use Rattle.dfu_device_c.specs.Device.{IsDevice, Takes}
 use Rattle.dfu_device_c.proofs.Covering.{range_apart, range_written, length_range, length_written, written_before}
-use Rattle.dfu_device_c.proofs.Standing.{header_fits}
+use Rattle.dfu_device_c.proofs.Standing.{header_fits, sees_same}
 
 -- Everything outside the spare slot is as it was.
 abbrev pub Spares : ℕ → List ℕ → List ℕ → Type 0
@@ -45,8 +45,7 @@ module _ (mine other : ℕ) (image : List ℕ) where
       → Spares other s.medium.bytes now.medium.bytes × ActiveAt (gate_of s.medium) now.medium.bytes mine other image
   begin_spares s now a writes =
       let g = gate_of s.medium in
-      let wide = gate_wide s.medium.unit in
-      (
+      let wide = gate_wide s.medium.unit in (
         keeps_wider other (other + g) other (other + slot_size s.medium.bytes) s.medium.bytes now.medium.bytes
             (begin_outside g wide s.medium now.medium mine other image a (inl writes)) (omega arith) (omega (arith, a.sized.room)),
         begin_keeps g wide s.medium now.medium mine other image a (inl writes),
@@ -71,8 +70,7 @@ module _ (mine other : ℕ) (image : List ℕ) where
   commit_spares seen end now a len writes =
       let place : other ≡ spare_at 16 seen = (places_are 16 seen mine other image a).1 in
       let ends = (place_end 16 seen mine other a.sized a.places).1 in
-      ends_keep other (other + slot_size seen) (writes_of (store_of (memory_of seen) [] end) (Commit len)) (memory_of seen) now ends
-      (
+      ends_keep other (other + slot_size seen) (writes_of (store_of (memory_of seen) [] end) (Commit len)) (memory_of seen) now ends (
         omega (arith, place),
         omega (arith, place, a.sized.room),
         (omega (arith, place), omega (arith, place, a.sized.room), tt),
@@ -97,8 +95,16 @@ module _ (mine other : ℕ) (image : List ℕ) where
             all_unit (writes_of (store_of (memory_of seen) [] end) Begin) (memory_of seen) mid.medium begun.writes in
             let second = put_spares mid last
             (subst (λ (u : WriteUnit). ActiveAt (gate_size u) mid.medium.bytes mine other image) (sym unit) first.1) begun.held_is 0 block
-            (omega (arith, fits, room, ap (λ (x : SlotsState). x.put_end) same, put.end_is, ap gate_size unit, first.0.size,
-            ap (λ (x : SlotsState). capacity_of x.medium) same)) put.writes in
+            (omega (
+              arith,
+              fits,
+              room,
+              ap (λ (x : SlotsState). x.put_end) same,
+              put.end_is,
+              ap gate_size unit,
+              first.0.size,
+              ap (λ (x : SlotsState). capacity_of x.medium) same,
+            )) put.writes in
             let half : slot_size mid.medium.bytes ≡ slot_size seen = omega (arith, first.0.size) in
             subst (λ (x : SlotsState). Spares other seen x.medium.bytes) (sym same)
             (keeps_both other (other + slot_size seen) seen mid.medium.bytes last.medium.bytes first.0
@@ -133,20 +139,20 @@ done_spares mine other image seen end active (Commits taken reply stage bad) len
     absurd (called_works fault d.slots d'.slots (Commit (length taken) ∷ []) (ap (λ (x : SlotsState). x.medium.fuse) is) done.calls)
 
 module _ (l : List ℕ) (q : ℕ) (x : List ℕ) (sixteen : length x ≡ 16) (room : q + 16 + 16 ≤ length l) (within : q + slot_size l ≤ length l)
-    where
-  fits : q + 16 + length x ≤ length l
-  fits = omega (arith, sixteen, room)
+  where
+    fits : q + 16 + length x ≤ length l
+    fits = omega (arith, sixteen, room)
 
-  -- A header that is written in a slot changes no more of that slot.
-  header_written : slot 16 (written l (q + 16) x) q ≡ record { gate = slice_index l q; header = x; data_bytes = (slot 16 l q).data_bytes }
-  header_written =
-      let size = length_written l (q + 16) x fits in
-      let body : (slot 16 (written l (q + 16) x) q).data_bytes ≡ (slot 16 l q).data_bytes =
-      ap (λ (n : ℕ). slice_range (written l (q + 16) x) (q + 2 * 16) (q + n / 2)) size
-      ∙ range_apart l (q + 16) x (q + 2 * 16) (q + slot_size l) fits within (inr (omega (arith, sixteen))) in
-      let head : slice_range (written l (q + 16) x) (q + 16) (q + 16 + 16) ≡ x =
-      ap (λ (n : ℕ). slice_range (written l (q + 16) x) (q + 16) (q + 16 + n)) (sym sixteen) ∙ range_written l (q + 16) x fits in
-      λ i. record { gate = written_before l (q + 16) x fits q 0 (omega arith) i; header = head i; data_bytes = body i }
+    -- A header that is written in a slot changes no more of that slot.
+    header_written : slot 16 (written l (q + 16) x) q ≡ record { gate = slice_index l q; header = x; data_bytes = (slot 16 l q).data_bytes }
+    header_written =
+        let size = length_written l (q + 16) x fits in
+        let body : (slot 16 (written l (q + 16) x) q).data_bytes ≡ (slot 16 l q).data_bytes =
+        ap (λ (n : ℕ). slice_range (written l (q + 16) x) (q + 2 * 16) (q + n / 2)) size
+        ∙ range_apart l (q + 16) x (q + 2 * 16) (q + slot_size l) fits within (inr (omega (arith, sixteen))) in
+        let head : slice_range (written l (q + 16) x) (q + 16) (q + 16 + 16) ≡ x =
+        ap (λ (n : ℕ). slice_range (written l (q + 16) x) (q + 16) (q + 16 + n)) (sym sixteen) ∙ range_written l (q + 16) x fits in
+        λ i. record { gate = written_before l (q + 16) x fits q 0 (omega arith) i; header = head i; data_bytes = body i }
 
 -- A call leaves the slot that is noted as it was, where the call saw its header shown.
 pub noted_spared : (s : Setting) (r : DfuDevice) (bytes seen : List ℕ) (r' : DfuDevice) (bytes' seen' : List ℕ) (before after : Shown) (p : Plan)
@@ -211,3 +217,13 @@ elapsed_spared s r r' bytes bytes' ms noted on = by_sees on.sees
     by_sees (by_note also seen_is is) =
         noted_spared s r bytes on.seen r' bytes' on.seen' on.does.before on.does.after (time_plan (profile on.does.before) on.does.before.stage ms)
         0 Ack [] noted seen_is is on.does.was on.does.is on.does.step
+
+-- And a reset of the bus, which writes nothing.
+pub reset_spared : (s : Setting) (r r' : DfuDevice) (bytes bytes' : List ℕ) → IsNoted r bytes
+    → On r bytes r' bytes' (λ b b'. Takes s r b (λ d d'. d' ≡ record d { stage = reset_stage d.stage }) r' b')
+    → slot 16 bytes' (place_of (r.slot == 0) bytes) ≡ slot 16 bytes (place_of (r.slot == 0) bytes)
+reset_spared s r r' bytes bytes' noted on =
+    let same : on.seen' ≡ on.seen = ap (λ (x : SlotsState). x.medium.bytes)
+    (sym (ap (λ (w : Shown). w.slots) on.does.is.device_is) ∙ ap (λ (w : Shown). w.slots) on.does.step
+    ∙ ap (λ (w : Shown). w.slots) on.does.was.device_is) in
+    ap (λ (b : List ℕ). slot 16 b (place_of (r.slot == 0) bytes)) (sees_same r bytes on.seen bytes' on.seen' on.sees same)

@@ -5,6 +5,7 @@ ghost use Rattle.dfu_slots.specs.Image.{Active};
 ghost use Rattle.dfu_slots.specs.Known.{place_of};
 ghost use Rattle.dfu_device.specs.declared.answer.Answer.{Answer};
 ghost use Rattle.dfu_device.specs.Rows.{Handles, Elapses};
+ghost use Rattle.dfu_device.specs.Table.{reset_stage};
 ghost use Rattle.dfu_device.specs.Setting.{Setting};
 ghost use Rattle.dfu_device_c.specs.declared.record.DfuDevice.{DfuDevice};
 ghost use Rattle.dfu_device_c.specs.Device.{Takes};
@@ -26,5 +27,8 @@ pub fn noted_slot_stays()
         → slot 16 bytes' (place_of (r.slot == 0) bytes) ≡ slot 16 bytes (place_of (r.slot == 0) bytes) }
     ensures elapsed { (s : Setting) (r r' : DfuDevice) (bytes bytes' : List ℕ) (ms : ℕ) → IsNoted r bytes
         → On r bytes r' bytes' (λ b b'. Takes s r b (Elapses ms) r' b')
+        → slot 16 bytes' (place_of (r.slot == 0) bytes) ≡ slot 16 bytes (place_of (r.slot == 0) bytes) }
+    ensures reset { (s : Setting) (r r' : DfuDevice) (bytes bytes' : List ℕ) → IsNoted r bytes
+        → On r bytes r' bytes' (λ b b'. Takes s r b (λ d d'. d' ≡ record d { stage = reset_stage d.stage }) r' b')
         → slot 16 bytes' (place_of (r.slot == 0) bytes) ≡ slot 16 bytes (place_of (r.slot == 0) bytes) }
 {}

@@ -1,4 +1,4 @@
-use Rattle.dfu_device_c.proofs.Spared.{handled_spared, elapsed_spared}
+use Rattle.dfu_device_c.proofs.Spared.{handled_spared, elapsed_spared, reset_spared}
 use Rattle.dfu_device_c.proofs.laws.noted_slot_stays.Goals as goal
 
 pub returns-clause-handled : goal.returns-clause-handled
@@ -6,3 +6,6 @@ returns-clause-handled c = λ s r r' bytes bytes' setup body sent a noted on. ha
 
 pub returns-clause-elapsed : goal.returns-clause-elapsed
 returns-clause-elapsed c = λ s r r' bytes bytes' ms noted on. elapsed_spared s r r' bytes bytes' ms noted on
+
+pub returns-clause-reset : goal.returns-clause-reset
+returns-clause-reset c = λ s r r' bytes bytes' noted on. reset_spared s r r' bytes bytes' noted on
