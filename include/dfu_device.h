@@ -2,7 +2,7 @@
  *
  * The program owns everything: the configuration, the record of what is kept between two calls, and the medium, which is
  * plain memory. The library has no state and takes no memory. Of a C library it wants at most memcpy, memmove and memset.
- * It is for 64-bit processors; of x86-64 for those of level v2, with SSE4.1.
+ * It is for x86-64 of level v2, with SSE4.1, for AArch64, Cortex-M and RV32.
  *
  * Return values: 0 or more is an answer; a negative number is DFU_STALL or a refusal. A refusal changes nothing: not the
  * record, not the medium, and not the buffer of the answer.

@@ -2,7 +2,7 @@
  *
  * The library sends nothing, takes no memory and has no state. The program keeps the record of the session, does what
  * dfu_host_next says, and reports to dfu_host_take what came of it. Of a C library it wants at most memcpy, memmove and
- * memset. It is for 64-bit processors; of x86-64 for those of level v2, with SSE4.1.
+ * memset. It is for x86-64 of level v2, with SSE4.1, for AArch64, Cortex-M and RV32.
  *
  * Return values: 0 or more is an answer; a negative number is a refusal. A refusal changes nothing.
  *
@@ -65,8 +65,9 @@
 #include <stddef.h>
 #include <stdint.h>
 
-#if !defined(__x86_64__) && !defined(_M_X64) && !defined(__aarch64__) && !defined(_M_ARM64)
-#error "there is an archive of dfu_host_c for x86-64 and for AArch64 only"
+#if !defined(__x86_64__) && !defined(_M_X64) && !defined(__aarch64__) && !defined(_M_ARM64) \
+    && !(defined(__ARM_ARCH_PROFILE) && __ARM_ARCH_PROFILE == 'M') && !(defined(__riscv_xlen) && __riscv_xlen == 32)
+#error "there is an archive of dfu_host_c for x86-64, AArch64, Cortex-M and RV32 only"
 #endif
 
 /* The version: 10,000 for each major one, 100 for each minor one, and 1 for each patch. */
