@@ -6,7 +6,8 @@
 //   ok, with as many bytes out as the body has   Ack       it was made, and acknowledged
 //   ok, with bytes in                            Bytes     what came, as it came
 //   stall                                        Stall     the device refused the request
-//   it left before or in it                      Left      behind the end of a download, as below
+//   it left before or in it, or within a second  Left      behind the end of a download, as below
+//   of an error
 //                                                Restart   else: told once it is back and open again
 //   no answer for 5 s                            Nothing   once the device is closed and open again: a transfer of WebUSB has no time
 //                                                          of its own, and may be made at any time until then
@@ -35,8 +36,8 @@ import { isDetach, isDownload, isStatus, partsOf } from './names.js'
 
 const TRANSFER_MS = 5000
 const STOPPED_MS = 1000 // the same of what is sent behind a stop
-const LEAVE_MS = 1000   // from a reset that fails to the event that tells that the device left,
-const GRACE_MS = 100    // and from one that is made
+const LEAVE_MS = 1000   // from a transfer or a reset that fails to the event that tells that the device left,
+const GRACE_MS = 100    // and from a reset that is made
 const LOOK_MS = 20
 const NONE = new Uint8Array(0)
 // For the trace: what libusb calls them.
@@ -111,12 +112,11 @@ export class Wire {
   }
 
   async answered(setup, body) {
-    const device = this.board.handle
     let result
     try {
       result = await this.clock.limit(this.transfer(setup, body), this.clock.isStopped ? STOPPED_MS : TRANSFER_MS)
     } catch (error) {
-      if (error.name === 'NotFoundError' || this.board.handle !== device) return this.left()
+      if (error.name === 'NotFoundError' || await this.hasLeft(LEAVE_MS)) return this.left()
       return told(SEEN.NOTHING, { error: ERRORS[error.name] ?? 'OTHER' })
     }
     if (result === LATE) return this.late()
@@ -146,6 +146,8 @@ export class Wire {
   async wait(ms) {
     const began = this.clock.now()
     const answer = told(await this.clock.wait(ms) ? SEEN.WAIT : SEEN.NOTHING)
+    // With bitWillDetach it leaves by itself; until the event comes, each transfer would fail.
+    if (this.isLeaving) await this.hasLeft(LEAVE_MS)
     this.trace.wait(ms, answer, this.clock.now() - began)
     return answer
   }

@@ -42,6 +42,8 @@ ROWS = [
      'unconfirmed', True),
     ('an application without USB', {'wantsVerified': False, 'settings': {'hasAppUsb': False}}, 'installed', True),
     ('an application without USB, to be compared', {'settings': {'hasAppUsb': False}}, 'gone', True),
+    ('it is told late that it left', {'settings': {'tells': 400}}, 'verified', True),
+    ('it detaches itself, which is told late', {'settings': {**APP, **ITSELF, 'tells': 700}}, 'verified', True),
     ('it stalls SET_INTERFACE', {'settings': {'stallsSet': True}}, 'verified', True),
     ('the second of three settings', {'settings': {'alternates': 3, 'setting': 1}, 'place': {'alternate': 1}}, 'verified', True),
 ]
@@ -107,6 +109,14 @@ def cancels(browser):
         check_that(f'cancelled at {at}: one image or the other', one['image'] in (text(OLD), text(NEW)), one['image'])
 
 
+def told_late(browser):
+    """Where the event comes late, a device that leaves unasked is told once, and one that detaches itself never."""
+    for number, one in enumerate(in_page(browser, *(with_fate({'settings': {'tells': 400}}, 'leave-after', number) for number in range(13)))):
+        check(f'told late, {number}', (one['name'], one['restarts'], one['image']), ('verified', 1, text(NEW)))
+    one = in_page(browser, {'settings': {**APP, **ITSELF, 'tells': 700}})[0]
+    check('it detaches itself, which is told late: no restart is told', one['restarts'], 0)
+
+
 def garbled(browser):
     """Answers that are made up end a session, in one of the ends that it has."""
     def of(seed):
@@ -141,5 +151,6 @@ def run(browser):
     fates(browser)
     closing(browser)
     cancels(browser)
+    told_late(browser)
     garbled(browser)
     descriptors(browser)

@@ -38,6 +38,7 @@ export const USUAL = {
   away: 0,                // ms away from the bus when it comes as another one
   keepsPermission: true,  // false: as a device without a serial number in Chromium, which has to be chosen again
   reset: 'rejects',       // what reset() does where the device comes back as another one: rejects, or resolves; or fails: always
+  tells: 0,               // ms until it is told that it left; meanwhile each transfer fails
   closing: 'unheard',     // what it makes of being closed and opened: unheard, or resets: it is in its first state again
   seed: 1,                // of `garble`
   title: 'the proved device', // its name
@@ -92,11 +93,16 @@ export class StandInUsb extends EventTarget {
   }
 
   isApp() { return this.device.state() <= 1 }
-  isHere() { return this.ms >= this.backAt && (this.settings.hasAppUsb || !this.isApp()) }
+  isHere() { return !this.untold && this.ms >= this.backAt && (this.settings.hasAppUsb || !this.isApp()) }
 
   pass(ms) {
     const wasHere = this.isHere()
     this.ms += ms
+    if (this.untold && this.ms >= this.untold.at) {
+      const { device } = this.untold
+      this.untold = null
+      this.tellLeft(device)
+    }
     const wasAtEnd = this.device.state() === 7
     this.device.elapse(ms)
     if (wasAtEnd && this.device.state() !== 7 && this.settings.startsItself) this.leaves('starts its image')
@@ -127,9 +133,18 @@ export class StandInUsb extends EventTarget {
     this.backAt = this.ms + this.settings.away
     if (this.settings.keepsPermission && this.permitted.has(before)) this.permitted.add(this.current)
     this.permitted.delete(before)
-    before.opened = false
-    before.cancel('NotFoundError', 'The device was disconnected.')
-    this.tell('disconnect', before)
+    if (this.settings.tells > 0) {
+      before.cancel('NetworkError', 'A transfer error has occurred.')
+      this.untold = { device: before, at: this.ms + this.settings.tells }
+      return
+    }
+    this.tellLeft(before)
+  }
+
+  tellLeft(device) {
+    device.opened = false
+    device.cancel('NotFoundError', 'The device was disconnected.')
+    this.tell('disconnect', device)
     if (this.isHere()) this.tell('connect', this.current)
   }
 

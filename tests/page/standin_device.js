@@ -44,6 +44,7 @@ export class StandInDevice {
 
   held() {
     this.usb.catchUp()
+    if (this.usb.untold?.device === this) throw failure('NetworkError', 'A transfer error has occurred.')
     if (!this.isThere()) throw failure('NotFoundError', 'The device was disconnected.')
     if (!this.opened) throw failure('InvalidStateError', 'The device must be opened first.')
     if (this.isOther) throw failure('NetworkError', 'This stand-in has nothing behind the other board.')
