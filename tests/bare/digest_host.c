@@ -26,6 +26,7 @@ static void add(const void *bytes, size_t length) {
 
 static void roll_session(struct dfu_session *s) {
     memset(s, 0, sizeof *s);
+    s->version = any() % 16 ? DFU_VERSION : (uint32_t)some();
     s->number = some(), s->kept = some();
     s->goal = (uint32_t)(any() % 6), s->phase = (uint32_t)(any() % 27), s->more = (uint32_t)some(), s->actions = (uint32_t)some();
     s->restarts = (uint16_t)some(), s->transfer = (uint16_t)some(), s->detach_ms = (uint16_t)some();
