@@ -10,17 +10,19 @@ _dfu() {
     if [ "$COMP_CWORD" -eq "$at" ]; then
         case $word in
         -*) COMPREPLY=($(compgen -W "$options -V --version" -- "$word")) ;;
-        *) COMPREPLY=($(compgen -W 'check add show run help' -- "$word")) ;;
+        *) COMPREPLY=($(compgen -W 'check add show run judge help' -- "$word")) ;;
         esac
         return
     fi
     [ "$command" != add ] || options='--vid --pid --did --explain -h --help'
+    [ "$command" != run ] || options='--trace --explain -h --help'
+    [ "$command" != judge ] || options='--interface --device --explain -h --help'
     at=$((at + 1))
     # How many words that are no options stand before this one. In `--vid=1209` readline takes the `=`
     # for a word.
     while [ "$at" -lt "$COMP_CWORD" ]; do
         case ${COMP_WORDS[at]} in
-        --vid | --pid | --did)
+        --vid | --pid | --did | --interface | --device)
             at=$((at + 1))
             [ "${COMP_WORDS[at]}" != = ] || [ "$at" -eq "$COMP_CWORD" ] || at=$((at + 1))
             [ "$at" -lt "$COMP_CWORD" ] || is_value=1
@@ -34,9 +36,9 @@ _dfu() {
     case $command:$place:$word in
     help:*:-*) ;;
     *:-?* | *:-) COMPREPLY=($(compgen -W "$options" -- "$word")) ;;
-    check:0:* | run:0:* | add:[01]:*) compopt -o default ;;
+    check:0:* | run:0:* | judge:0:* | add:[01]:*) compopt -o default ;;
     show:0:*) COMPREPLY=($(compgen -W 'functional status' -- "$word")) ;;
-    help:0:*) COMPREPLY=($(compgen -W 'check add show run help' -- "$word")) ;;
+    help:0:*) COMPREPLY=($(compgen -W 'check add show run judge help' -- "$word")) ;;
     esac
 }
 complete -F _dfu dfu

@@ -7,7 +7,7 @@ function __dfu_at
     for word in (commandline -opc)[2..]
         if test $is_value -eq 1
             set is_value 0
-        else if contains -- $word --vid --pid --did
+        else if contains -- $word --vid --pid --did --interface --device
             set is_value 1
         else if not string match -q -- '-?*' $word
             set -a words $word
@@ -25,10 +25,14 @@ complete -c dfu -n __dfu_at -a check -d 'Check a DFU file and print what its suf
 complete -c dfu -n __dfu_at -a add -d 'Write a raw image and a suffix for it to a new file'
 complete -c dfu -n __dfu_at -a show -d 'Print the fields of bytes that go over the wire'
 complete -c dfu -n __dfu_at -a run -d 'Play a script of events on a simulated link of a host and a device'
+complete -c dfu -n __dfu_at -a judge -d 'Say whether a device of USB DFU 1.1 may have answered as a log or a capture has it'
 complete -c dfu -n __dfu_at -a help -d 'Print help'
-complete -c dfu -n '__dfu_at check; or __dfu_at run; or __dfu_at add; or __dfu_at add FILE' -F
+complete -c dfu -n '__dfu_at check; or __dfu_at run; or __dfu_at judge; or __dfu_at add; or __dfu_at add FILE' -F
 complete -c dfu -x -n '__fish_seen_subcommand_from add' -l vid -d 'Vendor, four hexadecimal digits'
 complete -c dfu -x -n '__fish_seen_subcommand_from add' -l pid -d 'Product, four hexadecimal digits'
 complete -c dfu -x -n '__fish_seen_subcommand_from add' -l did -d 'Device release, four hexadecimal digits'
+complete -c dfu -n '__fish_seen_subcommand_from run' -l trace -d 'Print a line for each action of the host too'
+complete -c dfu -x -n '__fish_seen_subcommand_from judge' -l interface -d 'The number of the DFU interface'
+complete -c dfu -x -n '__fish_seen_subcommand_from judge' -l device -d 'Of a capture the device'
 complete -c dfu -n '__dfu_at show' -a 'functional status'
-complete -c dfu -n '__dfu_at help' -a 'check add show run help'
+complete -c dfu -n '__dfu_at help' -a 'check add show run judge help'

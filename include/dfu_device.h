@@ -1,11 +1,11 @@
 /* A device of USB device firmware upgrade (USB DFU 1.1) for a program in C, as a bootloader runs it.
  *
- * The program owns everything: the configuration, the record of what is kept between two calls, and the medium, which is
- * plain memory. The library has no state and takes no memory. Of a C library it wants at most memcpy, memmove and memset.
+ * The program owns everything: the configuration, the record of what is kept between two calls, the memory of one block of
+ * a download beside it, and the medium, which is plain memory. The library has no state and takes no memory. Of a C library it wants at most memcpy, memmove and memset.
  * It is for x86-64 of level v2, with SSE4.1, for AArch64, Cortex-M and RV32.
  *
  * Return values: 0 or more is an answer; a negative number is DFU_STALL or a refusal. A refusal changes nothing: not the
- * record, not the medium, and not the buffer of the answer.
+ * record, not the block, not the medium, and not the buffer of the answer.
  *
  * What the program owes, always:
  * - No pointer is NULL, also where its length is 0. Each points to as much as its length or its type says. Where address 0
@@ -15,11 +15,12 @@
  *   call for one may interrupt a call for the other. An interrupt that may come within a call makes none for the same device.
  * What it owes so that the device goes on from where it was:
  * - The configuration is the same in every call.
- * - The record and the medium are as the last call left them. A record begins with dfu_device_power_on.
- * Then each call is a row of Fustrelan's device table. Where a program keeps the record or the medium otherwise, a call
- * takes the device that they are now, or refuses. No call fails in another way, whatever they hold. The register over the
- * active image was checked when the device got power or the image was put in place: bytes of it that change later show at
- * the next dfu_device_power_on, and no call before that refuses them.
+ * - The record, the block and the medium are as the last call left them. A record begins with dfu_device_power_on.
+ * Then each call is a row of Fustrelan's device table. Where a program keeps one of them otherwise, a call takes the device
+ * that they are now, or refuses. No call fails in another way, whatever they hold. Since a call reads no image, it is
+ * answered also where bytes of the active image changed since the device got power or the image was put in place, and
+ * where a garbled record notes a slot whose image has another register: dfu_device_power_on finds both. And where the
+ * block's bytes changed, the changed ones are written.
  *
  * The loop of a bootloader:
  *
@@ -75,8 +76,10 @@
 extern "C" {
 #endif
 
-/* The configuration: what a device is set up with. */
+/* The configuration: what a device is set up with. It begins with the version of this header, so that an archive of another
+ * one refuses it. */
 struct dfu_config {
+    uint32_t version;     /* DFU_VERSION */
     uint16_t device;      /* bcdDevice */
     uint16_t product;     /* idProduct */
     uint16_t vendor;      /* idVendor */
@@ -106,14 +109,14 @@ struct dfu_config {
  * 11    dfuUPLOAD-IDLE (9)                     bytes sent       -       of the next block
  * 12    dfuERROR (10)                          -                -       the status code, 0 to 15
  *
- * ms: how many milliseconds passed in the state. put_end: how many bytes were put in the spare slot. block: in modes 3 and
- * 5 its first length bytes are the block that is not written yet. slot and header: which slot the last call found to be the
+ * version: DFU_VERSION of the archive; a record of another one is none of a device. ms: how many milliseconds passed in the
+ * state. put_end: how many bytes were put in the spare slot. length: in modes 3 and 5 so many bytes at the front of the
+ * block's memory are the block that is not written yet. slot and header: which slot the last call found to be the
  * active one, 0 or 1, and the 16 bytes of its header, as they stood on the medium. */
 struct dfu_device {
-    uint32_t mode, first, second, put_end, slot;
+    uint32_t version, mode, first, second, put_end, slot;
     uint16_t number, length;
     uint8_t header[16];
-    uint8_t block[4096];
 };
 
 /* Where the active image stands: its first byte is medium[at]. */
@@ -124,13 +127,14 @@ struct dfu_place {
 /* Negative return values: the first is an answer, all others are refusals. */
 enum {
     DFU_STALL = -1,      /* stall the request; the device may be in another state now */
-    DFU_NO_CONFIG = -2,  /* a number of the configuration is out of its range */
+    DFU_NO_CONFIG = -2,  /* the configuration has another version, or a number that is out of its range */
     DFU_NO_MEDIUM = -3,  /* the medium has no active image, or 2^32 bytes or more */
-    DFU_NO_DEVICE = -4,  /* the record is none of a device on that medium */
+    DFU_NO_DEVICE = -4,  /* the record is none of a device on that medium with that block, or of another version */
     DFU_NO_ROOM = -5,    /* out has less room than an answer may need: 6 bytes, or the transfer size where that is more */
     DFU_WRONG_SIZE = -6, /* the medium has no length that two slots can have */
     DFU_TOO_LARGE = -7,  /* the image is longer than a slot's data */
-    DFU_NOT_LONG = -9    /* the host sends no more bytes with this setup than a block may have */
+    DFU_NOT_LONG = -9,   /* the host sends no more bytes with this setup than a block may have */
+    DFU_NO_BLOCK = -10   /* the block's memory has fewer bytes than the transfer size */
 };
 
 /* Writes an image into the first slot and makes it the active one, whatever stood on the medium: 0; or the first that
@@ -149,19 +153,23 @@ int32_t dfu_device_power_on(const struct dfu_config *config, struct dfu_device *
 /* The device gets power and begins in dfuIDLE: as dfu_device_power_on, a DETACH and a reset of the bus. */
 int32_t dfu_device_begin(const struct dfu_config *config, struct dfu_device *device, uint8_t *medium, size_t size);
 
-/* Answers a setup with its body. BODY AND OUT MUST NOT SHARE A BYTE. The number is how many bytes of out are the answer: 0
- * where it is acknowledged, or has none; or DFU_STALL; or the first that holds of DFU_NO_ROOM, DFU_NO_CONFIG, DFU_NO_MEDIUM,
- * DFU_NO_DEVICE. */
-int32_t dfu_device_handle(const struct dfu_config *config, struct dfu_device *device, uint8_t *medium, size_t size,
-                          const uint8_t setup[8], const uint8_t *body, size_t length, uint8_t *out, size_t room);
+/* Answers a setup with its body. BODY AND OUT MUST NOT SHARE A BYTE. block is memory of most bytes, at least the transfer
+ * size, in which a block waits to be written; it belongs to the record, and is the same in each call. The number is how many
+ * bytes of out are the answer: 0 where it is acknowledged, or has none; or DFU_STALL; or the first that holds of
+ * DFU_NO_ROOM, DFU_NO_CONFIG, DFU_NO_BLOCK, DFU_NO_MEDIUM, DFU_NO_DEVICE. */
+int32_t dfu_device_handle(const struct dfu_config *config, struct dfu_device *device, uint8_t *block, size_t most,
+                          uint8_t *medium, size_t size, const uint8_t setup[8], const uint8_t *body, size_t length,
+                          uint8_t *out, size_t room);
 
-/* So many milliseconds pass: 0; or the first that holds of DFU_NO_CONFIG, DFU_NO_MEDIUM, DFU_NO_DEVICE. They count in
- * appDETACH, dfuDNBUSY and dfuMANIFEST. A call changes the state at most once; the rest of its time is dropped. */
-int32_t dfu_device_elapse(const struct dfu_config *config, struct dfu_device *device, uint8_t *medium, size_t size, uint32_t ms);
+/* So many milliseconds pass: 0; or the first that holds of DFU_NO_CONFIG, DFU_NO_BLOCK, DFU_NO_MEDIUM, DFU_NO_DEVICE. They
+ * count in appDETACH, dfuDNBUSY and dfuMANIFEST. A call changes the state at most once; the rest of its time is dropped. */
+int32_t dfu_device_elapse(const struct dfu_config *config, struct dfu_device *device, uint8_t *block, size_t most,
+                          uint8_t *medium, size_t size, uint32_t ms);
 
-/* The bus is reset: 0; or the first that holds of DFU_NO_CONFIG, DFU_NO_MEDIUM, DFU_NO_DEVICE. appDETACH leads to dfuIDLE,
- * every other state to appIDLE. */
-int32_t dfu_device_usb_reset(const struct dfu_config *config, struct dfu_device *device, uint8_t *medium, size_t size);
+/* The bus is reset: 0; or the first that holds of DFU_NO_CONFIG, DFU_NO_BLOCK, DFU_NO_MEDIUM, DFU_NO_DEVICE. appDETACH leads
+ * to dfuIDLE, every other state to appIDLE. */
+int32_t dfu_device_usb_reset(const struct dfu_config *config, struct dfu_device *device, uint8_t *block, size_t most,
+                             uint8_t *medium, size_t size);
 
 /* Whether dfu_device_handle will stall this setup, whatever body of wLength bytes comes with it: 1 or 0; or the first that
  * holds of DFU_NO_CONFIG, DFU_NO_DEVICE, the latter as dfu_device_state. The medium has size bytes. Nothing changes. */
@@ -180,7 +188,8 @@ int64_t dfu_device_due(const struct dfu_config *config, const struct dfu_device 
  * DFU_NO_CONFIG. */
 int32_t dfu_device_functional(const struct dfu_config *config, uint8_t out[9]);
 
-/* The state, bState: 0 to 10; or DFU_NO_DEVICE where mode, or number in mode 12, is out of its range. */
+/* The state, bState: 0 to 10; or DFU_NO_DEVICE where the record is of another version, or mode, or number in mode 12, is out
+ * of its range. */
 int32_t dfu_device_state(const struct dfu_device *device);
 
 /* The status code, bStatus: 0 to 15, and 0 in every state but dfuERROR; or DFU_NO_DEVICE as dfu_device_state. */

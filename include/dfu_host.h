@@ -31,7 +31,7 @@
  *     the device left of itself after the close                DFU_SEEN_LEFT in place of that, before all else
  * - A device that leaves because of DFU_RESET, or of a DETACH that it acknowledged, does what it was asked to: that is no
  *   restart. The next action is for the device once it is open again. DFU_SEEN_RESET is the answer to DFU_RESET then too.
- * - Each DFU_SEEN_RESTART spends one of the session's restarts, and the host asks anew where the device stands.
+ * - Each DFU_SEEN_RESTART spends one of the session's restarts, and the host asks for the device's state again.
  * - DFU_SEEN_LEFT is for a device that starts its new image by itself. Report it once, and only where all three hold: the
  *   device acknowledged the DNLOAD of no bytes that closes the download; it answered a later GETSTATUS with
  *   dfuMANIFEST-SYNC or dfuMANIFEST; then it left, or came back reset, though nobody reset it or asked it to leave.
@@ -87,7 +87,7 @@ struct dfu_ids {
 
 /* What a file says. */
 struct dfu_file {
-    uint64_t payload;                      /* how many bytes the payload has, which stands first in the file */
+    uint64_t payload;                      /* how many bytes the payload has, which comes first in the file */
     uint32_t suffix, crc;                  /* bLength, 16 to 255; dwCRC */
     uint16_t device, product, vendor, dfu; /* bcdDevice, idProduct, idVendor (FFFFh: of any), bcdDFU */
 };
@@ -207,7 +207,7 @@ int32_t dfu_host_next(const struct dfu_session *session, const uint8_t *payload,
 
 /* Reports to the session what came of its action: 0; or DFU_NO_SESSION; or DFU_NO_SEEN. kept with room is the buffer of an
  * upload, and any pointer with 0 for a download. bytes with count is what came with DFU_SEEN_BYTES. The parts of an
- * upload that have wTransferSize bytes or fewer are stored one behind the other, from the buffer's first byte on, but for the
+ * upload that have wTransferSize bytes or fewer are stored one after the other, from the buffer's first byte on, but for the
  * 65,535th full one. Exactly where one of these has, with those before it, more bytes than room, it is not stored, and the
  * report is DFU_NO_MEMORY. */
 int32_t dfu_host_take(struct dfu_session *session, const uint8_t *payload, size_t length, uint8_t *kept, size_t room,

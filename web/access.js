@@ -6,6 +6,7 @@ const RULE = 'On Linux a rule of udev lets you: `./install --udev /etc/udev/rule
 const DRIVER = 'On Windows its DFU interface needs the driver WinUSB, which the device itself can ask for, or Zadig sets.'
 
 const WORDS = {
+  NotFoundError: 'The device left. Plug it in, and connect again.',
   SecurityError: `The system does not let this page open the device. ${RULE} ${DRIVER}`,
   NetworkError: `Another program or a driver has the device. Close it, and connect again. ${DRIVER}`,
   TimeoutError: 'The device does not answer. Plug it in again.',

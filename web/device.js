@@ -4,6 +4,7 @@ import { Library } from './library.js'
 const STALL = -1
 const MOST_BODY = 65536
 const MOST_ANSWER = 4096
+const MOST_BLOCK = 4096
 
 // A device is refused: `number` is that of dfu_device.h.
 export class Refused extends Error {
@@ -24,6 +25,7 @@ export class Device extends Library {
     super(module)
     this.config = this.record('dfu_config', config)
     this.device = this.record('dfu_device')
+    this.block = this.reserve(MOST_BLOCK)
     this.size = this.sizeFor(capacity)
     this.medium = this.reserve(this.size)
     this.mediumBytes().fill(0xff)
@@ -40,12 +42,12 @@ export class Device extends Library {
   }
 
   words() {
-    return [BigInt(this.config), BigInt(this.device), BigInt(this.medium), BigInt(this.size)]
+    return [this.config, this.device, this.block, MOST_BLOCK, this.medium, this.size].map(BigInt)
   }
 
   // The power comes, or goes and comes back.
   power() {
-    taken(this.calls.dfu_device_power_on(...this.words()))
+    taken(this.calls.dfu_device_power_on(BigInt(this.config), BigInt(this.device), BigInt(this.medium), BigInt(this.size)))
   }
 
   // The bytes of the answer, none where it is acknowledged; null for a stall.

@@ -18,7 +18,9 @@ import { Wire } from './wire.js'
 const MOST_FILE = 16777216
 const WRONG_TARGET = -22
 const NOBODY = 'No device is connected.'
+const NONE_CHOSEN = 'None was chosen. A board that was not in the list may have to be brought to DFU mode, as by its button.'
 const ANY = 0xffff
+const CANCELLING = 'Cancelling, which may take some seconds.'
 
 const idsOf = ({ vendor, product }) => `${digits(vendor, 4)}:${digits(product, 4)}`
 const orAny = number => (number === ANY ? 'any' : digits(number, 4))
@@ -45,7 +47,7 @@ export class FlashView {
     by('connect').onclick = () => this.connect()
     by('sure').onchange = () => this.look()
     by('begin').onclick = () => this.flash()
-    by('stop').onclick = () => this.clock.stop()
+    by('stop').onclick = () => this.cancel()
     by('log').onclick = () => download('dfu-session.log', this.log)
     window.addEventListener('beforeunload', event => { if (this.isGoing) event.preventDefault() })
     this.usb?.addEventListener('disconnect', ({ device }) => {
@@ -56,10 +58,11 @@ export class FlashView {
   refresh() {
     const isReady = this.file?.said.refusal === undefined && this.file !== null && this.board?.isOpen() && !this.refused
     by('begin').disabled = this.isGoing || !isReady
-    by('stop').disabled = !this.isGoing
+    by('stop').disabled = !this.isGoing || this.clock.isStopped
     by('connect').disabled = this.isGoing || this.usb === undefined
-    by('hint').textContent = this.isGoing ? 'Leave the device plugged in, and this page open.' : isReady ? ''
-      : this.file === null ? 'A file is missing.' : this.board === null ? 'A device is missing.' : ''
+    by('hint').textContent = this.isGoing ? this.clock.isStopped ? CANCELLING : 'Leave the device plugged in, and this page open.'
+      : isReady || by('report').firstChild !== null ? '' : this.file === null ? 'A file is missing.'
+      : this.board === null ? 'A device is missing.' : ''
     for (const id of ['file', 'verify', 'sure']) by(id).disabled = this.isGoing
   }
 
@@ -93,16 +96,20 @@ export class FlashView {
   }
 
   async connect() {
+    by('report').replaceChildren()
     this.forget()
     say('device-refused', '')
-    by('report').replaceChildren()
+    const device = await this.usb.requestDevice({ filters: FILTERS }).catch(error => {
+      if (error.name === 'NotFoundError') by('device').textContent = NONE_CHOSEN
+      else this.sayNoAccess(error)
+    })
+    if (device === undefined) return
     try {
-      const device = await this.usb.requestDevice({ filters: FILTERS })
       const settings = settingsOf(device).filter(one => one.isUpgrade)
       if (settings.length > 1) this.offerSettings(device, settings)
       else await this.open(device, {})
     } catch (error) {
-      if (error.name !== 'NotFoundError') this.sayNoAccess(error)
+      this.sayNoAccess(error)
     }
   }
 
@@ -187,6 +194,11 @@ export class FlashView {
       'Bring it to DFU mode by hand, as by its button, and connect it again.')
   }
 
+  cancel() {
+    this.clock.stop()
+    this.refresh()
+  }
+
   show({ phase, part, left }) {
     by('phase').textContent = phase
     by('left').textContent = left
@@ -218,6 +230,7 @@ export class FlashView {
     by('report').replaceChildren(make('h3', { className: kind }, title), ...parts.map(text => make('p', {}, text)),
       make('p', { className: 'small' }, make('code', {}, lineOf({ name, code, words }))))
     by('report').focus()
+    this.refresh()
     this.log = `${[...trace.lines, lineOf({ name, code, words })].join('\n')}\n`
     by('log-row').hidden = false
   }

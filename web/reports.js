@@ -23,7 +23,7 @@ const REPORTS = {
   'refused': [6, 'the device refused it; it may have the old image, the new one or neither', 'Refused by the device',
     'The device stopped with an error of its own.', MAYBE],
   'aborted': [11, 'given up by Ctrl-C or a signal; the device may have the old image, the new one or neither', 'Given up',
-    'You gave it up, and the device was told so.', MAYBE],
+    'You gave it up. A device that still answers was told so.', MAYBE],
   'gave-up': [7, 'the limit of actions is spent; the device may have the old image, the new one or neither', 'Given up',
     'It took far more requests than it should, and came to no end.', MAYBE],
   'restarts-spent': [7, 'the device restarted too often; it may have the old image, the new one or neither', 'The device restarts',

@@ -37,7 +37,8 @@ import { isDetach, isDownload, isStatus, partsOf } from './names.js'
 const TRANSFER_MS = 5000
 const STOPPED_MS = 1000 // the same of what is sent behind a stop
 const LEAVE_MS = 1000   // from a transfer or a reset that fails to the event that tells that the device left,
-const GRACE_MS = 100    // and from a reset that is made
+const GRACE_MS = 100    // and from a reset that is made,
+const DETACH_MS = 3000  // and from the end of the time in which a device detaches itself
 const LOOK_MS = 20
 const NONE = new Uint8Array(0)
 // For the trace: what libusb calls them.
@@ -147,7 +148,7 @@ export class Wire {
     const began = this.clock.now()
     const answer = told(await this.clock.wait(ms) ? SEEN.WAIT : SEEN.NOTHING)
     // With bitWillDetach it leaves by itself; until the event comes, each transfer would fail.
-    if (this.isLeaving) await this.hasLeft(LEAVE_MS)
+    if (this.isLeaving) await this.hasLeft(DETACH_MS)
     this.trace.wait(ms, answer, this.clock.now() - began)
     return answer
   }

@@ -5,22 +5,23 @@
 
 #include "dfu_device.h"
 
-static const struct dfu_config config = {0x0100, 1, 0x1209, 255, 4096, 7, 5, 10, 1};
+static const struct dfu_config config = {DFU_VERSION, 0x0100, 1, 0x1209, 255, 4096, 7, 5, 10, 1};
 static struct dfu_device device;
 static struct dfu_place place;
-static uint8_t medium[2 * (32 + (1 << 20))], image[1 << 20], out[4096], block[4096];
+static uint8_t medium[2 * (32 + (1 << 20))], image[1 << 20], out[4096], block[4096], pending[4096];
 
 static void ask(uint8_t kind, uint8_t request, uint16_t length) {
     uint8_t setup[8] = {kind, request, 0, 0, 0, 0, (uint8_t)length, (uint8_t)(length >> 8)};
-    dfu_device_handle(&config, &device, medium, sizeof medium, setup, block, kind == 0x21 ? length : 0, out, sizeof out);
+    dfu_device_handle(&config, &device, pending, sizeof pending, medium, sizeof medium, setup, block, kind == 0x21 ? length : 0,
+                      out, sizeof out);
 }
 
 static void call(int which) {
     switch (which) {
     case 0: dfu_device_power_on(&config, &device, medium, sizeof medium); break;
     case 1: ask(0xa1, 5, 1); break;
-    case 2: dfu_device_elapse(&config, &device, medium, sizeof medium, 0); break;
-    case 3: dfu_device_usb_reset(&config, &device, medium, sizeof medium); break;
+    case 2: dfu_device_elapse(&config, &device, pending, sizeof pending, medium, sizeof medium, 0); break;
+    case 3: dfu_device_usb_reset(&config, &device, pending, sizeof pending, medium, sizeof medium); break;
     case 4: dfu_device_image(medium, sizeof medium, &place); break;
     case 5: dfu_device_state(&device); break;
     }

@@ -7,19 +7,29 @@
 
 #include "dfu_device.h"
 
-#define MOST (1 << 20)
+#define MOST (1 << 24)
 
-static struct dfu_config config = {0x0100, 1, 0x1209, 255, 4096, 7, 5, 10, 1};
+/* An archive of before the block was handed in and the version was checked is counted with -DBEFORE. */
+#ifdef BEFORE
+#define VERSION
+#define BLOCK
+#else
+#define VERSION DFU_VERSION,
+#define BLOCK pending, sizeof pending,
+static uint8_t pending[4096];
+#endif
+
+static struct dfu_config config = {VERSION 0x0100, 1, 0x1209, 255, 4096, 7, 5, 10, 1};
 static struct dfu_device device;
 static uint8_t medium[2 * (32 + MOST)], image[MOST], out[4096];
 
 static int32_t ask(uint8_t kind, uint8_t request, uint16_t value, const uint8_t *body, uint16_t length) {
     uint8_t setup[8] = {kind, request, (uint8_t)value, (uint8_t)(value >> 8), 0, 0, (uint8_t)length, (uint8_t)(length >> 8)};
-    return dfu_device_handle(&config, &device, medium, sizeof medium, setup, body, kind == 0x21 ? length : 0, out, sizeof out);
+    return dfu_device_handle(&config, &device, BLOCK medium, sizeof medium, setup, body, kind == 0x21 ? length : 0, out, sizeof out);
 }
 
 static void pass(uint32_t ms) {
-    dfu_device_elapse(&config, &device, medium, sizeof medium, ms);
+    dfu_device_elapse(&config, &device, BLOCK medium, sizeof medium, ms);
 }
 
 /* To dfuIDLE, as a host brings it there. */

@@ -1,7 +1,6 @@
 """Charts of runs: what the host does, what goes over the wire, where the device stands, what the medium gets.
 
-The program says after each action where the device stands and which image is active. What goes over the wire is written down
-here, and for the clean run it is compared with the text of docs/PROFILE.md.
+All of it is what `dfu run --trace` prints; which image is active then is what `show` prints.
 """
 import os
 import re
@@ -12,43 +11,64 @@ from drawing import Picture
 ROOT = os.path.normpath(os.path.join(os.path.dirname(os.path.abspath(__file__)), "..", ".."))
 HOST, WIRE_FROM, WIRE_TO, DEVICE, MEDIUM, WIDTH, ROW, TOP = 20, 130, 490, 590, 790, 900, 58, 88
 
-# An action: the host's phase, what it sends, what comes back, and what the medium gets.
-FIND = ("Find", "GETSTATUS", "OK, appIDLE", "")
-ENTER = [
-    FIND,
-    ("Detach", "DETACH 255", "acknowledged", ""),
-    ("Enter", "reset of the bus", None, ""),
-    ("Find", "GETSTATUS", "OK, dfuIDLE", ""),
-]
-BLOCK = ("Block 0", "DNLOAD 0, 4 bytes", "acknowledged", "")
-POLL = [
-    ("Poll 0", "GETSTATUS", "OK, dfuDNBUSY, 5 ms", ""),
-    ("a wait", "5 ms pass", None, "4 bytes written"),
-    ("Poll 0", "GETSTATUS", "OK, dfuDNLOAD-IDLE", ""),
-]
-CLOSE = [("Close", "DNLOAD 1, no bytes", "acknowledged", ""), ("Manifest", "GETSTATUS", "OK, dfuMANIFEST, 10 ms", "")]
-COMMIT = ("a wait", "10 ms pass", None, "header, gate written")
-LAST = [COMMIT, ("Manifest", "GETSTATUS", "OK, dfuIDLE", ""), ("Last", "reset of the bus", None, "")]
-
+# The title of each chart, and what stands below it.
 CHARTS = {
-    "clean-run": ("A clean run: a download in which nothing goes wrong", ENTER + [BLOCK] + POLL + CLOSE + LAST, []),
+    "clean-run": ("A clean run: a download in which nothing goes wrong", []),
     "lost-answer": (
         "The answer to block 0 is lost",
-        ENTER + [BLOCK, ("Ask 0", "GETSTATE", "dfuDNLOAD-SYNC", "")] + POLL + CLOSE + LAST,
         ["In action 5 the answer is lost: the host can't know whether its block was taken.",
          "In action 6 it asks. dfuDNLOAD-SYNC says that the block was taken, so it is not sent again."],
     ),
     "cut-opens-the-gate": (
         "The power is cut in the write that opens the gate",
-        ENTER + [BLOCK] + POLL + CLOSE + [("a wait", "the power is cut", None, "header, gate torn")],
         ["The write of the gate was torn, and its first byte was written: the gate is open, and the new image is active, whole.",
          "Where that byte is anything but a5, the gate is closed, and the image before stays active. There is no third case."],
     ),
 }
 
 
+class Action:
+    """An action: a line of the trace, and the image that is active after it."""
+
+    def __init__(self, line, image):
+        fields = line.removeprefix("# ").split("; ")
+        self.number, self.phase = fields[0].split(" ", 1)
+        self.request, self.fate, self.answer, self.before, self.state, self.writes, self.time = fields[1:]
+        self.image = image
+
+    def is_request(self):
+        return self.request.split()[0].isupper()
+
+    def asked(self):
+        """What the host asks for, in words."""
+        if self.fate.startswith("cut"):
+            return "the power is cut"
+        words = self.request.split()
+        if words[0] == "wait":
+            return f"{words[1]} ms pass"
+        if words[0] == "reset":
+            return "reset of the bus"
+        if words[0] == "DNLOAD":
+            return f"DNLOAD {words[1]}, " + (f"{words[2]} bytes" if words[2] != "0" else "no bytes")
+        return words[0] + (f" {words[1]}" if words[0] == "DETACH" else "")
+
+    def told(self):
+        """What the device answers, in words."""
+        words = self.answer.split()
+        if len(words) == 3:
+            code, poll, state = words
+            return f"{code}, {state}" + (f", {poll} ms" if poll != "0" else "")
+        return {"ack": "acknowledged", "stall": "stalled"}.get(self.answer, self.answer)
+
+    def written(self):
+        """What the medium gets, a write to a line."""
+        if self.writes == "-":
+            return ""
+        return "\n".join(f"{len_} bytes at {rest}" for len_, rest in (write.split(" at ") for write in self.writes.split(", ")))
+
+
 def seen(name):
-    """What the program prints of an example's script, with `show` behind each action: a line for each, and the reports."""
+    """What the program prints of an example's script, with `show` behind each action: the actions, and the reports."""
     lines = []
     with open(os.path.join(ROOT, "examples", name + ".script"), encoding="utf-8") as file:
         for line in file:
@@ -59,23 +79,23 @@ def seen(name):
                 lines += [line.strip(), "show"]
             else:
                 lines.append(line.strip())
-    run = subprocess.run([os.path.join(ROOT, "dfu"), "run", "-"], input="\n".join(lines), capture_output=True, text=True, check=True)
-    printed = [line.split() for line in run.stdout.splitlines()]
-    states = [(words[1], words[5]) for words in printed if words[0] == "state"]
-    fates = [line.split()[1] for line in lines if line.startswith("go ")]
-    return states, fates, [" ".join(words[1:]) for words in printed if words[0] == "report"]
+    run = subprocess.run([os.path.join(ROOT, "dfu"), "run", "--trace", "-"], input="\n".join(lines), capture_output=True, text=True, check=True)
+    printed = run.stdout.splitlines()
+    images = [line.split()[5] for line in printed if line.startswith("state ")]
+    traced = [line for line in printed if line.startswith("# ")]
+    actions = [Action(line, image) for line, image in zip(traced, images, strict=True)]
+    return actions, [line.removeprefix("report ") for line in printed if line.startswith("report ")]
 
 
-def compare(actions, states):
+def compare(actions):
     """Stops where the clean run isn't what docs/PROFILE.md has."""
     with open(os.path.join(ROOT, "docs", "PROFILE.md"), encoding="utf-8") as file:
         text = file.read().split("### A clean run")[1].split("```")[1]
     rows = re.findall(r"^ *(\d+) +(\S.*?)  +(\S.*?)(?: +-> (\S.*?))?  +(\S+)", text, re.MULTILINE)
-    for (number, phase, sent, answer, state), action, (now, _) in zip(rows, actions, states):
-        if (phase, answer or None, state.rstrip(",")) != (action[0], action[2], now) or sent.split()[0] != action[1].split()[0]:
-            raise SystemExit(f"docs/PROFILE.md and the chart differ in action {number}: {sent} and {action[1]}")
-    if len(rows) != len(actions):
-        raise SystemExit(f"docs/PROFILE.md has {len(rows)} actions of a clean run, and the chart {len(actions)}")
+    for (number, phase, sent, answer, state), action in zip(rows, actions, strict=True):
+        told = action.told() if action.is_request() else ""
+        if (number, answer, state.rstrip(",")) != (action.number, told, action.state) or sent.split()[0] != action.asked().split()[0]:
+            raise SystemExit(f"docs/PROFILE.md and the trace differ in action {number}: {sent} and {action.asked()}")
 
 
 def transfer(picture, y, request, answer, fate):
@@ -106,41 +126,38 @@ def heads(picture, title, bottom):
         picture.line(x, 67, x, bottom, "lane")
 
 
-def draw(picture, number, action, fate, state, image):
+def draw(picture, number, action, is_new):
     """One action; the image is given where it is another one than before."""
-    phase, request, answer, medium = action
+    fate = action.fate.split()[0]
     y = TOP + ROW * number + 8
     picture.line(20, y - 29, WIDTH - 20, y - 29, "rule")
-    picture.words(HOST, y + 4.5, f"{number + 1}", "small")
-    picture.words(HOST + 26, y + 4.5, phase)
-    if answer is None:
-        without_answer(picture, y, request, fate)
+    picture.words(HOST, y + 4.5, action.number, "small")
+    picture.words(HOST + 26, y + 4.5, action.phase)
+    if action.is_request() and fate != "cut":
+        transfer(picture, y, action.asked(), action.told(), fate)
     else:
-        transfer(picture, y, request, answer, fate)
-    picture.box(DEVICE, y, 150, state, "idle" if state.startswith("app") else "box")
+        without_answer(picture, y, action.asked(), fate)
+    picture.box(DEVICE, y, 150, action.state, "idle" if action.state.startswith("app") else "box")
+    medium = action.written()
+    height = 20 + 16 * medium.count("\n")
     if medium:
-        picture.box(MEDIUM, y - (10 if image else 0), 150, medium, "error" if fate == "cut" else "write", 20)
-    if image:
-        picture.words(MEDIUM, y + (17 if medium else 4.5), f"image {image} is active", "small", "middle")
+        picture.box(MEDIUM, y - (10 if is_new else 0), 150, medium, "error" if fate == "cut" else "write", height)
+    if is_new:
+        picture.words(MEDIUM, y + (height / 2 + 7 if medium else 4.5), f"image {action.image} is active", "small", "middle")
 
 
 def chart(name):
-    title, actions, notes = CHARTS[name]
-    states, fates, reports = seen(name)
-    if not len(actions) == len(states) == len(fates):
-        raise SystemExit(f"{name}: {len(actions)} actions are drawn, and the program made {len(states)}")
+    title, notes = CHARTS[name]
+    actions, reports = seen(name)
     if name == "clean-run":
-        compare(actions, states)
+        compare(actions)
     bottom = TOP + ROW * len(actions) - 21
     picture = Picture(WIDTH, bottom + 47 + 22 * len(notes), f"{title}: {len(actions)} actions of the host")
     heads(picture, title, bottom)
     image = None
-    for number, (action, fate, (state, now)) in enumerate(zip(actions, fates, states)):
-        told = re.match(r"OK, (\w+-?\w*)", action[2] or "")
-        if told and told[1] != state:
-            raise SystemExit(f"{name}, action {number + 1}: the answer tells {told[1]}, and the device is in {state}")
-        draw(picture, number, action, fate, state, now if now != image else None)
-        image = now
+    for number, action in enumerate(actions):
+        draw(picture, number, action, action.image != image)
+        image = action.image
     picture.line(20, bottom, WIDTH - 20, bottom, "rule")
     picture.words(HOST, bottom + 28, f"The host reports: {reports[-1]}", "head")
     for number, note in enumerate(notes):

@@ -6,7 +6,7 @@
 #include "dfu_device.h"
 
 static const struct dfu_config config = {
-    .device = 0x0100, .product = 1, .vendor = 0x1209,
+    .version = DFU_VERSION, .device = 0x0100, .product = 1, .vendor = 0x1209,
     .detach_ms = 255, .transfer = 64, .attributes = 7,
     .busy_ms = 5, .manifest_ms = 10, .least = 1,
 };
@@ -14,6 +14,7 @@ static const struct dfu_config config = {
 /* What lasts through a loss of power, and what need not. */
 static uint8_t medium[2 * (32 + 1024)];
 static struct dfu_device device;
+static uint8_t pending[64];
 
 /* What runs now: the upgrade, or the application at its place on the medium. */
 static void show(const char *what, int32_t answer) {
@@ -28,14 +29,15 @@ static void transfer(const char *what, uint8_t kind, uint8_t request, uint16_t v
     uint8_t setup[8] = {kind, request, (uint8_t)value, (uint8_t)(value >> 8), 0, 0, (uint8_t)length, (uint8_t)(length >> 8)};
     uint8_t out[64];
     size_t sent = kind == 0x21 ? length : 0;
-    show(what, dfu_device_handle(&config, &device, medium, sizeof medium, setup, (const uint8_t *)body, sent, out, sizeof out));
+    show(what, dfu_device_handle(&config, &device, pending, sizeof pending, medium, sizeof medium, setup, (const uint8_t *)body, sent,
+                                 out, sizeof out));
 }
 
 /* A timer: only these states count time. */
 static void pass(uint32_t ms) {
     int32_t state = dfu_device_state(&device);
     if (state == 1 || state == 4 || state == 7)
-        show("pass", dfu_device_elapse(&config, &device, medium, sizeof medium, ms));
+        show("pass", dfu_device_elapse(&config, &device, pending, sizeof pending, medium, sizeof medium, ms));
 }
 
 int main(void) {
@@ -45,7 +47,7 @@ int main(void) {
         return 1;
     show("power on", dfu_device_power_on(&config, &device, medium, sizeof medium));
     transfer("DETACH", 0x21, 0, 1000, "", 0);
-    show("bus reset", dfu_device_usb_reset(&config, &device, medium, sizeof medium));
+    show("bus reset", dfu_device_usb_reset(&config, &device, pending, sizeof pending, medium, sizeof medium));
     transfer("DNLOAD", 0x21, 1, 0, "\xaa\xbb\xcc\xdd", 4);
     transfer("GETSTATUS", 0xa1, 3, 0, "", 6);
     pass(5);
@@ -54,7 +56,7 @@ int main(void) {
     transfer("GETSTATUS", 0xa1, 3, 0, "", 6);
     pass(10);
     transfer("GETSTATUS", 0xa1, 3, 0, "", 6);
-    show("bus reset", dfu_device_usb_reset(&config, &device, medium, sizeof medium));
+    show("bus reset", dfu_device_usb_reset(&config, &device, pending, sizeof pending, medium, sizeof medium));
     memset(&device, 0xff, sizeof device);
     show("power on", dfu_device_power_on(&config, &device, medium, sizeof medium));
     return 0;

@@ -6,12 +6,13 @@
 #include "dfu_device.h"
 
 static const struct dfu_config config = {
-    .device = 0x0100, .product = 1, .vendor = 0x1209,
+    .version = DFU_VERSION, .device = 0x0100, .product = 1, .vendor = 0x1209,
     .detach_ms = 255, .transfer = 64, .attributes = 7,
     .busy_ms = 5, .manifest_ms = 10, .least = 1,
 };
 static uint8_t medium[2 * (32 + 1024)];
 static struct dfu_device device;
+static uint8_t pending[64];
 
 /* The one buffer of endpoint 0, and the answer's own: body and out are two. */
 static uint8_t endpoint[64], out[64];
@@ -29,16 +30,18 @@ static void download(uint16_t block, const char *bytes, uint16_t length) {
     }
     if (dfu_device_would_stall(&config, &device, sizeof medium, setup) == 0)
         memcpy(endpoint, bytes, length);
-    show("DNLOAD", dfu_device_handle(&config, &device, medium, sizeof medium, setup, endpoint, length, out, sizeof out));
+    show("DNLOAD", dfu_device_handle(&config, &device, pending, sizeof pending, medium, sizeof medium, setup, endpoint, length,
+                                     out, sizeof out));
 }
 
 /* GETSTATUS. Where time counts then, it is reported at once: the medium is written while the host waits. */
 static void get_status(void) {
     uint8_t setup[8] = {0xa1, 3, 0, 0, 0, 0, 6, 0};
-    show("GETSTATUS", dfu_device_handle(&config, &device, medium, sizeof medium, setup, endpoint, 0, out, sizeof out));
+    show("GETSTATUS", dfu_device_handle(&config, &device, pending, sizeof pending, medium, sizeof medium, setup, endpoint, 0,
+                                        out, sizeof out));
     int64_t due = dfu_device_due(&config, &device);
     if (due > 0)
-        show("pass", dfu_device_elapse(&config, &device, medium, sizeof medium, (uint32_t)due));
+        show("pass", dfu_device_elapse(&config, &device, pending, sizeof pending, medium, sizeof medium, (uint32_t)due));
 }
 
 /* What runs: the application at its place, if there is one. */
@@ -63,7 +66,8 @@ int main(void) {
     show("begin", dfu_device_begin(&config, &device, medium, sizeof medium));
     application();
     download(0, NULL, 65);
-    show("CLRSTATUS", dfu_device_handle(&config, &device, medium, sizeof medium, clear, endpoint, 0, out, sizeof out));
+    show("CLRSTATUS", dfu_device_handle(&config, &device, pending, sizeof pending, medium, sizeof medium, clear, endpoint, 0,
+                                        out, sizeof out));
     download(0, "\xaa\xbb\xcc\xdd", 4);
     get_status();
     get_status();

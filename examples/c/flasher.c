@@ -7,27 +7,28 @@
 #include "dfu_host.h"
 
 static const struct dfu_config config = {
-    .device = 0x0100, .product = 1, .vendor = 0x1209, .detach_ms = 255, .transfer = 64,
+    .version = DFU_VERSION, .device = 0x0100, .product = 1, .vendor = 0x1209, .detach_ms = 255, .transfer = 64,
     .attributes = 7, .busy_ms = 5, .manifest_ms = 10, .least = 1,
 };
 static const uint8_t descriptor[9] = {9, 0x21, 7, 255, 0, 64, 0, 0x10, 1};
 static const struct dfu_ids ids = {0x0100, 1, 0x1209};
 static uint8_t medium[2 * (32 + 65536)], file[65536 + 255], answer[65535];
 static struct dfu_device device;
+static uint8_t pending[64];
 
 /* Does one action: 0, and what was seen of it, with how many bytes came; or a refusal of the device library. */
 static int32_t act(const struct dfu_action *a, uint32_t *seen, size_t *count) {
     *count = 0;
     if (a->what == DFU_WAIT) {
         *seen = DFU_SEEN_WAIT;
-        return dfu_device_elapse(&config, &device, medium, sizeof medium, a->value);
+        return dfu_device_elapse(&config, &device, pending, sizeof pending, medium, sizeof medium, a->value);
     }
     if (a->what == DFU_RESET) {
         *seen = DFU_SEEN_RESET;
-        return dfu_device_usb_reset(&config, &device, medium, sizeof medium);
+        return dfu_device_usb_reset(&config, &device, pending, sizeof pending, medium, sizeof medium);
     }
-    int32_t sent = dfu_device_handle(&config, &device, medium, sizeof medium, a->setup, file + a->from, a->length,
-                                     answer, sizeof answer);
+    int32_t sent = dfu_device_handle(&config, &device, pending, sizeof pending, medium, sizeof medium, a->setup, file + a->from,
+                                     a->length, answer, sizeof answer);
     if (sent == DFU_STALL) {
         *seen = DFU_SEEN_STALL;
         return 0;

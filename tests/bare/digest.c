@@ -12,8 +12,8 @@
 #define ANSWER 4096
 
 static uint64_t dice, sum = 14695981039346656037u;
-static uint8_t rooms[4][2 * (32 + MOST) + 8] __attribute__((aligned(8)));
-static uint8_t *medium, *out, *body, *image;
+static uint8_t rooms[5][2 * (32 + MOST) + 8] __attribute__((aligned(8)));
+static uint8_t *medium, *out, *body, *image, *pending;
 static struct dfu_device device;
 static struct dfu_config config;
 static size_t size;
@@ -57,6 +57,7 @@ static int32_t count(int32_t answer) {
 static void make_board(void) {
     static const uint16_t sizes[] = {8, 64, 64, 512, ANSWER, 1, ANSWER + 1, 0};
     size_t capacity = 1 + roll(roll(4) ? 300 : MOST), length = roll((uint32_t)capacity + 1);
+    config.version = DFU_VERSION + (roll(64) == 0);
     config.device = (uint16_t)roll(65536), config.product = (uint16_t)roll(65536), config.vendor = (uint16_t)roll(65536);
     config.detach_ms = (uint16_t)roll(300);
     config.transfer = sizes[roll(roll(16) ? 5 : 8)];
@@ -84,16 +85,16 @@ static int32_t ask(uint8_t kind, uint8_t request, uint16_t value, uint16_t lengt
     }
     memset(out, 0x5a, ANSWER);
     size_t room = roll(100) ? ANSWER : roll(ANSWER + 1);
-    return count(dfu_device_handle(&config, &device, medium, size, setup, body, sent, out, room));
+    return count(dfu_device_handle(&config, &device, pending, ANSWER, medium, size, setup, body, sent, out, room));
 }
 
 static int32_t reset(void) {
     block = part = 0;
-    return count(dfu_device_usb_reset(&config, &device, medium, size));
+    return count(dfu_device_usb_reset(&config, &device, pending, ANSWER, medium, size));
 }
 
 static int32_t pass(uint32_t ms) {
-    return count(dfu_device_elapse(&config, &device, medium, size, ms));
+    return count(dfu_device_elapse(&config, &device, pending, ANSWER, medium, size, ms));
 }
 
 static int32_t send_block(void) {
@@ -128,7 +129,7 @@ static int32_t keep_to_it(int32_t state) {
 static int32_t step(int32_t state) {
     uint8_t request = (uint8_t)roll(8);
     uint16_t value = (uint16_t)roll(4), length = (uint16_t)roll(9);
-    uint32_t at = roll(4) ? 0 : 1 + roll(48);
+    uint32_t at = roll(4) ? 0 : 1 + roll(sizeof device);
     switch (roll(40)) {
     case 0: return reset();
     case 1: block = part = 0; return count(dfu_device_power_on(&config, &device, medium, size));
@@ -145,7 +146,7 @@ static int32_t step(int32_t state) {
 
 static void look(int32_t answer) {
     struct dfu_place place = {1, 2};
-    add(&device, sizeof device), add(medium, size), add(out, answer > 0 && answer <= ANSWER ? (size_t)answer : 0);
+    add(&device, sizeof device), add(pending, ANSWER), add(medium, size), add(out, answer > 0 && answer <= ANSWER ? (size_t)answer : 0);
     count(dfu_device_state(&device)), count(dfu_device_code(&device));
     count(dfu_device_image(medium, size, &place)), add(&place, sizeof place);
 }
@@ -153,7 +154,7 @@ static void look(int32_t answer) {
 int main(int words, char **word) {
     long calls = words > 1 ? atol(word[1]) : 10000, odd = words > 3 ? atol(word[3]) : 0;
     dice = (uint64_t)(words > 2 ? atol(word[2]) : 1) * 0x9e3779b97f4a7c15u + 1;
-    medium = rooms[0] + odd, out = rooms[1] + odd, body = rooms[2] + odd, image = rooms[3] + odd;
+    medium = rooms[0] + odd, out = rooms[1] + odd, body = rooms[2] + odd, image = rooms[3] + odd, pending = rooms[4] + odd;
     memset(&device, 0xff, sizeof device);
     make_board();
     for (long call = 1; call <= calls; call++) {

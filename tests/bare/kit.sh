@@ -1,23 +1,10 @@
 # What tests/c-aarch64, c-cortex-m, c-rv32 and apart/microcontrollers share: they count checks, and build programs without a C library and
 # run them in QEMU without an OS. `top` is the folder of the repository.
 # shellcheck shell=sh disable=SC2034,SC2154
-work=$(mktemp -d)
-trap 'rm -rf "$work"' EXIT
+# shellcheck source=tests/support/counting.sh
+. "$top/tests/support/counting.sh"
 bare=$top/tests/bare
-passed=0
-failed=0
 
-# is WHAT COMMAND..: counts a command that is to succeed.
-is() {
-    what=$1
-    shift
-    if "$@"; then
-        passed=$((passed + 1))
-    else
-        echo "$what: failed"
-        failed=$((failed + 1))
-    fi
-}
 # libraries TARGET..: proves and builds them, and takes the archives to $work/TARGET, those of x86-64 to $work.
 libraries() {
     "$top/libraries" "$@" > "$work/log" 2>&1 || {

@@ -10,11 +10,11 @@
 #define IMAGE 150 /* bytes, in blocks of 100 */
 
 static struct dfu_config config = {
-    .device = 0x0100, .product = 1, .vendor = 0x1209, .detach_ms = 255, .transfer = 100,
+    .version = DFU_VERSION, .device = 0x0100, .product = 1, .vendor = 0x1209, .detach_ms = 255, .transfer = 100,
     .attributes = 7, .busy_ms = 5, .manifest_ms = 10, .least = 1,
 };
 static struct dfu_device device;
-static uint8_t medium[2 * (32 + 160)], last[sizeof medium];
+static uint8_t pending[100], medium[2 * (32 + 160)], last[sizeof medium];
 static long cuts, mediums;
 
 /* The image before, and the new one. */
@@ -24,7 +24,8 @@ static int is_new;
 
 static void ask(uint8_t kind, uint8_t request, uint16_t value, const uint8_t *body, uint16_t length) {
     uint8_t setup[8] = {kind, request, (uint8_t)value, 0, 0, 0, (uint8_t)length, 0}, out[100];
-    dfu_device_handle(&config, &device, medium, sizeof medium, setup, body, kind == 0x21 ? length : 0, out, sizeof out);
+    dfu_device_handle(&config, &device, pending, sizeof pending, medium, sizeof medium, setup, body, kind == 0x21 ? length : 0,
+                      out, sizeof out);
 }
 
 static void poll(void) {
@@ -32,11 +33,11 @@ static void poll(void) {
 }
 
 static void write_block(void) {
-    dfu_device_elapse(&config, &device, medium, sizeof medium, 5);
+    dfu_device_elapse(&config, &device, pending, sizeof pending, medium, sizeof medium, 5);
 }
 
 static void put_in_place(void) {
-    dfu_device_elapse(&config, &device, medium, sizeof medium, 10);
+    dfu_device_elapse(&config, &device, pending, sizeof pending, medium, sizeof medium, 10);
 }
 
 static void whole(void (*call)(void)) {
@@ -47,7 +48,7 @@ static void whole(void (*call)(void)) {
 static void install(const uint8_t image[IMAGE], void (*may_write)(void (*call)(void))) {
     dfu_device_power_on(&config, &device, medium, sizeof medium);
     ask(0x21, 0, 100, image, 0);
-    dfu_device_usb_reset(&config, &device, medium, sizeof medium);
+    dfu_device_usb_reset(&config, &device, pending, sizeof pending, medium, sizeof medium);
     for (uint16_t block = 0; block < 2; block++) {
         ask(0x21, 1, block, image + 100 * block, block == 1 ? IMAGE - 100 : 100);
         poll(), may_write(write_block), poll();

@@ -1,4 +1,4 @@
-/* The little of stdio.h and stdlib.h that the tests and the examples use, over QEMU's semihosting. */
+/* The little of stdio.h, stdlib.h and string.h that the tests and the examples use, over QEMU's semihosting. */
 #include <stdarg.h>
 #include <stdint.h>
 #include <stdio.h>
@@ -126,6 +126,12 @@ long atol(const char *text) {
     for (; *text >= '0' && *text <= '9'; text++)
         number = 10 * number + *text - '0';
     return number;
+}
+
+int strcmp(const char *one, const char *other) {
+    for (; *one && *one == *other; one++)
+        other++;
+    return (unsigned char)*one - (unsigned char)*other;
 }
 
 FILE *fopen(const char *name, const char *mode) {

@@ -8,9 +8,9 @@
 
 #define MODES 13
 
-static struct dfu_config config = {0x0100, 1, 0x1209, 255, 8, 7, 5, 10, 4};
+static struct dfu_config config = {DFU_VERSION, 0x0100, 1, 0x1209, 255, 8, 7, 5, 10, 4};
 static struct dfu_device device, stations[MODES];
-static uint8_t medium[2 * (32 + 16)], mediums[MODES][sizeof medium], out[16];
+static uint8_t pending[64], medium[2 * (32 + 16)], mediums[MODES][sizeof medium], out[16];
 static int wrong, stalls, others;
 
 static void expect(const char *what, int is) {
@@ -23,11 +23,12 @@ static void expect(const char *what, int is) {
 static int32_t ask(uint8_t kind, uint8_t request, uint16_t value, uint16_t length) {
     static const uint8_t body[64] = {1, 2, 3};
     uint8_t setup[8] = {kind, request, (uint8_t)value, (uint8_t)(value >> 8), 0, 0, (uint8_t)length, (uint8_t)(length >> 8)};
-    return dfu_device_handle(&config, &device, medium, sizeof medium, setup, body, kind == 0x21 ? length : 0, out, sizeof out);
+    return dfu_device_handle(&config, &device, pending, sizeof pending, medium, sizeof medium, setup, body, kind == 0x21 ? length : 0,
+                             out, sizeof out);
 }
 
 static void pass(uint32_t ms) {
-    expect("time", dfu_device_elapse(&config, &device, medium, sizeof medium, ms) == 0);
+    expect("time", dfu_device_elapse(&config, &device, pending, sizeof pending, medium, sizeof medium, ms) == 0);
 }
 
 /* Keeps where the device is now, by its mode. */
@@ -41,7 +42,7 @@ static void visit(void) {
     dfu_device_format(medium, sizeof medium, (const uint8_t *)"0123456789", 10);
     dfu_device_power_on(&config, &device, medium, sizeof medium), keep();
     ask(0x21, 0, 100, 0), keep();
-    dfu_device_usb_reset(&config, &device, medium, sizeof medium), keep();
+    dfu_device_usb_reset(&config, &device, pending, sizeof pending, medium, sizeof medium), keep();
     ask(0xa1, 2, 0, 8), keep();
     ask(0x21, 6, 0, 0);
     ask(0x21, 1, 0, 8), keep();
@@ -63,7 +64,8 @@ static void compare(int station, uint8_t kind, uint8_t request, uint16_t value, 
     device = stations[station];
     memcpy(medium, mediums[station], sizeof medium);
     int32_t will = dfu_device_would_stall(&config, &device, sizeof medium, setup);
-    int32_t did = dfu_device_handle(&config, &device, medium, sizeof medium, setup, body, kind == 0x21 ? length : 0, out, sizeof out);
+    int32_t did = dfu_device_handle(&config, &device, pending, sizeof pending, medium, sizeof medium, setup, body,
+                                    kind == 0x21 ? length : 0, out, sizeof out);
     if (will != (did == DFU_STALL)) {
         printf("asking: mode %d, %02x %u, value %u, length %u: %d, and then %d\n", station, kind, request, value, length, (int)will,
             (int)did);
@@ -83,7 +85,8 @@ static void too_long(int station, uint8_t kind, uint8_t request, uint16_t length
         expect("not long", is == DFU_NOT_LONG && memcmp(&other, &device, sizeof other) == 0);
     else
         expect("too long", is == DFU_STALL
-            && dfu_device_handle(&config, &device, medium, sizeof medium, setup, body, length, out, sizeof out) == DFU_STALL
+            && dfu_device_handle(&config, &device, pending, sizeof pending, medium, sizeof medium, setup, body, length, out, sizeof out)
+            == DFU_STALL
             && dfu_device_state(&other) == dfu_device_state(&device) && dfu_device_code(&other) == dfu_device_code(&device));
 }
 
@@ -135,6 +138,10 @@ static void rest(void) {
     expect("no config", dfu_device_would_stall(&bad, &device, sizeof medium, setup) == DFU_NO_CONFIG
         && dfu_device_due(&bad, &device) == DFU_NO_CONFIG && dfu_device_too_long(&bad, &device, setup) == DFU_NO_CONFIG
         && dfu_device_begin(&bad, &device, medium, sizeof medium) == DFU_NO_CONFIG);
+    bad = config;
+    bad.version = DFU_VERSION + 1;
+    expect("another version", dfu_device_functional(&bad, bytes) == DFU_NO_CONFIG
+        && dfu_device_would_stall(&bad, &device, sizeof medium, setup) == DFU_NO_CONFIG && dfu_device_due(&bad, &device) == DFU_NO_CONFIG);
     device.mode = 13;
     expect("no mode", dfu_device_would_stall(&config, &device, sizeof medium, setup) == DFU_NO_DEVICE
         && dfu_device_due(&config, &device) == DFU_NO_DEVICE && dfu_device_too_long(&config, &device, setup) == DFU_NO_DEVICE);

@@ -6,7 +6,7 @@
 
 #include "dfu_device.h"
 
-static const struct dfu_config config = {0x0100, 1, 0x1209, 255, 8, 7, 5, 10, 1};
+static const struct dfu_config config = {DFU_VERSION, 0x0100, 1, 0x1209, 255, 8, 7, 5, 10, 1};
 static uint32_t dice = 1;
 
 static uint32_t roll(uint32_t sides) {
@@ -31,10 +31,11 @@ static int is_newest(const uint8_t *mine, const uint8_t *other) {
 
 int main(int count, char **words) {
     /* A guard on both sides of each. */
-    static uint8_t field[64 + 192 + 64], given[64 + 8 + 64], start[192], field_before[sizeof field], given_before[sizeof given];
+    static uint8_t field[64 + 192 + 64], given[64 + 8 + 64], held[64 + 12 + 64], start[192];
+    static uint8_t field_before[sizeof field], given_before[sizeof given], held_before[sizeof held];
     static struct dfu_device records[3], record_before;
     struct dfu_device *record = &records[1];
-    uint8_t *medium = field + 64, *out = given + 64;
+    uint8_t *medium = field + 64, *out = given + 64, *block = held + 64;
     long answered = 0, refused = 0, all = count > 1 ? atol(words[1]) : 1000;
     if (dfu_device_format(start, sizeof start, (const uint8_t *)"\x11\x22", 2) != 0)
         return 1;
@@ -43,6 +44,7 @@ int main(int count, char **words) {
         uint8_t setup[8] = {roll(2) ? 0x21 : 0xa1, (uint8_t)roll(8), (uint8_t)roll(3), 0, 0, 0, (uint8_t)roll(9), 0};
         memset(field, 0x5a, sizeof field);
         memset(given, 0x5a, sizeof given);
+        memset(held, 0x5a, sizeof held);
         memset(records, 0x5a, sizeof records);
         memcpy(medium, start, sizeof start);
         if (roll(2))
@@ -50,45 +52,54 @@ int main(int count, char **words) {
         /* The spare's gate is closed in one of two, so that bytes may stand there. */
         if (roll(2))
             medium[96] = 0;
-        *record = (struct dfu_device){roll(14), roll(12), roll(20), roll(12), roll(3), (uint16_t)roll(18), (uint16_t)roll(10), {0}, {0}};
+        *record = (struct dfu_device){DFU_VERSION + (roll(16) == 0), roll(14), roll(12), roll(20), roll(12), roll(3), (uint16_t)roll(18),
+                                      (uint16_t)roll(14), {0}};
         /* Two of three note a header that stands on the medium. */
         if (roll(3))
             memcpy(record->header, medium + (record->slot ? 96 : 0) + 16, 16);
         if (roll(4) == 0)
-            ((uint8_t *)record)[roll(40)] = (uint8_t)roll(256);
-        /* One of sixteen is refused for the room, one for the configuration, and one for both. */
+            ((uint8_t *)record)[roll(sizeof *record)] = (uint8_t)roll(256);
+        /* One of sixteen is refused for the room, one for the configuration, one for both, and one for the block. */
         struct dfu_config used = config;
         uint32_t fault = roll(16);
         size_t room = fault == 0 || fault == 2 ? roll(8) : 8;
         if (fault == 1 || fault == 2)
             used.busy_ms = 0x1000000;
+        if (fault == 4)
+            used.version++;
+        size_t most = fault == 3 ? roll(8) : 8 + roll(5);
         memcpy(field_before, field, sizeof field);
         memcpy(given_before, given, sizeof given);
+        memcpy(held_before, held, sizeof held);
         record_before = *record;
         int32_t result, what = (int32_t)roll(6);
         if (what == 0)
-            result = dfu_device_elapse(&used, record, medium, 192, roll(12));
+            result = dfu_device_elapse(&used, record, block, most, medium, 192, roll(12));
         else if (what == 1 && roll(4) == 0)
-            result = dfu_device_usb_reset(&used, record, medium, 192);
+            result = dfu_device_usb_reset(&used, record, block, most, medium, 192);
         else if (what == 2 && roll(4) == 0)
             result = dfu_device_power_on(&used, record, medium, 192);
         else
-            result = dfu_device_handle(&used, record, medium, 192, setup, body, setup[0] == 0x21 ? setup[6] : 0, out, room);
+            result = dfu_device_handle(&used, record, block, most, medium, 192, setup, body, setup[0] == 0x21 ? setup[6] : 0,
+                                       out, room);
         *(result >= -1 ? &answered : &refused) += 1;
         if (room < 8 && what > 2 && result != DFU_NO_ROOM)
             return printf("garbled: call %ld has no room and answered %d\n", call, (int)result), 1;
+        if (most < 8 && what < 2 && result >= -1)
+            return printf("garbled: call %ld has no block and answered %d\n", call, (int)result), 1;
         if (result < -1 && (memcmp(field_before, field, sizeof field) != 0 || memcmp(given_before, given, sizeof given) != 0
-            || memcmp(&record_before, record, sizeof *record) != 0))
+            || memcmp(held_before, held, sizeof held) != 0 || memcmp(&record_before, record, sizeof *record) != 0))
             return printf("garbled: call %ld was refused with %d and changed something\n", call, (int)result), 1;
         /* The slot that the record notes is not written, where it stands there as the active one. */
         size_t slot = record_before.slot ? 96 : 0, spare = 96 - slot;
         if (result >= -1 && is_newest(field_before + 64 + slot, field_before + 64 + spare)
             && memcmp(record_before.header, field_before + 64 + slot + 16, 16) == 0 && memcmp(field_before + 64 + slot, medium + slot, 96) != 0)
             return printf("garbled: call %ld wrote in the active slot\n", call), 1;
-        if (result < DFU_NO_ROOM || result > 8)
+        if ((result < DFU_NO_ROOM && result != DFU_NO_BLOCK) || result > 8)
             return printf("garbled: call %ld answered %d\n", call, (int)result), 1;
         for (size_t i = 0; i < 64; i++)
-            if (field[i] != 0x5a || field[256 + i] != 0x5a || given[i] != 0x5a || given[72 + i] != 0x5a)
+            if (field[i] != 0x5a || field[256 + i] != 0x5a || given[i] != 0x5a || given[72 + i] != 0x5a || held[i] != 0x5a
+                || held[64 + most + i] != 0x5a)
                 return printf("garbled: call %ld wrote outside\n", call), 1;
         for (size_t i = 0; i < sizeof *record; i++)
             if (((uint8_t *)&records[0])[i] != 0x5a || ((uint8_t *)&records[2])[i] != 0x5a)

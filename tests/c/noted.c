@@ -8,7 +8,7 @@
 
 #define SIZE (2 * (32 + 64))
 
-static struct dfu_config config = {0x0100, 1, 0x1209, 20, 16, 7, 0, 0, 1};
+static struct dfu_config config = {DFU_VERSION, 0x0100, 1, 0x1209, 20, 16, 7, 0, 0, 1};
 static uint32_t dice = 1;
 
 static uint32_t roll(uint32_t sides) {
@@ -18,7 +18,7 @@ static uint32_t roll(uint32_t sides) {
 
 struct made {
     struct dfu_device device;
-    uint8_t medium[SIZE], out[16];
+    uint8_t medium[SIZE], pending[16], out[16];
 };
 
 /* The next request of a host that does it right, in most cases; else any. */
@@ -46,10 +46,11 @@ static void choose(const struct dfu_device *device, uint8_t setup[8]) {
 
 static int32_t make(struct made *made, uint32_t what, uint32_t ms, const uint8_t setup[8], const uint8_t body[16]) {
     if (what == 0)
-        return dfu_device_elapse(&config, &made->device, made->medium, SIZE, ms);
+        return dfu_device_elapse(&config, &made->device, made->pending, sizeof made->pending, made->medium, SIZE, ms);
     if (what == 1)
-        return dfu_device_usb_reset(&config, &made->device, made->medium, SIZE);
-    return dfu_device_handle(&config, &made->device, made->medium, SIZE, setup, body, setup[0] == 0x21 ? setup[6] : 0, made->out, 16);
+        return dfu_device_usb_reset(&config, &made->device, made->pending, sizeof made->pending, made->medium, SIZE);
+    return dfu_device_handle(&config, &made->device, made->pending, sizeof made->pending, made->medium, SIZE, setup, body,
+                             setup[0] == 0x21 ? setup[6] : 0, made->out, 16);
 }
 
 int main(int count, char **words) {

@@ -5,9 +5,9 @@
 
 #include "dfu_device.h"
 
-static struct dfu_config config = {0x0100, 1, 0x1209, 255, 8, 7, 5, 10, 1};
+static struct dfu_config config = {DFU_VERSION, 0x0100, 1, 0x1209, 255, 8, 7, 5, 10, 1};
 static struct dfu_device device;
-static uint8_t medium[2 * (32 + 64)], image[20];
+static uint8_t medium[2 * (32 + 64)], pending[8], image[20];
 static const uint8_t old[3] = {1, 2, 3};
 /* How many calls are made before the power goes, and how many were made. */
 static int last, made;
@@ -19,12 +19,13 @@ static int is_off(void) {
 static void ask(uint8_t kind, uint8_t request, uint16_t value, const uint8_t *body, uint16_t length) {
     uint8_t setup[8] = {kind, request, (uint8_t)value, 0, 0, 0, (uint8_t)length, 0}, out[8];
     if (!is_off())
-        dfu_device_handle(&config, &device, medium, sizeof medium, setup, body, kind == 0x21 ? length : 0, out, sizeof out);
+        dfu_device_handle(&config, &device, pending, sizeof pending, medium, sizeof medium, setup, body, kind == 0x21 ? length : 0,
+                          out, sizeof out);
 }
 
 static void pass(uint32_t ms) {
     if (!is_off())
-        dfu_device_elapse(&config, &device, medium, sizeof medium, ms);
+        dfu_device_elapse(&config, &device, pending, sizeof pending, medium, sizeof medium, ms);
 }
 
 static void power_on(void) {
@@ -34,7 +35,7 @@ static void power_on(void) {
 
 static void reset(void) {
     if (!is_off())
-        dfu_device_usb_reset(&config, &device, medium, sizeof medium);
+        dfu_device_usb_reset(&config, &device, pending, sizeof pending, medium, sizeof medium);
 }
 
 static void install(void) {

@@ -15,9 +15,9 @@
 
 #define IMAGE 150 /* bytes, in blocks of 100 */
 
-static struct dfu_config config = {0x0100, 1, 0x1209, 255, 100, 7, 5, 10, 1};
+static struct dfu_config config = {DFU_VERSION, 0x0100, 1, 0x1209, 255, 100, 7, 5, 10, 1};
 static struct dfu_device device;
-static uint8_t medium[2 * (32 + 160)], mediums[MOST][sizeof medium];
+static uint8_t pending[100], medium[2 * (32 + 160)], mediums[MOST][sizeof medium];
 static unsigned count;
 static unsigned long steps;
 static int is_stepped;
@@ -38,20 +38,21 @@ static void step(int is_on) {
 static void ask(uint8_t kind, uint8_t request, uint16_t value, const uint8_t *body, uint16_t length) {
     uint8_t setup[8] = {kind, request, (uint8_t)value, 0, 0, 0, (uint8_t)length, 0}, out[100];
     step(1);
-    dfu_device_handle(&config, &device, medium, sizeof medium, setup, body, kind == 0x21 ? length : 0, out, sizeof out);
+    dfu_device_handle(&config, &device, pending, sizeof pending, medium, sizeof medium, setup, body, kind == 0x21 ? length : 0,
+                      out, sizeof out);
     step(0);
 }
 
 static void pass(uint32_t ms) {
     step(1);
-    dfu_device_elapse(&config, &device, medium, sizeof medium, ms);
+    dfu_device_elapse(&config, &device, pending, sizeof pending, medium, sizeof medium, ms);
     step(0);
 }
 
 static void install(const uint8_t image[IMAGE]) {
     dfu_device_power_on(&config, &device, medium, sizeof medium);
     ask(0x21, 0, 100, image, 0);
-    dfu_device_usb_reset(&config, &device, medium, sizeof medium);
+    dfu_device_usb_reset(&config, &device, pending, sizeof pending, medium, sizeof medium);
     for (uint16_t block = 0; block < 2; block++) {
         ask(0x21, 1, block, image + 100 * block, block == 1 ? IMAGE - 100 : 100);
         ask(0xa1, 3, 0, image, 6);

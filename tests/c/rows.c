@@ -4,9 +4,9 @@
 
 #include "dfu_device.h"
 
-static struct dfu_config config = {0x0100, 1, 0x1209, 255, 8, 7, 5, 10, 1};
+static struct dfu_config config = {DFU_VERSION, 0x0100, 1, 0x1209, 255, 8, 7, 5, 10, 1};
 static struct dfu_device device;
-static uint8_t medium[2 * (32 + 64)], out[16];
+static uint8_t medium[2 * (32 + 64)], pending[16], out[16];
 static int wrong;
 
 static void expect(const char *what, int is) {
@@ -18,7 +18,8 @@ static void expect(const char *what, int is) {
 
 /* One transfer: the answer's number, its bytes, and the state then. */
 static void ask(const char *what, const char *setup, const void *body, size_t length, int32_t number, const char *bytes, int32_t state) {
-    int32_t n = dfu_device_handle(&config, &device, medium, sizeof medium, (const uint8_t *)setup, body, length, out, sizeof out);
+    int32_t n = dfu_device_handle(&config, &device, pending, sizeof pending, medium, sizeof medium, (const uint8_t *)setup, body,
+                                  length, out, sizeof out);
     expect(what, n == number && (n <= 0 || memcmp(out, bytes, (size_t)n) == 0) && dfu_device_state(&device) == state);
 }
 
@@ -37,17 +38,17 @@ static void download(uint8_t attributes) {
     expect("power on", dfu_device_power_on(&config, &device, medium, sizeof medium) == 0 && dfu_device_state(&device) == 0);
     image_is("old image", "\x11\x22", 2);
     ask("DETACH", "\x21\0\xe8\x03\0\0\0\0", "", 0, 0, "", 1);
-    expect("bus reset", dfu_device_usb_reset(&config, &device, medium, sizeof medium) == 0 && dfu_device_state(&device) == 2);
+    expect("bus reset", dfu_device_usb_reset(&config, &device, pending, sizeof pending, medium, sizeof medium) == 0 && dfu_device_state(&device) == 2);
     ask("GETSTATUS", STATUS, "", 0, 6, "\0\0\0\0\x02\0", 2);
     ask("a body that is cut short", "\x21\x01\0\0\0\0\x04\0", "\xff\xff", 2, DFU_STALL, "", 2);
     ask("DNLOAD", "\x21\x01\0\0\0\0\x04\0", "\xaa\xbb\xcc\xdd", 4, 0, "", 3);
     ask("poll", STATUS, "", 0, 6, "\0\x05\0\0\x04\0", 4);
-    expect("busy", dfu_device_elapse(&config, &device, medium, sizeof medium, 5) == 0 && dfu_device_state(&device) == 3);
+    expect("busy", dfu_device_elapse(&config, &device, pending, sizeof pending, medium, sizeof medium, 5) == 0 && dfu_device_state(&device) == 3);
     ask("written", STATUS, "", 0, 6, "\0\0\0\0\x05\0", 5);
     ask("close", "\x21\x01\x01\0\0\0\0\0", "", 0, 0, "", 6);
     ask("manifest", STATUS, "", 0, 6, "\0\x0a\0\0\x07\0", 7);
     image_is("not yet", "\x11\x22", 2);
-    expect("manifested", dfu_device_elapse(&config, &device, medium, sizeof medium, 10) == 0);
+    expect("manifested", dfu_device_elapse(&config, &device, pending, sizeof pending, medium, sizeof medium, 10) == 0);
     image_is("new image", "\xaa\xbb\xcc\xdd", 4);
     if (tolerant) {
         ask("complete", STATUS, "", 0, 6, "\0\0\0\0\x02\0", 2);
@@ -58,7 +59,7 @@ static void download(uint8_t attributes) {
     } else {
         ask("waits for a reset", STATUS, "", 0, DFU_STALL, "", 8);
     }
-    expect("second reset", dfu_device_usb_reset(&config, &device, medium, sizeof medium) == 0 && dfu_device_state(&device) == 0);
+    expect("second reset", dfu_device_usb_reset(&config, &device, pending, sizeof pending, medium, sizeof medium) == 0 && dfu_device_state(&device) == 0);
 }
 
 static void refusals(void) {
@@ -71,7 +72,16 @@ static void refusals(void) {
     config.transfer = 17;
     ask("NO_ROOM", STATUS, "", 0, DFU_NO_ROOM, "", 0);
     config.transfer = 8;
-    expect("NO_MEDIUM", dfu_device_elapse(&config, &device, none, sizeof none, 1) == DFU_NO_MEDIUM
+    config.version = DFU_VERSION + 1;
+    ask("NO_CONFIG: another version", STATUS, "", 0, DFU_NO_CONFIG, "", 0);
+    expect("NO_CONFIG before all", dfu_device_power_on(&config, &device, none, sizeof none) == DFU_NO_CONFIG
+        && dfu_device_elapse(&config, &device, pending, 7, none, sizeof none, 1) == DFU_NO_CONFIG);
+    config.version = DFU_VERSION;
+    expect("NO_BLOCK", dfu_device_elapse(&config, &device, pending, 7, none, sizeof none, 1) == DFU_NO_BLOCK
+        && dfu_device_usb_reset(&config, &device, pending, 7, medium, sizeof medium) == DFU_NO_BLOCK
+        && dfu_device_handle(&config, &device, pending, 7, medium, sizeof medium, none, none, 0, out, sizeof out) == DFU_NO_BLOCK);
+    expect("a block of the transfer size", dfu_device_elapse(&config, &device, pending, 8, medium, sizeof medium, 1) == 0);
+    expect("NO_MEDIUM", dfu_device_elapse(&config, &device, pending, sizeof pending, none, sizeof none, 1) == DFU_NO_MEDIUM
         && dfu_device_power_on(&config, &device, none, sizeof none) == DFU_NO_MEDIUM
         && dfu_device_image(none, sizeof none, &place) == DFU_NO_MEDIUM && place.at == 7 && place.length == 7);
     expect("NO_MEDIUM: unchanged", memcmp(none, zeros, sizeof none) == 0);
@@ -80,7 +90,13 @@ static void refusals(void) {
     place = (struct dfu_place){7, 7};
     kept.mode = 6;
     kept.first = 9;
-    expect("NO_DEVICE", dfu_device_usb_reset(&config, &kept, medium, sizeof medium) == DFU_NO_DEVICE && kept.mode == 6 && kept.first == 9);
+    expect("NO_DEVICE", dfu_device_usb_reset(&config, &kept, pending, sizeof pending, medium, sizeof medium) == DFU_NO_DEVICE && kept.mode == 6 && kept.first == 9);
+    kept.mode = 0, kept.version = DFU_VERSION - 1;
+    expect("another version", dfu_device_usb_reset(&config, &kept, pending, sizeof pending, medium, sizeof medium) == DFU_NO_DEVICE
+        && dfu_device_state(&kept) == DFU_NO_DEVICE);
+    kept.mode = 3, kept.version = DFU_VERSION, kept.first = 0, kept.length = 9;
+    expect("a block that is longer than its memory", dfu_device_usb_reset(&config, &kept, pending, 8, medium, sizeof medium) == DFU_NO_DEVICE
+        && dfu_device_usb_reset(&config, &kept, pending, 9, medium, sizeof medium) == 0);
     kept.mode = 13;
     expect("no mode", dfu_device_state(&kept) == DFU_NO_DEVICE && dfu_device_code(&kept) == DFU_NO_DEVICE);
     expect("medium unchanged", memcmp(before, medium, sizeof medium) == 0);

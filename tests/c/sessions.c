@@ -8,13 +8,13 @@
 #include "dfu_host.h"
 
 static const struct dfu_config config = {
-    .device = 0x0100, .product = 1, .vendor = 0x1209, .detach_ms = 255, .transfer = 8,
+    .version = DFU_VERSION, .device = 0x0100, .product = 1, .vendor = 0x1209, .detach_ms = 255, .transfer = 8,
     .attributes = 7, .busy_ms = 5, .manifest_ms = 10, .least = 1,
 };
 static const uint8_t descriptor[9] = {9, 0x21, 7, 255, 0, 8, 0, 0x10, 1};
 static const struct dfu_ids ids = {0x0100, 1, 0x1209};
 static const uint8_t ones[20] = {255, 255, 255, 255, 255, 255, 255, 255, 255, 255, 0, 1, 'U', 'F', 'D', 16, 113, 200, 81, 12};
-static uint8_t medium[2 * (32 + 1024)], buffer[64], answer[64];
+static uint8_t pending[8], medium[2 * (32 + 1024)], buffer[64], answer[64];
 static struct dfu_device device;
 static int failed;
 
@@ -34,14 +34,15 @@ static void start(const char *image, size_t length) {
 static uint32_t act(const struct dfu_action *a, int32_t *sent) {
     *sent = 0;
     if (a->what == DFU_RESET) {
-        dfu_device_usb_reset(&config, &device, medium, sizeof medium);
+        dfu_device_usb_reset(&config, &device, pending, sizeof pending, medium, sizeof medium);
         return DFU_SEEN_RESET;
     }
     if (a->what == DFU_WAIT) {
-        dfu_device_elapse(&config, &device, medium, sizeof medium, a->value);
+        dfu_device_elapse(&config, &device, pending, sizeof pending, medium, sizeof medium, a->value);
         return DFU_SEEN_WAIT;
     }
-    *sent = dfu_device_handle(&config, &device, medium, sizeof medium, a->setup, ones + a->from, a->length, answer, sizeof answer);
+    *sent = dfu_device_handle(&config, &device, pending, sizeof pending, medium, sizeof medium, a->setup, ones + a->from, a->length,
+                              answer, sizeof answer);
     return *sent < 0 ? DFU_SEEN_STALL : a->setup[0] & 0x80 ? DFU_SEEN_BYTES : DFU_SEEN_ACK;
 }
 
@@ -55,7 +56,7 @@ static uint32_t run_left(struct dfu_session *s) {
         if (seen == DFU_SEEN_ACK && a.setup[1] == 1 && a.length == 0)
             closed = 1;
         if (seen == DFU_SEEN_WAIT && closed == 1) {
-            dfu_device_usb_reset(&config, &device, medium, sizeof medium);
+            dfu_device_usb_reset(&config, &device, pending, sizeof pending, medium, sizeof medium);
             seen = DFU_SEEN_LEFT;
             closed = 2;
         }

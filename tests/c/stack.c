@@ -8,19 +8,20 @@
 
 #include "dfu_device.h"
 
-static const struct dfu_config config = {0x0100, 1, 0x1209, 255, 4096, 7, 5, 10, 1};
+static const struct dfu_config config = {DFU_VERSION, 0x0100, 1, 0x1209, 255, 4096, 7, 5, 10, 1};
 static struct dfu_device device;
 static struct dfu_place place;
-static uint8_t medium[2 * (32 + 100000)], out[4096], block[4096];
+static uint8_t medium[2 * (32 + 100000)], out[4096], block[4096], pending[4096];
 static uint8_t painted[1 << 20] __attribute__((aligned(4096)));
 
 static void ask(uint8_t kind, uint8_t request, uint8_t value, uint16_t length) {
     uint8_t setup[8] = {kind, request, value, 0, 0, 0, (uint8_t)length, (uint8_t)(length >> 8)};
-    dfu_device_handle(&config, &device, medium, sizeof medium, setup, block, kind == 0x21 ? length : 0, out, sizeof out);
+    dfu_device_handle(&config, &device, pending, sizeof pending, medium, sizeof medium, setup, block, kind == 0x21 ? length : 0,
+                      out, sizeof out);
 }
 
 static void pass(uint32_t ms) {
-    dfu_device_elapse(&config, &device, medium, sizeof medium, ms);
+    dfu_device_elapse(&config, &device, pending, sizeof pending, medium, sizeof medium, ms);
 }
 
 static void *run(void *word) {
@@ -28,7 +29,7 @@ static void *run(void *word) {
     case 1: dfu_device_format(medium, sizeof medium, block, sizeof block); break;
     case 2: dfu_device_power_on(&config, &device, medium, sizeof medium); break;
     case 3: ask(0x21, 0, 200, 0); break;
-    case 4: dfu_device_usb_reset(&config, &device, medium, sizeof medium); break;
+    case 4: dfu_device_usb_reset(&config, &device, pending, sizeof pending, medium, sizeof medium); break;
     case 5: ask(0x21, 1, 0, 4096); break;
     case 6: ask(0xa1, 3, 0, 6); break;
     case 7: pass(5); break;

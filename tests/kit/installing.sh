@@ -1,12 +1,10 @@
 # What tests/install stands on: functions that count, and a copy of what `install` reads, as a clone has it in which the program is
 # built. `top` is the folder of the repository; all is below $work, and `install` is that of the copy, $tree.
 # shellcheck shell=sh disable=SC2016,SC2034,SC2154
-work=$(mktemp -d)
-trap 'rm -rf "$work"' EXIT
+# shellcheck source=tests/support/counting.sh
+. "$top/tests/support/counting.sh"
 chmod 755 "$work"
 cd "$work" || exit 1
-passed=0
-failed=0
 
 # expect STATUS WHAT COMMAND..
 expect() {
@@ -16,22 +14,20 @@ expect() {
     code=0
     "$@" > said 2>&1 || code=$?
     if [ "$code" -eq "$status" ]; then
-        passed=$((passed + 1))
+        right
     else
-        echo "$what: wanted $status, found $code:"
+        wrong "$what: wanted $status, found $code:"
         cat said
-        failed=$((failed + 1))
     fi
 }
 # says COUNT TEXT: so many lines of what was printed last have it.
 says() {
     found=$(grep -c -F -e "$2" said || true)
     if [ "$found" -eq "$1" ]; then
-        passed=$((passed + 1))
+        right
     else
-        echo "'$2' stands in $found lines of:"
+        wrong "'$2' stands in $found lines of:"
         cat said
-        failed=$((failed + 1))
     fi
 }
 # holds FOLDER FILE..: these are the files below the folder, and no other.
@@ -42,10 +38,10 @@ holds() {
     wanted=
     [ "$#" -eq 0 ] || wanted=$(printf './%s\n' "$@" | LC_ALL=C sort)
     if [ "$found" = "$wanted" ]; then
-        passed=$((passed + 1))
+        right
     else
-        printf '%s holds\n%s\n' "$folder" "$found"
-        failed=$((failed + 1))
+        wrong "$folder holds
+$found"
     fi
 }
 # folders FOLDER WORD..: these are the folders below it, and no other.

@@ -1,25 +1,17 @@
 # What tests/launcher and tests/build-crates stand on: a folder of their own, $work, with copies of the launchers over small crates,
 # and a stand-in for the Rattle kit beside the few commands that the launchers use. `top` is the folder of the repository.
 # shellcheck shell=sh disable=SC2015,SC2016,SC2154
-work=$(mktemp -d)
+# shellcheck source=tests/support/counting.sh
+. "$top/tests/support/counting.sh"
 trap 'chmod -R u+w "$work"; rm -rf "$work"' EXIT
 chmod 755 "$work"
 cd "$work" || exit 1
-passed=0
-failed=0
-fine() {
-    passed=$((passed + 1))
-}
-wrong() {
-    failed=$((failed + 1))
-    echo "$1"
-}
 # is WHAT COMMAND..: the command ends well; else what was printed last is shown.
 is() {
     what=$1
     shift
     if "$@"; then
-        fine
+        right
     else
         wrong "$what; it printed:"
         cat "$work/said"
@@ -76,7 +68,7 @@ run() {
     code=0
     TMPDIR=$work/temp PATH=${path:-$work/kit} "$@" > said 2>&1 || code=$?
     if [ "$code" -eq "$status" ] && grep -q -e "$word" said; then
-        fine
+        right
     else
         wrong "$*: wanted $status and '$word', found $code and:"
         cat said
@@ -100,9 +92,9 @@ signalled() {
     kill -s "$signal" "$launcher"
     code=0
     wait "$launcher" || code=$?
-    [ "$code" -eq "$status" ] && fine || wrong "$* by $signal: wanted $status, found $code"
+    [ "$code" -eq "$status" ] && right || wrong "$* by $signal: wanted $status, found $code"
     while read -r pid; do
-        ! kill -0 "$pid" 2> /dev/null && fine || wrong "$* by $signal: rt is still at work"
+        ! kill -0 "$pid" 2> /dev/null && right || wrong "$* by $signal: rt is still at work"
     done < pids
     rm -f pids calls
 }
@@ -111,6 +103,6 @@ signalled() {
 calls() {
     count=0
     [ ! -e calls ] || count=$(wc -l < calls)
-    [ "$count" -eq "$1" ] && fine || wrong "$2: wanted $1 calls of rt, found $count"
+    [ "$count" -eq "$1" ] && right || wrong "$2: wanted $1 calls of rt, found $count"
     rm -f calls
 }

@@ -4,9 +4,8 @@ import time
 
 from counting import check, check_that
 from files import NEW, suffixed
-from views import is_labelled, is_narrow, is_quiet, is_readable, open_page, shot, shown
+from views import ENTER, SPACE, TAB, is_labelled, is_narrow, is_quiet, is_readable, open_page, shot, shown, tab_to
 
-TAB, ENTER, SPACE = '\ue004', '\ue007', ' '
 UNNAMED = {'keepsPermission': False, 'serial': ''}
 
 
@@ -72,11 +71,7 @@ def by_keyboard(browser, address, work):
     open_page(browser, address, {})
     give_file(browser, work, suffixed(NEW))
     for name, key in (('connect', ENTER), ('verify', SPACE), ('verify', SPACE), ('begin', ENTER)):
-        for _ in range(30):
-            if browser.run('return document.activeElement.id') == name:
-                break
-            browser.key(TAB)
-        check('Tab leads there', browser.run('return document.activeElement.id'), name)
+        check('Tab leads there', tab_to(browser, name), name)
         browser.key(key)
         if name == 'connect':
             is_ready(browser)
@@ -134,6 +129,13 @@ def asks(browser, address, work):
     browser.wait('!document.getElementById("ask").hidden')
     browser.click('#ask-no')
     check('not chosen', report(browser), 'Sent, not compared')
+    prepare(browser, address, work, UNNAMED)
+    is_ready(browser)
+    browser.click('#begin')
+    browser.wait('!document.getElementById("ask").hidden')
+    browser.click('#stop')
+    check('cancelled, where it is asked for the device', report(browser), 'Given up')
+    check('it is asked no more', shown(browser, '#ask-text'), '')
     prepare(browser, address, work, {'reset': 'fails'}, platform='Windows')
     is_ready(browser)
     check_that('on Windows it is not compared', 'reset of the bus' in shown(browser, '#no-verify'))
@@ -142,9 +144,28 @@ def asks(browser, address, work):
     check_that('it is asked to pull the plug', 'Pull its plug' in shown(browser, '#ask-text'))
     browser.wait_run('async () => (await standIn).replug()')
     check('the plug was pulled', (report(browser), image(browser)), ('Installed', NEW))
+    prepare(browser, address, work, {'reset': 'fails'}, platform='Windows')
+    is_ready(browser)
+    browser.click('#begin')
+    browser.wait('!document.getElementById("ask").hidden')
+    browser.click('#stop')
+    check('cancelled, where it is asked to pull the plug', report(browser), 'Given up')
     prepare(browser, address, work, {'reset': 'fails', 'startsInApp': True}, platform='Windows')
     browser.wait('!document.getElementById("device-refused").hidden')
     check_that('on Windows it is to be brought to DFU mode by hand', 'by hand' in shown(browser, '#device-refused'))
+
+
+def chooses_none(browser, address):
+    """No device is there, and one that is gone when it is to be opened."""
+    open_page(browser, address, {'startsInApp': True, 'hasAppUsb': False})
+    browser.click('#connect')
+    browser.wait('document.getElementById("device").textContent.startsWith("None was chosen")')
+    open_page(browser, address, {})
+    browser.run('navigator.usb.requestDevice = async words => { const it = await (await standIn).requestDevice(words);'
+                ' (await standIn).leaves("unplugged"); return it }')
+    browser.click('#connect')
+    browser.wait('document.getElementById("device-refused").textContent.startsWith("The device left")')
+    check('no device is connected then', shown(browser, '#device'), 'No device is connected.')
 
 
 def chooses(browser, address, work):
@@ -180,6 +201,7 @@ def goes_on(browser, address, work):
     check_that('the phase', shown(browser, '#phase').startswith('Sending the image'), shown(browser, '#phase'))
     check('no other file meanwhile', browser.run('return document.getElementById("file").disabled'), True)
     browser.click('#stop')
+    check_that('it says that it is cancelled', 'Cancelling' in shown(browser, '#hint') or shown(browser, '#report h3') != '')
     check('cancelled', report(browser), 'Given up')
     prepare(browser, address, work, {'fates': [{'kind': 'late', 'number': 4}]})
     is_ready(browser)
@@ -187,6 +209,15 @@ def goes_on(browser, address, work):
     browser.click('#begin')
     check('a transfer that gets no answer', report(browser), 'Verified')
     check_that('it is waited for 5 seconds', 5 < time.time() - began < 12)
+    prepare(browser, address, work, {'fates': [{'kind': 'deaf', 'number': 4}]})
+    is_ready(browser)
+    browser.click('#begin')
+    time.sleep(0.5)
+    browser.key(TAB)
+    check('Tab leads from Flash to Cancel', browser.run('return document.activeElement.id'), 'stop')
+    browser.key(ENTER)
+    check('it can not be cancelled twice', browser.run('return document.getElementById("stop").disabled'), True)
+    check('cancelled, while a transfer gets no answer', report(browser), 'Given up')
     prepare(browser, address, work, {})
     is_ready(browser)
     browser.wait_run('async () => (await standIn).leaves("unplugged")')
@@ -203,6 +234,7 @@ def run(browser, address, work):
     bad_names(browser, address, work)
     by_drop(browser, address)
     bad_files(browser, address, work)
+    chooses_none(browser, address)
     chooses(browser, address, work)
     asks(browser, address, work)
     goes_on(browser, address, work)

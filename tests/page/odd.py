@@ -113,8 +113,9 @@ def told_late(browser):
     """Where the event comes late, a device that leaves unasked is told once, and one that detaches itself never."""
     for number, one in enumerate(in_page(browser, *(with_fate({'settings': {'tells': 400}}, 'leave-after', number) for number in range(13)))):
         check(f'told late, {number}', (one['name'], one['restarts'], one['image']), ('verified', 1, text(NEW)))
-    one = in_page(browser, {'settings': {**APP, **ITSELF, 'tells': 700}})[0]
-    check('it detaches itself, which is told late: no restart is told', one['restarts'], 0)
+    for ms in (700, 2500):
+        one = in_page(browser, {'settings': {**APP, **ITSELF, 'tells': ms}})[0]
+        check(f'it detaches itself, which is told {ms} ms late: no restart is told', one['restarts'], 0)
 
 
 def garbled(browser):

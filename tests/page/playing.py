@@ -5,7 +5,7 @@ import tempfile
 
 from counting import check, check_that
 from scripts import NOT_HERE, TOP, examples
-from views import is_labelled, is_narrow, is_quiet, is_readable, open_page, shot, shown
+from views import ENTER, SPACE, is_labelled, is_narrow, is_quiet, is_readable, open_page, shot, shown, tab_to
 
 PROGRAM = TOP / 'crates/dfu_cmd/out/dfu_cmd'
 CHOOSE = 'const it = document.getElementById("example"); it.value = arguments[0]; it.dispatchEvent(new Event("change"))'
@@ -78,6 +78,15 @@ def by_hand(browser):
     is_narrow(browser, 'play')
 
 
+def by_keyboard(browser):
+    browser.run(CHOOSE, '')
+    browser.run('document.activeElement.blur()')
+    for name, key in (('offer-verified', ENTER), ('to-end', SPACE)):
+        check('Tab leads there', tab_to(browser, name), name)
+        browser.key(key)
+    check_that('the report, by keyboard', 'report verified' in browser.run(PRINTED), browser.run(PRINTED))
+
+
 def refusals(browser, address):
     """The page asks nobody else, whatever a script in it wants."""
     found = browser.wait_run("async () => fetch('http://127.0.0.1:9/').then(() => 'answered', error => error.name)")
@@ -91,5 +100,6 @@ def run(browser, address):
     for seed in range(6):
         at_random(browser, seed)
     by_hand(browser)
+    by_keyboard(browser)
     is_quiet(browser, 'play')
     refusals(browser, address)

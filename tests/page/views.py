@@ -5,6 +5,7 @@ import pathlib
 
 from counting import check, check_that
 
+TAB, ENTER, SPACE = '\ue004', '\ue007', ' '
 # The stand-in takes the place of navigator.usb before the page looks.
 STAND_IN = """
 if (location.protocol === 'http:') window.standIn = (async () => {
@@ -42,6 +43,15 @@ def shot(browser, name):
 def shown(browser, selector):
     """The text of an element, empty where it is hidden."""
     return browser.run('const it = document.querySelector(arguments[0]); return it.offsetParent === null ? "" : it.innerText', selector)
+
+
+def tab_to(browser, name):
+    """Presses Tab until the element has the focus; where it is then."""
+    for _ in range(40):
+        if browser.run('return document.activeElement.id') == name:
+            break
+        browser.key(TAB)
+    return browser.run('return document.activeElement.id')
 
 
 def is_quiet(browser, what):

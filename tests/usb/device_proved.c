@@ -11,7 +11,7 @@
 
 static struct dfu_config config;
 static struct dfu_device device;
-static uint8_t *medium;
+static uint8_t pending[4096], *medium;
 static size_t size;
 
 static void must(int32_t answer, const char *what)
@@ -28,6 +28,7 @@ static void power(void)
 
 static void configure(void)
 {
+    config.version = DFU_VERSION;
     config.device = settings.dfu.release;
     config.product = settings.dfu.product;
     config.vendor = settings.dfu.vendor;
@@ -42,7 +43,8 @@ static void configure(void)
 static int handle(const uint8_t setup[8], const uint8_t *body, size_t length, uint8_t *out, size_t room)
 {
     static uint8_t answer[4096 + 8];
-    int32_t count = dfu_device_handle(&config, &device, medium, size, setup, body, length, answer, sizeof answer);
+    int32_t count = dfu_device_handle(&config, &device, pending, sizeof pending, medium, size, setup, body, length,
+                                      answer, sizeof answer);
     if (count == DFU_STALL)
         return STALLED;
     must(count, "handle");
@@ -54,12 +56,12 @@ static int handle(const uint8_t setup[8], const uint8_t *body, size_t length, ui
 
 static void usb_reset(void)
 {
-    must(dfu_device_usb_reset(&config, &device, medium, size), "usb_reset");
+    must(dfu_device_usb_reset(&config, &device, pending, sizeof pending, medium, size), "usb_reset");
 }
 
 static void elapse(uint32_t ms)
 {
-    must(dfu_device_elapse(&config, &device, medium, size, ms), "elapse");
+    must(dfu_device_elapse(&config, &device, pending, sizeof pending, medium, size, ms), "elapse");
 }
 
 /* Into DFU mode as a host leads it there: DETACH, and then a reset, or the time that a device takes which detaches itself. */

@@ -8,27 +8,18 @@ if ! pkg-config --exists libusb-1.0; then
     exit
 fi
 "$top/dfu" --help > /dev/null
-work=$(mktemp -d)
-trap 'rm -rf "$work"' EXIT
+# shellcheck source=tests/support/counting.sh
+. "$top/tests/support/counting.sh"
 chmod 755 "$work"
 CFLAGS=-Werror "$top/flash/build" "$work" > /dev/null
 "$top/tests/usb/build" "$work"
 cd "$work" || exit
-passed=0
-failed=0
 printf 'the old image' > old
 printf 'a new image of 26 bytes ..' > new
 "$top/dfu" add new new.dfu --vid 1209 --pid 0001 > /dev/null
 "$top/dfu" add new any.dfu > /dev/null
 "$top/dfu" add new other.dfu --vid 1209 --pid 0002 > /dev/null
 
-right() {
-    passed=$((passed + 1))
-}
-wrong() {
-    echo "$*"
-    failed=$((failed + 1))
-}
 # flash SETTINGS WORDS..: runs it over a device that is set up so, as the user $as, with the fate of a transfer in $fate.
 # Its status is in $code, its texts in out and err, what was sent in log, and the image that the device has then in saved.
 flash() {

@@ -2,17 +2,6 @@
 # A result is a line with tabs between: scene, fate, transfer, outcome, last line, transfers, state, what stands or was made.
 # A scene's first letter is its place. The scripts say what an outcome is, and what its column is called.
 
-passed=0
-failed=0
-# check WHAT WANTED FOUND
-check() {
-    if [ "$2" = "$3" ]; then
-        passed=$((passed + 1))
-    else
-        echo "$1: wanted '$2', found '$3'"
-        failed=$((failed + 1))
-    fi
-}
 # What stands on the device: old, new (the payload) or other. With `front` set, behind either may stand more.
 front=
 image() {
@@ -103,7 +92,7 @@ tables() {
         cp made/* "$folder/"
     fi
     cp "$folder/$1"-*.tsv kept/ 2> /dev/null || :
-    check "docs/interop has the tables of $1" '' "$(diff -r kept made)"
+    equal "docs/interop has the tables of $1" '' "$(diff -r kept made)"
     echo "$passed passed, $failed failed"
     [ "$failed" -eq 0 ] && [ "$passed" -gt 1 ]
 }

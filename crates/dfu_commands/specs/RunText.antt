@@ -1,10 +1,11 @@
 -- What `dfu run` writes.
-use Rattle.std.specs.Prelude.{◌≡◌, ℕ, List, Option, IfSome, codes}
+use Rattle.std.specs.Prelude.{◌≡◌, ℕ, List, [], Option, Some, IfSome, codes}
 use Rattle.dfu_suffix.specs.declared.fault.SuffixFault.TheVariants as suffix
 use Rattle.dfu_link.specs.declared.scripting.fault.ScriptFault.{ScriptFault}
 use Rattle.dfu_link.specs.declared.scripting.fault.ScriptFault.TheVariants.{BadLine, LateConfig, BadConfig, TooLarge, NoMemory, Read, Write}
 use Rattle.dfu_link.specs.ScriptRun.{WroteRun}
 use Rattle.dfu_link.specs.Falls.{Falls}
+use Rattle.dfu_link.specs.KeptLines.{untraced}
 use Rattle.dfu_link.specs.ScriptLegal.{WroteLegal, StopsLegally}
 use Rattle.dfu_link.specs.ScriptHeadline.{WroteHeadline, StopsWithHeadline}
 use Rattle.dfu_text.specs.declared.exit.Exit.{Exit}
@@ -45,3 +46,10 @@ pub data WritesWithHeadline (given old new : Option (List ℕ)) (result : Exit) 
   start_holds : (mid : Option (List ℕ)) (fault : ScriptFault) →
       IfSome given (λ text. StopsWithHeadline text old mid) → WritesStop fault mid new result →
       WritesWithHeadline given old new result
+
+-- A script with a trace was written to a writer that held nothing: without the lines of the trace it ran to its end, or it stopped, and the
+-- line of its fault is written behind what it wrote.
+pub data WritesTraced (given new : Option (List ℕ)) (result : Exit) : Type 0 where
+  traced_runs : IfSome given (λ text. WroteRun text (Some []) (untraced new)) → result ≡ Done → WritesTraced given new result
+  traced_stops : (mid : Option (List ℕ)) (fault : ScriptFault) →
+      IfSome given (λ text. Falls text (Some []) (untraced mid) fault) → WritesStop fault mid new result → WritesTraced given new result

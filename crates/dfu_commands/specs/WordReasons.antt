@@ -8,3 +8,11 @@ out_why = codes "it has to be a file, as ./- for one with this name"
 -- Why KIND is none.
 unfoldable pub kind_why : List ℕ
 kind_why = codes "it has to be functional or status"
+
+-- Why an interface is none.
+unfoldable pub interface_why : List ℕ
+interface_why = codes "it has to be a number from 0 to 255"
+
+-- Why a device of a capture is none.
+unfoldable pub device_why : List ℕ
+device_why = codes "it has to be only, or a bus and a device, as 1.7"

@@ -3,7 +3,7 @@
 ghost use Rattle.std.specs.Io.Buffered.{writer_contents};
 ghost use Rattle.dfu_commands.specs.Buffering.{RunsBuffered};
 
-use crate::running::run_with_fault;
+use crate::running::{run_traced_with_fault, run_with_fault};
 use dfu_link::ScriptFault;
 use dfu_text::Exit;
 use std::alloc::Global;
@@ -39,6 +39,23 @@ pub(crate) fn run_buffered_with_fault<R: Read + Drop, W: Write + Drop>(
             // Taken apart, since a buffer that is dropped is written once more.
             let (writer, _) = error.into_inner().into_parts();
             (Exit::Fault, fault, writer)
+        }
+    }
+}
+
+/// Does what `run_buffered_with_fault` does, with a line for each action of the host.
+pub(crate) fn run_traced_buffered<R: Read + Drop, W: Write + Drop>(
+    alloc: Global,
+    reader: R,
+    buffer: BufWriter<W>,
+) -> (Exit, Option<ScriptFault>) {
+    let (exit, fault, buffer) = run_traced_with_fault(alloc, reader, buffer);
+    match buffer.into_inner() {
+        Ok(_) => (exit, fault),
+        Err(error) => {
+            // Taken apart, since a buffer that is dropped is written once more.
+            let (_, _) = error.into_inner().into_parts();
+            (Exit::Fault, fault)
         }
     }
 }

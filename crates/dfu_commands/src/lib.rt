@@ -5,9 +5,11 @@
 #![tactic(auto)]
 
 mod buffering;
+mod captures;
 mod field;
 mod form;
 mod identifiers;
+mod judging;
 mod line;
 mod numbering;
 mod performing;

@@ -1,8 +1,10 @@
 //! What the words of a command line ask for is done.
 
+use crate::captures::device_in;
 use crate::identifiers::{IdTexts, ids_said};
+use crate::judging::{Judged, interface_in, judge_file};
 use crate::scripts::run_script;
-use crate::words::{bad_identifier, bad_kind, bad_out};
+use crate::words::{bad_device, bad_identifier, bad_interface, bad_kind, bad_out};
 use dfu_files::{Owned, add_file, check_file};
 use dfu_suffix::SuffixFault;
 use dfu_text::{Answer, Exit, bad_words, fault_text, show_text};
@@ -46,6 +48,27 @@ fn perform_show<R: Print + AllocGlobal>(rt: &R, kind: &str, hex: &str) -> Answer
     Answer { exit, reason }
 }
 
+/// Judges a log or a capture, where the words can be used.
+fn perform_judge<R: Files + Input + Print + AllocGlobal>(
+    rt: &R,
+    name: &str,
+    interface: &str,
+    device: &str,
+) -> Answer {
+    let Some(number) = interface_in(interface) else {
+        return refused(rt, bad_interface(rt.alloc(), interface));
+    };
+    let Some(only) = device_in(device) else {
+        return refused(rt, bad_device(rt.alloc(), device));
+    };
+    let judged = Judged {
+        name,
+        interface: number,
+        only,
+    };
+    judge_file(rt, judged)
+}
+
 /// Does a job.
 fn perform<R: Files + Input + Print + AllocGlobal>(rt: &R, job: &Job, explain: bool) -> Answer
 where
@@ -69,7 +92,12 @@ where
             perform_add(rt, file, to, &texts)
         }
         Job::Show { kind, hex } => perform_show(rt, kind, hex),
-        Job::Run { script } => run_script(rt, script, explain),
+        Job::Run { script, trace } => run_script(rt, script, *trace, explain),
+        Job::Judge {
+            file,
+            interface,
+            device,
+        } => perform_judge(rt, file, interface, device),
     }
 }
 

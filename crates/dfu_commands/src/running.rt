@@ -1,10 +1,10 @@
 //! `dfu run`: what a script prints, and the line for one that stopped.
 
-ghost use Rattle.std.specs.Prelude.{◌≡◌, None};
-ghost use Rattle.dfu_commands.specs.RunText.{WritesStop, WritesRun, WritesLegally, WritesWithHeadline};
+ghost use Rattle.std.specs.Prelude.{◌≡◌, [], None, Some};
+ghost use Rattle.dfu_commands.specs.RunText.{WritesStop, WritesRun, WritesLegally, WritesWithHeadline, WritesTraced};
 
 use crate::numbering::number_text;
-use dfu_link::{ScriptFault, script};
+use dfu_link::{ScriptFault, script, script_traced};
 use dfu_suffix::SuffixFault;
 use dfu_text::{Exit, fault_text, write_out};
 use std::alloc::Global;
@@ -59,5 +59,26 @@ pub(crate) fn run_with_fault<R: Read + Drop, W: Write>(
     match script(alloc, reader, writer) {
         Ok(()) => (Exit::Done, None),
         Err(fault) => (stop_text(alloc, fault, writer), Some(fault)),
+    }
+}
+
+/// Does what `run_text` does, with a line for each action of the host, as `dfu_link::script_traced` writes it.
+/// It returns beside the end the fault at which the script stopped too, and the writer.
+pub(crate) fn run_traced_with_fault<R: Read + Drop, W: Write + Drop>(
+    alloc: Global,
+    reader: R,
+    writer: W,
+) -> (Exit, Option<ScriptFault>, W)
+    ensures run { W.contents writer ≡ Some [] → WritesTraced (R.remaining reader) (W.contents result.2) result.0 }
+    // Where no fault is given the script ran to its end.
+    ensures fault { result.1 ≡ None → result.0 ≡ Exit.Done }
+{
+    let (answer, mut writer) = script_traced(alloc, reader, writer);
+    match answer {
+        Ok(()) => (Exit::Done, None, writer),
+        Err(fault) => {
+            let exit = stop_text(alloc, fault, &mut writer);
+            (exit, Some(fault), writer)
+        }
     }
 }

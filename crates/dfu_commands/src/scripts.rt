@@ -1,6 +1,6 @@
 //! `dfu run`: the script of a file or of standard input, and how often it prints.
 
-use crate::buffering::run_buffered_with_fault;
+use crate::buffering::{run_buffered_with_fault, run_traced_buffered};
 use crate::watching::Watched;
 use dfu_files::{error_reason, file_reason, open};
 use dfu_link::ScriptFault;
@@ -63,12 +63,18 @@ fn run_from<R: Print + AllocGlobal, S: Read + IsTerminal + Drop>(
     rt: &R,
     name: &str,
     script: S,
+    trace: bool,
     explain: bool,
 ) -> Answer {
     let alloc = rt.alloc();
     let room = if script.is_terminal() { 0 } else { BUFFER };
     let mut watched = Watched::new(alloc, script, explain);
-    let (exit, fault, _) = run_buffered_with_fault(alloc, &mut watched, buffer_of(rt, room));
+    let (exit, fault) = if trace {
+        run_traced_buffered(alloc, &mut watched, buffer_of(rt, room))
+    } else {
+        let (exit, fault, _) = run_buffered_with_fault(alloc, &mut watched, buffer_of(rt, room));
+        (exit, fault)
+    };
     let reason = match fault {
         Some(fault) if explain => stop_reason(alloc, name, fault, &mut watched),
         _ => None,
@@ -76,11 +82,12 @@ fn run_from<R: Print + AllocGlobal, S: Read + IsTerminal + Drop>(
     Answer { exit, reason }
 }
 
-/// Runs a script, or that of standard input where the name is `-`, with the reason where it stops and
-/// that is wanted.
+/// Runs a script, or that of standard input where the name is `-`, with a line for each action of the host
+/// where `trace` is set, and with the reason where it stops and that is wanted.
 pub(crate) fn run_script<R: Files + Input + Print + AllocGlobal>(
     rt: &R,
     script: &str,
+    trace: bool,
     explain: bool,
 ) -> Answer
 where
@@ -88,7 +95,7 @@ where
     R::Reader: IsTerminal,
 {
     match open(rt, script) {
-        Ok(reader) => run_from(rt, script, reader, explain),
+        Ok(reader) => run_from(rt, script, reader, trace, explain),
         Err(error) => Answer {
             exit: fault_text(SuffixFault::Read, &mut io::writer(rt)),
             reason: error_reason(rt.alloc(), script, &error),

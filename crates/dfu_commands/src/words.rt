@@ -4,7 +4,7 @@ ghost use Rattle.std.specs.Prelude.{◌≡◌, IfOk, IfSome, None, codes, is_som
 ghost use Rattle.std.specs.String.{string_bytes};
 ghost use Rattle.dfu_text.specs.ReasonLines.{reason_line};
 ghost use Rattle.dfu_commands.specs.Identifiers.{ids_said};
-ghost use Rattle.dfu_commands.specs.WordReasons.{kind_why, out_why};
+ghost use Rattle.dfu_commands.specs.WordReasons.{device_why, interface_why, kind_why, out_why};
 
 use crate::identifiers::{IdTexts, wrong_option};
 use dfu_text::reason_line;
@@ -49,4 +49,22 @@ pub(crate) fn bad_out(alloc: Global) -> Option<String>
 {
     let why = "it has to be a file, as ./- for one with this name";
     made(reason_line(alloc, "OUT ", "-", why))
+}
+
+/// Why an interface is none.
+#[tactic(auto, unfolding(crate::specs::WordReasons::interface_why))]
+pub(crate) fn bad_interface(alloc: Global, interface: &str) -> Option<String>
+    ensures { IfSome result (λ t. string_bytes t ≡ reason_line (codes "--interface ") interface.now interface_why) }
+{
+    let why = "it has to be a number from 0 to 255";
+    made(reason_line(alloc, "--interface ", interface, why))
+}
+
+/// Why a device of a capture is none.
+#[tactic(auto, unfolding(crate::specs::WordReasons::device_why))]
+pub(crate) fn bad_device(alloc: Global, device: &str) -> Option<String>
+    ensures { IfSome result (λ t. string_bytes t ≡ reason_line (codes "--device ") device.now device_why) }
+{
+    let why = "it has to be only, or a bus and a device, as 1.7";
+    made(reason_line(alloc, "--device ", device, why))
 }

@@ -1,11 +1,11 @@
 -- The calls of the slot store that write a block.
-use Rattle.std.proofs.Common.{◌≡◌, ◌⊎◌, inl, inr, ◌==◌, Bool, true, false, if◌then◌else◌, ℕ, ◌+◌, ◌≤◌, ◌<◌, List, [], ◌∷◌, ◌++◌, length, take, drop, refl, sym, ◌∙◌, ap, subst, arith, length-append, Result, Ok, Err, OnOk, OnErr}
+use Rattle.std.proofs.Common.{◌≡◌, ◌⊎◌, inl, inr, ◌==◌, Bool, true, false, if◌then◌else◌, ℕ, ◌≤◌, ◌<◌, List, [], ◌∷◌, length, take, refl, sym, subst, arith, Result, Ok, Err, OnOk, OnErr}
 use Rattle.std.proofs.lemmas.Grind.{common_steps}
-use Rattle.std.proofs.lemmas.List.{length-take-le, take_at}
+use Rattle.std.proofs.lemmas.List.{length-take-le}
 use Rattle.std.proofs.lemmas.Bool.{ne_eqb, and_parts}
 use Rattle.dfu_slots.specs.declared.fault.WriteFault.{WriteFault}
 use Rattle.dfu_slots.specs.declared.fault.PutFault.{PutFault}
-use Rattle.dfu_slots.specs.Medium.{Rose, written}
+use Rattle.dfu_slots.specs.Medium.{Rose}
 use Rattle.dfu_slots.specs.Seen.{SlotsState, spare_of, is_begun, room_of, is_shaped, Call, Begin, Put, Ending, AllWorked, BrokenBy, DidCall, Called}
 use Rattle.dfu_slots.specs.Changes.{fault_of, ending_of}
 use Rattle.dfu_device.specs.Parts.{is_put}
@@ -50,23 +50,9 @@ pub begun_before : (n : ℕ) (s : SlotsState) → 0 < n → (n ≡ 0) ⊎ (is_pu
 begun_before n s some (inl none) = absurd (omega (arith, some, none))
 begun_before n s some (inr put) = (and_parts (is_begun s) (s.put_end == n) put).0
 
-front_written : (l : List ℕ) (n : ℕ) (new : List ℕ) → n ≤ length l → take (n + length new) (written l n new) ≡ take n l ++ new
-front_written l n new fits =
-    take_at (take n l ++ new) (drop (n + length new) l) (n + length new)
-    (omega (arith, length-append (take n l) new, length-take-le n l fits))
-
 -- What is within the room of a store is within the data of its spare slot.
 pub fits_spare : (s : SlotsState) (n : ℕ) → is_shaped s ≡ true → n ≤ room_of s → n ≤ length (spare_of s)
 fits_spare s n shape fits = grind (arith, common_steps)
-
--- Where a `put` worked, the bytes before it and its own stand at the front of the spare slot's data.
-pub spare_put : {T E : Type 0} (result : Result T E) (s here now : SlotsState) (n : ℕ) (block : List ℕ)
-    → take n (spare_of here) ≡ take n (spare_of s) → n ≤ length (spare_of here)
-    → OnOk result (spare_of now ≡ written (spare_of here) n block)
-    → OnOk result (take (n + length block) (spare_of now) ≡ take n (spare_of s) ++ block)
-spare_put (Ok x) s here now n block same fits put =
-    ap (λ (l : List ℕ). take (n + length block) l) put ∙ front_written (spare_of here) n block fits ∙ ap (λ (l : List ℕ). l ++ block) same
-spare_put (Err e) s here now n block same fits put = tt
 
 -- So many bytes are put in the spare that was closed.
 pub put_on : {T E : Type 0} (result : Result T E) (here now : SlotsState) (n : ℕ) → is_begun here ≡ true

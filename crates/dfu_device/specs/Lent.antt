@@ -1,6 +1,7 @@
--- The answer of a device in a buffer that its caller lends.
+-- What the caller of a device lends it: the buffer of an answer, and the memory of a block.
 use Rattle.std.specs.Prelude.{◌≡◌, ℕ, ◌≤◌, max, List, ◌++◌, length, drop}
 use Rattle.dfu_device.specs.declared.answer.Answer.{Answer}
+use Rattle.dfu_device.specs.Block.{BlockMemory}
 use Rattle.dfu_device.specs.Setting.{Setting}
 use Rattle.dfu_device.specs.Shown.{Shown}
 use Rattle.dfu_device.specs.Rows.{Handles}
@@ -16,3 +17,8 @@ pub record HandlesInto (setup body : List ℕ) (w : Shown) (a : Answer) (count :
   pub fits : count ≤ answer_room w.config
   pub out_is : out' ≡ sent ++ drop count out
   pub row : Handles setup body w a sent w'
+
+-- A device, and the memory of its block.
+pub record LentShown : Type 0 where
+  pub device : Shown
+  pub memory : BlockMemory

@@ -10,6 +10,9 @@ use std::marker::Model;
 /// What a device is set up with: who it is, its functional descriptor, the fewest bytes of an image
 /// (1 to 16,777,216), and how long it takes to write a block and to put an image in place (0 to
 /// 16,777,215 ms; at least 1 ms for an image where the device is not tolerant of manifestation).
+///
+/// On a medium with sectors both times are to have room for erases: a block takes at most one, and one more for each sector
+/// that begins in the transfer size and a unit; an image takes two or three.
 #[derive(Clone, Copy, Debug)]
 pub struct Config {
     ids: Ids,
@@ -106,7 +109,7 @@ impl Config {
     }
 
     /// The functional descriptor.
-    pub(crate) fn functional(&self) -> Functional
+    pub fn functional(&self) -> Functional
         ensures { result ≡ self.now.functional }
     {
         self.functional
@@ -128,7 +131,7 @@ impl Config {
     }
 
     /// How long it takes to write a block.
-    pub(crate) fn busy_ms(&self) -> u32
+    pub fn busy_ms(&self) -> u32
         ensures value { result ≡ self.now.busy_ms }
         ensures fits { result < 2 ^ 24 }
     {
@@ -136,7 +139,7 @@ impl Config {
     }
 
     /// How long it takes to put an image in place.
-    pub(crate) fn manifest_ms(&self) -> u32
+    pub fn manifest_ms(&self) -> u32
         ensures value { result ≡ self.now.manifest_ms }
         ensures fits { result < 2 ^ 24 }
     {

@@ -59,7 +59,7 @@ use std::marker::Model;
 pub struct Device<M: Medium> {
     // A layer of its own: its functions read its fields, which keep an invariant, and a caller of
     // `Device` sees one plain value, `Shown`, whatever those fields are.
-    pub(crate) machine: Machine<M>,
+    pub(crate) machine: Machine<M, ArrayVec<u8, 4096>>,
 }
 
 impl<M: Medium> Model for Device<M> {
@@ -76,8 +76,10 @@ impl<M: Medium> Device<M> {
     pub fn start(config: Config, slots: Slots<M>) -> Device<M>
         ensures { result ≡ record { config = config; slots = slots; stage = InAppIdle } }
     {
+        // Called for its clause `fits`: a block of this device finds room.
+        let _ = config.transfer();
         Device {
-            machine: Machine::start(config, slots),
+            machine: Machine::start(config, slots, ArrayVec::new()),
         }
     }
 
@@ -89,7 +91,7 @@ impl<M: Medium> Device<M> {
     /// has no active image; they are looked for in this order:
     ///
     /// 1. `WrongSize`: its length is not 2 * (2 * G + C) with C from 1 to 16,777,216 and a multiple of
-    ///    the unit's size; G is 16, or the unit's size where that is more.
+    ///    the unit's size and the sector's; G is the most of 16, the unit's size and the sector's.
     /// 2. `NoImage`: neither slot counts: its gate is closed, or its header is of version 2 and not well formed.
     /// 3. `TwoImages`: both do, and neither generation is the other's plus 1 modulo 256.
     /// 4. `BadHeader`: the active slot's header is not well formed.

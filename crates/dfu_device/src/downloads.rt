@@ -7,21 +7,23 @@ ghost use Rattle.dfu_device.specs.Stage.{InDownloadSync, InDownloadSyncWritten, 
 ghost use Rattle.dfu_device.specs.inside.Draft.{DraftServed};
 ghost use Rattle.dfu_device.specs.inside.View.{shown};
 
+use crate::block::Block;
 use crate::draft::Draft;
 use crate::machine::Machine;
 use crate::mode::Mode;
 use dfu_slots::Medium;
 use dfu_wire::{Code, Request};
 
-impl<M: Medium> Machine<M> {
+impl<M: Medium, B: Block> Machine<M, B> {
     /// dfuDNLOAD-SYNC, block not written
     pub(crate) fn in_download_sync(&mut self, written: u32, number: u16, request: Request) -> Draft
         requires mode { self.old.mode ≡ Mode.DownloadSync written number }
         ensures row { (body : List ℕ) →
             DraftServed request body (record (shown self.old) {
               stage = InDownloadSync
-                  (take written (spare_of self.old.slots)) self.old.block.items number;
+                  (take written (spare_of self.old.slots)) (B.items self.old.block) number;
             }) result (shown self.new) }
+        ensures memory { B.memory self.new.block ≡ B.memory self.old.block }
     {
         match request {
             Request::GetStatus { length } => {
@@ -53,6 +55,7 @@ impl<M: Medium> Machine<M> {
             DraftServed request body
             (record (shown self.old) { stage = InDownloadSyncWritten (take written (spare_of self.old.slots)) number })
             result (shown self.new) }
+        ensures memory { B.memory self.new.block ≡ B.memory self.old.block }
     {
         match request {
             Request::GetStatus { length } => {
@@ -68,6 +71,7 @@ impl<M: Medium> Machine<M> {
     pub(crate) fn in_download_busy(&mut self) -> Draft
         ensures answer { result ≡ Draft.Stall }
         ensures now { shown self.new ≡ record (shown self.old) { stage = InError Code.StalledPkt } }
+        ensures memory { B.memory self.new.block ≡ B.memory self.old.block }
     {
         self.error(Code::StalledPkt)
     }
@@ -84,6 +88,7 @@ impl<M: Medium> Machine<M> {
         requires fits { (block len : ℕ) → request ≡ Request.Dnload block len → length body.now ≡ len }
         ensures row { DraftServed request body.now (record
             (shown self.old) { stage = InDownloadIdle (take written (spare_of self.old.slots)) number }) result (shown self.new) }
+        ensures memory { B.memory self.new.block ≡ B.memory self.old.block }
     {
         match request {
             Request::Dnload { length: 0, .. } => {
@@ -110,6 +115,7 @@ impl<M: Medium> Machine<M> {
         ensures row { (body : List ℕ) →
             DraftServed request body (record (shown self.old) { stage = InManifestSync (take written (spare_of self.old.slots)) })
             result (shown self.new) }
+        ensures memory { B.memory self.new.block ≡ B.memory self.old.block }
     {
         match request {
             Request::GetStatus { length } => {
@@ -130,6 +136,7 @@ impl<M: Medium> Machine<M> {
         requires mode { self.old.mode ≡ Mode.ManifestSyncComplete }
         ensures row { (body : List ℕ) →
             DraftServed request body (record (shown self.old) { stage = InManifestSyncComplete }) result (shown self.new) }
+        ensures memory { B.memory self.new.block ≡ B.memory self.old.block }
     {
         match request {
             Request::GetStatus { length } => {
@@ -145,6 +152,7 @@ impl<M: Medium> Machine<M> {
     pub(crate) fn in_manifest(&mut self) -> Draft
         ensures answer { result ≡ Draft.Stall }
         ensures now { shown self.new ≡ record (shown self.old) { stage = InError Code.StalledPkt } }
+        ensures memory { B.memory self.new.block ≡ B.memory self.old.block }
     {
         self.error(Code::StalledPkt)
     }

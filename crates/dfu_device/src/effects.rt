@@ -13,13 +13,14 @@ ghost use Rattle.dfu_device.specs.inside.Draft.{DraftDone};
 ghost use Rattle.dfu_device.specs.inside.View.{shown};
 
 use crate::Answer;
+use crate::block::Block;
 use crate::draft::Draft;
 use crate::machine::Machine;
 use crate::mode::Mode;
 use dfu_slots::{Medium, PutFault, Slots, WriteFault};
 use dfu_wire::{Code, Status};
 
-impl<M: Medium> Machine<M> {
+impl<M: Medium, B: Block> Machine<M, B> {
     /// How long the host is to wait, in milliseconds.
     fn poll_ms(&self) -> u32
         ensures value { result ≡ poll_of (profile (shown self.now)) (shown self.now).stage }
@@ -48,6 +49,7 @@ impl<M: Medium> Machine<M> {
     pub(crate) fn error(&mut self, code: Code) -> Draft
         ensures answer { result ≡ Draft.Stall }
         ensures now { shown self.new ≡ record (shown self.old) { stage = InError code } }
+        ensures memory { B.memory self.new.block ≡ B.memory self.old.block }
     {
         self.mode = Mode::Error { code };
         Draft::Stall
@@ -65,6 +67,7 @@ impl<M: Medium> Machine<M> {
         requires some { 0 < length body.now }
         ensures row { DraftDone (block_plan (profile (shown self.old)) (take written (spare_of self.old.slots)) expected number body.now) 0
             (shown self.old) result (shown self.new) }
+        ensures memory { B.memory self.new.block ≡ B.memory self.old.block }
     {
         if body.len() > self.config.transfer() as usize {
             return self.error(Code::StalledPkt);
@@ -75,8 +78,7 @@ impl<M: Medium> Machine<M> {
         if body.len() > (self.slots.capacity() - written) as usize {
             return self.error(Code::Address);
         }
-        self.block.clear();
-        let _ = self.block.try_extend_from_slice(body);
+        self.block.hold(body);
         self.mode = Mode::DownloadSync {
             written,
             number: expected.wrapping_add(1),
@@ -95,15 +97,16 @@ impl<M: Medium> Machine<M> {
         requires { ((passed : ℕ) × (self.old.mode ≡ Mode.DownloadBusy written number passed))
             ⊎ (self.old.mode ≡ Mode.DownloadSync written number) }
         ensures done { let before = take written (spare_of self.old.slots) in
-            let block = self.old.block.items in
+            let block = B.items self.old.block in
             let next = if late then InDownloadSyncWritten (before ++ block) number else InDownloadIdle (before ++ block) number in
             OnOk result (WroteBlock before block self.old.config self.old.slots next (shown self.new)) }
         ensures failed { IfErr result (λ fault. FailedBlock fault
-            (take written (spare_of self.old.slots)) self.old.block.items self.old.config self.old.slots (shown self.new)) }
+            (take written (spare_of self.old.slots)) (B.items self.old.block) self.old.config self.old.slots (shown self.new)) }
+        ensures memory { B.memory self.new.block ≡ B.memory self.old.block }
     {
-        match put_block(&mut self.slots, written, self.block.as_slice()) {
+        match put_block(&mut self.slots, written, self.block.bytes()) {
             Ok(()) => {
-                let written = written + self.block.len() as u32;
+                let written = written + self.block.bytes().len() as u32;
                 self.mode = if late {
                     Mode::DownloadSyncWritten { written, number }
                 } else {
@@ -130,6 +133,7 @@ impl<M: Medium> Machine<M> {
             (stage_of next [] []) (shown self.new)) }
         ensures failed { IfErr result (λ fault. FailedCommit fault (take written (spare_of self.old.slots)) self.old.config self.old.slots
             (shown self.new)) }
+        ensures memory { B.memory self.new.block ≡ B.memory self.old.block }
     {
         match self.slots.commit(written) {
             Ok(()) => {

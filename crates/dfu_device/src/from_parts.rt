@@ -5,6 +5,7 @@ ghost use Rattle.dfu_slots.specs.Seen.{room_of};
 ghost use Rattle.dfu_device.specs.Parts.{shows, is_put, is_sound};
 ghost use Rattle.dfu_device.specs.inside.View.{shown};
 
+use crate::block::Block;
 use crate::machine::Machine;
 use crate::mode::Mode;
 use crate::{Config, Device};
@@ -52,6 +53,8 @@ impl<M: Medium> Device<M> {
         if !is_sound(&slots, mode, block.len()) {
             return Err(slots);
         }
+        // Called for its clause `fits`: a block of this device finds room.
+        let _ = config.transfer();
         Ok(Device {
             machine: Machine {
                 config,
@@ -68,7 +71,7 @@ impl<M: Medium> Device<M> {
         ensures sound { IsTrue (is_sound result.0 (length result.1.now) self.now.slots) }
         ensures fits { length result.1.now ≤ 4096 }
     {
-        (self.machine.mode, self.machine.block.as_slice())
+        (self.machine.mode, self.machine.block.bytes())
     }
 
     /// Puts the device where these parts say, on its slot store as it is; false, with nothing changed, where the block has
@@ -82,18 +85,18 @@ impl<M: Medium> Device<M> {
     }
 }
 
-impl<M: Medium> Machine<M> {
+impl<M: Medium, B: Block> Machine<M, B> {
     // Puts the machine where these parts say, if they are a device's.
     fn set_parts(&mut self, mode: Mode, block: &[u8]) -> bool
-        ensures parts { IsTrue result ↔ ((length block.now ≤ 4096) × IsTrue (is_sound mode (length block.now) self.old.slots)) }
+        ensures parts { let room = (B.memory self.old.block).room in
+            IsTrue result ↔ ((length block.now ≤ room) × IsTrue (is_sound mode (length block.now) self.old.slots)) }
         ensures device { IsTrue result → shown self.new ≡ shows self.old.config self.old.slots mode block.now }
         ensures unchanged { IsTrue (not result) → shown self.new ≡ shown self.old }
     {
-        if block.len() > 4096 || !is_sound(&self.slots, mode, block.len()) {
+        if block.len() > self.block.room() || !is_sound(&self.slots, mode, block.len()) {
             return false;
         }
-        self.block.clear();
-        let _ = self.block.try_extend_from_slice(block);
+        self.block.hold(block);
         self.mode = mode;
         true
     }
@@ -123,8 +126,8 @@ fn is_next<M: Medium>(slots: &Slots<M>, written: u32, block: usize) -> bool
         && (written == 0 || is_put(slots, written))
 }
 
-// Whether these are a device's.
-fn is_sound<M: Medium>(slots: &Slots<M>, mode: Mode, block: usize) -> bool
+/// Whether these are a device's.
+pub(crate) fn is_sound<M: Medium>(slots: &Slots<M>, mode: Mode, block: usize) -> bool
     requires { block < 2 ^ 32 }
     ensures { result ≡ is_sound mode block slots.now }
 {

@@ -10,12 +10,13 @@ ghost use Rattle.dfu_device.specs.inside.Draft.{Drafted, Gave};
 ghost use Rattle.dfu_device.specs.inside.View.{shown};
 
 use crate::Answer;
+use crate::block::Block;
 use crate::draft::Draft;
 use crate::machine::Machine;
 use arrayvec::ArrayVec;
 use dfu_slots::{Medium, Slots};
 
-impl<M: Medium> Machine<M> {
+impl<M: Medium, B: Block> Machine<M, B> {
     /// Answers a setup with its body.
     pub(crate) fn handle(
         &mut self,
@@ -43,6 +44,7 @@ impl<M: Medium> Machine<M> {
         ensures short { IfNone result (length out.old < answer_room self.old.config) }
         ensures room { IfSome result (λ r. answer_room self.old.config ≤ length out.old) }
         ensures unchanged { IfNone result ((shown self.new ≡ shown self.old) × (out.new ≡ out.old)) }
+        ensures memory { B.memory self.new.block ≡ B.memory self.old.block }
     {
         if out.len() < usize::from(self.config.transfer()).max(6) {
             return None;

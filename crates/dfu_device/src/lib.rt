@@ -4,6 +4,7 @@
 #![tactic(auto)]
 
 mod answer;
+mod block;
 mod config;
 mod device;
 mod downloads;
@@ -13,6 +14,7 @@ mod fault;
 mod from_parts;
 mod giving;
 pub mod laws;
+mod lent;
 mod machine;
 mod mode;
 mod states;
@@ -20,7 +22,9 @@ mod time;
 mod uploads;
 
 pub use answer::Answer;
+pub use block::{Block, LentBlock};
 pub use config::Config;
 pub use device::Device;
 pub use fault::ConfigFault;
+pub use lent::LentDevice;
 pub use mode::Mode;

@@ -10,29 +10,31 @@ ghost use Rattle.dfu_device.specs.Rows.{Handles, body_length};
 ghost use Rattle.dfu_device.specs.Lent.{answer_room};
 ghost use Rattle.dfu_device.specs.inside.Draft.{Drafted, DraftServed, DraftHandled};
 
+use crate::block::Block;
 use crate::draft::Draft;
 use crate::mode::Mode;
 use crate::{Answer, Config};
-use arrayvec::ArrayVec;
 use dfu_slots::{Medium, Slots};
 use dfu_wire::{Code, Request, Setup, State};
 
 /// The machine inside a device: what is fixed, the slot store, the state, and the block that is not
 /// written yet.
 #[derive(Drop)]
-pub struct Machine<M: Medium> {
+pub struct Machine<M: Medium, B: Block> {
     pub config: Config,
     pub slots: Slots<M>,
     pub mode: Mode,
-    pub block: ArrayVec<u8, 4096>,
-    ghost sound: { IsTrue (is_sound mode (length block.items) slots) },
+    pub block: B,
+    ghost sound: { IsTrue (is_sound mode (length (B.items block)) slots) },
+    ghost room: { config.functional.transfer ≤ (B.memory block).room },
 }
 
-impl<M: Medium> Machine<M> {
+impl<M: Medium, B: Block> Machine<M, B> {
     ghost use Rattle.dfu_device.specs.inside.View.{shown};
 
     /// A machine in appIDLE.
-    pub(crate) fn start(config: Config, slots: Slots<M>) -> Machine<M>
+    pub(crate) fn start(config: Config, slots: Slots<M>, block: B) -> Machine<M, B>
+        requires { config.functional.transfer ≤ (B.memory block).room }
         ensures { shown result ≡ record { config = config; slots = slots; stage = InAppIdle } }
     {
         // Called for its clauses, which say that the store is shaped, as the machine is to keep it.
@@ -41,7 +43,7 @@ impl<M: Medium> Machine<M> {
             config,
             slots,
             mode: Mode::AppIdle,
-            block: ArrayVec::new(),
+            block,
         }
     }
 
@@ -86,6 +88,7 @@ impl<M: Medium> Machine<M> {
     pub(crate) fn decide(&mut self, setup: &[u8; 8], body: &[u8]) -> Draft
         ensures row { DraftHandled setup.now body.now (shown self.old) result (shown self.new) }
         ensures fits { (a : Answer) (sent : List ℕ) → Drafted result (shown self.new) a sent → length sent ≤ answer_room self.old.config }
+        ensures memory { B.memory self.new.block ≡ B.memory self.old.block }
     {
         let setup = Setup::decode(setup);
         let request = setup.request();
@@ -105,6 +108,7 @@ impl<M: Medium> Machine<M> {
     fn serve(&mut self, request: Request, body: &[u8]) -> Draft
         requires fits { (block len : ℕ) → request ≡ Request.Dnload block len → length body.now ≡ len }
         ensures row { DraftServed request body.now (shown self.old) result (shown self.new) }
+        ensures memory { B.memory self.new.block ≡ B.memory self.old.block }
     {
         match self.mode {
             Mode::AppIdle => self.in_app_idle(request),
@@ -125,7 +129,8 @@ impl<M: Medium> Machine<M> {
 
     /// The bus is reset.
     pub(crate) fn usb_reset(&mut self)
-        ensures { shown self.new ≡ record (shown self.old) { stage = reset_stage (shown self.old).stage } }
+        ensures row { shown self.new ≡ record (shown self.old) { stage = reset_stage (shown self.old).stage } }
+        ensures memory { B.memory self.new.block ≡ B.memory self.old.block }
     {
         self.mode = match self.mode {
             Mode::AppDetach { .. } => Mode::DfuIdle,

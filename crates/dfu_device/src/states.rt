@@ -6,18 +6,20 @@ ghost use Rattle.dfu_device.specs.Stage.{InAppIdle, InAppDetach, InDfuIdle, InEr
 ghost use Rattle.dfu_device.specs.inside.Draft.{DraftServed};
 ghost use Rattle.dfu_device.specs.inside.View.{shown};
 
+use crate::block::Block;
 use crate::draft::Draft;
 use crate::machine::Machine;
 use crate::mode::Mode;
 use dfu_slots::Medium;
 use dfu_wire::{Code, Request};
 
-impl<M: Medium> Machine<M> {
+impl<M: Medium, B: Block> Machine<M, B> {
     /// appIDLE
     pub(crate) fn in_app_idle(&mut self, request: Request) -> Draft
         requires mode { self.old.mode ≡ Mode.AppIdle }
         ensures row { (body : List ℕ) →
             DraftServed request body (record (shown self.old) { stage = InAppIdle }) result (shown self.new) }
+        ensures memory { B.memory self.new.block ≡ B.memory self.old.block }
     {
         match request {
             Request::Detach { timeout } => {
@@ -36,6 +38,7 @@ impl<M: Medium> Machine<M> {
         requires mode { self.old.mode ≡ Mode.AppDetach timer passed }
         ensures row { (body : List ℕ) →
             DraftServed request body (record (shown self.old) { stage = InAppDetach timer passed }) result (shown self.new) }
+        ensures memory { B.memory self.new.block ≡ B.memory self.old.block }
     {
         match request {
             Request::GetStatus { length } => Draft::Status { asked: length },
@@ -52,6 +55,7 @@ impl<M: Medium> Machine<M> {
         requires mode { self.old.mode ≡ Mode.DfuIdle }
         requires fits { (block len : ℕ) → request ≡ Request.Dnload block len → length body.now ≡ len }
         ensures row { DraftServed request body.now (record (shown self.old) { stage = InDfuIdle }) result (shown self.new) }
+        ensures memory { B.memory self.new.block ≡ B.memory self.old.block }
     {
         match request {
             Request::Dnload { block, length }
@@ -73,6 +77,7 @@ impl<M: Medium> Machine<M> {
         requires mode { self.old.mode ≡ Mode.Error code }
         ensures row { (body : List ℕ) →
             DraftServed request body (record (shown self.old) { stage = InError code }) result (shown self.new) }
+        ensures memory { B.memory self.new.block ≡ B.memory self.old.block }
     {
         match request {
             Request::ClrStatus => {

@@ -6,14 +6,16 @@ ghost use Rattle.dfu_device.specs.Stage.{InAppDetach, InDownloadBusy, InManifest
 ghost use Rattle.dfu_device.specs.Rows.{Elapses};
 ghost use Rattle.dfu_device.specs.inside.View.{shown};
 
+use crate::block::Block;
 use crate::machine::Machine;
 use crate::mode::Mode;
 use dfu_slots::Medium;
 
-impl<M: Medium> Machine<M> {
+impl<M: Medium, B: Block> Machine<M, B> {
     /// So many milliseconds pass.
     pub(crate) fn elapse(&mut self, ms: u32)
         ensures row { Elapses ms (shown self.old) (shown self.new) }
+        ensures memory { B.memory self.new.block ≡ B.memory self.old.block }
     {
         match self.mode {
             Mode::AppDetach { timer, passed } => self.elapse_app_detach(ms, timer, passed),
@@ -31,6 +33,7 @@ impl<M: Medium> Machine<M> {
     fn elapse_app_detach(&mut self, ms: u32, timer: u32, passed: u32)
         requires { self.old.mode ≡ Mode.AppDetach timer passed }
         ensures row { Elapses ms (record (shown self.old) { stage = InAppDetach timer passed }) (shown self.new) }
+        ensures memory { B.memory self.new.block ≡ B.memory self.old.block }
     {
         if ms == 0 {
             return;
@@ -55,8 +58,9 @@ impl<M: Medium> Machine<M> {
         requires { self.old.mode ≡ Mode.DownloadBusy written number passed }
         ensures row { Elapses ms (record (shown self.old) {
           stage = InDownloadBusy
-              (take written (spare_of self.old.slots)) self.old.block.items number passed;
+              (take written (spare_of self.old.slots)) (B.items self.old.block) number passed;
         }) (shown self.new) }
+        ensures memory { B.memory self.new.block ≡ B.memory self.old.block }
     {
         if ms == 0 {
             return;
@@ -78,6 +82,7 @@ impl<M: Medium> Machine<M> {
         requires { self.old.mode ≡ Mode.Manifest written passed }
         ensures row { Elapses ms (record (shown self.old) { stage = InManifest (take written (spare_of self.old.slots)) passed })
             (shown self.new) }
+        ensures memory { B.memory self.new.block ≡ B.memory self.old.block }
     {
         if ms == 0 {
             return;

@@ -8,18 +8,20 @@ ghost use Rattle.dfu_device.specs.Shown.{profile};
 ghost use Rattle.dfu_device.specs.inside.Draft.{DraftDone, DraftServed};
 ghost use Rattle.dfu_device.specs.inside.View.{shown};
 
+use crate::block::Block;
 use crate::draft::Draft;
 use crate::machine::Machine;
 use crate::mode::Mode;
 use dfu_slots::Medium;
 use dfu_wire::{Code, Request};
 
-impl<M: Medium> Machine<M> {
+impl<M: Medium, B: Block> Machine<M, B> {
     /// dfuUPLOAD-IDLE
     pub(crate) fn in_upload_idle(&mut self, place: u32, number: u16, request: Request) -> Draft
         requires mode { self.old.mode ≡ Mode.UploadIdle place number }
         ensures row { (body : List ℕ) →
             DraftServed request body (record (shown self.old) { stage = InUploadIdle place number }) result (shown self.new) }
+        ensures memory { B.memory self.new.block ≡ B.memory self.old.block }
     {
         match request {
             Request::Upload { block, length } => self.send(place, number, block, length),
@@ -39,6 +41,7 @@ impl<M: Medium> Machine<M> {
     pub(crate) fn send(&mut self, place: u32, expected: u16, number: u16, len: u16) -> Draft
         ensures row { DraftDone (upload_plan (profile (shown self.old)) (image_of self.old.slots) place expected number len) 0
             (shown self.old) result (shown self.new) }
+        ensures memory { B.memory self.new.block ≡ B.memory self.old.block }
     {
         if len == 0 || len > self.config.transfer() {
             return self.error(Code::StalledPkt);

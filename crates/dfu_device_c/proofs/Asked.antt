@@ -3,6 +3,7 @@ use Rattle.std.proofs.Common.{◌≡◌, ◌-◌, ◌/◌, ◌==◌, Bool, true,
 use Rattle.std.proofs.lemmas.Bool.{eq-eqb}
 use Rattle.std.proofs.lemmas.List.{length-take-le}
 use Rattle.dfu_wire.specs.declared.setups.Setup.{Setup}
+use Rattle.dfu_wire.specs.declared.functionals.Functional.{Functional}
 use Rattle.dfu_wire.specs.declared.requests.Request.{Request as Asked}
 use Rattle.dfu_wire.specs.declared.requests.Request.TheVariants as asked
 use Rattle.dfu_wire.specs.Setup.{IsSetup}
@@ -14,11 +15,12 @@ use Rattle.dfu_device.specs.declared.mode.Mode.{Mode}
 use Rattle.dfu_device.specs.declared.mode.Mode.TheVariants as mode
 use Rattle.dfu_device.specs.Stage.{Profile, OtherRequest}
 use Rattle.dfu_device.specs.Table.{Plan, plan}
-use Rattle.dfu_device.specs.Setting.{Setting}
 use Rattle.dfu_device.specs.Shown.{Shown, profile}
 use Rattle.dfu_device.specs.Parts.{stage_of, is_sound}
 use Rattle.dfu_device.specs.Rows.{Done, handled_as, meant, asked_length, body_length, setup_plan}
+use Rattle.dfu_device_c.specs.declared.config.DfuConfig.{DfuConfig}
 use Rattle.dfu_device_c.specs.declared.record.DfuDevice.{DfuDevice}
+use Rattle.dfu_device_c.specs.Config.{setting_of}
 use Rattle.dfu_device_c.specs.Record.{HasMode, block_in, store_in}
 use Rattle.dfu_device_c.specs.Device.{IsDevice}
 use Rattle.dfu_device_c.specs.Stalls.{stalls, HasLimits, HoldsWritten, HasLength, SaysStall, ToldStall}
@@ -83,20 +85,28 @@ holds_written mode.ManifestWaitReset n s sound = tt
 holds_written (mode.UploadIdle place number) n s sound = tt
 holds_written (mode.Error code) n s sound = tt
 
-module _ (s : Setting) (r : DfuDevice) (size : ℕ) (setup : List ℕ) (p : Setup) (q : Asked) (m : Mode) (b : Bool)
+-- What decides on a stall is the same of a descriptor that is the same, and of a room that is.
+pub same_limits : (x : Profile) (f g : Functional) (least room size : ℕ) → f ≡ g → room ≡ size → HasLimits x g least size
+    → HasLimits x f least room
+same_limits x f g least room size is room_is limits =
+    subst (λ (h : Functional). HasLimits x h least room) (sym is)
+    (subst (λ (n : ℕ). HasLimits x g least n) (sym room_is) limits)
+
+module _ (c : DfuConfig) (r : DfuDevice) (size : ℕ) (setup : List ℕ) (p : Setup) (q : Asked) (m : Mode) (b : Bool)
     (the_setup : (x : Setup) → IsSetup x setup → p ≡ x) (the_request : (x : Asked) → Asks p x → q ≡ x)
     (the_mode : (x : Mode) → HasMode r x → m ≡ x)
-    (said : (c : Profile) (image spare unwritten body : List ℕ) → HasLimits c s.functional s.least (size / 2 - 32)
-    → HoldsWritten m spare → HasLength q body → b ≡ stalls (plan c image (stage_of m spare unwritten) (meant q body))) where
+    (said : (x : Profile) (image spare unwritten body : List ℕ)
+    → HasLimits x (setting_of c).functional (setting_of c).least (size / 2 - 32)
+    → HoldsWritten m spare → HasLength q body → b ≡ stalls (plan x image (stage_of m spare unwritten) (meant q body))) where
   -- So it is said of the device.
-  stalls_device : (bytes : List ℕ) (d : Shown) → IsDevice s r bytes d → length bytes ≡ size → (body : List ℕ) → length body ≡ body_length p
+  stalls_device : (block bytes : List ℕ) (d : Shown) → IsDevice c r block bytes d → length bytes ≡ size → (body : List ℕ) → length body ≡ body_length p
       → Asks p q → b ≡ stalls (setup_plan d p q body)
-  stalls_device bytes d device size_is body fits asks =
+  stalls_device block bytes d device size_is body fits asks =
       let store = store_in r bytes in
       let same : m ≡ device.mode = the_mode device.mode device.has_mode in
-      let stage_is : d.stage ≡ stage_of m (spare_of store) (block_in r) =
-      ap (λ (w : Shown). w.stage) device.device_is ∙ (λ i. stage_of (sym same i) (spare_of store) (block_in r)) in
-      said (profile d) (image_of d.slots) (spare_of store) (block_in r) body
+      let stage_is : d.stage ≡ stage_of m (spare_of store) (block_in r block) =
+      ap (λ (w : Shown). w.stage) device.device_is ∙ (λ i. stage_of (sym same i) (spare_of store) (block_in r block)) in
+      said (profile d) (image_of d.slots) (spare_of store) (block_in r block) body
       (record {
         can_download = ap (λ (w : Shown). w.config.functional.can_download) device.device_is;
         can_upload = ap (λ (w : Shown). w.config.functional.can_upload) device.device_is;
@@ -107,7 +117,7 @@ module _ (s : Setting) (r : DfuDevice) (size : ℕ) (setup : List ℕ) (p : Setu
       (holds_written m r.length store (subst (λ x. IsTrue (is_sound x r.length store)) (sym same) device.sound))
       (has_length p q body asks fits)
       ∙ ap (λ x. stalls (plan (profile d) (image_of d.slots) x (meant q body))) (sym stage_is)
-      ∙ sym (served_stalls d m (spare_of store) (block_in r) p q body stage_is (eq-eqb (length body) (body_length p) fits))
+      ∙ sym (served_stalls d m (spare_of store) (block_in r block) p q body stage_is (eq-eqb (length body) (body_length p) fits))
 
   -- And 1 says so of its answer, or 0.
   says_stall : (result : ℤ) → (b ≡ true → result ≡ pos 1) → (b ≡ false → result ≡ pos 0) → (d : Shown) (w : Plan) (len : ℕ) (a : Answer)
@@ -123,8 +133,8 @@ module _ (s : Setting) (r : DfuDevice) (size : ℕ) (setup : List ℕ) (p : Setu
   }
 
   -- So the call says of each device that these are whether it stalls the setup.
-  pub told_stall : (result : ℤ) → (b ≡ true → result ≡ pos 1) → (b ≡ false → result ≡ pos 0) → ToldStall s r size setup result
-  told_stall result is_one is_zero bytes d device size_is body body_is a sent d' (handled_as x y is asks done) =
+  pub told_stall : (result : ℤ) → (b ≡ true → result ≡ pos 1) → (b ≡ false → result ≡ pos 0) → ToldStall c r size setup result
+  told_stall result is_one is_zero block bytes d device size_is body body_is a sent d' (handled_as x y is asks done) =
       let p_is : p ≡ x = the_setup x is in
       let asks_p : Asks p y = subst (λ z. Asks z y) (sym p_is) asks in
       let q_is : q ≡ y = the_request y asks_p in
@@ -133,4 +143,4 @@ module _ (s : Setting) (r : DfuDevice) (size : ℕ) (setup : List ℕ) (p : Setu
       (ap (λ (w : Shown). w.slots.medium.fuse) device.device_is)
       (subst (λ z. Done (setup_plan d p z body) (asked_length z) d a sent d') (sym q_is)
       (subst (λ z. Done (setup_plan d z y body) (asked_length y) d a sent d') (sym p_is) done))
-      (stalls_device bytes d device size_is body fits (subst (λ z. Asks p z) (sym q_is) asks_p)) b refl
+      (stalls_device block bytes d device size_is body fits (subst (λ z. Asks p z) (sym q_is) asks_p)) b refl

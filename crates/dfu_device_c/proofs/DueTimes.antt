@@ -7,11 +7,12 @@ use Rattle.dfu_device.specs.declared.mode.Mode.{Mode}
 use Rattle.dfu_device.specs.declared.mode.Mode.TheVariants as mode
 use Rattle.dfu_device.specs.Stage.{Stage, Ack, InAppIdle, InAppDetach, InDfuIdle, InDownloadSyncWritten, InDownloadBusy, InManifestSyncComplete, InManifest, InManifestWaitReset, state_of}
 use Rattle.dfu_device.specs.Table.{Plan, Writes, Commits, ack, time_plan}
-use Rattle.dfu_device.specs.Setting.{Setting}
 use Rattle.dfu_device.specs.Shown.{Shown, profile}
 use Rattle.dfu_device.specs.Parts.{stage_of}
 use Rattle.dfu_device.specs.Rows.{Done}
+use Rattle.dfu_device_c.specs.declared.config.DfuConfig.{DfuConfig}
 use Rattle.dfu_device_c.specs.declared.record.DfuDevice.{DfuDevice}
+use Rattle.dfu_device_c.specs.Config.{setting_of}
 use Rattle.dfu_device_c.specs.Record.{HasMode, block_in, store_in}
 use Rattle.dfu_device_c.specs.Due.{due_of, IsDue, ToldDue}
 
@@ -145,14 +146,14 @@ nat_of (pos n) = n
 nat_of (negsuc n) = 0
 
 -- So what is said of a record is so for its device.
-pub told_due : (s : Setting) (r : DfuDevice) (m : Mode) (result : ℤ) → ((x : Mode) → HasMode r x → m ≡ x) → result ≡ pos (due_of s m)
-    → ToldDue s r result
-told_due s r m result the_mode says bytes d device ms d' went n is =
+pub told_due : (c : DfuConfig) (r : DfuDevice) (m : Mode) (result : ℤ) → ((x : Mode) → HasMode r x → m ≡ x) → result ≡ pos (due_of (setting_of c) m)
+    → ToldDue c r result
+told_due c r m result the_mode says block bytes d device ms d' went n is =
     let same : m ≡ device.mode = the_mode device.mode device.has_mode in
     let store = store_in r bytes in
-    let stage_is : d.stage ≡ stage_of device.mode (spare_of store) (block_in r) = ap (λ (w : Shown). w.stage) device.device_is in
+    let stage_is : d.stage ≡ stage_of device.mode (spare_of store) (block_in r block) = ap (λ (w : Shown). w.stage) device.device_is in
     let due_is : due_of d.config device.mode ≡ n =
     (λ i. due_of (ap (λ (w : Shown). w.config) device.device_is i) (sym same i)) ∙ ap nat_of (sym says ∙ is) in
     subst (λ (k : ℕ). IsDue k ms d d') due_is
-    (time_due ms d d' device.mode (spare_of store) (block_in r) stage_is
+    (time_due ms d d' device.mode (spare_of store) (block_in r block) stage_is
     (subst (λ (x : Stage). Done (time_plan (profile d) x ms) 0 d answer.Ack [] d') stage_is went))

@@ -11,3 +11,4 @@ pub mod LongPlans
 pub mod LongTakes
 pub mod Asked
 pub mod DueTimes
+pub mod TrueNotes

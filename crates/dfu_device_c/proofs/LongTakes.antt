@@ -13,11 +13,12 @@ use Rattle.dfu_device.specs.declared.mode.Mode.{Mode}
 use Rattle.dfu_device.specs.declared.mode.Mode.TheVariants as mode
 use Rattle.dfu_device.specs.Stage.{Stage, Stall, OtherRequest, Dnload}
 use Rattle.dfu_device.specs.Table.{Plan, Sure, plan}
-use Rattle.dfu_device.specs.Setting.{Setting}
 use Rattle.dfu_device.specs.Shown.{Shown, profile}
 use Rattle.dfu_device.specs.Parts.{shows, stage_of, is_filled}
 use Rattle.dfu_device.specs.Rows.{Done, Handles, handled_as, body_length}
+use Rattle.dfu_device_c.specs.declared.config.DfuConfig.{DfuConfig}
 use Rattle.dfu_device_c.specs.declared.record.DfuDevice.{DfuDevice}
+use Rattle.dfu_device_c.specs.Config.{setting_of, transfer_of}
 use Rattle.dfu_device_c.specs.Record.{HasMode, block_in, store_in}
 use Rattle.dfu_device_c.specs.Device.{IsDevice, Takes}
 use Rattle.dfu_device_c.specs.Long.{after_long, TakesLong}
@@ -60,37 +61,37 @@ sends p some = by_kind (eqb_tells p.kind 0x21)
     by_kind (inl (is, out)) = (out, subst (λ (b : Bool). 0 < (if b then p.length else 0)) is some)
     by_kind (inr (is, other)) = absurd (omega (arith, subst (λ (b : Bool). 0 < (if b then p.length else 0)) is some))
 
-module _ (s : Setting) (r r' : DfuDevice) (setup : List ℕ) (p : Setup) (m : Mode) (is : IsSetup p setup)
-    (long : s.functional.transfer < body_length p) (the_mode : (x : Mode) → HasMode r x → m ≡ x) where
+module _ (c : DfuConfig) (r r' : DfuDevice) (setup : List ℕ) (p : Setup) (m : Mode) (is : IsSetup p setup)
+    (long : transfer_of c < body_length p) (the_mode : (x : Mode) → HasMode r x → m ≡ x) where
   -- The plan of a request for another interface.
-  pub long_elsewhere : p.index ≢ 0 → r' ≡ r → TakesLong s r setup r'
-  long_elsewhere other same bytes d device body body_is = record {
+  pub long_elsewhere : p.index ≢ 0 → r' ≡ r → TakesLong c r setup r'
+  long_elsewhere other same block bytes d device body body_is = record {
     before = d;
     after = d;
     was = device;
-    is = subst (λ x. IsDevice s x bytes d) (sym same) device;
+    is = subst (λ x. IsDevice c x block bytes d) (sym same) device;
     step = handled_as p asked.NotDfu is (λ us. other us.1) ((refl, refl), refl);
   }
 
   -- The device goes where an unknown request takes it.
   module _ (index : p.index ≡ 0) (moved : HasMode r' (after_long m)) (end : r'.put_end ≡ r.put_end) (size : r'.length ≡ r.length)
-      (block : r'.block ≡ r.block) (bytes : List ℕ) (d : Shown) (device : IsDevice s r bytes d) (body : List ℕ)
+      (block bytes : List ℕ) (d : Shown) (device : IsDevice c r block bytes d) (body : List ℕ)
       (fits : length body ≡ body_length p) where
     abbrev after : Shown
-    after = shows s (store_in r bytes) (after_long m) (block_in r)
+    after = shows (setting_of c) (store_in r bytes) (after_long m) (block_in r block)
 
-    stage_is : d.stage ≡ stage_of m (spare_of (store_in r bytes)) (block_in r)
+    stage_is : d.stage ≡ stage_of m (spare_of (store_in r bytes)) (block_in r block)
     stage_is = ap (λ (w : Shown). w.stage) device.device_is
-        ∙ (λ i. stage_of (sym (the_mode device.mode device.has_mode) i) (spare_of (store_in r bytes)) (block_in r))
+        ∙ (λ i. stage_of (sym (the_mode device.mode device.has_mode) i) (spare_of (store_in r bytes)) (block_in r block))
 
-    stalled : (w : Plan) → w ≡ Sure Stall (stage_of (after_long m) (spare_of (store_in r bytes)) (block_in r)) → (len : ℕ)
+    stalled : (w : Plan) → w ≡ Sure Stall (stage_of (after_long m) (spare_of (store_in r bytes)) (block_in r block)) → (len : ℕ)
         → Done w len d answer.Stall [] after
     stalled w is len = subst (λ (x : Plan). Done x len d answer.Stall [] after) (sym is) (
       (refl, refl),
       (λ i. record {
         config = ap (λ (w : Shown). w.config) (sym device.device_is) i;
         slots = ap (λ (w : Shown). w.slots) (sym device.device_is) i;
-        stage = stage_of (after_long m) (spare_of (store_in r bytes)) (block_in r);
+        stage = stage_of (after_long m) (spare_of (store_in r bytes)) (block_in r block);
       }),
     )
 
@@ -111,11 +112,11 @@ module _ (s : Setting) (r r' : DfuDevice) (setup : List ℕ) (p : Setup) (m : Mo
         (stalled _ (rw served (ap (λ (x : Stage). plan (profile d) (image_of d.slots) x OtherRequest) stage_is
         ∙ plan_other (profile d) (image_of d.slots) m _ _)) _)
 
-    pub long_here : Takes s r bytes (λ d d'. Handles setup body d answer.Stall [] d') r' bytes
+    pub long_here : Takes c r block bytes (λ d d'. Handles setup body d answer.Stall [] d') r' block bytes
     long_here = record {
       before = d;
       after = after;
       was = device;
-      is = moved_device s r r' bytes d (after_long m) device moved end size block (after_free m);
+      is = moved_device c r r' block bytes d (after_long m) device moved end size (after_free m);
       step = ⊎_elim (λ one. named one.1) (λ not_one. other not_one.1) (eqb_tells p.request 1);
     }

@@ -1,5 +1,5 @@
 -- How a record opens the store on a medium: by what it notes, or over the bytes as they stand.
-use Rattle.std.proofs.Common.{◌≡◌, ◌≢◌, ◌==◌, true, false, Bool, ℕ, ◌+◌, List, [], ◌∷◌, refl, sym, ◌∙◌, ap, subst, slice_range, inl}
+use Rattle.std.proofs.Common.{◌≡◌, ◌==◌, true, false, Bool, ℕ, ◌+◌, List, [], ◌∷◌, refl, sym, ◌∙◌, ap, subst, slice_range, inl, arith}
 use Rattle.std.specs.Borrow.{MutBor}
 use Rattle.dfu_slots.specs.Medium.{MediumState, written}
 use Rattle.dfu_slots.specs.Image.{HasImage}
@@ -7,8 +7,8 @@ use Rattle.dfu_slots.specs.Known.{IsActiveUnread}
 use Rattle.dfu_slots.specs.Seen.{SlotsState, store_of}
 use Rattle.dfu_slots.specs.Store.{HasPuts, IsStore}
 use Rattle.dfu_slots.specs.Tagged.{has_image_tagged, is_store_tagged}
-use Rattle.dfu_device.specs.Setting.{Setting, IsAllowed}
 use Rattle.dfu_device_c.specs.declared.cover.Cover.{Cover}
+use Rattle.dfu_device_c.specs.declared.config.DfuConfig.{DfuConfig}
 use Rattle.dfu_device_c.specs.declared.record.DfuDevice.{DfuDevice}
 use Rattle.dfu_device_c.specs.declared.refusal.Refusal.{Refusal}
 use Rattle.dfu_device_c.specs.declared.refusal.Refusal.TheVariants as refusal
@@ -68,7 +68,7 @@ opened_noted r memory slots m note is active puts store slots_are =
         note = note;
         active = active_lent seen memory.ghost_name hidden (r.slot == 0)
             (subst (λ (x : MediumState). IsActiveUnread x (r.slot == 0)) is active);
-        puts = record { fits = held.fits; part = held.part };
+        puts = record { fits = held.fits; part = held.part; ahead = held.ahead };
       }) refl refl;
       store = is_store_tagged (store_lent r seen memory.ghost_name hidden) [] own;
       slots_are = slots_are ∙ ap (λ (x : MediumState). store_of x [] r.put_end) is;
@@ -84,7 +84,8 @@ unnoted r memory m is never noted =
     never (
       subst (λ (x : MediumState). IsActiveUnread x (r.slot == 0)) (sym is)
           (active_to_lent seen memory.ghost_name hidden (r.slot == 0) noted.active),
-      subst (λ (x : MediumState). HasPuts (store_of x [] r.put_end)) (sym is) (record { fits = noted.puts.fits; part = noted.puts.part }),
+      subst (λ (x : MediumState). HasPuts (store_of x [] r.put_end)) (sym is)
+          (record { fits = noted.puts.fits; part = noted.puts.part; ahead = λ some. absurd (omega (arith, some)) }),
     )
 
 -- The store was opened over the bytes as they stand.
@@ -102,18 +103,14 @@ opened_plain r memory slots m un is store slots_are =
 
 -- Where the medium has no image it is refused for that, and else since the record is of no device.
 pub refused_plain : (r : DfuDevice) (memory : MutBor (List ℕ)) (m : MediumState) (e : Refusal) → ¬ IsNoted r memory.now
-    → m ≡ lent memory.now memory.ghost_name [] → (IsStore (store_of m [] r.put_end) → ⊥) → e ≢ refusal.NoConfig
-    → (e ≡ refusal.NoMedium → ¬ HasImage m) → (e ≡ refusal.NoDevice → HasImage m) → (s : Setting) → IsAllowed s
-    → IsRefusedSeen e s r memory.now
-refused_plain r memory m e un is never config medium device s allowed seen (as_noted noted seen_is) = absurd (un noted)
-refused_plain r memory m refusal.NoConfig un is never config medium device s allowed seen (as_it_is also seen_is) = absurd (config refl)
-refused_plain r memory m refusal.NoMedium un is never config medium device s allowed seen (as_it_is also seen_is) = (
-  allowed,
-  inl (λ has. medium refl (subst HasImage (sym is)
-      (has_image_tagged (memory_of memory.now) (memory.ghost_name ∷ []) (subst (λ (b : List ℕ). HasImage (memory_of b)) seen_is has)))),
-)
-refused_plain r memory m refusal.NoDevice un is never config medium device s allowed seen (as_it_is also seen_is) = (
-  allowed,
+    → m ≡ lent memory.now memory.ghost_name [] → (IsStore (store_of m [] r.put_end) → ⊥)
+    → (e ≡ refusal.NoMedium → ¬ HasImage m) → (e ≡ refusal.NoDevice → HasImage m) → (c : DfuConfig) (block : List ℕ)
+    → IsRefusedSeen e c r block memory.now
+refused_plain r memory m e un is never medium device c block seen (as_noted noted seen_is) = absurd (un noted)
+refused_plain r memory m refusal.NoMedium un is never medium device c block seen (as_it_is also seen_is) =
+    inl (λ has. medium refl (subst HasImage (sym is)
+    (has_image_tagged (memory_of memory.now) (memory.ghost_name ∷ []) (subst (λ (b : List ℕ). HasImage (memory_of b)) seen_is has))))
+refused_plain r memory m refusal.NoDevice un is never medium device c block seen (as_it_is also seen_is) = (
   subst (λ (b : List ℕ). HasImage (memory_of b)) (sym seen_is)
       (has_image_tagged (lent memory.now memory.ghost_name []) [] (subst HasImage is (device refl))),
   λ d is_device.

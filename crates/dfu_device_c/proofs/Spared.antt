@@ -1,31 +1,28 @@
 -- Nothing is written in the slot that a record notes.
-use Rattle.std.proofs.Common.{◌≡◌, ◌⊎◌, inl, inr, ⊎_elim, ◌==◌, Bool, true, false, not, ℕ, ◌+◌, ◌-◌, ◌*◌, ◌/◌, ◌≤◌, List, [], ◌∷◌, ◌++◌, length, take, slice_index, slice_range, refl, sym, ◌∙◌, ap, subst, arith, length-append, if◌then◌else◌}
-use Rattle.dfu_slots.specs.declared.unit.Unit.{Unit as WriteUnit}
+use Rattle.std.proofs.Common.{◌≡◌, inl, inr, ⊎_elim, ◌==◌, Bool, true, false, ℕ, ◌+◌, ◌-◌, ◌*◌, ◌/◌, ◌≤◌, List, [], ◌∷◌, length, slice_index, slice_range, refl, sym, ◌∙◌, ap, subst, arith, length-append, if◌then◌else◌}
 use Rattle.dfu_slots.specs.declared.unit.Unit.TheVariants.{Byte}
-use Rattle.dfu_slots.specs.Units.{gate_size}
+use Rattle.dfu_slots.specs.Units.{Grain, in_place, gate_room}
 use Rattle.dfu_slots.specs.Medium.{MediumState, KeepsOutside, AllWrites, written}
-use Rattle.dfu_slots.specs.Medium.Fuse.{Whole}
-use Rattle.dfu_slots.specs.Layout.{Slot, slot, slot_size, OPEN, generation, next_generation}
+use Rattle.dfu_slots.specs.Layout.{slot, slot_size}
 use Rattle.dfu_slots.specs.Image.{gate_of, capacity_of, active_at, spare_at}
 use Rattle.dfu_slots.specs.Known.{place_of}
-use Rattle.dfu_slots.specs.Seen.{SlotsState, store_of, Call, Begin, Put, Commit, writes_of, AllWorked, BrokenBy, Called, data_place, spare_of, room_of}
+use Rattle.dfu_slots.specs.Seen.{SlotsState, store_of, Begin, Put, Commit, writes_of, AllWorked, Called, data_place, room_of}
 use Rattle.dfu_slots.specs.Store.{IsStore}
 use Rattle.dfu_slots.specs.Unarmed.{called_works}
 use Rattle.dfu_slots.proofs.Stands.{ActiveAt, standing}
 use Rattle.dfu_slots.proofs.Torn.{keeps_same, keeps_both, keeps_wider}
-use Rattle.dfu_slots.proofs.Parts.{slot_outside, length-gate_unit, length-header_unit}
+use Rattle.dfu_slots.proofs.Parts.{slot_outside}
 use Rattle.dfu_slots.proofs.Newest.{places_are, place_end}
-use Rattle.dfu_slots.proofs.Multiples.{gate_wide}
-use Rattle.dfu_slots.proofs.Series.{AllInside, ends_keep, all_unit}
+use Rattle.dfu_slots.proofs.Series.{ends_keep, all_grain}
 use Rattle.dfu_slots.proofs.Begun.{begin_outside, begin_keeps}
 use Rattle.dfu_slots.proofs.Put.{put_inside}
 use Rattle.dfu_slots.proofs.Unread.{named_is}
 use Rattle.dfu_device.specs.declared.answer.Answer.{Answer}
 use Rattle.dfu_device.specs.declared.answer.Answer.TheVariants.{Ack}
 use Rattle.dfu_device.specs.Table.{Plan, Sure, Writes, Commits, time_plan, reset_stage}
-use Rattle.dfu_device.specs.Setting.{Setting}
 use Rattle.dfu_device.specs.Shown.{Shown, profile}
 use Rattle.dfu_device.specs.Rows.{Done, Handles, Elapses, handled_as, setup_plan, asked_length, block_calls}
+use Rattle.dfu_device_c.specs.declared.config.DfuConfig.{DfuConfig}
 use Rattle.dfu_device_c.specs.declared.record.DfuDevice.{DfuDevice}
 use Rattle.dfu_device_c.specs.Memory.{memory_of}
 use Rattle.dfu_device_c.specs.Record.{store_in}
@@ -44,24 +41,24 @@ module _ (mine other : ℕ) (image : List ℕ) where
       → AllWrites s.medium (writes_of s Begin) now.medium
       → Spares other s.medium.bytes now.medium.bytes × ActiveAt (gate_of s.medium) now.medium.bytes mine other image
   begin_spares s now a writes =
-      let g = gate_of s.medium in
-      let wide = gate_wide s.medium.unit in (
+      let g = gate_of s.medium in (
         keeps_wider other (other + g) other (other + slot_size s.medium.bytes) s.medium.bytes now.medium.bytes
-            (begin_outside g wide s.medium now.medium mine other image a (inl writes)) (omega arith) (omega (arith, a.sized.room)),
-        begin_keeps g wide s.medium now.medium mine other image a (inl writes),
+            (begin_outside s.medium.grain s.medium now.medium mine other image a (inl writes)) (omega arith) (omega (arith, a.sized.room)),
+        begin_keeps s.medium.grain s.medium now.medium mine other image a (inl writes),
       )
 
   -- A `put` writes data of the spare.
-  put_spares : (s now : SlotsState) → ActiveAt (gate_of s.medium) s.medium.bytes mine other image → s.held ≡ [] → (at : ℕ) (new : List ℕ)
+  put_spares : (s now : SlotsState) → ActiveAt (gate_of s.medium) s.medium.bytes mine other image → s.medium.grain.sector ≡ 0
+      → s.held ≡ [] → (at : ℕ) (new : List ℕ)
       → at + length new ≤ capacity_of s.medium → AllWrites s.medium (writes_of s (Put at new)) now.medium
       → Spares other s.medium.bytes now.medium.bytes
-  put_spares s now a none at new fits writes =
+  put_spares s now a flat none at new fits writes =
       let g = gate_of s.medium in
       let place : other ≡ spare_at g s.medium.bytes = (places_are g s.medium.bytes mine other image a).1 in
       ends_keep other (other + slot_size s.medium.bytes) (writes_of s (Put at new)) s.medium now.medium
       (place_end g s.medium.bytes mine other a.sized a.places).1
-      (put_inside s.medium.unit s.held new other (other + slot_size s.medium.bytes) (data_place s (at - length s.held))
-      (omega (arith, place))
+      (put_inside s.medium.grain s.held new other (other + slot_size s.medium.bytes) (data_place s (at - length s.held))
+      (λ some. absurd (omega (arith, some, flat))) (omega (arith, place))
       (omega (arith, place, fits, length-append s.held new, ap length none, a.sized.room))) (inl writes)
 
   -- A `commit` writes the spare's header and its gate.
@@ -87,21 +84,21 @@ module _ (mine other : ℕ) (image : List ℕ) where
             AllWorked now → Spares other seen now.medium.bytes
         by_calls false (last, put, same) =
             subst (λ (x : SlotsState). Spares other seen x.medium.bytes) (sym same)
-            (put_spares (store_of (memory_of seen) [] end) last a refl (length before) block
+            (put_spares (store_of (memory_of seen) [] end) last a refl refl (length before) block
             (omega (arith, fits, room, ap (λ (x : SlotsState). x.put_end) same, put.end_is)) put.writes)
         by_calls true (mid, begun, (last, put, same)) =
             let first = begin_spares (store_of (memory_of seen) [] end) mid a begun.writes in
-            let unit : mid.medium.unit ≡ Byte =
-            all_unit (writes_of (store_of (memory_of seen) [] end) Begin) (memory_of seen) mid.medium begun.writes in
+            let grain : mid.medium.grain ≡ in_place Byte =
+            all_grain (writes_of (store_of (memory_of seen) [] end) Begin) (memory_of seen) mid.medium begun.writes in
             let second = put_spares mid last
-            (subst (λ (u : WriteUnit). ActiveAt (gate_size u) mid.medium.bytes mine other image) (sym unit) first.1) begun.held_is 0 block
+            (subst (λ (w : Grain). ActiveAt (gate_room w) mid.medium.bytes mine other image) (sym grain) first.1) (ap (λ (w : Grain). w.sector) grain) begun.held_is 0 block
             (omega (
               arith,
               fits,
               room,
               ap (λ (x : SlotsState). x.put_end) same,
               put.end_is,
-              ap gate_size unit,
+              ap gate_room grain,
               first.0.size,
               ap (λ (x : SlotsState). capacity_of x.medium) same,
             )) put.writes in
@@ -154,12 +151,12 @@ module _ (l : List ℕ) (q : ℕ) (x : List ℕ) (sixteen : length x ≡ 16) (ro
         ap (λ (n : ℕ). slice_range (written l (q + 16) x) (q + 16) (q + 16 + n)) (sym sixteen) ∙ range_written l (q + 16) x fits in
         λ i. record { gate = written_before l (q + 16) x fits q 0 (omega arith) i; header = head i; data_bytes = body i }
 
--- A call leaves the slot that is noted as it was, where the call saw its header shown.
-pub noted_spared : (s : Setting) (r : DfuDevice) (bytes seen : List ℕ) (r' : DfuDevice) (bytes' seen' : List ℕ) (before after : Shown) (p : Plan)
+-- A call leaves the slot that is noted as it was, where the call saw its header shown, and the medium as long.
+pub noted_spared : (c : DfuConfig) (r : DfuDevice) (block bytes seen : List ℕ) (r' : DfuDevice) (block' bytes' seen' : List ℕ) (before after : Shown) (p : Plan)
     (len : ℕ) (a : Answer) (out : List ℕ) → IsNoted r bytes → seen ≡ shown r bytes → bytes' ≡ written seen' (header_at r bytes) r.header
-    → IsDevice s r seen before → IsDevice s r' seen' after → Done p len before a out after
-    → slot 16 bytes' (place_of (r.slot == 0) bytes) ≡ slot 16 bytes (place_of (r.slot == 0) bytes)
-noted_spared s r bytes seen r' bytes' seen' before after p len a out noted seen_is is was now done =
+    → IsDevice c r block seen before → IsDevice c r' block' seen' after → Done p len before a out after
+    → (length seen' ≡ length bytes) × (slot 16 bytes' (place_of (r.slot == 0) bytes) ≡ slot 16 bytes (place_of (r.slot == 0) bytes))
+noted_spared c r block bytes seen r' block' bytes' seen' before after p len a out noted seen_is is was now done =
     let first = r.slot == 0 in
     let q : ℕ = place_of first bytes in
     let active = was.store.has_image.active in
@@ -188,42 +185,52 @@ noted_spared s r bytes seen r' bytes' seen' before after p len a out noted seen_
     let seen_slot : slot 16 seen q ≡ record { gate = slice_index bytes q; header = plain_header r.header; data_bytes = (slot 16 bytes q).data_bytes } =
     ap (λ (b : List ℕ). slot 16 b q) seen_is ∙ header_written bytes q (plain_header r.header) refl room ends in
     let whole : slot 16 seen' q ≡ record { gate = slice_index bytes q; header = plain_header r.header; data_bytes = (slot 16 bytes q).data_bytes } =
-    kept_q ∙ seen_slot in
-    ap (λ (b : List ℕ). slot 16 b q) is
-    ∙ header_written seen' q r.header header_size (omega (arith, room, keeps.size, size)) (omega (arith, ends, keeps.size, size))
-    ∙ (λ i. record { gate = (whole i).gate; header = sym noted.note.stands i; data_bytes = (whole i).data_bytes })
+    kept_q ∙ seen_slot in (
+      keeps.size ∙ size,
+      ap (λ (b : List ℕ). slot 16 b q) is
+          ∙ header_written seen' q r.header header_size (omega (arith, room, keeps.size, size)) (omega (arith, ends, keeps.size, size))
+          ∙ (λ i. record { gate = (whole i).gate; header = sym noted.note.stands i; data_bytes = (whole i).data_bytes }),
+    )
 
 -- So does a setup that is answered.
-pub handled_spared : (s : Setting) (r r' : DfuDevice) (bytes bytes' setup body sent : List ℕ) (a : Answer) → IsNoted r bytes
-    → On r bytes r' bytes' (λ b b'. Takes s r b (λ d d'. Handles setup body d a sent d') r' b')
-    → slot 16 bytes' (place_of (r.slot == 0) bytes) ≡ slot 16 bytes (place_of (r.slot == 0) bytes)
-handled_spared s r r' bytes bytes' setup body sent a noted on = by_sees on.sees on.does.step
+pub handled_spared : (c : DfuConfig) (r r' : DfuDevice) (block block' bytes bytes' setup body sent : List ℕ) (a : Answer) → IsNoted r bytes
+    → (on : On r bytes r' bytes' (λ b b'. Takes c r block b (λ d d'. Handles setup body d a sent d') r' block' b'))
+    → (length on.seen' ≡ length bytes) × (slot 16 bytes' (place_of (r.slot == 0) bytes) ≡ slot 16 bytes (place_of (r.slot == 0) bytes))
+handled_spared c r r' block block' bytes bytes' setup body sent a noted on = by_sees on.sees on.does.step
   where
     by_sees : Sees r bytes on.seen bytes' on.seen' → Handles setup body on.does.before a sent on.does.after
-        → slot 16 bytes' (place_of (r.slot == 0) bytes) ≡ slot 16 bytes (place_of (r.slot == 0) bytes)
+        → (length on.seen' ≡ length bytes) × (slot 16 bytes' (place_of (r.slot == 0) bytes) ≡ slot 16 bytes (place_of (r.slot == 0) bytes))
     by_sees (plainly un seen_is is) step = absurd (un noted)
     by_sees (by_note also seen_is is) (handled_as p q setup_is asks done) =
-        noted_spared s r bytes on.seen r' bytes' on.seen' on.does.before on.does.after (setup_plan on.does.before p q body) (asked_length q) a sent
+        noted_spared c r block bytes on.seen r' block' bytes' on.seen' on.does.before on.does.after (setup_plan on.does.before p q body) (asked_length q) a sent
         noted seen_is is on.does.was on.does.is done
 
 -- And time that passes.
-pub elapsed_spared : (s : Setting) (r r' : DfuDevice) (bytes bytes' : List ℕ) (ms : ℕ) → IsNoted r bytes
-    → On r bytes r' bytes' (λ b b'. Takes s r b (Elapses ms) r' b')
-    → slot 16 bytes' (place_of (r.slot == 0) bytes) ≡ slot 16 bytes (place_of (r.slot == 0) bytes)
-elapsed_spared s r r' bytes bytes' ms noted on = by_sees on.sees
+pub elapsed_spared : (c : DfuConfig) (r r' : DfuDevice) (block block' bytes bytes' : List ℕ) (ms : ℕ) → IsNoted r bytes
+    → (on : On r bytes r' bytes' (λ b b'. Takes c r block b (Elapses ms) r' block' b'))
+    → (length on.seen' ≡ length bytes) × (slot 16 bytes' (place_of (r.slot == 0) bytes) ≡ slot 16 bytes (place_of (r.slot == 0) bytes))
+elapsed_spared c r r' block block' bytes bytes' ms noted on = by_sees on.sees
   where
-    by_sees : Sees r bytes on.seen bytes' on.seen' → slot 16 bytes' (place_of (r.slot == 0) bytes) ≡ slot 16 bytes (place_of (r.slot == 0) bytes)
+    by_sees : Sees r bytes on.seen bytes' on.seen'
+        → (length on.seen' ≡ length bytes) × (slot 16 bytes' (place_of (r.slot == 0) bytes) ≡ slot 16 bytes (place_of (r.slot == 0) bytes))
     by_sees (plainly un seen_is is) = absurd (un noted)
     by_sees (by_note also seen_is is) =
-        noted_spared s r bytes on.seen r' bytes' on.seen' on.does.before on.does.after (time_plan (profile on.does.before) on.does.before.stage ms)
+        noted_spared c r block bytes on.seen r' block' bytes' on.seen' on.does.before on.does.after (time_plan (profile on.does.before) on.does.before.stage ms)
         0 Ack [] noted seen_is is on.does.was on.does.is on.does.step
 
 -- And a reset of the bus, which writes nothing.
-pub reset_spared : (s : Setting) (r r' : DfuDevice) (bytes bytes' : List ℕ) → IsNoted r bytes
-    → On r bytes r' bytes' (λ b b'. Takes s r b (λ d d'. d' ≡ record d { stage = reset_stage d.stage }) r' b')
-    → slot 16 bytes' (place_of (r.slot == 0) bytes) ≡ slot 16 bytes (place_of (r.slot == 0) bytes)
-reset_spared s r r' bytes bytes' noted on =
+pub reset_spared : (c : DfuConfig) (r r' : DfuDevice) (block block' bytes bytes' : List ℕ) → IsNoted r bytes
+    → (on : On r bytes r' bytes' (λ b b'. Takes c r block b (λ d d'. d' ≡ record d { stage = reset_stage d.stage }) r' block' b'))
+    → (length on.seen' ≡ length bytes) × (slot 16 bytes' (place_of (r.slot == 0) bytes) ≡ slot 16 bytes (place_of (r.slot == 0) bytes))
+reset_spared c r r' block block' bytes bytes' noted on =
     let same : on.seen' ≡ on.seen = ap (λ (x : SlotsState). x.medium.bytes)
     (sym (ap (λ (w : Shown). w.slots) on.does.is.device_is) ∙ ap (λ (w : Shown). w.slots) on.does.step
-    ∙ ap (λ (w : Shown). w.slots) on.does.was.device_is) in
-    ap (λ (b : List ℕ). slot 16 b (place_of (r.slot == 0) bytes)) (sees_same r bytes on.seen bytes' on.seen' on.sees same)
+    ∙ ap (λ (w : Shown). w.slots) on.does.was.device_is) in (
+      ap length same ∙ seen_size on.sees,
+      ap (λ (b : List ℕ). slot 16 b (place_of (r.slot == 0) bytes)) (sees_same r bytes on.seen bytes' on.seen' on.sees same),
+    )
+  where
+    seen_size : Sees r bytes on.seen bytes' on.seen' → length on.seen ≡ length bytes
+    seen_size (plainly un seen_is is) = ap length seen_is
+    seen_size (by_note also seen_is is) =
+        ap length seen_is ∙ length_written bytes (header_at r bytes) (plain_header r.header) (header_fits r bytes also.note.room)

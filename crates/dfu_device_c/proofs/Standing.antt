@@ -1,6 +1,6 @@
 -- Which device a record is: that of a device that was put where it says, and that of the device that it keeps.
-use Rattle.std.proofs.Common.{◌≡◌, ◌⊎◌, inl, inr, ◌≤◌, ◌^◌, ◌+◌, ◌%◌, ◌==◌, ℕ, List, [], ◌∷◌, get_or, length, take, drop, slice_range, Bool, true, false, if◌then◌else◌, refl, ap, sym, ◌∙◌, subst, IsTrue, arith}
-use Rattle.std.proofs.lemmas.List.{nil_from_length}
+use Rattle.std.proofs.Common.{◌≡◌, ◌⊎◌, inl, inr, ◌≤◌, ◌^◌, ◌+◌, ◌%◌, ◌==◌, ℕ, List, [], ◌∷◌, get_or, length, min, take, drop, slice_range, Bool, true, false, if◌then◌else◌, refl, ap, sym, ◌∙◌, subst, IsTrue, arith}
+use Rattle.std.proofs.lemmas.List.{nil_from_length, length-take-le}
 use Rattle.std.specs.Borrow.{MutBor}
 use Rattle.dfu_slots.specs.declared.unit.Unit.TheVariants.{Byte}
 use Rattle.dfu_slots.specs.Units.{unit_size}
@@ -12,19 +12,22 @@ use Rattle.dfu_slots.specs.Tagged.{has_image_tagged, is_store_tagged}
 use Rattle.dfu_device.specs.declared.mode.Mode.{Mode}
 use Rattle.dfu_device.specs.declared.mode.Mode.TheVariants as mode
 use Rattle.dfu_slots.specs.Seen.{SlotsState, store_on, store_of, spare_of, is_shaped}
-use Rattle.dfu_device.specs.Setting.{Setting, IsAllowed}
-use Rattle.dfu_device.specs.Stage.{InAppIdle}
+use Rattle.dfu_device.specs.Block.{BlockMemory}
+use Rattle.dfu_device.specs.Setting.{Setting}
+use Rattle.dfu_device.specs.Lent.{LentShown}
 use Rattle.dfu_device.specs.Shown.{Shown, powered_on}
 use Rattle.dfu_device.specs.Parts.{shows, stage_of, is_filled, is_sound}
+use Rattle.dfu_device_c.specs.declared.config.DfuConfig.{DfuConfig}
 use Rattle.dfu_device_c.specs.declared.record.DfuDevice.{DfuDevice}
 use Rattle.dfu_device_c.specs.declared.refusal.Refusal.TheVariants as refusal
 use Rattle.dfu_device_c.specs.declared.cover.Cover.{Cover}
 use Rattle.dfu_device_c.specs.Memory.{memory_of, lent, memory_at, is_on, seen_of, hidden_of, is_within, plain_medium, plain_store, plain_device}
-use Rattle.dfu_device_c.specs.Record.{HasMode, block_in, store_in}
+use Rattle.dfu_device_c.specs.Config.{setting_of, transfer_of, IsConfig}
+use Rattle.dfu_device_c.specs.Record.{HasMode, HasNumbers, block_in, store_in}
 use Rattle.dfu_slots.specs.Known.{place_of}
 use Rattle.dfu_device_c.specs.Calls.{IsBack}
 use Rattle.dfu_device_c.specs.Noted.{header_at, plain_header, SeenAs, as_noted, as_it_is, Sees, by_note, plainly, Notes, On}
-use Rattle.dfu_device_c.specs.Device.{store_lent, Opens, opens_noted, opens_plain, IsDevice, IsOpened, IsRefused, IsRefusedSeen, StandsAs, StandsNowhere}
+use Rattle.dfu_device_c.specs.Device.{store_lent, Opens, opens_noted, opens_plain, IsDevice, IsOpened, IsRefused, IsRefusedSeen, IsMade}
 use Rattle.dfu_device_c.proofs.Covering.{written_back, length_written}
 use Rattle.dfu_device_c.proofs.CoverLaws.{lies, seen_on, seen_off, hidden_on, hidden_off}
 use Rattle.dfu_device_c.proofs.Plain.{shaped_plain, sound_plain, shows_plain}
@@ -36,44 +39,98 @@ seen_opens r bytes seen hidden x (opens_noted noted is h) (as_it_is un also_is) 
 seen_opens r bytes seen hidden x (opens_plain un is h) (as_noted also also_is) = absurd (un also)
 seen_opens r bytes seen hidden x (opens_plain un is h) (as_it_is also also_is) = is ∙ sym also_is
 
--- A device that was started on an opened medium and put where the record says is the record's.
-pub stands_device : (s : Setting) (r : DfuDevice) (memory : MutBor (List ℕ)) (slots : SlotsState) (d d' : Shown) → IsAllowed s
-    → (o : IsOpened r memory slots) → d ≡ record { config = s; slots = slots; stage = InAppIdle } → StandsAs r d d'
-    → IsDevice s r o.seen (plain_device d')
-stands_device s r memory slots d d' allowed opened began stands =
-    let store : d.slots ≡ store_lent r opened.seen memory.ghost_name opened.hidden = ap (λ (w : Shown). w.slots) began ∙ opened.slots_are in
+-- A device that was put together is the record's.
+pub made_device : (c : DfuConfig) (r : DfuDevice) (block memory : MutBor (List ℕ)) (d : LentShown) → IsConfig c
+    → transfer_of c ≤ length block.now → (m : IsMade c r block memory d) → IsDevice c r block.now m.opened.seen (plain_device d.device)
+made_device c r block memory d config room m =
+    let o = m.opened in
+    let store = store_lent r o.seen memory.ghost_name o.hidden in
     record {
-      allowed = allowed;
-      store = opened.store;
-      mode = stands.mode;
-      has_mode = stands.has_mode;
-      fits = stands.fits;
-      sound = subst (λ b. IsTrue b) (sym (sound_plain stands.mode r.length (store_lent r opened.seen memory.ghost_name opened.hidden)))
-          (subst (λ (x : SlotsState). IsTrue (is_sound stands.mode r.length x)) store stands.sound);
-      device_is = ap plain_device stands.device_is ∙ shows_plain d.config d.slots stands.mode (block_in r)
-          ∙ (λ k. shows (ap (λ (w : Shown). w.config) began k) (plain_store (store k)) stands.mode (block_in r));
+      config = config;
+      room = room;
+      store = o.store;
+      mode = m.mode;
+      has_mode = m.has_mode;
+      fits = m.fits;
+      short = m.short;
+      sound = subst (λ b. IsTrue b) (sym (sound_plain m.mode r.length store))
+          (subst (λ (x : SlotsState). IsTrue (is_sound m.mode r.length x)) o.slots_are m.sound);
+      device_is = ap plain_device m.device_is ∙ shows_plain (setting_of c) m.slots m.mode (block_in r block.now)
+          ∙ (λ k. shows (setting_of c) (plain_store (o.slots_are k)) m.mode (block_in r block.now));
     }
 
+-- The front of the memory that was lent has as many bytes as the record says.
+front_size : (r : DfuDevice) (block front : MutBor (List ℕ)) (len : ℕ) → front ≡ block → len ≡ r.length → r.length ≤ length block.now
+    → length (take len front.now) ≡ r.length
+front_size r block front len front_is len_is fits =
+    length-take-le len front.now (omega (arith, ap (λ (b : MutBor (List ℕ)). length b.now) front_is, len_is, fits)) ∙ len_is
+
+-- A device that was put together of what a record says is the record's.
+pub made_of : (c : DfuConfig) (r : DfuDevice) (block memory : MutBor (List ℕ)) (slots : SlotsState) (o : IsOpened r memory slots)
+    (setting : Setting) (m : Mode) (front : MutBor (List ℕ)) (len : ℕ) (d : LentShown) → setting ≡ setting_of c → HasMode r m
+    → r.length ≤ length block.now → r.length ≤ 4096 → front ≡ block → len ≡ r.length
+    → IsTrue (is_sound m (length (take len front.now)) slots)
+    → d ≡ record {
+      device = shows setting slots m (take len front.now);
+      memory = record { name = front.ghost_name; room = min 4096 (length front.now) };
+    } → IsMade c r block memory d
+made_of c r block memory slots o setting m front len d setting_is has_mode fits short front_is len_is sound d_is = record {
+  slots = slots;
+  opened = o;
+  mode = m;
+  has_mode = has_mode;
+  fits = fits;
+  short = short;
+  sound = subst (λ (n : ℕ). IsTrue (is_sound m n slots)) (front_size r block front len front_is len_is fits) sound;
+  device_is = ap (λ (x : LentShown). x.device) d_is ∙ (λ i. shows (setting_is i) slots m (take (len_is i) (front_is i).now));
+  memory_is = ap (λ (x : LentShown). x.memory) d_is
+      ∙ (λ i. record { name = (front_is i).ghost_name; room = min 4096 (length (front_is i).now) });
+}
+
+-- Where none could be put together, what the record says is sound on no store.
+pub made_not : (c : DfuConfig) (r : DfuDevice) (block : MutBor (List ℕ)) (slots : SlotsState) (setting : Setting) (m : Mode)
+    (front : MutBor (List ℕ)) (len : ℕ) → IsConfig c → transfer_of c ≤ length block.now → setting ≡ setting_of c
+    → ((x : Mode) → HasMode r x → m ≡ x) → front ≡ block → len ≡ r.length
+    → ((setting.functional.transfer ≤ min 4096 (length front.now)) × IsTrue (is_sound m (length (take len front.now)) slots) → ⊥)
+    → (x : Mode) → HasMode r x → r.length ≤ 4096 → r.length ≤ length block.now → IsTrue (is_sound x r.length slots) → ⊥
+made_not c r block slots setting m front len config room setting_is only front_is len_is never x has short fits sound = never (
+  omega (
+    arith,
+    room,
+    config.allowed.transfer.most,
+    ap (λ (s : Setting). s.functional.transfer) setting_is,
+    ap (λ (b : MutBor (List ℕ)). length b.now) front_is,
+  ),
+  subst (λ (y : Mode). IsTrue (is_sound y (length (take len front.now)) slots)) (sym (only x has))
+      (subst (λ (n : ℕ). IsTrue (is_sound x n slots)) (sym (front_size r block front len front_is len_is fits)) sound),
+)
+
 -- The tag of its medium is the name of the memory, and what is behind a covered header.
-pub stands_tag : (s : Setting) (r : DfuDevice) (memory : MutBor (List ℕ)) (slots : SlotsState) (d d' : Shown) → (o : IsOpened r memory slots)
-    → d ≡ record { config = s; slots = slots; stage = InAppIdle } → StandsAs r d d' → d'.slots.medium.tag ≡ memory.ghost_name ∷ o.hidden
-stands_tag s r memory slots d d' opened began stands =
-    ap (λ (w : Shown). w.slots.medium.tag) (stands.device_is)
-    ∙ ap (λ (x : SlotsState). x.medium.tag) (ap (λ (w : Shown). w.slots) began ∙ opened.slots_are)
+pub made_tag : (c : DfuConfig) (r : DfuDevice) (block memory : MutBor (List ℕ)) (d : LentShown) → (m : IsMade c r block memory d)
+    → d.device.slots.medium.tag ≡ memory.ghost_name ∷ m.opened.hidden
+made_tag c r block memory d m =
+    ap (λ (w : Shown). w.slots.medium.tag) m.device_is ∙ ap (λ (x : SlotsState). x.medium.tag) m.opened.slots_are
+
+-- Its memory is that of the block.
+pub made_memory : (c : DfuConfig) (r : DfuDevice) (block memory : MutBor (List ℕ)) (d : LentShown) → IsConfig c
+    → transfer_of c ≤ length block.now → (m : IsMade c r block memory d) → transfer_of c ≤ d.memory.room
+made_memory c r block memory d config room m =
+    omega (arith, room, config.allowed.transfer.most, ap (λ (b : BlockMemory). b.room) m.memory_is)
 
 -- Where the record says nothing of a device on the opened medium, they are refused for that.
-pub stands_nowhere : (s : Setting) (r : DfuDevice) (memory : MutBor (List ℕ)) (slots : SlotsState) (d : Shown) → IsAllowed s
-    → IsOpened r memory slots → d ≡ record { config = s; slots = slots; stage = InAppIdle } → StandsNowhere r d.slots
-    → IsRefusedSeen refusal.NoDevice s r memory.now
-stands_nowhere s r memory slots d allowed opened began nowhere x seen =
-    let store : d.slots ≡ store_lent r opened.seen memory.ghost_name opened.hidden = ap (λ (w : Shown). w.slots) began ∙ opened.slots_are in
-    subst (λ (b : List ℕ). IsRefused refusal.NoDevice s r b) (seen_opens r memory.now opened.seen opened.hidden x opened.opens seen) (
-      allowed,
+pub stands_nowhere : (c : DfuConfig) (r : DfuDevice) (block : List ℕ) (memory : MutBor (List ℕ)) (slots : SlotsState)
+    → IsOpened r memory slots
+    → ((m : Mode) → HasMode r m → r.length ≤ 4096 → r.length ≤ length block → IsTrue (is_sound m r.length slots) → ⊥)
+    → IsRefusedSeen refusal.NoDevice c r block memory.now
+stands_nowhere c r block memory slots opened nowhere x seen =
+    let store = store_lent r opened.seen memory.ghost_name opened.hidden in
+    subst (λ (b : List ℕ). IsRefused refusal.NoDevice c r block b)
+    (seen_opens r memory.now opened.seen opened.hidden x opened.opens seen) (
       opened.store.has_image,
       λ w device.
-          nowhere device.mode device.has_mode device.fits
-          (subst (λ (x : SlotsState). IsTrue (is_sound device.mode r.length x)) (sym store)
-          (subst (λ b. IsTrue b) (sound_plain device.mode r.length (store_lent r opened.seen memory.ghost_name opened.hidden)) device.sound)),
+          nowhere device.mode device.has_mode device.short device.fits
+          (subst (λ (x : SlotsState). IsTrue (is_sound device.mode r.length x)) (sym opened.slots_are)
+          (subst (λ b. IsTrue b) (sound_plain device.mode r.length store) device.sound)),
     )
 
 -- The memory that comes back has the name of the memory that was lent, where no call changed the tag.
@@ -130,6 +187,16 @@ returned r memory slots o new c m is m_is within =
     (back_sees r memory.now o.seen o.hidden memory.ghost_name o.opens new c m is (ap (λ (n : MediumState). n.tag) m_is) within)
     (ap (λ (n : MediumState). n.bytes) (is ∙ m_is))
 
+-- So it is back, where the store that was opened on it is as it was.
+pub opened_back : (r : DfuDevice) (memory : MutBor (List ℕ)) (slots : SlotsState) (o : IsOpened r memory slots) (new : MutBor (List ℕ))
+    (c : Cover) (m : MediumState) → memory_at new c ≡ m → m ≡ slots.medium → IsTrue (is_within c (length new.now)) → IsBack memory new
+opened_back r memory slots o new c m is m_is within =
+    let lent_is = m_is ∙ ap (λ (x : SlotsState). x.medium) o.slots_are in
+    record {
+      name = back_name memory new c o.hidden m is (ap (λ (n : MediumState). n.tag) lent_is);
+      bytes = returned r memory slots o new c m is lent_is within;
+    }
+
 -- A memory with no cover comes back with none.
 pub comes_plain : (name : ℕ) (new : MutBor (List ℕ)) (c : Cover) (m : MediumState) → memory_at new c ≡ m → m.tag ≡ name ∷ []
     → is_on c ≡ false
@@ -162,60 +229,68 @@ back_notes r new c m is first first_is slot header = record {
 }
 
 -- A record that notes another slot is still that of its mode.
-has_mode_noted : (m : Mode) (r : DfuDevice) (slot : ℕ) (header : List ℕ) → HasMode r m → HasMode (record r { slot = slot; header = header }) m
-has_mode_noted mode.AppIdle r slot header h = h
-has_mode_noted (mode.AppDetach timer passed) r slot header h = h
-has_mode_noted mode.DfuIdle r slot header h = h
-has_mode_noted (mode.DownloadSync written number) r slot header h = h
-has_mode_noted (mode.DownloadSyncWritten written number) r slot header h = h
-has_mode_noted (mode.DownloadBusy written number passed) r slot header h = h
-has_mode_noted (mode.DownloadIdle written number) r slot header h = h
-has_mode_noted (mode.ManifestSync written) r slot header h = h
-has_mode_noted mode.ManifestSyncComplete r slot header h = h
-has_mode_noted (mode.Manifest written passed) r slot header h = h
-has_mode_noted mode.ManifestWaitReset r slot header h = h
-has_mode_noted (mode.UploadIdle place number) r slot header h = h
-has_mode_noted (mode.Error code) r slot header h = h
+numbers_noted : (m : Mode) (r : DfuDevice) (slot : ℕ) (header : List ℕ) → HasNumbers r m
+    → HasNumbers (record r { slot = slot; header = header }) m
+numbers_noted mode.AppIdle r slot header h = h
+numbers_noted (mode.AppDetach timer passed) r slot header h = h
+numbers_noted mode.DfuIdle r slot header h = h
+numbers_noted (mode.DownloadSync written number) r slot header h = h
+numbers_noted (mode.DownloadSyncWritten written number) r slot header h = h
+numbers_noted (mode.DownloadBusy written number passed) r slot header h = h
+numbers_noted (mode.DownloadIdle written number) r slot header h = h
+numbers_noted (mode.ManifestSync written) r slot header h = h
+numbers_noted mode.ManifestSyncComplete r slot header h = h
+numbers_noted (mode.Manifest written passed) r slot header h = h
+numbers_noted mode.ManifestWaitReset r slot header h = h
+numbers_noted (mode.UploadIdle place number) r slot header h = h
+numbers_noted (mode.Error code) r slot header h = h
 
 -- It is still that of its device.
-pub noted_device : (s : Setting) (r r' : DfuDevice) (bytes : List ℕ) (d : Shown) → r' ≡ record r { slot = r'.slot; header = r'.header }
-    → IsDevice s r bytes d → IsDevice s r' bytes d
-noted_device s r r' bytes d is device = subst (λ (x : DfuDevice). IsDevice s x bytes d) (sym is) (record {
-  allowed = device.allowed;
+pub noted_device : (c : DfuConfig) (r r' : DfuDevice) (block bytes : List ℕ) (d : Shown)
+    → r' ≡ record r { slot = r'.slot; header = r'.header } → IsDevice c r block bytes d → IsDevice c r' block bytes d
+noted_device c r r' block bytes d is device = subst (λ (x : DfuDevice). IsDevice c x block bytes d) (sym is) (record {
+  config = device.config;
+  room = device.room;
   store = device.store;
   mode = device.mode;
-  has_mode = has_mode_noted device.mode r r'.slot r'.header device.has_mode;
+  has_mode = record {
+    version_is = device.has_mode.version_is;
+    numbers = numbers_noted device.mode r r'.slot r'.header device.has_mode.numbers;
+  };
   fits = device.fits;
+  short = device.short;
   sound = device.sound;
   device_is = device.device_is;
 })
 
 -- A record that keeps a device's parts, over the bytes of its medium, is the record of that device.
-pub kept_device : (s : Setting) (r : DfuDevice) (bytes : List ℕ) (d : Shown) (m : Mode) (block : List ℕ) (slots : SlotsState)
-    → IsAllowed s → d.config ≡ s → slots ≡ d.slots → plain_medium d.slots.medium ≡ memory_of bytes → r.put_end ≡ slots.put_end
-    → IsStore slots → HasMode r m → r.length ≡ length block → length block ≤ 4096 → block_in r ≡ block
-    → IsTrue (is_sound m (length block) d.slots)
-    → shows d.config d.slots m block ≡ d → IsDevice s r bytes (plain_device d)
-kept_device s r bytes d m block slots allowed config_is slots_is medium_is end_is store has_mode size fits block_is sound parts =
-    let byte : d.slots.medium.unit ≡ Byte = ap (λ (w : MediumState). w.unit) medium_is in
+pub kept_device : (c : DfuConfig) (r : DfuDevice) (block bytes : List ℕ) (d : Shown) (m : Mode) (items : List ℕ) (slots : SlotsState)
+    → IsConfig c → transfer_of c ≤ length block → d.config ≡ setting_of c → slots ≡ d.slots → plain_medium d.slots.medium ≡ memory_of bytes
+    → r.put_end ≡ slots.put_end → IsStore slots → HasMode r m → r.length ≡ length items → length items ≤ 4096 → r.length ≤ length block
+    → block_in r block ≡ items → IsTrue (is_sound m (length items) slots) → shows d.config slots m items ≡ d
+    → IsDevice c r block bytes (plain_device d)
+kept_device c r block bytes d m items slots config room config_is slots_is medium_is end_is store has_mode size short fits block_is sound parts =
+    let byte : d.slots.medium.grain.unit ≡ Byte = ap (λ (w : MediumState). w.grain.unit) medium_is in
     let own : IsStore d.slots = subst (λ (x : SlotsState). IsStore x) slots_is store in
-    let one : unit_size d.slots.medium.unit ≡ 1 = ap unit_size byte in
+    let one : unit_size d.slots.medium.grain.unit ≡ 1 = ap unit_size byte in
     let none : d.slots.held ≡ [] =
     nil_from_length d.slots.held (subst (λ (n : ℕ). length d.slots.held ≡ d.slots.put_end % n) one own.puts.part ∙ omega arith) in
     let end : r.put_end ≡ d.slots.put_end = end_is ∙ ap (λ (x : SlotsState). x.put_end) slots_is in
     let same : plain_store d.slots ≡ store_in r bytes =
     λ k. record { medium = medium_is k; held = none k; put_end = sym end k } in
     record {
-      allowed = allowed;
+      config = config;
+      room = room;
       store = subst (λ (x : SlotsState). IsStore x) same (is_store_tagged d.slots [] own);
       mode = m;
       has_mode = has_mode;
-      fits = omega (arith, size, fits);
-      sound = subst (λ (x : SlotsState). IsTrue (is_sound m r.length x)) same
-          (subst (λ b. IsTrue b) (sym (sound_plain m r.length d.slots))
-          (subst (λ (n : ℕ). IsTrue (is_sound m n d.slots)) (sym size) sound));
-      device_is = ap plain_device (sym parts) ∙ shows_plain d.config d.slots m block
-          ∙ (λ k. shows (config_is k) (same k) m (sym block_is k));
+      fits = fits;
+      short = omega (arith, size, short);
+      sound = subst (λ (x : SlotsState). IsTrue (is_sound m r.length x)) (ap plain_store slots_is ∙ same)
+          (subst (λ b. IsTrue b) (sym (sound_plain m r.length slots))
+          (subst (λ (n : ℕ). IsTrue (is_sound m n slots)) (sym size) sound));
+      device_is = ap plain_device (sym parts) ∙ shows_plain d.config slots m items
+          ∙ (λ k. shows (config_is k) ((ap plain_store slots_is ∙ same) k) m (sym block_is k));
     }
 
 -- What is sound in one mode is so in one in which nothing is put.
@@ -224,44 +299,48 @@ free_sound : (m old : Mode) (n k : ℕ) (x : SlotsState) → ((n : ℕ) (x : Slo
 free_sound m old n k x free sound = rw (free k x) (grind (arith, sound))
 
 -- A record that was put in another mode, in which nothing is put, is the record of that device.
-pub moved_device : (s : Setting) (r r' : DfuDevice) (bytes : List ℕ) (d : Shown) (m : Mode) → IsDevice s r bytes d → HasMode r' m
-    → r'.put_end ≡ r.put_end → r'.length ≡ r.length → r'.block ≡ r.block → ((n : ℕ) (x : SlotsState) → is_filled m n x ≡ true)
-    → IsDevice s r' bytes (shows s (store_in r bytes) m (block_in r))
-moved_device s r r' bytes d m device has_mode end size block free =
+pub moved_device : (c : DfuConfig) (r r' : DfuDevice) (block bytes : List ℕ) (d : Shown) (m : Mode) → IsDevice c r block bytes d
+    → HasMode r' m → r'.put_end ≡ r.put_end → r'.length ≡ r.length → ((n : ℕ) (x : SlotsState) → is_filled m n x ≡ true)
+    → IsDevice c r' block bytes (shows (setting_of c) (store_in r bytes) m (block_in r block))
+moved_device c r r' block bytes d m device has_mode end size free =
     let same : store_in r bytes ≡ store_in r' bytes = λ i. store_of (memory_of bytes) [] (sym end i) in
     record {
-      allowed = device.allowed;
+      config = device.config;
+      room = device.room;
       store = subst (λ (x : SlotsState). IsStore x) same device.store;
       mode = m;
       has_mode = has_mode;
       fits = omega (arith, device.fits, size);
+      short = omega (arith, device.short, size);
       sound = subst (λ (x : SlotsState). IsTrue (is_sound m r'.length x)) same
           (free_sound m device.mode r.length r'.length (store_in r bytes) free device.sound);
-      device_is = λ i. shows s (same i) m (take (sym size i) (sym block i));
+      device_is = λ i. shows (setting_of c) (same i) m (take (sym size i) block);
     }
 
 -- A record in which nothing is put, on a medium that was opened, is that of a device that got power.
-pub fresh_device : (s : Setting) (r : DfuDevice) (bytes : List ℕ) (name : ℕ) (slots : SlotsState) (m : Mode) → IsAllowed s
-    → slots ≡ store_on (lent bytes name []) → HasImage (lent bytes name []) → is_shaped slots ≡ true → HasMode r m → r.put_end ≡ 0
-    → r.length ≡ 0 → ((n : ℕ) (x : SlotsState) → is_filled m n x ≡ true)
+pub fresh_device : (c : DfuConfig) (r : DfuDevice) (block bytes : List ℕ) (name : ℕ) (slots : SlotsState) (m : Mode) → IsConfig c
+    → transfer_of c ≤ length block → slots ≡ store_on (lent bytes name []) → HasImage (lent bytes name []) → is_shaped slots ≡ true
+    → HasMode r m → r.put_end ≡ 0 → r.length ≡ 0 → ((n : ℕ) (x : SlotsState) → is_filled m n x ≡ true)
     → ((spare block : List ℕ) → stage_of m spare block ≡ stage_of m [] [])
-    → IsDevice s r bytes (record (powered_on s (memory_of bytes)) { stage = stage_of m [] [] })
-fresh_device s r bytes name slots m allowed slots_is image shape has_mode end size free plain =
+    → IsDevice c r block bytes (record (powered_on (setting_of c) (memory_of bytes)) { stage = stage_of m [] [] })
+fresh_device c r block bytes name slots m config room slots_is image shape has_mode end size free plain =
     let same : store_on (memory_of bytes) ≡ store_in r bytes = λ i. store_of (memory_of bytes) [] (sym end i) in
     let shaped : is_shaped (store_on (memory_of bytes)) ≡ true =
     shaped_plain (store_on (lent bytes name [])) ∙ ap is_shaped (sym slots_is) ∙ shape in
     record {
-      allowed = allowed;
+      config = config;
+      room = room;
       store = subst (λ (x : SlotsState). IsStore x) same (record {
         has_image = has_image_tagged (lent bytes name []) [] image;
-        puts = record { fits = omega arith; part = refl };
+        puts = record { fits = omega arith; part = refl; ahead = λ some. absurd (omega (arith, some)) };
       });
       mode = m;
       has_mode = has_mode;
       fits = omega (arith, size);
+      short = omega (arith, size);
       sound = subst (λ (x : SlotsState). IsTrue (is_sound m r.length x)) same
           (rw (shaped, free r.length (store_on (memory_of bytes))) refl);
-      device_is = λ i. record { config = s; slots = same i; stage = sym (plain (spare_of (store_in r bytes)) (block_in r)) i };
+      device_is = λ i. record { config = setting_of c; slots = same i; stage = sym (plain (spare_of (store_in r bytes)) (block_in r block)) i };
     }
 
 -- What follows of what a call did to the bytes that it saw, it did too.
@@ -275,16 +354,17 @@ on_map r bytes r' bytes' P Q leads on = record {
   does = leads on.seen on.seen' on.does;
 }
 
+-- What is so of two lists is so of lists that are the same.
+pub both_same : (P : List ℕ → List ℕ → Type 0) (a a' b b' : List ℕ) → a ≡ a' → b ≡ b' → P a b → P a' b'
+both_same P a a' b b' first second p = subst (λ (l : List ℕ). P l b') first (subst (λ (l : List ℕ). P a l) second p)
+
 -- A medium that is too long has no image, however it is seen.
-pub long_refused : (s : Setting) (r : DfuDevice) (bytes : List ℕ) → IsAllowed s → 2 ^ 32 ≤ length bytes
-    → IsRefusedSeen refusal.NoMedium s r bytes
-long_refused s r bytes allowed long seen (as_it_is un is) = (allowed, inr (omega (arith, long, ap length is)))
-long_refused s r bytes allowed long seen (as_noted noted is) = (
-  allowed,
-  inr (omega (
-    arith,
-    long,
-    ap length is,
-    length_written bytes (header_at r bytes) (plain_header r.header) (header_fits r bytes noted.note.room),
-  )),
-)
+pub long_refused : (c : DfuConfig) (r : DfuDevice) (block bytes : List ℕ) → 2 ^ 32 ≤ length bytes
+    → IsRefusedSeen refusal.NoMedium c r block bytes
+long_refused c r block bytes long seen (as_it_is un is) = inr (omega (arith, long, ap length is))
+long_refused c r block bytes long seen (as_noted noted is) = inr (omega (
+  arith,
+  long,
+  ap length is,
+  length_written bytes (header_at r bytes) (plain_header r.header) (header_fits r bytes noted.note.room),
+))

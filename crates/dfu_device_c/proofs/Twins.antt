@@ -12,7 +12,7 @@ use Rattle.dfu_device_c.specs.Noted.{header_at, plain_header, shown, NoteStands}
 use Rattle.dfu_device_c.proofs.Covering.{range_apart, range_written, length_range, length_written, written_before, written_behind}
 
 -- The length that stands in a well-formed header is that of its image.
-header_length_is : (s : Slot) (len : ℕ) → HasHeader s len → len < 2 ^ 32 → header_length s ≡ len
+pub header_length_is : (s : Slot) (len : ℕ) → HasHeader s len → len < 2 ^ 32 → header_length s ≡ len
 header_length_is s len has fits = ⊎_elim
     (λ e. ap (λ (h : List ℕ). from_le_bytes w32 (take 4 (drop 4 h))) e ∙ from_le_bytes-to_le_bytes_4 len fits)
     (λ e. ap (λ (h : List ℕ). from_le_bytes w32 (take 4 (drop 4 h))) e ∙ from_le_bytes-to_le_bytes_4 len fits)

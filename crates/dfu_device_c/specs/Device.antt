@@ -1,16 +1,18 @@
 -- The device that a record and a medium are.
-use Rattle.std.specs.Prelude.{◌≡◌, ◌⊎◌, ℕ, ◌≤◌, ◌^◌, List, [], ◌∷◌, length, IsTrue}
+use Rattle.std.specs.Prelude.{◌≡◌, ◌⊎◌, ℕ, ◌≤◌, ◌^◌, List, [], ◌∷◌, length, min, IsTrue}
 use Rattle.std.specs.Borrow.{MutBor}
 use Rattle.dfu_slots.specs.Image.{HasImage}
 use Rattle.dfu_slots.specs.Seen.{SlotsState, store_of}
 use Rattle.dfu_slots.specs.Store.{IsStore}
 use Rattle.dfu_device.specs.declared.mode.Mode.{Mode}
-use Rattle.dfu_device.specs.Setting.{Setting, IsAllowed}
 use Rattle.dfu_device.specs.Shown.{Shown}
 use Rattle.dfu_device.specs.Parts.{shows, is_sound}
+use Rattle.dfu_device.specs.Lent.{LentShown}
+use Rattle.dfu_device_c.specs.declared.config.DfuConfig.{DfuConfig}
 use Rattle.dfu_device_c.specs.declared.record.DfuDevice.{DfuDevice}
 use Rattle.dfu_device_c.specs.declared.refusal.Refusal.{Refusal}
 use Rattle.dfu_device_c.specs.declared.refusal.Refusal.TheVariants as refusal
+use Rattle.dfu_device_c.specs.Config.{setting_of, transfer_of, IsConfig}
 use Rattle.dfu_device_c.specs.Memory.{memory_of, lent}
 use Rattle.dfu_device_c.specs.Record.{HasMode, block_in, store_in}
 use Rattle.dfu_device_c.specs.Noted.{header_at, shown, IsNoted, SeenAs}
@@ -19,15 +21,17 @@ use Rattle.dfu_device_c.specs.Noted.{header_at, shown, IsNoted, SeenAs}
 abbrev pub store_lent : DfuDevice → List ℕ → ℕ → List ℕ → SlotsState
 store_lent r seen name hidden = store_of (lent seen name hidden) [] r.put_end
 
--- Set up like this, this record and these bytes of a medium are this device.
-pub record IsDevice (s : Setting) (r : DfuDevice) (bytes : List ℕ) (d : Shown) : Type 0 where
-  pub allowed : IsAllowed s
+-- Set up like this, this record, this memory of a block and these bytes of a medium are this device.
+pub record IsDevice (c : DfuConfig) (r : DfuDevice) (block bytes : List ℕ) (d : Shown) : Type 0 where
+  pub config : IsConfig c
+  pub room : transfer_of c ≤ length block
   pub store : IsStore (store_in r bytes)
   pub mode : Mode
   pub has_mode : HasMode r mode
-  pub fits : r.length ≤ 4096
+  pub fits : r.length ≤ length block
+  pub short : r.length ≤ 4096
   pub sound : IsTrue (is_sound mode r.length (store_in r bytes))
-  pub device_is : d ≡ shows s (store_in r bytes) mode (block_in r)
+  pub device_is : d ≡ shows (setting_of c) (store_in r bytes) mode (block_in r block)
 
 -- By a record these bytes of a medium are seen in these bytes, with this behind a covered header.
 pub data Opens (r : DfuDevice) (bytes seen hidden : List ℕ) : Type 0 where
@@ -42,38 +46,36 @@ pub record IsOpened (r : DfuDevice) (memory : MutBor (List ℕ)) (slots : SlotsS
   pub store : IsStore (store_in r seen)
   pub slots_are : slots ≡ store_lent r seen memory.ghost_name hidden
 
--- A device was put where a record says.
-pub record StandsAs (r : DfuDevice) (d d' : Shown) : Type 0 where
+-- The device of a record was put together over this memory of a block and this memory of a medium.
+pub record IsMade (c : DfuConfig) (r : DfuDevice) (block memory : MutBor (List ℕ)) (d : LentShown) : Type 0 where
+  pub slots : SlotsState
+  pub opened : IsOpened r memory slots
   pub mode : Mode
   pub has_mode : HasMode r mode
-  pub fits : r.length ≤ 4096
-  pub sound : IsTrue (is_sound mode r.length d.slots)
-  pub device_is : d' ≡ shows d.config d.slots mode (block_in r)
-
--- A record says of no device on this slot store where it stands.
-abbrev pub StandsNowhere : DfuDevice → SlotsState → Type 0
-StandsNowhere r slots = (m : Mode) → HasMode r m → r.length ≤ 4096 → ¬ IsTrue (is_sound m r.length slots)
+  pub fits : r.length ≤ length block.now
+  pub short : r.length ≤ 4096
+  pub sound : IsTrue (is_sound mode r.length slots)
+  pub device_is : d.device ≡ shows (setting_of c) slots mode (block_in r block.now)
+  pub memory_is : d.memory ≡ record { name = block.ghost_name; room = min 4096 (length block.now) }
 
 -- The medium has no active image, or 2^32 bytes or more.
 abbrev pub IsNoMedium : List ℕ → Type 0
 IsNoMedium bytes = ¬ HasImage (memory_of bytes) ⊎ 2 ^ 32 ≤ length bytes
 
--- They are refused like this: the configuration is not allowed; or else the medium has no active image, or 2^32 bytes or more;
--- or else they are no device.
-abbrev pub IsRefused : Refusal → Setting → DfuDevice → List ℕ → Type 0
-IsRefused refusal.NoConfig s r bytes = ¬ IsAllowed s
-IsRefused refusal.NoMedium s r bytes = IsAllowed s × IsNoMedium bytes
-IsRefused refusal.NoDevice s r bytes = IsAllowed s × HasImage (memory_of bytes) × ((d : Shown) → ¬ IsDevice s r bytes d)
+-- They are refused like this: the medium has no active image, or 2^32 bytes or more; or else they are no device.
+abbrev pub IsRefused : Refusal → DfuConfig → DfuDevice → List ℕ → List ℕ → Type 0
+IsRefused refusal.NoMedium c r block bytes = IsNoMedium bytes
+IsRefused refusal.NoDevice c r block bytes = HasImage (memory_of bytes) × ((d : Shown) → ¬ IsDevice c r block bytes d)
 
 -- So they are refused by the bytes that a call sees.
-abbrev pub IsRefusedSeen : Refusal → Setting → DfuDevice → List ℕ → Type 0
-IsRefusedSeen e s r bytes = (seen : List ℕ) → SeenAs r bytes seen → IsRefused e s r seen
+abbrev pub IsRefusedSeen : Refusal → DfuConfig → DfuDevice → List ℕ → List ℕ → Type 0
+IsRefusedSeen e c r block bytes = (seen : List ℕ) → SeenAs r bytes seen → IsRefused e c r block seen
 
 -- A call took the device that these were to the device that they are now, by this step.
-pub record Takes (s : Setting) (r : DfuDevice) (bytes : List ℕ) (Step : Shown → Shown → Type 0) (r' : DfuDevice)
-    (bytes' : List ℕ) : Type 0 where
+pub record Takes (c : DfuConfig) (r : DfuDevice) (block bytes : List ℕ) (Step : Shown → Shown → Type 0) (r' : DfuDevice)
+    (block' bytes' : List ℕ) : Type 0 where
   pub before : Shown
   pub after : Shown
-  pub was : IsDevice s r bytes before
-  pub is : IsDevice s r' bytes' after
+  pub was : IsDevice c r block bytes before
+  pub is : IsDevice c r' block' bytes' after
   pub step : Step before after

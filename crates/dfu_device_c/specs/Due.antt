@@ -6,6 +6,7 @@ use Rattle.dfu_device.specs.Stage.{state_of}
 use Rattle.dfu_device.specs.Rows.{Elapses}
 use Rattle.dfu_device.specs.Setting.{Setting}
 use Rattle.dfu_device.specs.Shown.{Shown}
+use Rattle.dfu_device_c.specs.declared.config.DfuConfig.{DfuConfig}
 use Rattle.dfu_device_c.specs.declared.record.DfuDevice.{DfuDevice}
 use Rattle.dfu_device_c.specs.Device.{IsDevice}
 
@@ -23,6 +24,6 @@ pub record IsDue (due ms : ℕ) (d d' : Shown) : Type 0 where
   pub from : 0 < due → due ≤ ms → state_of d'.stage ≢ state_of d.stage
 
 -- The result says when a change of the device's state is due.
-abbrev pub ToldDue : Setting → DfuDevice → ℤ → Type 0
-ToldDue s r result = (bytes : List ℕ) (d : Shown) → IsDevice s r bytes d → (ms : ℕ) (d' : Shown) → Elapses ms d d'
+abbrev pub ToldDue : DfuConfig → DfuDevice → ℤ → Type 0
+ToldDue c r result = (block bytes : List ℕ) (d : Shown) → IsDevice c r block bytes d → (ms : ℕ) (d' : Shown) → Elapses ms d d'
     → (n : ℕ) → result ≡ pos n → IsDue n ms d d'

@@ -9,3 +9,4 @@ pub mod Power
 pub mod Stalls
 pub mod Due
 pub mod Long
+pub mod Came

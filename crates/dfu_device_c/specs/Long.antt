@@ -7,9 +7,10 @@ use Rattle.dfu_device.specs.declared.answer.Answer.TheVariants as answer
 use Rattle.dfu_device.specs.declared.mode.Mode.{Mode}
 use Rattle.dfu_device.specs.declared.mode.Mode.TheVariants as mode
 use Rattle.dfu_device.specs.Rows.{Handles, body_length}
-use Rattle.dfu_device.specs.Setting.{Setting}
 use Rattle.dfu_device.specs.Shown.{Shown}
+use Rattle.dfu_device_c.specs.declared.config.DfuConfig.{DfuConfig}
 use Rattle.dfu_device_c.specs.declared.record.DfuDevice.{DfuDevice}
+use Rattle.dfu_device_c.specs.Config.{transfer_of}
 use Rattle.dfu_device_c.specs.Device.{IsDevice, Takes}
 
 -- Where a device goes from this mode by such a body: as by a request that it doesn't know.
@@ -21,11 +22,11 @@ after_long (mode.Error code) = mode.Error code
 after_long m = mode.Error StalledPkt
 
 -- The host sends more bytes with this setup than a block has.
-abbrev pub IsLong : Setting → List ℕ → Type 0
-IsLong s setup = (p : Setup) → IsSetup p setup → s.functional.transfer < body_length p
+abbrev pub IsLong : DfuConfig → List ℕ → Type 0
+IsLong c setup = (p : Setup) → IsSetup p setup → transfer_of c < body_length p
 
 -- Whatever that body is: a device that the record was is now the one that its row makes of it, and the answer is a stall.
-abbrev pub TakesLong : Setting → DfuDevice → List ℕ → DfuDevice → Type 0
-TakesLong s r setup r' = (bytes : List ℕ) (d : Shown) → IsDevice s r bytes d
+abbrev pub TakesLong : DfuConfig → DfuDevice → List ℕ → DfuDevice → Type 0
+TakesLong c r setup r' = (block bytes : List ℕ) (d : Shown) → IsDevice c r block bytes d
     → (body : List ℕ) → ((p : Setup) → IsSetup p setup → length body ≡ body_length p)
-    → Takes s r bytes (λ d d'. Handles setup body d answer.Stall [] d') r' bytes
+    → Takes c r block bytes (λ d d'. Handles setup body d answer.Stall [] d') r' block bytes

@@ -4,13 +4,14 @@ use Rattle.std.specs.Borrow.{MutBor}
 use Rattle.dfu_slots.specs.Medium.{MediumState, written}
 use Rattle.dfu_slots.specs.Medium.Fuse.{Whole}
 use Rattle.dfu_slots.specs.declared.unit.Unit.TheVariants.{Byte}
+use Rattle.dfu_slots.specs.Units.{in_place}
 use Rattle.dfu_slots.specs.Seen.{SlotsState}
 use Rattle.dfu_device.specs.Shown.{Shown}
 use Rattle.dfu_device_c.specs.declared.cover.Cover.{Cover}
 
 -- The medium of these bytes: it is written in bytes, and no write of it fails.
 abbrev pub memory_of : List ℕ → MediumState
-memory_of bytes = record { bytes = bytes; failures = 0; fuse = Whole; unit = Byte; tag = [] }
+memory_of bytes = record { bytes = bytes; failures = 0; fuse = Whole; grain = in_place Byte; tag = [] }
 
 -- A header is covered; at 0 there is none.
 abbrev pub is_on : Cover → Bool
@@ -31,7 +32,7 @@ is_within cover size = not (is_on cover) || (nat_le (cover.place + 16) size && (
 -- The medium that shows these bytes, in the memory of this name, with this behind a covered header. Both are its tag, by which the
 -- memory that comes back is known to be the one that was lent.
 abbrev pub lent : List ℕ → ℕ → List ℕ → MediumState
-lent seen name hidden = record { bytes = seen; failures = 0; fuse = Whole; unit = Byte; tag = name ∷ hidden }
+lent seen name hidden = record { bytes = seen; failures = 0; fuse = Whole; grain = in_place Byte; tag = name ∷ hidden }
 
 -- The medium in this memory, with this cover.
 abbrev pub memory_at : MutBor (List ℕ) → Cover → MediumState

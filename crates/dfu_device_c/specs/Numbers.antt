@@ -19,9 +19,8 @@ NO_MEDIUM = negsuc 2
 abbrev pub NO_DEVICE : ℤ
 NO_DEVICE = negsuc 3
 
--- The number of a refusal: DFU_NO_CONFIG, DFU_NO_MEDIUM and DFU_NO_DEVICE.
+-- The number of a refusal: DFU_NO_MEDIUM and DFU_NO_DEVICE.
 abbrev pub refusal_number : Refusal → ℤ
-refusal_number refusal.NoConfig = NO_CONFIG
 refusal_number refusal.NoMedium = NO_MEDIUM
 refusal_number refusal.NoDevice = NO_DEVICE
 
@@ -32,6 +31,10 @@ NO_ROOM = negsuc 4
 -- DFU_NOT_LONG.
 abbrev pub NOT_LONG : ℤ
 NOT_LONG = negsuc 8
+
+-- DFU_NO_BLOCK.
+abbrev pub NO_BLOCK : ℤ
+NO_BLOCK = negsuc 9
 
 -- DFU_STALL.
 abbrev pub STALL : ℤ

@@ -6,11 +6,12 @@ use Rattle.dfu_slots.specs.Medium.{AllWrites}
 use Rattle.dfu_slots.specs.Image.{Active}
 use Rattle.dfu_slots.specs.Seen.{format_series}
 use Rattle.dfu_slots.specs.Changes.{IsFormatFault}
-use Rattle.dfu_device.specs.Stage.{InDfuIdle}
-use Rattle.dfu_device.specs.Setting.{Setting, IsAllowed}
+use Rattle.dfu_device.specs.Stage.{Stage}
 use Rattle.dfu_device.specs.Shown.{powered_on}
+use Rattle.dfu_device_c.specs.declared.config.DfuConfig.{DfuConfig}
 use Rattle.dfu_device_c.specs.declared.record.DfuDevice.{DfuDevice}
 use Rattle.dfu_device_c.specs.declared.place.DfuPlace.{DfuPlace}
+use Rattle.dfu_device_c.specs.Config.{setting_of, transfer_of, IsConfig}
 use Rattle.dfu_device_c.specs.Memory.{memory_of}
 use Rattle.dfu_device_c.specs.Noted.{Notes}
 use Rattle.dfu_device_c.specs.Device.{IsDevice, IsNoMedium}
@@ -37,23 +38,18 @@ pub record RefusesFormat (bytes image : List ℕ) (result : ℤ) (bytes' : List 
   pub why : IsNoFormat bytes image result
   pub untouched : bytes' ≡ bytes
 
--- A device got power: the record is that of a device in appIDLE on this medium, which stands as it did.
-pub record Powers (s : Setting) (bytes : List ℕ) (result : ℤ) (r' : DfuDevice) (bytes' : List ℕ) : Type 0 where
+-- A device got power and stands in this stage: with any block that has room, the record is that of the device on this medium, which
+-- stands as it did.
+pub record Powers (c : DfuConfig) (stage : Stage) (bytes : List ℕ) (result : ℤ) (r' : DfuDevice) (bytes' : List ℕ) : Type 0 where
   pub number_is : result ≡ pos 0
-  pub is : IsDevice s r' bytes (powered_on s (memory_of bytes))
-  pub notes : Notes r' bytes bytes
-  pub untouched : bytes' ≡ bytes
-
--- A device got power and began in dfuIDLE on this medium, which stands as it did.
-pub record Begins (s : Setting) (bytes : List ℕ) (result : ℤ) (r' : DfuDevice) (bytes' : List ℕ) : Type 0 where
-  pub number_is : result ≡ pos 0
-  pub is : IsDevice s r' bytes (record (powered_on s (memory_of bytes)) { stage = InDfuIdle })
+  pub is : (block : List ℕ) → transfer_of c ≤ length block
+      → IsDevice c r' block bytes (record (powered_on (setting_of c) (memory_of bytes)) { stage = stage })
   pub notes : Notes r' bytes bytes
   pub untouched : bytes' ≡ bytes
 
 -- No device got power: the configuration is not allowed, or else the medium has no image. All stands as it did.
-pub record RefusesPower (s : Setting) (r : DfuDevice) (bytes : List ℕ) (result : ℤ) (r' : DfuDevice) (bytes' : List ℕ) : Type 0 where
-  pub why : ((result ≡ NO_CONFIG) × ¬ IsAllowed s) ⊎ ((result ≡ NO_MEDIUM) × IsAllowed s × IsNoMedium bytes)
+pub record RefusesPower (c : DfuConfig) (r : DfuDevice) (bytes : List ℕ) (result : ℤ) (r' : DfuDevice) (bytes' : List ℕ) : Type 0 where
+  pub why : ((result ≡ NO_CONFIG) × ¬ IsConfig c) ⊎ ((result ≡ NO_MEDIUM) × IsConfig c × IsNoMedium bytes)
   pub unchanged : r' ≡ r
   pub untouched : bytes' ≡ bytes
 

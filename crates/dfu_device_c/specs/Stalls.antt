@@ -12,8 +12,8 @@ use Rattle.dfu_device.specs.declared.mode.Mode.TheVariants as mode
 use Rattle.dfu_device.specs.Stage.{Reply, Stall, Profile}
 use Rattle.dfu_device.specs.Table.{Plan, Sure, Writes, Commits}
 use Rattle.dfu_device.specs.Rows.{Handles, body_length}
-use Rattle.dfu_device.specs.Setting.{Setting}
 use Rattle.dfu_device.specs.Shown.{Shown}
+use Rattle.dfu_device_c.specs.declared.config.DfuConfig.{DfuConfig}
 use Rattle.dfu_device_c.specs.declared.record.DfuDevice.{DfuDevice}
 use Rattle.dfu_device_c.specs.Device.{IsDevice}
 
@@ -56,6 +56,6 @@ pub record SaysStall (result : ℤ) (a : Answer) : Type 0 where
   pub other : a ≢ answer.Stall → result ≡ pos 0
 
 -- The result says how the device, whose medium has so many bytes, answers this setup, whatever its body is.
-abbrev pub ToldStall : Setting → DfuDevice → ℕ → List ℕ → ℤ → Type 0
-ToldStall s r size setup result = (bytes : List ℕ) (d : Shown) → IsDevice s r bytes d → length bytes ≡ size
+abbrev pub ToldStall : DfuConfig → DfuDevice → ℕ → List ℕ → ℤ → Type 0
+ToldStall c r size setup result = (block bytes : List ℕ) (d : Shown) → IsDevice c r block bytes d → length bytes ≡ size
     → (body : List ℕ) → IsBodyOf setup body → (a : Answer) (sent : List ℕ) (d' : Shown) → Handles setup body d a sent d' → SaysStall result a

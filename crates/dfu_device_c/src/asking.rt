@@ -1,8 +1,7 @@
 //! What a program in C asks of a device without its medium.
 ghost use Rattle.std.specs.Prelude.{◌≡◌, ◌⊎◌, ◌-◌, max, pos};
 ghost use Rattle.dfu_wire.specs.Functional.{IsFunctional};
-ghost use Rattle.dfu_device.specs.Setting.{IsAllowed};
-ghost use Rattle.dfu_device_c.specs.Config.{setting_of};
+ghost use Rattle.dfu_device_c.specs.Config.{setting_of, IsConfig};
 ghost use Rattle.dfu_device_c.specs.Numbers.{NO_CONFIG};
 ghost use Rattle.dfu_device_c.specs.Calls.{RefusesAsking};
 ghost use Rattle.dfu_device_c.specs.Stalls.{ToldStall};
@@ -23,8 +22,8 @@ pub extern "C" fn dfu_device_would_stall(
     size: usize,
     setup: &[u8; 8],
 ) -> i32
-    ensures outcome { let s = setting_of config.now in
-        (((result ≡ pos 0) ⊎ (result ≡ pos 1)) × ToldStall s device.now size setup.now result) ⊎ RefusesAsking s device.now result }
+    ensures outcome { (((result ≡ pos 0) ⊎ (result ≡ pos 1)) × ToldStall config.now device.now size setup.now result)
+        ⊎ RefusesAsking config.now device.now result }
 {
     if !is_allowed(config) {
         return -2;
@@ -71,7 +70,7 @@ fn due_in(config: &DfuConfig, mode: Mode) -> i64
 /// In how many milliseconds `dfu_device_elapse` changes the state: at least 1; or 0 where no time changes it.
 #[unsafe(no_mangle)]
 pub extern "C" fn dfu_device_due(config: &DfuConfig, device: &DfuDevice) -> i64
-    ensures outcome { let s = setting_of config.now in ToldDue s device.now result ⊎ RefusesAsking s device.now result }
+    ensures outcome { ToldDue config.now device.now result ⊎ RefusesAsking config.now device.now result }
 {
     if !is_allowed(config) {
         return -2;
@@ -85,9 +84,8 @@ pub extern "C" fn dfu_device_due(config: &DfuConfig, device: &DfuDevice) -> i64
 /// The functional descriptor, 9 bytes, at the front of `out`: 9.
 #[unsafe(no_mangle)]
 pub extern "C" fn dfu_device_functional(config: &DfuConfig, out: &mut [u8; 9]) -> i32
-    ensures outcome { let s = setting_of config.now in
-        ((result ≡ pos 9) × IsAllowed s × IsFunctional s.functional out.new)
-        ⊎ ((result ≡ NO_CONFIG) × (¬ IsAllowed s) × (out.new ≡ out.old)) }
+    ensures outcome { ((result ≡ pos 9) × IsConfig config.now × IsFunctional (setting_of config.now).functional out.new)
+        ⊎ ((result ≡ NO_CONFIG) × (¬ IsConfig config.now) × (out.new ≡ out.old)) }
 {
     if !is_allowed(config) {
         return -2;

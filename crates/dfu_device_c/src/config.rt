@@ -1,18 +1,20 @@
 //! What a program in C sets a device up with.
-ghost use Rattle.std.specs.Prelude.{◌≡◌, IfSome, IfNone, IsTrue, not};
-ghost use Rattle.dfu_device.specs.Setting.{IsAllowed};
-ghost use Rattle.dfu_device_c.specs.Config.{setting_of};
+ghost use Rattle.std.specs.Prelude.{◌≡◌, IfSome, IfNone, OnSome, IsTrue, not};
+ghost use Rattle.dfu_device_c.specs.Config.{setting_of, transfer_of, IsConfig};
 
+use crate::version::VERSION;
 use dfu_device::Config;
 use dfu_wire::{Functional, Ids};
 
 /// bcdDFUVersion of every device.
-const VERSION: u16 = 0x0110;
+const BCD_VERSION: u16 = 0x0110;
 
 /// What a device is set up with: `struct dfu_config`. It is to stay the same between two calls for a device.
 #[repr(C)]
 #[derive(Clone, Copy)]
 pub struct DfuConfig {
+    /// The version of the header that the program was built with.
+    pub version: u32,
     /// bcdDevice.
     pub device: u16,
     /// idProduct.
@@ -33,11 +35,11 @@ pub struct DfuConfig {
     pub least: u32,
 }
 
-/// Whether a device can be set up so.
+/// Whether it is of this version, and a device can be set up so.
 #[inline(never)]
 pub(crate) fn is_allowed(config: &DfuConfig) -> bool
-    ensures yes { IsTrue result → IsAllowed (setting_of config.now) }
-    ensures no { IsTrue (not result) → ¬ IsAllowed (setting_of config.now) }
+    ensures yes { IsTrue result → IsConfig config.now }
+    ensures no { IsTrue (not result) → ¬ IsConfig config.now }
 {
     match config_of(config) {
         Some(_) => true,
@@ -53,17 +55,20 @@ pub(crate) fn functional_of(config: &DfuConfig) -> Functional
         config.attributes,
         config.detach_ms,
         config.transfer,
-        VERSION,
+        BCD_VERSION,
     )
 }
 
-/// The configuration that this is, if a device can be set up so.
+/// The configuration that this is, if it is of this version, and a device can be set up so.
 #[inline(never)]
 pub(crate) fn config_of(config: &DfuConfig) -> Option<Config>
     ensures some { IfSome result (λ c. c ≡ setting_of config.now) }
-    ensures allowed { IfSome result (λ c. IsAllowed c) }
-    ensures none { IfNone result (¬ IsAllowed (setting_of config.now)) }
+    ensures config { OnSome result (IsConfig config.now) }
+    ensures none { IfNone result (¬ IsConfig config.now) }
 {
+    if config.version != VERSION {
+        return None;
+    }
     let ids = Ids {
         device: config.device,
         product: config.product,

@@ -1,19 +1,20 @@
 //! The calls for a device, as a program in C makes them: `include/dfu_device.h` says each for a reader of C.
-ghost use Rattle.std.specs.Prelude.{◌≡◌, ◌⊎◌, ◌<◌, ◌≤◌, length};
+ghost use Rattle.std.specs.Prelude.{◌≡◌, ◌≢◌, ◌⊎◌, ◌<◌, ◌≤◌, ◌^◌, pos, length};
 ghost use Rattle.dfu_device.specs.Rows.{Handles, Elapses};
 ghost use Rattle.dfu_device.specs.Table.{reset_stage};
 ghost use Rattle.dfu_device.specs.Lent.{answer_room};
-ghost use Rattle.dfu_device_c.specs.Config.{setting_of};
+ghost use Rattle.dfu_device_c.specs.declared.record.DfuDevice.{DfuDevice as Record};
+ghost use Rattle.dfu_device_c.specs.Config.{setting_of, transfer_of, IsConfig};
 ghost use Rattle.dfu_device_c.specs.Noted.{On};
 ghost use Rattle.dfu_device_c.specs.Numbers.{answer_number, NO_ROOM};
-ghost use Rattle.dfu_device_c.specs.Calls.{Refuses, Goes, Answered, HasNoRoom};
+ghost use Rattle.dfu_device_c.specs.Calls.{IsCause, Refuses, Goes, Answered, HasNoRoom};
 
 use crate::calls;
-use crate::config::{DfuConfig, config_of};
+use crate::config::{DfuConfig, is_allowed};
 use crate::cover::Cover;
 use crate::memory::{Memory, is_short};
 use crate::record::DfuDevice;
-use dfu_device::Answer;
+use dfu_device::{Answer, LentBlock};
 
 // The number of an answer with so many bytes: how many they are, or -1 for a stall.
 fn number_of(answer: Answer, count: usize) -> i32
@@ -34,38 +35,61 @@ fn room_for(config: &DfuConfig) -> usize
     usize::from(config.transfer).max(6)
 }
 
+// The number of the refusal of a call that can't look for its device; 0 where it can.
+#[inline(never)]
+fn refusal_before(config: &DfuConfig, block: &[u8], medium: &[u8]) -> i32
+    ensures config { result ≡ pos 0 → IsConfig config.now }
+    ensures fits { result ≡ pos 0 → transfer_of config.now ≤ length block.now }
+    ensures short { result ≡ pos 0 → length medium.now < 2 ^ 32 }
+    ensures refused { result ≢ pos 0 → (r : Record) → IsCause config.now r block.now medium.now result }
+{
+    if !is_allowed(config) {
+        return -2;
+    }
+    if block.len() < usize::from(config.transfer) {
+        return -10;
+    }
+    if !is_short(medium) {
+        return -3;
+    }
+    0
+}
+
 /// Answers a setup with its body, as `Device::handle_into`: how many bytes of the answer stand in `out`, or -1 for a stall.
 /// Refused with -5 where `out` has less room than an answer may need; then as every call.
 #[unsafe(no_mangle)]
 pub extern "C" fn dfu_device_handle(
     config: &DfuConfig,
     device: &mut DfuDevice,
+    block: &mut [u8],
     medium: &mut [u8],
     setup: &[u8; 8],
     body: &[u8],
     out: &mut [u8],
 ) -> i32
-    ensures outcome { let s = setting_of config.now in
-        On device.old medium.old device.new medium.new (λ b b'. Answered s device.old b out.old
-        (λ a sent d d'. Handles setup.now body.now d a sent d') result device.new b' out.new)
-        ⊎ (Refuses s device.old medium.old result device.new medium.new × (out.new ≡ out.old))
-        ⊎ HasNoRoom s device.old medium.old out.old result device.new medium.new out.new }
+    ensures outcome { let c = config.now in
+        On device.old medium.old device.new medium.new (λ b b'. Answered c device.old block.old b out.old
+        (λ a sent d d'. Handles setup.now body.now d a sent d') result device.new block.new b' out.new)
+        ⊎ (Refuses c device.old block.old medium.old result device.new block.new medium.new × (out.new ≡ out.old))
+        ⊎ HasNoRoom c device.old block.old medium.old out.old result device.new block.new medium.new out.new }
     ensures short { length out.old < answer_room (setting_of config.now) → result ≡ NO_ROOM }
 {
     if out.len() < room_for(config) {
         return -5;
     }
-    let Some(setting) = config_of(config) else {
-        return -2;
-    };
-    if !is_short(medium) {
-        return -3;
+    let refusal = refusal_before(config, block, medium);
+    if refusal != 0 {
+        return refusal;
     }
+    let mut lent = LentBlock {
+        memory: block,
+        len: 0,
+    };
     let mut memory = Memory {
         bytes: medium,
         cover: Cover::NONE,
     };
-    match calls::handle(setting, device, &mut memory, setup, body, out) {
+    match calls::handle(config, device, &mut lent, &mut memory, setup, body, out) {
         Ok((answer, count)) => number_of(answer, count),
         Err(refusal) => refusal.number(),
     }
@@ -76,24 +100,28 @@ pub extern "C" fn dfu_device_handle(
 pub extern "C" fn dfu_device_elapse(
     config: &DfuConfig,
     device: &mut DfuDevice,
+    block: &mut [u8],
     medium: &mut [u8],
     ms: u32,
 ) -> i32
-    ensures outcome { let s = setting_of config.now in
-        On device.old medium.old device.new medium.new (λ b b'. Goes s device.old b (Elapses ms) result device.new b')
-        ⊎ Refuses s device.old medium.old result device.new medium.new }
+    ensures outcome { let c = config.now in
+        On device.old medium.old device.new medium.new
+        (λ b b'. Goes c device.old block.old b (Elapses ms) result device.new block.new b')
+        ⊎ Refuses c device.old block.old medium.old result device.new block.new medium.new }
 {
-    let Some(setting) = config_of(config) else {
-        return -2;
-    };
-    if !is_short(medium) {
-        return -3;
+    let refusal = refusal_before(config, block, medium);
+    if refusal != 0 {
+        return refusal;
     }
+    let mut lent = LentBlock {
+        memory: block,
+        len: 0,
+    };
     let mut memory = Memory {
         bytes: medium,
         cover: Cover::NONE,
     };
-    match calls::elapse(setting, device, &mut memory, ms) {
+    match calls::elapse(config, device, &mut lent, &mut memory, ms) {
         Ok(_) => 0,
         Err(refusal) => refusal.number(),
     }
@@ -104,24 +132,27 @@ pub extern "C" fn dfu_device_elapse(
 pub extern "C" fn dfu_device_usb_reset(
     config: &DfuConfig,
     device: &mut DfuDevice,
+    block: &mut [u8],
     medium: &mut [u8],
 ) -> i32
-    ensures outcome { let s = setting_of config.now in
-        On device.old medium.old device.new medium.new (λ b b'. Goes s device.old b
-        (λ d d'. d' ≡ record d { stage = reset_stage d.stage }) result device.new b')
-        ⊎ Refuses s device.old medium.old result device.new medium.new }
+    ensures outcome { let c = config.now in
+        On device.old medium.old device.new medium.new (λ b b'. Goes c device.old block.old b
+        (λ d d'. d' ≡ record d { stage = reset_stage d.stage }) result device.new block.new b')
+        ⊎ Refuses c device.old block.old medium.old result device.new block.new medium.new }
 {
-    let Some(setting) = config_of(config) else {
-        return -2;
-    };
-    if !is_short(medium) {
-        return -3;
+    let refusal = refusal_before(config, block, medium);
+    if refusal != 0 {
+        return refusal;
     }
+    let mut lent = LentBlock {
+        memory: block,
+        len: 0,
+    };
     let mut memory = Memory {
         bytes: medium,
         cover: Cover::NONE,
     };
-    match calls::usb_reset(setting, device, &mut memory) {
+    match calls::usb_reset(config, device, &mut lent, &mut memory) {
         Ok(_) => 0,
         Err(refusal) => refusal.number(),
     }

@@ -1,151 +1,114 @@
-//! A device is made of what is kept of it, and kept again.
-ghost use Rattle.std.specs.Prelude.{◌≡◌, ◌≢◌, ◌≤◌, false, length, IfOk, IfErr, IfSome, IfNone, OnErr, IsTrue, not, List, ℕ};
-ghost use Rattle.dfu_slots.specs.Image.{HasImage, gate_of, first_is_active};
-ghost use Rattle.dfu_device.specs.Setting.{Setting, IsAllowed};
-ghost use Rattle.dfu_device.specs.Stage.{InAppIdle};
-ghost use Rattle.dfu_device_c.specs.Memory.{memory_of, memory_at, is_on, is_within, plain_medium, plain_device};
-ghost use Rattle.dfu_device_c.specs.Noted.{IsNoted};
-ghost use Rattle.dfu_device_c.specs.Device.{IsDevice, IsRefusedSeen, IsOpened, StandsAs, StandsNowhere};
+//! A device is put together of what is kept of it, and kept again.
+ghost use Rattle.std.specs.Prelude.{◌≡◌, ◌≤◌, false, length, IfOk, IfErr, IfSome, IfNone, OnErr};
+ghost use Rattle.dfu_device.specs.declared.mode.Mode.{Mode as Stands};
+ghost use Rattle.dfu_device_c.specs.declared.config.DfuConfig.{DfuConfig as Given};
+ghost use Rattle.dfu_device_c.specs.Config.{setting_of, transfer_of, IsConfig};
+ghost use Rattle.dfu_device_c.specs.Memory.{memory_at, is_on, seen_of, plain_device};
+ghost use Rattle.dfu_device_c.specs.Record.{HasMode};
+ghost use Rattle.dfu_device_c.specs.Noted.{Notes};
+ghost use Rattle.dfu_device_c.specs.Device.{IsDevice, IsRefusedSeen, IsMade};
 ghost use Rattle.dfu_device_c.specs.Calls.{IsBack};
 
-use crate::cover::Cover;
-use crate::memory::{Memory, take};
-use crate::noted::{cover_of, is_first};
-use crate::record::{DfuDevice, mode_of, set_block, set_mode};
+use crate::config::{DfuConfig, config_of};
+use crate::memory::Memory;
+use crate::noted::note;
+use crate::open::open;
+use crate::record::{DfuDevice, mode_of, set_mode};
 use crate::refusal::Refusal;
-use arrayvec::ArrayVec;
-use dfu_device::{Config, Device};
-use dfu_slots::Slots;
+use dfu_device::{LentBlock, LentDevice, Mode};
 
-// Why this memory, of which no store was made, is none of a device.
-#[inline(never)]
-fn refusal_of(memory: &mut Memory<'_>) -> Refusal
-    ensures config { result ≢ Refusal.NoConfig }
-    ensures medium { result ≡ Refusal.NoMedium → ¬ HasImage (memory_at memory.old.bytes memory.old.cover) }
-    ensures device { result ≡ Refusal.NoDevice → HasImage (memory_at memory.old.bytes memory.old.cover) }
-    ensures back { memory_at memory.new.bytes memory.new.cover ≡ memory_at memory.old.bytes memory.old.cover }
+/// A device whose medium and block are in the memory of the caller.
+pub(crate) type Kept<'m, 'b> = LentDevice<Memory<'m>, LentBlock<'b>>;
+
+// The mode of a record, with its block, which is taken out of its place; none where the record has no mode, or a block that
+// is longer than the memory or than 4,096 bytes.
+fn stand<'b>(kept: &DfuDevice, block: &mut LentBlock<'b>) -> Option<(Mode, LentBlock<'b>)>
+    ensures mode { IfSome result (λ p. HasMode kept.now p.0) }
+    ensures only { IfSome result (λ p. (m : Stands) → HasMode kept.now m → p.0 ≡ m) }
+    ensures fits { IfSome result (λ p. kept.now.length ≤ length block.old.memory.now) }
+    ensures short { IfSome result (λ p. kept.now.length ≤ 4096) }
+    ensures memory { IfSome result (λ p. p.1.memory ≡ block.old.memory) }
+    ensures len { IfSome result (λ p. p.1.len ≡ kept.now.length) }
+    ensures none { IfNone result ((m : Stands) → HasMode kept.now m → kept.now.length ≤ 4096
+        → ¬ (kept.now.length ≤ length block.old.memory.now)) }
+    ensures back { IfNone result (block.new.memory ≡ block.old.memory) }
 {
-    match Slots::open(take(memory)) {
-        Ok(slots) => {
-            *memory = slots.into_medium();
-            Refusal::NoDevice
-        }
-        Err(refused) => {
-            let (_, taken) = refused;
-            *memory = taken;
-            Refusal::NoMedium
-        }
+    let len = usize::from(kept.length);
+    if len > 4096 || len > block.memory.len() {
+        return None;
     }
-}
-
-// The memory with this cover, which is taken out of its place.
-fn covered<'m>(memory: &mut Memory<'m>, cover: Cover) -> Memory<'m>
-    requires { IsTrue (is_within cover (length memory.old.bytes.now)) }
-    ensures bytes { result.bytes ≡ memory.old.bytes }
-    ensures cover { result.cover ≡ cover }
-{
-    let Memory { bytes, cover: _ } = take(memory);
-    Memory { bytes, cover }
-}
-
-// The slot store by what a record notes, where that stands on the medium. No image is read.
-#[inline(never)]
-fn open_noted<'m>(kept: &DfuDevice, memory: &mut Memory<'m>) -> Option<Slots<Memory<'m>>>
-    requires plain { is_on memory.old.cover ≡ false }
-    ensures some { IfSome result (λ slots. IsOpened kept.now memory.old.bytes slots) }
-    ensures none { IfNone result (¬ IsNoted kept.now memory.old.bytes.now) }
-    ensures back { IfNone result (memory.new.bytes ≡ memory.old.bytes) }
-    ensures cover { IfNone result (is_on memory.new.cover ≡ false) }
-{
-    let Some(cover) = cover_of(kept, memory) else {
+    let Some(mode) = mode_of(kept) else {
         return None;
     };
-    match Slots::from_known(
-        covered(memory, cover),
-        ArrayVec::new(),
-        kept.put_end,
-        is_first(kept),
-    ) {
-        Ok(slots) => Some(slots),
-        Err(mut taken) => {
-            *memory = covered(&mut taken, Cover::NONE);
-            None
-        }
-    }
+    let LentBlock { memory, len: _ } = std::mem::replace(
+        block,
+        LentBlock {
+            memory: &mut [],
+            len: 0,
+        },
+    );
+    Some((mode, LentBlock { memory, len }))
 }
 
-// The slot store over the medium as it stands. It reads the active image, for its register.
-fn open_plain<'m>(kept: &DfuDevice, memory: &mut Memory<'m>) -> Result<Slots<Memory<'m>>, Refusal>
-    requires plain { is_on memory.old.cover ≡ false }
-    requires unnoted { ¬ IsNoted kept.now memory.old.bytes.now }
-    ensures ok { IfOk result (λ slots. IsOpened kept.now memory.old.bytes slots) }
-    ensures err { IfErr result (λ e. (s : Setting) → IsAllowed s → IsRefusedSeen e s kept.now memory.old.bytes.now) }
-    ensures back { OnErr result (IsBack memory.old.bytes memory.new.bytes) }
-{
-    match Slots::from_parts(take(memory), ArrayVec::new(), kept.put_end) {
-        Ok(slots) => Ok(slots),
-        Err(taken) => {
-            *memory = taken;
-            Err(refusal_of(memory))
-        }
-    }
-}
-
-/// The slot store of a record in this memory, which is taken out of its place; or why there is none, and the memory is back.
-pub(crate) fn open<'m>(
+/// The device of a record, over the memory of its medium and of its block, which are taken out of their places; or why there
+/// is none, and both are back.
+#[inline(never)]
+pub(crate) fn made<'m, 'b>(
+    config: &DfuConfig,
     kept: &DfuDevice,
+    block: &mut LentBlock<'b>,
     memory: &mut Memory<'m>,
-) -> Result<Slots<Memory<'m>>, Refusal>
+) -> Result<Kept<'m, 'b>, Refusal>
+    requires config { IsConfig config.now }
+    requires room { transfer_of config.now ≤ length block.old.memory.now }
     requires plain { is_on memory.old.cover ≡ false }
-    ensures ok { IfOk result (λ slots. IsOpened kept.now memory.old.bytes slots) }
-    ensures err { IfErr result (λ e. (s : Setting) → IsAllowed s → IsRefusedSeen e s kept.now memory.old.bytes.now) }
+    ensures ok { IfOk result (λ d. IsMade config.now kept.now block.old.memory memory.old.bytes d) }
+    ensures err { IfErr result (λ e. IsRefusedSeen e config.now kept.now block.old.memory.now memory.old.bytes.now) }
     ensures back { OnErr result (IsBack memory.old.bytes memory.new.bytes) }
+    ensures block_back { OnErr result (block.new.memory ≡ block.old.memory) }
 {
-    match open_noted(kept, memory) {
-        Some(slots) => Ok(slots),
-        None => open_plain(kept, memory),
-    }
-}
-
-/// A device in appIDLE, as `Device::start` makes it: a function of its own, so that it stands in the library once.
-#[inline(never)]
-pub(crate) fn started<'m>(setting: Config, slots: Slots<Memory<'m>>) -> Device<Memory<'m>>
-    ensures { result ≡ record { config = setting; slots = slots.entry; stage = InAppIdle } }
-{
-    Device::start(setting, slots)
-}
-
-/// Puts a device that was started where a record says; false where it says nothing of a device.
-#[inline(never)]
-pub(crate) fn stand(device: &mut Device<Memory<'_>>, kept: &DfuDevice) -> bool
-    ensures yes { IsTrue result → StandsAs kept.now device.old device.new }
-    ensures no { IsTrue (not result) → StandsNowhere kept.now device.old.slots }
-    ensures unchanged { IsTrue (not result) → device.new ≡ device.old }
-{
-    let Some(mode) = mode_of(kept) else {
-        return false;
+    let Some(setting) = config_of(config) else {
+        unreachable!()
     };
-    let length = usize::from(kept.length);
-    if length > 4096 {
-        return false;
+    let slots = open(kept, memory)?;
+    let Some(standing) = stand(kept, block) else {
+        *memory = slots.into_medium();
+        return Err(Refusal::NoDevice);
+    };
+    let (mode, taken) = standing;
+    match LentDevice::from_parts(setting, slots, mode, taken) {
+        Ok(device) => Ok(device),
+        Err(refused) => {
+            let (slots, taken) = refused;
+            *memory = slots.into_medium();
+            *block = taken;
+            Err(Refusal::NoDevice)
+        }
     }
-    device.set_parts(mode, &kept.block[..length])
 }
 
-/// Keeps a device, but for what a record notes; and answers whether the first slot is the active one.
+/// Keeps a device: the record says of it and notes the active slot, and the memory of its medium and of its block is back.
 #[inline(never)]
-pub(crate) fn keep(device: &Device<Memory<'_>>, kept: &mut DfuDevice) -> bool
-    ensures device { (s : Setting) (bytes : List ℕ) → IsAllowed s → device.now.config ≡ s
-        → plain_medium device.now.slots.medium ≡ memory_of bytes → IsDevice s kept.new bytes (plain_device device.now) }
-    ensures first { let m = device.now.slots.medium in result ≡ first_is_active (gate_of m) m.bytes }
-    ensures room { 64 ≤ length device.now.slots.medium.bytes }
+pub(crate) fn keep<'m, 'b>(
+    device: Kept<'m, 'b>,
+    kept: &mut DfuDevice,
+    block: &mut LentBlock<'b>,
+    memory: &mut Memory<'m>,
+)
+    ensures medium { memory_at memory.new.bytes memory.new.cover ≡ device.entry.device.slots.medium }
+    ensures device { (c : Given) → IsConfig c → transfer_of c ≤ device.entry.memory.room → device.entry.device.config ≡ setting_of c
+        → IsDevice c kept.new block.new.memory.now (seen_of memory.new.bytes.now memory.new.cover) (plain_device device.entry.device) }
+    ensures notes { Notes kept.new memory.new.bytes.now (seen_of memory.new.bytes.now memory.new.cover) }
+    ensures name { block.new.memory.ghost_name ≡ device.entry.memory.name }
 {
-    let (mode, block) = device.parts();
-    set_block(kept, block);
+    let (slots, mode, taken) = device.into_parts();
+    kept.length = taken.len as u16;
     set_mode(kept, mode);
-    let slots = device.slots();
     // Called for its clause `store`: since the medium is written in bytes, none is held back.
     let _ = slots.held();
     kept.put_end = slots.put_end();
-    slots.is_first()
+    let first = slots.is_first();
+    *memory = slots.into_medium();
+    *block = taken;
+    note(kept, memory, first);
 }

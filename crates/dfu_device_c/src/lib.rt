@@ -11,6 +11,7 @@ pub mod laws;
 mod long;
 mod memory;
 mod noted;
+mod open;
 mod place;
 mod power;
 mod record;

@@ -1,8 +1,7 @@
 //! A body that is longer than a block may be: it needs no memory, since no byte of it is looked at.
 ghost use Rattle.std.specs.Prelude.{◌≡◌, ◌⊎◌, nat_lt};
 ghost use Rattle.dfu_device.specs.Rows.{body_length};
-ghost use Rattle.dfu_device.specs.Setting.{IsAllowed};
-ghost use Rattle.dfu_device_c.specs.Config.{setting_of};
+ghost use Rattle.dfu_device_c.specs.Config.{IsConfig};
 ghost use Rattle.dfu_device_c.specs.Numbers.{STALL, NOT_LONG};
 ghost use Rattle.dfu_device_c.specs.Calls.{RefusesAsking};
 ghost use Rattle.dfu_device_c.specs.Long.{after_long, IsLong, TakesLong};
@@ -41,10 +40,9 @@ pub extern "C" fn dfu_device_too_long(
     device: &mut DfuDevice,
     setup: &[u8; 8],
 ) -> i32
-    ensures outcome { let s = setting_of config.now in
-        ((result ≡ STALL) × IsLong s setup.now × TakesLong s device.old setup.now device.new)
+    ensures outcome { ((result ≡ STALL) × IsLong config.now setup.now × TakesLong config.now device.old setup.now device.new)
         ⊎ ((device.new ≡ device.old)
-        × (((result ≡ NOT_LONG) × IsAllowed s × ¬ IsLong s setup.now) ⊎ RefusesAsking s device.old result)) }
+        × (((result ≡ NOT_LONG) × IsConfig config.now × ¬ IsLong config.now setup.now) ⊎ RefusesAsking config.now device.old result)) }
 {
     if !is_allowed(config) {
         return -2;

@@ -54,6 +54,11 @@ impl<'m> Medium for Memory<'m> {
         Unit::Byte
     }
 
+    fn sector(&self) -> u32 {
+        let _len = self.bytes.len();
+        0
+    }
+
     // A library that goes into a bootloader is to be small.
     fn has_small_tables(&self) -> bool {
         true
@@ -65,6 +70,11 @@ impl<'m> Medium for Memory<'m> {
 
     fn write(&mut self, at: u32, bytes: &[u8]) -> Result<(), Failed> {
         write_seen(self.bytes, &mut self.cover, at as usize, bytes);
+        Ok(())
+    }
+
+    // It has no sectors.
+    fn erase(&mut self, at: u32) -> Result<(), Failed> {
         Ok(())
     }
 }

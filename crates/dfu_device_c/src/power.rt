@@ -1,25 +1,26 @@
 //! What a program in C does to a medium, and to a device that gets power.
-ghost use Rattle.std.specs.Prelude.{◌≡◌, ◌≢◌, ◌⊎◌, false, [], IfErr, OnOk, OnErr};
+ghost use Rattle.std.specs.Prelude.{◌≡◌, ◌≢◌, ◌⊎◌, ◌≤◌, List, ℕ, length, false, [], IfErr, OnOk, OnErr};
 ghost use Rattle.dfu_slots.specs.declared.fault.FormatFault.{FormatFault};
 ghost use Rattle.dfu_slots.specs.Image.{HasImage};
 ghost use Rattle.dfu_slots.specs.Changes.{IsFormatFault};
-ghost use Rattle.dfu_device.specs.Setting.{Setting, IsAllowed};
+ghost use Rattle.dfu_device.specs.Stage.{InAppIdle, InDfuIdle};
 ghost use Rattle.dfu_device.specs.Parts.{stage_of};
 ghost use Rattle.dfu_device.specs.Shown.{powered_on};
-ghost use Rattle.dfu_device_c.specs.Config.{setting_of};
+ghost use Rattle.dfu_device_c.specs.declared.config.DfuConfig.{DfuConfig};
+ghost use Rattle.dfu_device_c.specs.Config.{setting_of, transfer_of, IsConfig};
 ghost use Rattle.dfu_device_c.specs.Memory.{memory_of, is_on};
 ghost use Rattle.dfu_device_c.specs.Noted.{Notes};
 ghost use Rattle.dfu_device_c.specs.Device.{IsDevice};
 ghost use Rattle.dfu_device_c.specs.Calls.{IsBack};
 ghost use Rattle.dfu_device_c.specs.Numbers.{format_number};
-ghost use Rattle.dfu_device_c.specs.Power.{Formats, Powers, Begins, Stands, RefusesFormat, RefusesPower, RefusesPlace, IsFormatted, IsThere};
+ghost use Rattle.dfu_device_c.specs.Power.{Formats, Powers, Stands, RefusesFormat, RefusesPower, RefusesPlace, IsFormatted, IsThere};
 
 use crate::config::{DfuConfig, is_allowed};
 use crate::cover::Cover;
 use crate::memory::{Memory, is_short, take};
 use crate::noted::note;
 use crate::place::DfuPlace;
-use crate::record::{DfuDevice, set_block, set_mode};
+use crate::record::{DfuDevice, set_mode};
 use dfu_device::Mode;
 use dfu_slots::{FormatFault, Slots};
 
@@ -74,13 +75,13 @@ pub extern "C" fn dfu_device_format(medium: &mut [u8], image: &[u8]) -> i32
     }
 }
 
-// A device gets power on this memory, if that has an image, and stands in one of these two modes. No `Device` is made, which takes
-// a block of 4,096 bytes of the stack.
+// A device gets power on this memory, if that has an image, and stands in one of these two modes.
 fn power_on(device: &mut DfuDevice, memory: &mut Memory<'_>, mode: Mode) -> Result<(), ()>
     requires mode { (mode ≡ Mode.AppIdle) ⊎ (mode ≡ Mode.DfuIdle) }
     requires plain { is_on memory.old.cover ≡ false }
-    ensures ok { OnOk result ((s : Setting) → IsAllowed s → IsDevice s device.new memory.old.bytes.now
-        (record (powered_on s (memory_of memory.old.bytes.now)) { stage = stage_of mode [] [] })) }
+    ensures ok { OnOk result ((c : DfuConfig) (block : List ℕ) → IsConfig c → transfer_of c ≤ length block
+        → IsDevice c device.new block memory.old.bytes.now
+        (record (powered_on (setting_of c) (memory_of memory.old.bytes.now)) { stage = stage_of mode [] [] })) }
     ensures notes { OnOk result (Notes device.new memory.old.bytes.now memory.old.bytes.now) }
     ensures err { OnErr result (¬ HasImage (memory_of memory.old.bytes.now)) }
     ensures unchanged { OnErr result (device.new ≡ device.old) }
@@ -88,7 +89,7 @@ fn power_on(device: &mut DfuDevice, memory: &mut Memory<'_>, mode: Mode) -> Resu
 {
     match Slots::open(take(memory)) {
         Ok(slots) => {
-            set_block(device, &[]);
+            device.length = 0;
             set_mode(device, mode);
             device.put_end = slots.put_end();
             // Called for its clause `image`, which says that two slots have room.
@@ -106,16 +107,12 @@ fn power_on(device: &mut DfuDevice, memory: &mut Memory<'_>, mode: Mode) -> Resu
     }
 }
 
-/// A device gets power, as `Device::power_on`: 0, and `device` is in appIDLE. It may hold anything before.
-#[unsafe(no_mangle)]
-pub extern "C" fn dfu_device_power_on(
-    config: &DfuConfig,
-    device: &mut DfuDevice,
-    medium: &mut [u8],
-) -> i32
-    ensures outcome { let s = setting_of config.now in
-        Powers s medium.old result device.new medium.new
-        ⊎ RefusesPower s device.old medium.old result device.new medium.new }
+// A device gets power in one of these two modes: 0, or the number of the refusal.
+#[inline(never)]
+fn start(config: &DfuConfig, device: &mut DfuDevice, medium: &mut [u8], mode: Mode) -> i32
+    requires mode { (mode ≡ Mode.AppIdle) ⊎ (mode ≡ Mode.DfuIdle) }
+    ensures outcome { Powers config.now (stage_of mode [] []) medium.old result device.new medium.new
+        ⊎ RefusesPower config.now device.old medium.old result device.new medium.new }
 {
     if !is_allowed(config) {
         return -2;
@@ -127,10 +124,23 @@ pub extern "C" fn dfu_device_power_on(
         bytes: medium,
         cover: Cover::NONE,
     };
-    match power_on(device, &mut memory, Mode::AppIdle) {
+    match power_on(device, &mut memory, mode) {
         Ok(_) => 0,
         Err(_) => -3,
     }
+}
+
+/// A device gets power, as `Device::power_on`: 0, and `device` is in appIDLE. It may hold anything before.
+#[unsafe(no_mangle)]
+pub extern "C" fn dfu_device_power_on(
+    config: &DfuConfig,
+    device: &mut DfuDevice,
+    medium: &mut [u8],
+) -> i32
+    ensures outcome { Powers config.now InAppIdle medium.old result device.new medium.new
+        ⊎ RefusesPower config.now device.old medium.old result device.new medium.new }
+{
+    start(config, device, medium, Mode::AppIdle)
 }
 
 /// A device gets power and begins in dfuIDLE, as by `dfu_device_power_on`, a DETACH and a reset of the bus.
@@ -140,24 +150,10 @@ pub extern "C" fn dfu_device_begin(
     device: &mut DfuDevice,
     medium: &mut [u8],
 ) -> i32
-    ensures outcome { let s = setting_of config.now in
-        Begins s medium.old result device.new medium.new
-        ⊎ RefusesPower s device.old medium.old result device.new medium.new }
+    ensures outcome { Powers config.now InDfuIdle medium.old result device.new medium.new
+        ⊎ RefusesPower config.now device.old medium.old result device.new medium.new }
 {
-    if !is_allowed(config) {
-        return -2;
-    }
-    if !is_short(medium) {
-        return -3;
-    }
-    let mut memory = Memory {
-        bytes: medium,
-        cover: Cover::NONE,
-    };
-    match power_on(device, &mut memory, Mode::DfuIdle) {
-        Ok(_) => 0,
-        Err(_) => -3,
-    }
+    start(config, device, medium, Mode::DfuIdle)
 }
 
 // Where the active image stands in this memory, if there is one.

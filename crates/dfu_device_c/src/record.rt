@@ -1,8 +1,9 @@
 //! What a program in C keeps of a device between two calls.
 ghost use Rattle.std.specs.Prelude.{◌≡◌, ◌≤◌, length, IfSome, IsTrue, Some, not};
 ghost use Rattle.dfu_wire.specs.Code.{code_byte};
-ghost use Rattle.dfu_device_c.specs.Record.{HasMode, block_in};
+ghost use Rattle.dfu_device_c.specs.Record.{HasMode, HasNumbers};
 
+use crate::version::VERSION;
 use dfu_device::Mode;
 use dfu_wire::Code;
 
@@ -26,6 +27,8 @@ use dfu_wire::Code;
 #[repr(C)]
 #[derive(Drop)]
 pub struct DfuDevice {
+    /// The version of the library that wrote it.
+    pub version: u32,
     /// The state and what it keeps, by its number.
     pub mode: u32,
     /// The bytes written or sent, or a timer.
@@ -38,12 +41,10 @@ pub struct DfuDevice {
     pub slot: u32,
     /// The number of the next block, or the status code.
     pub number: u16,
-    /// How many bytes the block has, 0 to 4,096.
+    /// How many bytes at the front of the block's memory are the block that is not written, 0 to 4,096.
     pub length: u16,
     /// The header of the active slot, as it stood on the medium.
     pub header: [u8; 16],
-    /// The block that is not written.
-    pub block: [u8; 4096],
 }
 
 // The code of this number.
@@ -60,12 +61,15 @@ fn code_of(number: u16) -> Option<Code>
     }
 }
 
-/// The mode of a record, where it has one.
+/// The mode of a record, where it is of this version and has one.
 #[inline(never)]
 pub(crate) fn mode_of(kept: &DfuDevice) -> Option<Mode>
     ensures some { IfSome result (λ m. HasMode kept.now m) }
     ensures only { (m : Mode) → HasMode kept.now m → result ≡ Some m }
 {
+    if kept.version != VERSION {
+        return None;
+    }
     let (first, second, number) = (kept.first, kept.second, kept.number);
     let mode = match kept.mode {
         0 => Mode::AppIdle,
@@ -124,7 +128,7 @@ pub(crate) fn has_mode(kept: &DfuDevice) -> bool
 
 // The numbers of a mode: its own, `first`, `second` and `number`.
 fn numbers_of(mode: Mode) -> (u32, u32, u32, u16)
-    ensures { (r : DfuDevice) → r.mode ≡ result.0 → r.first ≡ result.1 → r.second ≡ result.2 → r.number ≡ result.3 → HasMode r mode }
+    ensures { (r : DfuDevice) → r.mode ≡ result.0 → r.first ≡ result.1 → r.second ≡ result.2 → r.number ≡ result.3 → HasNumbers r mode }
 {
     match mode {
         Mode::AppIdle => (0, 0, 0, 0),
@@ -152,6 +156,7 @@ fn numbers_of(mode: Mode) -> (u32, u32, u32, u16)
 pub(crate) fn set_mode(kept: &mut DfuDevice, mode: Mode)
     ensures mode { HasMode kept.new mode }
     ensures others { kept.new ≡ record kept.old {
+      version = kept.new.version;
       mode = kept.new.mode;
       first = kept.new.first;
       second = kept.new.second;
@@ -159,6 +164,7 @@ pub(crate) fn set_mode(kept: &mut DfuDevice, mode: Mode)
     } }
 {
     let (own, first, second, number) = numbers_of(mode);
+    kept.version = VERSION;
     kept.mode = own;
     kept.first = first;
     kept.second = second;
@@ -172,16 +178,4 @@ pub(crate) fn copy(to: &mut [u8], from: &[u8])
     ensures { to.new ≡ from.now }
 {
     to.copy_from_slice(from);
-}
-
-/// Writes a block into a record.
-pub(crate) fn set_block(kept: &mut DfuDevice, block: &[u8])
-    requires { length block.now ≤ 4096 }
-    ensures block { block_in kept.new ≡ block.now }
-    ensures length { kept.new.length ≡ length block.now }
-    ensures others { kept.new ≡ record kept.old { length = kept.new.length; block = kept.new.block } }
-{
-    let len = block.len();
-    kept.length = len as u16;
-    copy(&mut kept.block[..len], block);
 }

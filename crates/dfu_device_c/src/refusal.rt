@@ -5,8 +5,6 @@ ghost use Rattle.dfu_device_c.specs.Numbers.{refusal_number};
 /// Why a call is refused. They are looked for in this order.
 #[derive(Clone, Copy)]
 pub enum Refusal {
-    /// `Config::new` refuses the configuration.
-    NoConfig,
     /// The medium has no active image, or 2^32 bytes or more.
     NoMedium,
     /// The record is none of a device on that medium.
@@ -19,7 +17,6 @@ impl Refusal {
         ensures { result ≡ refusal_number self }
     {
         match self {
-            Refusal::NoConfig => -2,
             Refusal::NoMedium => -3,
             Refusal::NoDevice => -4,
         }

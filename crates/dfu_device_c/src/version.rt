@@ -1,10 +1,14 @@
 //! The version of the library.
 ghost use Rattle.std.specs.Prelude.{◌≡◌, pos};
+ghost use Rattle.dfu_device_c.specs.Config.{version};
 
 /// The version, 0.1.0: 10,000 for each major one, 100 for each minor one, and 1 for each patch.
+pub(crate) const VERSION: u32 = 100;
+
+/// The version of the library, with which each configuration and each record begins.
 #[unsafe(no_mangle)]
 pub extern "C" fn dfu_device_version() -> i32
-    ensures { result ≡ pos 100 }
+    ensures { result ≡ pos version }
 {
-    100
+    VERSION as i32
 }

@@ -44,6 +44,11 @@ phase_of memory phase.GiveUp = table.GiveUp
 phase_of memory (phase.Over report) = table.Over report
 phase_of memory phase.OverUploaded = table.OverUploaded memory
 
+-- A phase of the table is this one of the code, whatever an upload keeps in it.
+pub record IsPhase (is : table.Phase) (phase : Phase) : Type 0 where
+  pub memory : List ℕ
+  pub same : is ≡ phase_of memory phase
+
 -- What a phase needs of a session: a block that there is, a payload to close, or an image to fetch, of which the parts 0 to 65,534 are
 -- asked for, as they are of one that is compared, or nothing.
 abbrev pub IsWithin : Goal → (transfer : ℕ) → Phase → Type 0

@@ -42,6 +42,7 @@ impl<'f> Host<'f> {
     ghost use Rattle.dfu_host.specs.Host.{Act, HostRow, IsOver, aborted, started};
     ghost use Rattle.dfu_host.specs.Budget.{is_done, takes_left};
     ghost use Rattle.dfu_host.specs.Download.{first_download_fault, first_verify_fault};
+    ghost use Rattle.dfu_host.specs.InParts.{IsPhase};
     ghost use Rattle.dfu_host.specs.Phases.{ToFetch, ToLoad, ToVerify};
     ghost use Rattle.dfu_host.specs.Uploading.{TakesPart, first_upload_fault, kept_in};
     ghost use Rattle.dfu_host.specs.declared.fault.HostFault.{HostFault};
@@ -125,6 +126,13 @@ impl<'f> Host<'f> {
         ensures done { IsTrue (is_done result) ↔ (takes_left self.now ≡ 0) }
     {
         self.session.next()
+    }
+
+    /// Where the session stands.
+    pub fn phase(&self) -> Phase
+        ensures { IsPhase self.now.phase result }
+    {
+        self.session.parts().phase
     }
 
     /// Tells the host what came of its action. Whatever it is told, it is done after at most

@@ -8,7 +8,7 @@ use Rattle.dfu_judge.specs.declared.verdict.Verdict.TheVariants.{Kept, KeptBy, N
 use Rattle.dfu_judge.specs.Fits.{place_number}
 use Rattle.dfu_judge.specs.Held.{stands}
 use Rattle.dfu_judge.specs.MayAnswer.{CanAnswer, IsHeld, IsHeldPlain}
-use Rattle.dfu_judge.specs.Verdict.{IsVerdict, Departs}
+use Rattle.dfu_judge.specs.Verdict.{IsVerdict, HasBits, ArePlaces, Departs}
 use Rattle.dfu_judge.specs.inside.Stepped.{stepped, some_held, anywhere, least_below}
 use Rattle.dfu_judge.proofs.Exact.{held_more}
 use Rattle.dfu_judge.proofs.Least.{LeastTo, least_to}
@@ -39,6 +39,12 @@ is_kept_by held events s so not_plain is =
       },
     )
 
+-- The least set of readings has six bits.
+pub has_bits : (held : List (List ℕ)) (s : ℕ) → Some s ≡ least_below (anywhere held) 64 → HasBits (KeptBy s)
+has_bits held s is =
+    let least : LeastTo (anywhere held) 64 (Some s) = subst (LeastTo (anywhere held) 64) (sym is) (least_to (anywhere held) 64) in
+    least.0
+
 -- Where no set of readings is held, no device may have answered so.
 pub is_not_kept : (held : List (List ℕ)) (events : List Event) → IsHeld held events → None ≡ least_below (anywhere held) 64
     → IsVerdict NotKept events
@@ -68,17 +74,22 @@ pub goes_on : (before after : List (List ℕ)) (events : List Event) (e : Event)
 goes_on before after events e says so left =
     let next = held_next_plain before after events e says so in ((held_can after (events ++ e ∷ []) 0 next).0 left, next)
 
+-- The places where a device without habits is held are those where it may be.
+pub are_places : (before : List (List ℕ)) (at : List Bool) (events : List Event) → IsHeldPlain before events
+    → ((n : ℕ) → n < 12 → slice_index_or at n false ≡ some_held (slice_index_or before n []) 0) → ArePlaces 0 events at
+are_places before at events so places = λ p.
+    let is = held_place before events 0 p so in
+    let same : slice_index_or at (place_number p) false ≡ some_held (slice_index_or before (place_number p) []) 0 =
+    places (place_number p) (number_below p) in
+    (λ here. is.0 (sym same ∙ here), λ x. same ∙ is.1 x)
+
 -- Where none is left, the event is a departure.
 pub departs : (before after anew : List (List ℕ)) (events : List Event) (e : Event) (at : List Bool) → IsStep before e after
     → IsHeldPlain before events → anywhere after 0 ≡ false → IsHeldPlain anew []
     → ((n : ℕ) → n < 12 → slice_index_or at n false ≡ some_held (slice_index_or before n []) 0)
     → Departs events (record { before = at; event = e }) anew
 departs before after anew events e at says so none_left first places = record {
-  before = λ p.
-      let is = held_place before events 0 p so in
-      let same : slice_index_or at (place_number p) false ≡ some_held (slice_index_or before (place_number p) []) 0 =
-      places (place_number p) (number_below p) in
-      (λ here. is.0 (sym same ∙ here), λ x. same ∙ is.1 x);
+  before = are_places before at events so places;
   none = λ may. both_ways (anywhere after 0) none_left ((held_can after (events ++ e ∷ []) 0
       (held_next_plain before after events e says so)).1 may);
   anew = first;

@@ -1,5 +1,5 @@
 -- A line of a log, read: SETUP BODY ANSWER, `reset`, `power`, a comment, or an empty line.
-use Rattle.std.specs.Prelude.{◌≡◌, ℕ, ◌+◌, ◌*◌, ◌/◌, ◌%◌, ◌-◌, ◌==◌, ◌&&◌, nat_le, nat_lt, Bool, true, List, [], ◌∷◌, length, take, drop, slice_index, codes, Option, Some, None, MatchBool, if◌then◌else◌}
+use Rattle.std.specs.Prelude.{◌≡◌, ℕ, ◌+◌, ◌*◌, ◌/◌, ◌%◌, ◌-◌, ◌==◌, ◌&&◌, nat_le, nat_lt, Bool, true, List, [], ◌∷◌, length, take, drop, slice_index, codes, Option, Some, None, MatchBool, is_none, if◌then◌else◌}
 use Rattle.std.specs.List.{list_all, position_or_len}
 use Rattle.std.specs.Str.{bytes_eq}
 use Rattle.dfu_wire.specs.declared.setups.Setup.{Setup}
@@ -10,6 +10,8 @@ use Rattle.dfu_judge.specs.declared.event.Answer.{Answer}
 use Rattle.dfu_judge.specs.declared.event.Answer.TheVariants as answer
 use Rattle.dfu_judge.specs.declared.log.Line.{Line}
 use Rattle.dfu_judge.specs.declared.log.Line.TheVariants.{Blank, Elsewhere, Came}
+use Rattle.dfu_judge.specs.declared.log.LineFault.{LineFault}
+use Rattle.dfu_judge.specs.declared.log.LineFault.TheVariants as fault
 use Rattle.dfu_judge.specs.Setups.{event_of, reset, power}
 
 -- A byte parts the fields of a line where it is 20h.
@@ -78,6 +80,13 @@ answer_in text =
 abbrev pub is_blank : List ℕ → Bool
 is_blank [] = true
 is_blank (byte ∷ bytes) = byte == 35
+
+-- The first field that is wrong of a line that is read as none.
+abbrev pub why_unread : List ℕ → LineFault
+why_unread text =
+    if is_none (setup_in (field_of text)) then fault.Setup
+    else if is_none (body_in (field_of (rest_of text))) then fault.Body
+    else fault.Answer
 
 -- What a request is read as that a setup asks for: one that is not of the class, or for another interface, is passed over.
 abbrev pub IsRead : Request → Setup → (body : ℕ) → Answer → Option Line → Type 0

@@ -1,5 +1,5 @@
 -- What a judge says.
-use Rattle.std.specs.Prelude.{◌≡◌, ◌↔◌, ℕ, ◌<◌, ◌≤◌, Bool, true, false, List, [], ◌∷◌, ◌++◌, slice_index_or, count_ones}
+use Rattle.std.specs.Prelude.{◌≡◌, ◌↔◌, ℕ, ◌<◌, ◌≤◌, Bool, true, false, List, [], ◌∷◌, ◌++◌, slice_index_or, count_ones, ⊤}
 use Rattle.dfu_judge.specs.declared.place.Place.{Place}
 use Rattle.dfu_judge.specs.declared.event.Event.{Event}
 use Rattle.dfu_judge.specs.declared.verdict.Verdict.{Verdict}
@@ -22,6 +22,11 @@ abbrev pub IsVerdict : Verdict → List Event → Type 0
 IsVerdict Kept events = CanAnswer 0 events
 IsVerdict (KeptBy readings) events = (CanAnswer 0 events → ⊥) × IsLeastSet readings events
 IsVerdict NotKept events = (r : ℕ) → r < 64 → CanAnswer r events → ⊥
+
+-- The set of a verdict has six bits.
+abbrev pub HasBits : Verdict → Type 0
+HasBits (KeptBy readings) = readings < 64
+HasBits verdict = ⊤
 
 -- These are the places where a device with this set of readings may be after these events, whatever its bmAttributes.
 abbrev pub ArePlaces : (readings : ℕ) → List Event → List Bool → Type 0

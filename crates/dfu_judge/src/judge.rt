@@ -28,7 +28,7 @@ impl Model for Judge {
 
 impl Judge {
     ghost use Rattle.dfu_judge.specs.MayAnswer.{CanAnswer, IsHeld, IsHeldPlain};
-    ghost use Rattle.dfu_judge.specs.Verdict.{IsVerdict, ArePlaces, Departs};
+    ghost use Rattle.dfu_judge.specs.Verdict.{IsVerdict, HasBits, ArePlaces, Departs};
     ghost use Rattle.dfu_judge.specs.declared.event.Event.{Event};
 
     /// A judge of a device of which nothing is known: it may be anywhere.
@@ -66,7 +66,8 @@ impl Judge {
 
     /// The verdict on all events that came.
     pub fn verdict(&self) -> Verdict
-        ensures { (es : List Event) → IsHeld self.now.whole es → IsVerdict result es }
+        ensures is { (es : List Event) → IsHeld self.now.whole es → IsVerdict result es }
+        ensures bits { HasBits result }
     {
         if is_any_held(&self.whole, 0) {
             return Verdict::Kept;
@@ -83,5 +84,12 @@ impl Judge {
         ensures { (es : List Event) → IsHeld self.now.whole es → ArePlaces readings es result }
     {
         places_of(&self.whole, readings)
+    }
+
+    /// Where a device without habits may stand now, by the events since the last departure: by place, in the order of [`crate::Place`].
+    pub fn standing(&self) -> [bool; 12]
+        ensures { (es : List Event) → IsHeldPlain self.now.since es → ArePlaces 0 es result }
+    {
+        places_of(&self.since, 0)
     }
 }

@@ -48,7 +48,7 @@ pub use drifts::DRIFTS;
 pub use event::{Answer, Event};
 pub use habits::HABITS;
 pub use judge::Judge;
-pub use log::{Line, read_line};
+pub use log::{Line, LineFault, read_line, why_unread};
 pub use marks::MARKS;
 pub use place::Place;
 pub use reading::Reading;

@@ -3,7 +3,7 @@
 ghost use Rattle.std.specs.Prelude.{◌≡◌, MatchBool, Some, None};
 ghost use Rattle.dfu_wire.specs.Request.{Asks};
 ghost use Rattle.dfu_wire.specs.declared.requests.Request.{Request};
-ghost use Rattle.dfu_judge.specs.Line.{Says, SaysRequest, IsRead, field_of, rest_of, is_blank};
+ghost use Rattle.dfu_judge.specs.Line.{Says, SaysRequest, IsRead, field_of, rest_of, is_blank, why_unread};
 ghost use Rattle.dfu_judge.specs.Setups.{reset, power};
 
 use crate::line::{answer_of, body_of, field_end, setup_of};
@@ -19,6 +19,19 @@ pub enum Line {
     Elsewhere,
     /// What came to the device.
     Came(Event),
+}
+
+/// What is wrong with a line that is none of a log.
+#[derive(Clone, Copy, Debug, PartialEq, Eq)]
+pub enum LineFault {
+    /// It has over 262,158 bytes: no line that is read is longer, but a comment.
+    Long,
+    /// Its first field is no setup.
+    Setup,
+    /// Its second field is no body.
+    Body,
+    /// What stands behind its second field is no answer.
+    Answer,
 }
 
 /// Nothing is answered to a reset, nor to power.
@@ -65,6 +78,21 @@ pub fn read_line(interface: u8, line: &[u8]) -> Option<Line>
     let (setup, rest) = parts(line);
     let (body, answer) = parts(rest);
     request_of(interface, setup_of(setup), body_of(body), answer_of(answer))
+}
+
+/// The first field that is wrong of a line that `read_line` reads as none.
+pub fn why_unread(line: &[u8]) -> LineFault
+    ensures { result ≡ why_unread line.now }
+{
+    let (setup, rest) = parts(line);
+    let (body, _) = parts(rest);
+    if setup_of(setup).is_none() {
+        return LineFault::Setup;
+    }
+    if body_of(body).is_none() {
+        return LineFault::Body;
+    }
+    LineFault::Answer
 }
 
 /// Whether a line says nothing.

@@ -34,7 +34,7 @@ pub enum Place {
 
 impl Place {
     /// Its place in a list of all twelve, 0 to 11.
-    pub(crate) fn number(self) -> usize
+    pub fn number(self) -> usize
         ensures { result ≡ place_number self }
     {
         self as usize

@@ -4,14 +4,14 @@ use Rattle.std.proofs.Math.ListN.{length-replicate}
 use Rattle.dfu_slots.specs.declared.unit.Unit.{Unit as WriteUnit}
 use Rattle.dfu_slots.specs.Medium.{MediumState}
 use Rattle.dfu_slots.specs.Medium.Fuse.{Whole}
-use Rattle.dfu_slots.specs.Units.{gate_size, IsMultiple}
+use Rattle.dfu_slots.specs.Units.{in_place, gate_size, IsMultiple}
 use Rattle.dfu_slots.specs.Image.{capacity_of, IsSized}
 use Rattle.dfu_link.specs.ScriptRun.{blank}
 
 -- It is what the medium in memory is made as.
 pub made_blank : (u : WriteUnit) (n len : ℕ) → len ≡ 2 * (2 * gate_size u + n)
-    → ◌≡◌ {A = MediumState} (record { bytes = replicate len 255; failures = 0; fuse = Whole; unit = u; tag = [] }) (blank u n)
-made_blank u n len is = λ i. record { bytes = replicate (is i) 255; failures = 0; fuse = Whole; unit = u; tag = [] }
+    → ◌≡◌ {A = MediumState} (record { bytes = replicate len 255; failures = 0; fuse = Whole; grain = in_place u; tag = [] }) (blank u n)
+made_blank u n len is = λ i. record { bytes = replicate (is i) 255; failures = 0; fuse = Whole; grain = in_place u; tag = [] }
 
 -- So many bytes it has.
 blank_len : (u : WriteUnit) (n : ℕ) → length (blank u n).bytes ≡ 2 * (2 * gate_size u + n)
@@ -27,5 +27,10 @@ blank_sized u n some most whole = record {
   even = omega (arith, blank_len u n);
   room = omega (arith, blank_len u n, some);
   bound = omega (arith, blank_len u n, most);
-  whole = subst (λ (k : ℕ). IsMultiple u k) (sym (room_blank u n)) whole;
+  whole = record {
+    units = subst (λ (k : ℕ). IsMultiple u k) (sym (room_blank u n)) whole;
+    sectors = λ some. absurd (omega (arith, some));
+    pages = omega arith;
+    bound = omega arith;
+  };
 }

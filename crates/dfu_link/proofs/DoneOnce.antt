@@ -15,7 +15,7 @@ use Rattle.dfu_link.specs.Bytes.{armed, powered_up}
 use Rattle.dfu_link.specs.OneResult.{SameDevice}
 
 same_store : (s : SlotsState) → SameStore s s
-same_store s = record { medium = record { bytes = refl; fuse = refl; unit = refl }; held = refl; put_end = refl }
+same_store s = record { medium = record { bytes = refl; fuse = refl; grain = refl }; held = refl; put_end = refl }
 
 -- A device is the same as itself, by another name.
 pub same_device : {w v : Shown} → w ≡ v → SameDevice w v
@@ -27,7 +27,7 @@ powered_same same = record {
   config = same.config;
   stage = refl;
   store = record {
-    medium = record { bytes = same.store.medium.bytes; fuse = refl; unit = same.store.medium.unit };
+    medium = record { bytes = same.store.medium.bytes; fuse = refl; grain = same.store.medium.grain };
     held = refl;
     put_end = refl;
   };
@@ -39,7 +39,7 @@ disarmed_same same = record {
   config = same.config;
   stage = same.stage;
   store = record {
-    medium = record { bytes = same.store.medium.bytes; fuse = refl; unit = same.store.medium.unit };
+    medium = record { bytes = same.store.medium.bytes; fuse = refl; grain = same.store.medium.grain };
     held = same.store.held;
     put_end = same.store.put_end;
   };

@@ -30,6 +30,8 @@ pub mod Projected
 pub mod Acts
 pub mod Events
 pub mod Uploads
+pub mod Traced
+pub mod KeptLaws
 pub mod Counted
 pub mod Agreeing
 pub mod Steady
@@ -52,6 +54,7 @@ pub mod WholeLaws
 pub mod Beside
 pub mod LegalScripts
 pub mod ScriptsHold
+pub mod TracedScripts
 mod DoneOnce
 mod Harmed
 pub mod Refusals

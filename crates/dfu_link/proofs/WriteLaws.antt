@@ -1,7 +1,7 @@
 -- What is out of texts that are written one after the other.
 use Rattle.std.proofs.Common.{ℕ, List, [], ◌++◌, length-append, Option, Some, None, sym, ap, ◌∙◌, arith}
 use Rattle.std.proofs.lemmas.List.{append_assoc, append-nil}
-use Rattle.std.specs.Io.KnownBytes.{Appends}
+use Rattle.std.specs.Io.KnownBytes.{Appends, Keeps}
 use Rattle.std.specs.Prelude.{Result, Ok, Err, OnErr, OnOk, IfErr}
 use Rattle.dfu_suffix.specs.Writing.{IsOutInPart}
 
@@ -64,3 +64,10 @@ if_err_map (Err e) P Q f h = f e h
 pub if_err_both : {A E : Type 0} (r : Result A E) (P : E → Type 0) (B : Type 0) → IfErr r P → OnErr r B → IfErr r (λ e. P e × B)
 if_err_both (Ok x) P B h k = tt
 if_err_both (Err e) P B h k = (h, k)
+
+-- What is out is out still where what is held stays.
+pub appends_kept : (old mid new : Option (List ℕ)) (xs : List ℕ) → Appends old mid xs → Keeps mid new → Appends old new xs
+appends_kept None mid new xs h k = tt
+appends_kept (Some a) None new xs h k = absurd h
+appends_kept (Some a) (Some b) None xs h k = absurd k
+appends_kept (Some a) (Some b) (Some c) xs h k = k ∙ h

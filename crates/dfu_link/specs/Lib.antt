@@ -12,6 +12,8 @@ pub mod CleanRun
 pub mod Bytes
 pub mod Understood
 pub mod Power
+pub mod Tracing
+pub mod KeptLines
 pub mod Refusing
 pub mod Comes
 pub mod Giving

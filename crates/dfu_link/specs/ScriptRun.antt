@@ -5,7 +5,7 @@ use Rattle.dfu_wire.specs.Functional.{functional_of}
 use Rattle.dfu_host.specs.declared.limits.Limits.{Limits}
 use Rattle.dfu_slots.specs.declared.unit.Unit.{Unit as WriteUnit}
 use Rattle.dfu_slots.specs.declared.unit.Unit.TheVariants.{Byte}
-use Rattle.dfu_slots.specs.Units.{gate_size, IsMultiple}
+use Rattle.dfu_slots.specs.Units.{in_place, gate_size, IsMultiple}
 use Rattle.dfu_slots.specs.Medium.{MediumState, AllWrites}
 use Rattle.dfu_slots.specs.Medium.Fuse.{Whole}
 use Rattle.dfu_slots.specs.Image.{Active}
@@ -87,7 +87,7 @@ blank unit capacity = record {
   bytes = replicate (2 * (2 * gate_size unit + capacity)) 255;
   failures = 0;
   fuse = Whole;
-  unit = unit;
+  grain = in_place unit;
   tag = [];
 }
 

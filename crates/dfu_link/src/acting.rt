@@ -1,12 +1,14 @@
 //! One action of a host, by its course.
 
 ghost use Rattle.std.specs.Prelude.{◌≡◌};
+ghost use Rattle.dfu_device.specs.Rows.{Elapses};
 ghost use Rattle.dfu_host.specs.Host.{IsOn};
 ghost use Rattle.dfu_link.specs.Play.{waits_for};
 ghost use Rattle.dfu_host.specs.Wire.{Hears};
-ghost use Rattle.dfu_host.specs.Phases.{Deed, Send, Heard};
-ghost use Rattle.dfu_wire.specs.declared.requests.Request.{Request as Asked};
-ghost use Rattle.dfu_link.specs.Bytes.{Reaches, Slips, came_back, ended_back, HearsBack, Sends, Waits, ResetsBus, HostActs};
+ghost use Rattle.dfu_host.specs.Phases.{Deed, Heard};
+ghost use Rattle.dfu_host.specs.Table.{deed};
+ghost use Rattle.dfu_link.specs.Bytes.{Reaches, Slips, bus_was_reset, came_back, ended_back, Waits, ResetsBus, HostActs};
+ghost use Rattle.dfu_link.specs.Tracing.{Replies};
 ghost use Rattle.dfu_link.specs.inside.Acting.{course_in, seen_over, HasHeard};
 
 use crate::back::Back;
@@ -53,21 +55,6 @@ fn come_back(course: Course<'_>, back: Back) -> Back
     }
 }
 
-/// A request goes to the device by its course. Where an answer comes back, its bytes stand in `out`.
-fn send<M: Faulty>(
-    device: &mut Device<M>,
-    setup: &[u8; 8],
-    body: &[u8],
-    course: Course<'_>,
-    out: &mut ArrayVec<u8, 4096>,
-) -> Back
-    ensures { (q : Asked) (heard : Heard) → HearsBack (Send q body.now) result out.new.items heard
-        → Sends q setup.now body.now (course_in course.entry) device.old device.new heard }
-{
-    let back = reach(device, setup, body, course.handling, out);
-    come_back(course, back)
-}
-
 /// The time that passes in a wait: another where one slips in.
 fn time_of(handling: Handling, ms: u32) -> u32
     ensures { result ≡ waits_for handling ms }
@@ -90,8 +77,9 @@ fn seen_after(harming: Harming, seen: Seen<'static>) -> Seen<'static>
 
 /// A wait of the host: where a time slips in it passes in its place.
 fn wait<M: Faulty>(device: &mut Device<M>, ms: u32, course: Course<'_>) -> Seen<'static>
-    ensures { (d : Deed) (heard : Heard) → Hears d result heard
+    ensures hears { (d : Deed) (heard : Heard) → Hears d result heard
         → Waits ms (course_in course.entry) device.old device.new heard }
+    ensures row { Elapses (waits_for course.entry.handling ms) device.old device.new }
 {
     device.elapse(time_of(course.handling, ms));
     seen_after(course.harming, Seen::Waited)
@@ -109,8 +97,9 @@ fn slip<M: Faulty>(device: &mut Device<M>, handling: Handling)
 
 /// A reset of the bus by the host, and the time that slips in after it.
 fn reset_bus<M: Faulty>(device: &mut Device<M>, course: Course<'_>) -> Seen<'static>
-    ensures { (d : Deed) (heard : Heard) → Hears d result heard
+    ensures hears { (d : Deed) (heard : Heard) → Hears d result heard
         → ResetsBus (course_in course.entry) device.old device.new heard }
+    ensures row { Slips course.entry.handling (bus_was_reset device.old) device.new }
 {
     device.usb_reset();
     slip(device, course.handling);
@@ -131,28 +120,34 @@ fn tell(host: &mut Host<'_>, back: Back, out: &[u8])
 }
 
 /// The next action of a host that is not done, by its course. Who harms a write has armed the
-/// medium for it. `out` is room for an answer; what it holds at first isn't read.
+/// medium for it. `out` is room for an answer; what it holds at first isn't read. It tells what the
+/// device answered, if it did, whether that came back or not.
 pub(crate) fn act<M: Faulty>(
     device: &mut Device<M>,
     host: &mut Host<'_>,
     course: Course<'_>,
     out: &mut ArrayVec<u8, 4096>,
-)
+) -> Back
     requires { IsOn host.old.phase }
-    ensures { HostActs host.old (course_in course.entry) device.old device.new host.new }
+    ensures acts { HostActs host.old (course_in course.entry) device.old device.new host.new }
+    ensures replies { Replies (deed host.old.task host.old.phase) (course_in course.entry) device.old device.new result out.new.items }
 {
     match host.next() {
         Action::Send { setup, body } => {
-            let back = send(device, &setup, body, course, out);
+            let came = reach(device, &setup, body, course.handling, out);
+            let back = come_back(course, came);
             tell(host, back, out.as_slice());
+            came
         }
         Action::Wait(ms) => {
             let seen = wait(device, ms, course);
             host.take(seen);
+            Back::Lost
         }
         Action::Reset => {
             let seen = reset_bus(device, course);
             host.take(seen);
+            Back::Lost
         }
         Action::Done(_) => unreachable!(),
     }

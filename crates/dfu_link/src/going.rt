@@ -6,9 +6,11 @@ ghost use Rattle.dfu_slots.specs.Medium.Fuse.{Whole};
 ghost use Rattle.dfu_link.specs.Bytes.{fuse_of, armed, left_by, HostActsArmed};
 ghost use Rattle.dfu_link.specs.Course.{course_of};
 ghost use Rattle.dfu_link.specs.Happening.{fate_of, harm_in};
+ghost use Rattle.dfu_link.specs.Tracing.{RepliesArmed};
 ghost use Rattle.dfu_link.specs.inside.Acting.{harm_at};
 
 use crate::acting::act;
+use crate::back::Back;
 use crate::course::{Course, Harming, course_by};
 use crate::fate::Fate;
 use crate::power::power_cycle;
@@ -42,18 +44,21 @@ fn settle<M: Faulty>(device: &mut Device<M>, harming: Harming)
 }
 
 /// Carries out the next action of a host that is not done, by its fate. `out` is room for an answer.
+/// It tells what the device answered, if it did.
 pub(crate) fn carry_out<M: Faulty>(
     device: &mut Device<M>,
     host: &mut Host<'_>,
     fate: Fate<'_>,
     out: &mut ArrayVec<u8, 4096>,
-)
+) -> Back
     requires on { IsOn host.old.phase }
     requires unarmed { device.old.slots.medium.fuse ≡ Whole }
-    ensures { HostActsArmed host.old (course_of (fate_of fate.entry)) (harm_in fate.entry) device.old device.new host.new }
+    ensures acts { HostActsArmed host.old (course_of (fate_of fate.entry)) (harm_in fate.entry) device.old device.new host.new }
+    ensures replies { RepliesArmed host.old (course_of (fate_of fate.entry)) (harm_in fate.entry) device.old device.new result out.new.items }
 {
     let course = course_by(fate);
     arm(device, course);
-    act(device, host, course, out);
+    let came = act(device, host, course, out);
     settle(device, course.harming);
+    came
 }

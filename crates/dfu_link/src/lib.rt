@@ -19,6 +19,7 @@ mod play;
 mod power;
 mod running;
 mod scripting;
+mod tracing;
 mod uploading;
 mod world;
 
@@ -27,5 +28,5 @@ pub use event::Event;
 pub use fate::Fate;
 pub use fault::{LinkFault, OfferFault};
 pub use running::{Stop, run};
-pub use scripting::{ScriptFault, script};
+pub use scripting::{ScriptFault, script, script_traced};
 pub use world::World;

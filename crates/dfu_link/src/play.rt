@@ -1,13 +1,17 @@
 //! What each event makes of a device and a host.
 
-ghost use Rattle.std.specs.Prelude.{◌≡◌};
+ghost use Rattle.std.specs.Prelude.{◌≡◌, Some};
+ghost use Rattle.dfu_host.specs.Host.{HostState};
+ghost use Rattle.dfu_link.specs.Course.{course_of};
 ghost use Rattle.dfu_link.specs.Play.{given, told, aborted};
 ghost use Rattle.dfu_link.specs.Standing.{session_of, given_by, bench_of, link_state, IsOnIn, SendsBytes, IsCountedIn, IsSteady};
 ghost use Rattle.dfu_link.specs.Happening.{Offers, Goes, fate_of, harm_in, happening};
 ghost use Rattle.dfu_link.specs.Comes.{HasCome, HasComeAlone};
+ghost use Rattle.dfu_link.specs.Tracing.{RepliesArmed};
 ghost use Rattle.dfu_link.specs.inside.Acting.{report_of, ended, abort_told};
 
 use crate::aim::Aim;
+use crate::back::Back;
 use crate::event::Event;
 use crate::fate::Fate;
 use crate::fault::LinkFault;
@@ -102,23 +106,26 @@ fn abort(host: &mut Option<Host<'_>>) -> Result<Option<Report>, LinkFault>
     }
 }
 
-/// The host takes its next action. `out` is room for an answer.
-fn go<'f, M: Faulty>(
+/// The host takes its next action. `out` is room for an answer. It tells what the device answered too,
+/// if it did.
+pub(crate) fn go<'f, M: Faulty>(
     device: &mut Device<M>,
     host: &mut Option<Host<'f>>,
     gave: &mut Option<Host<'f>>,
     fate: Fate<'_>,
     out: &mut ArrayVec<u8, 4096>,
-) -> Result<Option<Report>, LinkFault>
+) -> (Result<Option<Report>, LinkFault>, Back)
     requires { IsSteady (bench_of device.old host.old) }
-    ensures { HasCome (link_state device.old host.old gave.old) (Goes (fate_of fate.entry) (harm_in fate.entry))
-        (link_state device.new host.new gave.new) result }
+    ensures comes { HasCome (link_state device.old host.old gave.old) (Goes (fate_of fate.entry) (harm_in fate.entry))
+        (link_state device.new host.new gave.new) result.0 }
+    ensures replies { (h : HostState) → host.old ≡ Some h → RepliesArmed h (course_of (fate_of fate.entry)) (harm_in fate.entry)
+        device.old device.new result.1 out.new.items }
 {
-    match host {
-        None => return Err(LinkFault::NoHost),
+    let came = match host {
+        None => return (Err(LinkFault::NoHost), Back::Lost),
         Some(live) => carry_out(device, live, fate, out),
-    }
-    Ok(end(host, gave))
+    };
+    (Ok(end(host, gave)), came)
 }
 
 /// An event comes. A refused one changes nothing. `out` is room for an answer.
@@ -138,7 +145,10 @@ pub(crate) fn play<'f, M: Faulty>(
         Event::OfferVerified { file, limits } => offer(device, host, Aim::Verify, file, limits),
         Event::Upload { limits } => upload(alloc, device, host, limits),
         Event::Abort => abort(host),
-        Event::Go(fate) => go(device, host, gave, fate, out),
+        Event::Go(fate) => {
+            let (told, _) = go(device, host, gave, fate, out);
+            told
+        }
         Event::Time(ms) => {
             device.elapse(ms);
             Ok(None)

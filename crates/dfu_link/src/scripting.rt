@@ -22,4 +22,4 @@ mod whole;
 mod words;
 
 pub use fault::ScriptFault;
-pub use whole::script;
+pub use whole::{script, script_traced};

@@ -1,22 +1,26 @@
 //! A device and a host on a link.
 
-ghost use Rattle.std.specs.Prelude.{◌≡◌, [], IfOk, IfErr};
+ghost use Rattle.std.specs.Prelude.{◌≡◌, [], IfOk, IfErr, IfSome};
 ghost use Rattle.dfu_slots.specs.Medium.Fuse.{Whole};
 ghost use Rattle.dfu_link.specs.Bench.{Nobody};
 ghost use Rattle.dfu_link.specs.Bytes.{armed};
 ghost use Rattle.dfu_link.specs.Bench.{ShowsActive};
-ghost use Rattle.dfu_link.specs.Happening.{happening};
+ghost use Rattle.dfu_link.specs.Happening.{Goes, fate_of, harm_in, happening};
 ghost use Rattle.dfu_link.specs.Refusing.{IsLive};
 ghost use Rattle.dfu_link.specs.Comes.{HasCome};
 ghost use Rattle.dfu_link.specs.Following.{AllFollow};
 ghost use Rattle.dfu_link.specs.Headline.{StepKeepsHeadline};
 ghost use Rattle.dfu_link.specs.Sure.{AllSure};
 ghost use Rattle.dfu_link.specs.Giving.{Gives};
+ghost use Rattle.dfu_link.specs.Tracing.{IsStep};
 
 use crate::event::Event;
+use crate::fate::Fate;
 use crate::fault::LinkFault;
 use crate::laws::image_shown;
-use crate::play::play;
+use crate::play::{go, play};
+use crate::tracing::asking::asked;
+use crate::tracing::step::Step;
 use arrayvec::ArrayVec;
 use dfu_device::Device;
 use dfu_host::{Host, Report};
@@ -107,6 +111,36 @@ impl<'f, M: Faulty> World<'f, M> {
         // Called for its clause `image`, which `active` needs; what it answers isn't used.
         let _ = self.device.slots().capacity();
         told
+    }
+
+    /// The host's next action, as `step` has it come with Go, and what it came to where a session is
+    /// live. `out` is room for an answer; its bytes stand there.
+    pub(crate) fn take_action(
+        &mut self,
+        fate: Fate<'_>,
+        out: &mut ArrayVec<u8, 4096>,
+    ) -> (Result<Option<Report>, LinkFault>, Option<Step<'f>>)
+        ensures play { HasCome self.old (Goes (fate_of fate.entry) (harm_in fate.entry)) self.new result.0 }
+        ensures step { IfSome result.1 (λ s. IsStep self.old.bench fate.entry s out.new.items self.new.bench) }
+        ensures active { ShowsActive self.new.bench }
+    {
+        let before = self.device.state();
+        let asked = asked(&self.host);
+        let (told, came) = go(&mut self.device, &mut self.host, &mut self.gave, fate, out);
+        // Called for its clause `image`, which `active` needs; what it answers isn't used.
+        let _ = self.device.slots().capacity();
+        let Some((phase, action)) = asked else {
+            return (told, None);
+        };
+        let after = self.device.state();
+        let step = Step {
+            phase,
+            action,
+            came,
+            before,
+            after,
+        };
+        (told, Some(step))
     }
 
     /// What the last session gave that reported Uploaded: the device's active image at that time.

@@ -2,14 +2,13 @@
 use Rattle.std.proofs.Common.{◌≡◌, true, Result, Ok, Err, OnErr, sym, ◌∙◌, ap, subst}
 use Rattle.dfu_slots.specs.declared.fault.PutFault.{PutFault}
 use Rattle.dfu_slots.specs.Layout.{Slot, IsOpen}
-use Rattle.dfu_slots.specs.Image.{gate_of, HasImage}
+use Rattle.dfu_slots.specs.Image.{HasImage}
 use Rattle.dfu_slots.specs.Seen.{SlotsState, store_on, spare_slot, spare_of, is_begun, Begin, writes_of, CallWorked}
 use Rattle.dfu_slots.specs.Store.{IsStore}
 use Rattle.dfu_slots.specs.Changes.{IsBroken, Changes}
 use Rattle.dfu_slots.specs.Leaves.{BeginLeaves}
 use Rattle.dfu_slots.proofs.Stands.{standing}
-use Rattle.dfu_slots.proofs.Multiples.{gate_wide}
-use Rattle.dfu_slots.proofs.Series.{ends_unit}
+use Rattle.dfu_slots.proofs.Series.{ends_grain}
 use Rattle.dfu_slots.proofs.Begun.{begin_outside, begin_keeps, begin_data, begin_shuts}
 use Rattle.dfu_slots.proofs.Seeing.{closed_begun, spare_fresh, fresh_store, fresh_is}
 use Rattle.dfu_slots.proofs.Stays.{Stays, SamePlaces, stays_places, stays_has, stays_same, stays_image, stays_room, spare_there}
@@ -19,27 +18,25 @@ use Rattle.dfu_slots.proofs.AfterCall.{begin_refuses, Came, after_call, after_ok
 module _ (s now : SlotsState) (has : HasImage s.medium) (came : Came s now Begin) where
   stays_after : Stays s now has
   stays_after =
-      let g = gate_of s.medium in
-      let wide = gate_wide s.medium.unit in
       let a = has.active in
       record {
-        stands = begin_keeps g wide s.medium now.medium a.at a.spare has.image (standing a) came.ends;
-        unit = ends_unit (writes_of s Begin) s.medium now.medium came.ends;
-        size = (begin_outside g wide s.medium now.medium a.at a.spare has.image (standing a) came.ends).size;
+        stands = begin_keeps s.medium.grain s.medium now.medium a.at a.spare has.image (standing a) came.ends;
+        grain = ends_grain (writes_of s Begin) s.medium now.medium came.ends;
+        size = (begin_outside s.medium.grain s.medium now.medium a.at a.spare has.image (standing a) came.ends).size;
       }
 
   data_after : (spare_slot now).data_bytes ≡ (spare_slot s).data_bytes
   data_after =
       let a = has.active in
-      ap (λ (p : Slot). p.data_bytes) (spare_there s.medium now.medium stays_after.unit)
-      ∙ begin_data (gate_of s.medium) (gate_wide s.medium.unit) s.medium now.medium a.at a.spare has.image (standing a) came.ends
+      ap (λ (p : Slot). p.data_bytes) (spare_there s.medium now.medium stays_after.grain)
+      ∙ begin_data s.medium.grain s.medium now.medium a.at a.spare has.image (standing a) came.ends
 
   shut_after : CallWorked s Begin now → is_begun now ≡ true
   shut_after worked =
       let a = has.active in
-      let shut = begin_shuts (gate_of s.medium) (gate_wide s.medium.unit) s.medium now.medium a.at a.spare has.image
+      let shut = begin_shuts s.medium.grain s.medium now.medium a.at a.spare has.image
       (standing a) worked.writes in
-      closed_begun now (subst (λ (p : Slot). ¬ IsOpen p) (sym (spare_there s.medium now.medium stays_after.unit)) shut)
+      closed_begun now (subst (λ (p : Slot). ¬ IsOpen p) (sym (spare_there s.medium now.medium stays_after.grain)) shut)
 
 begin_stays : {T : Type 0} (s now : SlotsState) (has : HasImage s.medium) (result : Result T PutFault)
     → OnErr result (IsBroken result) → Changes s Begin result now → Stays s now has

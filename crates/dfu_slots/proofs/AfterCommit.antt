@@ -13,8 +13,8 @@ use Rattle.dfu_slots.specs.Changes.{Changes}
 use Rattle.dfu_slots.specs.Leaves.{Refuses, CommitLeaves}
 use Rattle.dfu_slots.proofs.Stands.{ActiveAt, standing}
 use Rattle.dfu_slots.proofs.Newest.{places_are, place_end}
-use Rattle.dfu_slots.proofs.Multiples.{gate_wide, held_end, held_fits}
-use Rattle.dfu_slots.proofs.Series.{ends_keep, ends_unit}
+use Rattle.dfu_slots.proofs.Multiples.{held_end, held_fits}
+use Rattle.dfu_slots.proofs.Series.{ends_keep, ends_grain}
 use Rattle.dfu_slots.proofs.Committed.{commit_inside, committed, committed_either}
 use Rattle.dfu_slots.proofs.Seeing.{image_is, begun_closed, active_on, room_from, spare_is, fresh_is, fresh_leaves}
 use Rattle.dfu_slots.proofs.AfterCall.{commit_refuses, Came, after_call, after_ok, on_err_of, call_store, call_leaves}
@@ -35,8 +35,8 @@ module _ (s now : SlotsState) (store : IsStore s) (len : ℕ) (le : len ≤ s.pu
   crc_is : register (take len (spare_of s)) ≡ register (take len (written (spare_slot s).data_bytes (held_at s) s.held))
   crc_is = ap (λ (l : List ℕ). register (take len l)) (spare_is s)
 
-  room : held_at s + length (filled s.medium.unit s.held) ≤ capacity_of s.medium
-  room = held_fits s store.puts has.active.sized.whole
+  room : held_at s + length (filled s.medium.grain.unit s.held) ≤ capacity_of s.medium
+  room = held_fits s store.puts has.active.sized.whole.units
 
   within : len ≤ held_at s + length s.held
   within = omega (arith, le, held_end s store.puts)
@@ -46,25 +46,25 @@ module _ (s now : SlotsState) (store : IsStore s) (len : ℕ) (le : len ≤ s.pu
       let a = has.active in
       (ends_keep a.spare (a.spare + slot_size s.medium.bytes) (writes_of s (Commit len)) s.medium now.medium
       (place_end g s.medium.bytes a.at a.spare (standing a).sized (standing a).places).1
-      (commit_inside g (gate_wide s.medium.unit) s.medium a.at a.spare has.image (standing a) off s.medium.unit
+      (commit_inside s.medium.grain s.medium a.at a.spare has.image (standing a) a.sized.whole off
       (held_at s) s.held room len within (register (take len (spare_of s))) crc_is) came.ends).size
 
-  unit_after : now.medium.unit ≡ s.medium.unit
-  unit_after = ends_unit (writes_of s (Commit len)) s.medium now.medium came.ends
+  grain_after : now.medium.grain ≡ s.medium.grain
+  grain_after = ends_grain (writes_of s (Commit len)) s.medium now.medium came.ends
 
   room_after : room_of now ≡ room_of s
-  room_after = room_from s now unit_after size_after
+  room_after = room_from s now grain_after size_after
 
   -- An image that stands on the medium now is its active one.
   active_now : (at spare : ℕ) (image : List ℕ) → ActiveAt g now.medium.bytes at spare image → Active now.medium image
-  active_now at spare image stands = active_on s.medium now.medium at spare image unit_after size_after has.active.sized.whole stands
+  active_now at spare image stands = active_on s.medium now.medium at spare image grain_after size_after has.active.sized.whole stands
 
   new_after : AllWrites s.medium (writes_of s (Commit len)) now.medium → Active now.medium (take len (spare_of s))
   new_after all =
       let a = has.active in
       subst (λ (l : List ℕ). Active now.medium (take len l)) (sym (spare_is s))
       (active_now a.spare a.at _
-      (committed g (gate_wide s.medium.unit) s.medium a.at a.spare has.image (standing a) off s.medium.unit
+      (committed s.medium.grain s.medium a.at a.spare has.image (standing a) a.sized.whole off
       (held_at s) s.held room len within (register (take len (spare_of s))) crc_is now.medium all))
 
   either_after : Active now.medium has.image ⊎ Active now.medium (take len (spare_of s))
@@ -74,7 +74,7 @@ module _ (s now : SlotsState) (store : IsStore s) (len : ℕ) (le : len ≤ s.pu
         let a = has.active in
         subst (λ (l : List ℕ). Active now.medium has.image ⊎ Active now.medium (take len l)) (sym (spare_is s))
         (⊎_elim (λ old. inl (active_now a.at a.spare has.image old)) (λ new. inr (active_now a.spare a.at _ new))
-        (committed_either g (gate_wide s.medium.unit) s.medium a.at a.spare has.image (standing a) off s.medium.unit
+        (committed_either s.medium.grain s.medium a.at a.spare has.image (standing a) a.sized.whole off
         (held_at s) s.held room len within (register (take len (spare_of s))) crc_is fault now.medium broken))
   ]
 

@@ -1,12 +1,12 @@
 -- What a store is after `put`.
-use Rattle.std.proofs.Common.{◌≡◌, ℕ, ◌+◌, ◌-◌, ◌*◌, ◌%◌, ◌≤◌, List, ◌++◌, length, take, Result, sym, ◌∙◌, ap, subst, arith, length-append}
-use Rattle.std.proofs.lemmas.List.{length-take-le}
-use Rattle.dfu_slots.specs.declared.unit.Unit.{Unit as WriteUnit}
+use Rattle.std.proofs.Common.{◌≡◌, ℕ, ◌+◌, ◌-◌, ◌*◌, ◌/◌, ◌%◌, ◌≤◌, List, ◌++◌, length, take, Result, sym, ◌∙◌, ap, subst, arith, length-append, take-append-drop}
+use Rattle.std.proofs.lemmas.List.{length-take-le, append_assoc}
 use Rattle.dfu_slots.specs.declared.fault.PutFault.{PutFault}
-use Rattle.dfu_slots.specs.Units.{unit_size, gate_size, whole_part}
-use Rattle.dfu_slots.specs.Medium.{written}
+use Rattle.dfu_slots.specs.Units.{unit_size, whole_part, gate_room, Grain}
+use Rattle.dfu_slots.specs.Medium.{KeepsOutside, AllWrites, IsAhead, written}
+use Rattle.dfu_slots.specs.Writes.{put_writes, put_rest}
 use Rattle.dfu_slots.specs.Layout.{slot_size, Slot, slot, IsOpen}
-use Rattle.dfu_slots.specs.Image.{gate_of, capacity_of, spare_at}
+use Rattle.dfu_slots.specs.Image.{gate_of, capacity_of, spare_at, spare}
 use Rattle.dfu_slots.specs.Seen.{SlotsState, spare_slot, held_at, data_place, spare_of, Put, writes_of, CallWorked}
 use Rattle.dfu_slots.specs.Store.{HasPuts, IsStore}
 use Rattle.dfu_slots.specs.Changes.{Changes}
@@ -14,10 +14,15 @@ use Rattle.dfu_slots.specs.Leaves.{Refuses, PutLeaves}
 use Rattle.dfu_slots.proofs.Stands.{standing}
 use Rattle.dfu_slots.proofs.Parts.{data_length}
 use Rattle.dfu_slots.proofs.Newest.{places_are, place_end, spare_end}
-use Rattle.dfu_slots.proofs.Multiples.{gate_wide, part_le, part_more, held_end}
-use Rattle.dfu_slots.proofs.Series.{AllInside, ends_unit}
-use Rattle.dfu_slots.proofs.SpareData.{data_kept, data_keeps, data_spare, data_gate, data_written}
-use Rattle.dfu_slots.proofs.Put.{whole_le, rest_length, put_inside, put_written, put_joined, put_behind}
+use Rattle.dfu_slots.proofs.Sectors.{IsEdge, gate_wide}
+use Rattle.dfu_slots.proofs.Multiples.{part_le, part_more, held_end}
+use Rattle.dfu_slots.proofs.Series.{AllInside, ends_grain}
+use Rattle.dfu_slots.proofs.SpareData.{data_kept, data_keeps, data_spare, data_gate, data_written, spare_front}
+use Rattle.dfu_slots.proofs.ReadBack.{Stand}
+use Rattle.dfu_slots.proofs.Within.{front_written}
+use Rattle.dfu_slots.proofs.Edges.{end_edge}
+use Rattle.dfu_slots.proofs.PutAhead.{put_ahead}
+use Rattle.dfu_slots.proofs.Put.{whole_le, rest_length, put_inside, put_keeps, put_stands, put_written, put_joined, put_behind}
 use Rattle.dfu_slots.proofs.Seeing.{room_capacity, begun_closed, spare_is, begun_from_gate}
 use Rattle.dfu_slots.proofs.Stays.{Stays, SamePlaces, stays_places, stays_has, stays_same, stays_image, stays_room, spare_there}
 use Rattle.dfu_slots.proofs.AfterCall.{Came, after_call, after_ok, on_ok_of, call_store, call_leaves}
@@ -30,7 +35,7 @@ module _ (s now : SlotsState) (store : IsStore s) (at : ℕ) (new : List ℕ) (h
   all = s.held ++ new
 
   abbrev whole : ℕ
-  whole = whole_part s.medium.unit (length all)
+  whole = whole_part s.medium.grain.unit (length all)
 
   place : store.has_image.active.spare ≡ spare_at g s.medium.bytes
   place = (places_are g s.medium.bytes store.has_image.active.at store.has_image.active.spare store.has_image.image
@@ -39,14 +44,18 @@ module _ (s now : SlotsState) (store : IsStore s) (at : ℕ) (new : List ℕ) (h
   all_length : length all ≡ length s.held + length new
   all_length = length-append s.held new
 
+  edge : IsEdge s.medium.grain.sector (store.has_image.active.spare + slot_size s.medium.bytes)
+  edge =
+      let a = store.has_image.active in
+      end_edge s.medium.grain s.medium.bytes (standing a).sized a.sized.whole a.at a.spare a.places
+
   -- The bytes lie in the spare's data.
   inside : at + length new ≤ capacity_of s.medium
       → AllInside (store.has_image.active.spare + 2 * g) (store.has_image.active.spare + slot_size s.medium.bytes)
       (writes_of s (Put at new))
   inside fits =
-      put_inside s.medium.unit s.held new (store.has_image.active.spare + 2 * g) (store.has_image.active.spare + slot_size s.medium.bytes)
-      (data_place s (at - length s.held))
-      (omega (arith, place)) (omega (arith, place, fits, here, all_length, held_end s store.puts, store.has_image.active.sized.room))
+      put_inside s.medium.grain s.held new (store.has_image.active.spare + 2 * g) (store.has_image.active.spare + slot_size s.medium.bytes)
+      (data_place s (at - length s.held)) edge (omega (arith, place)) (omega (arith, place, fits, here, all_length, held_end s store.puts, store.has_image.active.sized.room))
 
   -- After a `put` whose writes worked, or were broken off.
   module _ (came : Came s now (Put at new)) where
@@ -56,46 +65,38 @@ module _ (s now : SlotsState) (store : IsStore s) (at : ℕ) (new : List ℕ) (h
     shut : ¬ IsOpen (slot g s.medium.bytes store.has_image.active.spare)
     shut = subst (λ (q : ℕ). ¬ IsOpen (slot g s.medium.bytes q)) (sym place) (begun_closed s came.ready)
 
-    unit_is : now.medium.unit ≡ s.medium.unit
-    unit_is = ends_unit (writes_of s (Put at new)) s.medium now.medium came.ends
+    grain_is : now.medium.grain ≡ s.medium.grain
+    grain_is = ends_grain (writes_of s (Put at new)) s.medium now.medium came.ends
 
     stays_after : Stays s now store.has_image
     stays_after =
         let a = store.has_image.active in
         record {
-          stands = data_keeps g (gate_wide s.medium.unit) s.medium now.medium a.at a.spare store.has_image.image (standing a) shut
+          stands = data_keeps g (gate_wide s.medium.grain) s.medium now.medium a.at a.spare store.has_image.image (standing a) shut
               (writes_of s (Put at new)) (inside fits) came.ends;
-          unit = unit_is;
-          size = (data_kept g (gate_wide s.medium.unit) s.medium now.medium a.at a.spare store.has_image.image (standing a) shut
+          grain = grain_is;
+          size = (data_kept g (gate_wide s.medium.grain) s.medium now.medium a.at a.spare store.has_image.image (standing a) shut
               (writes_of s (Put at new)) (inside fits) came.ends).size;
         }
 
     gate_after : (spare_slot now).gate ≡ (spare_slot s).gate
     gate_after =
         let a = store.has_image.active in
-        ap (λ (p : Slot). p.gate) (spare_there s.medium now.medium unit_is)
-        ∙ data_gate g (gate_wide s.medium.unit) s.medium now.medium a.at a.spare store.has_image.image (standing a) shut
+        ap (λ (p : Slot). p.gate) (spare_there s.medium now.medium grain_is)
+        ∙ data_gate g (gate_wide s.medium.grain) s.medium now.medium a.at a.spare store.has_image.image (standing a) shut
         (writes_of s (Put at new)) (inside fits) came.ends
 
   -- After a `put` that is Ok.
   module _ (came : Came s now (Put at new)) (worked : CallWorked s (Put at new) now) where
-    rest_is : length now.held ≡ length all % unit_size s.medium.unit
-    rest_is = ap length worked.held_is ∙ rest_length s.medium.unit s.held new ∙ omega (arith, part_le s.medium.unit (length all))
+    rest_is : length now.held ≡ length all % unit_size s.medium.grain.unit
+    rest_is = ap length worked.held_is ∙ rest_length s.medium.grain s.held new ∙ omega (arith, part_le s.medium.grain.unit (length all))
 
-    part_is : length now.held ≡ now.put_end % unit_size s.medium.unit
+    part_is : length now.held ≡ now.put_end % unit_size s.medium.grain.unit
     part_is =
         rest_is
-        ∙ ap (λ (n : ℕ). n % unit_size s.medium.unit) (all_length ∙ ap (λ (n : ℕ). n + length new) store.puts.part)
-        ∙ part_more s.medium.unit s.put_end (length new)
-        ∙ ap (λ (n : ℕ). n % unit_size s.medium.unit) (ap (λ (n : ℕ). n + length new) (sym here) ∙ sym worked.end_is)
-
-    puts_after : HasPuts now
-    puts_after =
-        let stays = stays_after came in
-        record {
-          fits = omega (arith, fits came, here, worked.end_is, ap gate_size stays.unit, stays.size);
-          part = part_is ∙ ap (λ (u : WriteUnit). now.put_end % unit_size u) (sym stays.unit);
-        }
+        ∙ ap (λ (n : ℕ). n % unit_size s.medium.grain.unit) (all_length ∙ ap (λ (n : ℕ). n + length new) store.puts.part)
+        ∙ part_more s.medium.grain.unit s.put_end (length new)
+        ∙ ap (λ (n : ℕ). n % unit_size s.medium.grain.unit) (ap (λ (n : ℕ). n + length new) (sym here) ∙ sym worked.end_is)
 
     -- Where the bytes held now belong.
     held_now : held_at now ≡ held_at s + whole
@@ -104,9 +105,9 @@ module _ (s now : SlotsState) (store : IsStore s) (at : ℕ) (new : List ℕ) (h
       here,
       worked.end_is,
       ap length worked.held_is,
-      rest_length s.medium.unit s.held new,
+      rest_length s.medium.grain s.held new,
       all_length,
-      whole_le s.medium.unit s.held new,
+      whole_le s.medium.grain s.held new,
       held_end s store.puts,
     )
 
@@ -118,28 +119,106 @@ module _ (s now : SlotsState) (store : IsStore s) (at : ℕ) (new : List ℕ) (h
     room : held_at s + length all ≤ length (spare_slot s).data_bytes
     room = omega (arith, data_size, fits came, here, all_length, held_end s store.puts)
 
-    data_now : (spare_slot now).data_bytes ≡ written (spare_slot s).data_bytes (held_at s) (take whole all)
-    data_now =
+    kept : spare_at g now.medium.bytes ≡ spare_at g s.medium.bytes
+    kept =
         let a = store.has_image.active in
-        let kept = data_spare g (gate_wide s.medium.unit) s.medium now.medium a.at a.spare store.has_image.image (standing a)
-        (shut came) (writes_of s (Put at new)) (inside (fits came)) came.ends in
-        let end = (place_end g s.medium.bytes a.at a.spare (standing a).sized (standing a).places).1 in
-        ap (λ (p : Slot). p.data_bytes) (spare_there s.medium now.medium (unit_is came))
+        data_spare g (gate_wide s.medium.grain) s.medium now.medium a.at a.spare store.has_image.image (standing a)
+        (shut came) (writes_of s (Put at new)) (inside (fits came)) came.ends
+
+    end : store.has_image.active.spare + slot_size s.medium.bytes ≤ length s.medium.bytes
+    end =
+        let a = store.has_image.active in
+        (place_end g s.medium.bytes a.at a.spare (standing a).sized (standing a).places).1
+
+    whole_size : length (take whole all) ≡ whole
+    whole_size = length-take-le whole all (whole_le s.medium.grain s.held new)
+
+    ahead_after : IsAhead now.medium (data_place now (held_at now))
+    ahead_after =
+        let a = store.has_image.active in
+        let grain = grain_is came in
+        let p = data_place s (held_at s) in
+        let same : data_place s (at - length s.held) ≡ p = ap (λ (n : ℕ). data_place s (n - length s.held)) here in
+        let gate : gate_of now.medium ≡ g = ap gate_room grain in
+        let spare_is_there : spare_at (gate_of now.medium) now.medium.bytes ≡ spare_at g s.medium.bytes =
+        ap (λ (w : Grain). spare_at (gate_room w) now.medium.bytes) grain ∙ kept in
+        let there : p + whole ≡ data_place now (held_at now) = omega (arith, gate, spare_is_there, held_now) in
+        let high : p + length all ≤ length s.medium.bytes = omega (arith, place, end, room, data_size, a.sized.room) in
+        subst (λ (q : ℕ). IsAhead now.medium q) there
+        (put_ahead s.medium now.medium p s.held new a.sized high
+        (subst (λ (q : ℕ). AllWrites s.medium (put_writes s.medium.grain q s.held new) now.medium) same worked.writes) store.puts.ahead)
+
+    puts_after : HasPuts now
+    puts_after =
+        let stays = stays_after came in
+        record {
+          fits = omega (arith, fits came, here, worked.end_is, ap gate_room stays.grain, stays.size);
+          ahead = ahead_after;
+          part = part_is ∙ ap (λ (w : Grain). now.put_end % unit_size w.unit) (sym stays.grain);
+        }
+
+    -- The whole units stand behind what stood there.
+    data_begins : take (held_at s + whole) (spare_slot now).data_bytes ≡ take (held_at s) (spare_slot s).data_bytes ++ take whole all
+    data_begins =
+        let a = store.has_image.active in
+        let p = data_place s (at - length s.held) in
+        let to = a.spare + slot_size s.medium.bytes in
+        let same : p ≡ data_place s (held_at s) = ap (λ (n : ℕ). data_place s (n - length s.held)) here in
+        let high : p + length all ≤ to = omega (arith, place, here, room, data_size, a.sized.room) in
+        ap (λ (q : Slot). take (held_at s + whole) q.data_bytes) (spare_there s.medium now.medium (grain_is came))
+        ∙ ap (λ (n : ℕ). take (held_at s + n) (spare g now.medium.bytes).data_bytes) (sym whole_size)
+        ∙ spare_front g s.medium.bytes now.medium.bytes (standing a).sized kept (held_at s) (take whole all) to
+        (omega (arith, room, data_size, whole_size, whole_le s.medium.grain s.held new))
+        (subst (λ (q : ℕ). KeepsOutside q to s.medium.bytes now.medium.bytes) same
+        (put_keeps s.medium.grain s.held new s.medium now.medium to p edge high end worked.writes))
+        (subst (λ (q : ℕ). Stand now.medium.bytes q (take whole all)) same
+        (put_stands s.medium.grain s.held new s.medium now.medium to p edge high end worked.writes))
+
+    data_size_now : length (spare_slot now).data_bytes ≡ capacity_of s.medium
+    data_size_now =
+        let sized = (stays_after came).stands.sized in
+        ap (λ (q : Slot). length q.data_bytes) (spare_there s.medium now.medium (grain_is came))
+        ∙ data_length g now.medium.bytes (spare_at g now.medium.bytes) (spare_end g now.medium.bytes sized) (omega (arith, sized.room))
+        ∙ ap (λ (n : ℕ). n / 2 - 2 * g) (stays_after came).size
+
+    front_after : take (at + length new) (spare_of now) ≡ take at (spare_of s) ++ new
+    front_after =
+        let d = (spare_slot s).data_bytes in
+        let k = held_at s in
+        let rest = put_rest s.medium.grain.unit s.held new in
+        let long = rest_length s.medium.grain s.held new in
+        let some = whole_le s.medium.grain s.held new in
+        let e : k + length s.held ≡ at = held_end s store.puts ∙ sym here in
+        let f : at + length new ≡ k + whole + length rest = omega (arith, e, long, some, all_length) in
+        ap (λ (l : List ℕ). take (at + length new) l) (spare_is now ∙ (λ i. written (spare_slot now).data_bytes (held_now i) (worked.held_is i)))
+        ∙ ap (λ (n : ℕ). take n (written (spare_slot now).data_bytes (k + whole) rest)) f
+        ∙ front_written (spare_slot now).data_bytes (k + whole) rest (omega (arith, data_size_now, data_size, room, some))
+        ∙ ap (λ (l : List ℕ). l ++ rest) data_begins
+        ∙ append_assoc (take k d) (take whole all) rest
+        ∙ ap (λ (l : List ℕ). take k d ++ l) (take-append-drop whole all)
+        ∙ sym (append_assoc (take k d) s.held new)
+        ∙ ap (λ (l : List ℕ). l ++ new) (sym (front_written d k s.held (omega (arith, room, all_length)))
+        ∙ (λ i. take (e i) (sym (spare_is s) i)))
+
+    data_now : s.medium.grain.sector ≡ 0 → (spare_slot now).data_bytes ≡ written (spare_slot s).data_bytes (held_at s) (take whole all)
+    data_now none =
+        let a = store.has_image.active in
+        ap (λ (p : Slot). p.data_bytes) (spare_there s.medium now.medium (grain_is came))
         ∙ data_written g s.medium.bytes now.medium.bytes (standing a).sized kept (held_at s) (take whole all)
-        (omega (arith, room, data_size, length-take-le whole all (whole_le s.medium.unit s.held new), whole_le s.medium.unit s.held new))
-        (put_written s.medium.unit s.held new s.medium now.medium (data_place s (at - length s.held))
+        (omega (arith, room, data_size, whole_size, whole_le s.medium.grain s.held new))
+        (put_written s.medium.grain s.held new s.medium now.medium (data_place s (at - length s.held)) none
         (omega (arith, place, here, end, room, data_size, a.sized.room)) worked.writes
         ∙ ap (λ (n : ℕ). written s.medium.bytes (data_place s (n - length s.held)) (take whole all)) here)
 
-    spare_after : spare_of now ≡ written (spare_of s) at new
-    spare_after =
+    spare_after : s.medium.grain.sector ≡ 0 → spare_of now ≡ written (spare_of s) at new
+    spare_after none =
         let d = (spare_slot s).data_bytes in
         let k = held_at s in
         let e : k + length s.held ≡ at = held_end s store.puts ∙ sym here in
         spare_is now
-        ∙ (λ i. written (data_now i) (held_now i) (worked.held_is i))
-        ∙ put_joined s.medium.unit s.held new d k room
-        ∙ put_behind s.medium.unit s.held new d k room
+        ∙ (λ i. written (data_now none i) (held_now i) (worked.held_is i))
+        ∙ put_joined s.medium.grain s.held new d k room
+        ∙ put_behind s.medium.grain s.held new d k room
         ∙ (λ i. written (sym (spare_is s) i) (e i) new)
 
 module _ {T : Type 0} (s now : SlotsState) (store : IsStore s) (at : ℕ) (new : List ℕ) (here : at ≡ s.put_end) (result : Result T PutFault)
@@ -173,6 +252,7 @@ put_leaves {T} {s} {v} view store now at new here result refuses changes =
       common = call_leaves s now (Put at new) result refuses changes
           (put_store s now store at new here result refuses changes) (stays_room s now store.has_image stays);
       image = stays_image s now store.has_image stays;
+      front = after_ok s now (Put at new) result refuses changes (front_after s now store at new here);
       spare = after_ok s now (Put at new) result refuses changes (spare_after s now store at new here);
       end = after_ok s now (Put at new) result refuses changes (λ came worked. worked.end_is);
       gate = on_ok_of result gate;

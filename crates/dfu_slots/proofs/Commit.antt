@@ -1,5 +1,5 @@
 -- What `commit` leaves.
-use Rattle.std.proofs.Common.{◌≡◌, ◌⊎◌, inl, inr, ⊎_elim, ℕ, ◌+◌, ◌-◌, ◌*◌, ◌^◌, ◌≤◌, ◌<◌, List, [], ◌∷◌, length, take, drop, replicate, slice_index, slice_range, sym, ◌∙◌, ap, subst, arith}
+use Rattle.std.proofs.Common.{◌≡◌, ◌⊎◌, inl, inr, ⊎_elim, ℕ, ◌+◌, ◌-◌, ◌*◌, ◌^◌, ◌≤◌, ◌<◌, List, length, take, drop, replicate, slice_index, slice_range, sym, ◌∙◌, ap, subst, arith}
 use Rattle.std.proofs.lemmas.List.{length-take-le, take_at, take-take}
 use Rattle.std.proofs.lemmas.Bool.{cases_eq}
 use Rattle.std.specs.Int.{w32, from_le_bytes}
@@ -9,7 +9,11 @@ use Rattle.dfu_slots.specs.declared.fault.WriteFault.{WriteFault}
 use Rattle.dfu_slots.specs.Medium.{MediumState, Write, KeepsOutside, AllWrites, BrokenWrites, written}
 use Rattle.dfu_slots.specs.Layout.{slot_size, capacity, Slot, slot, OPEN, IsOpen, generation, next_generation, header_length, header, HasHeader, gate_unit, header_unit}
 use Rattle.dfu_slots.specs.Image.{active_at, spare_at, spare}
-use Rattle.dfu_slots.specs.Writes.{commit_writes}
+use Rattle.dfu_slots.specs.Units.{Grain, gate_size, gate_room, IsWhole}
+use Rattle.dfu_slots.specs.Writes.{write_anew, commit_writes}
+use Rattle.dfu_slots.proofs.Sectors.{IsEdge, unit_wide, gate_wide}
+use Rattle.dfu_slots.proofs.Edges.{header_edge, data_edge}
+use Rattle.dfu_slots.proofs.Anew.{anew_inside, anew_last}
 use Rattle.dfu_slots.proofs.Stands.{ActiveAt}
 use Rattle.dfu_slots.proofs.Torn.{written_range, keeps_both, keeps_wider}
 use Rattle.dfu_slots.proofs.Parts.{length-gate_unit, length-header_unit, header_outside, data_outside, slot_outside, data_length, size_kept, sized_kept}
@@ -110,9 +114,19 @@ module _ (g : ℕ) (wide : 16 ≤ g) (old mid left : List ℕ) (mine other : ℕ
 
 -- The writes of a commit.
 
-module _ (g : ℕ) (wide : 16 ≤ g) (s : MediumState) (mine other : ℕ) (image : List ℕ) (a : ActiveAt g s.bytes mine other image)
-    (shut : ¬ IsOpen (slot g s.bytes other))
-    (len : ℕ) (fits : len ≤ capacity g s.bytes) where
+module _ (w : Grain) (s : MediumState) (mine other : ℕ) (image : List ℕ) (a : ActiveAt (gate_room w) s.bytes mine other image)
+    (whole : IsWhole w (capacity (gate_room w) s.bytes)) (shut : ¬ IsOpen (slot (gate_room w) s.bytes other))
+    (len : ℕ) (fits : len ≤ capacity (gate_room w) s.bytes) where
+  abbrev g : ℕ
+  g = gate_room w
+
+  -- So many bytes of the gate and of the header are written.
+  abbrev k : ℕ
+  k = gate_size w.unit
+
+  wide : 16 ≤ g
+  wide = gate_wide w
+
   abbrev was : List ℕ
   was = s.bytes
 
@@ -125,25 +139,39 @@ module _ (g : ℕ) (wide : 16 ≤ g) (s : MediumState) (mine other : ℕ) (image
   abbrev crc : ℕ
   crc = register (take len (spare g was).data_bytes)
 
+  abbrev next : ℕ
+  next = next_generation (generation (slot g was (active_at g was)))
+
   abbrev head_unit : List ℕ
-  head_unit = header_unit g (next_generation (generation (slot g was (active_at g was)))) len crc
+  head_unit = header_unit k next len crc
+
+  head_length : length head_unit ≡ k
+  head_length = length-header_unit k next len crc (unit_wide w.unit)
+
+  gate_length : length (gate_unit k OPEN) ≡ k
+  gate_length = length-gate_unit k OPEN (unit_wide w.unit)
 
   abbrev before_gate : List Write
-  before_gate = record { at = spare_at g was + g; bytes = head_unit } ∷ []
+  before_gate = write_anew w.sector (spare_at g was + g) head_unit
 
   abbrev gate_write : List Write
-  gate_write = record { at = spare_at g was; bytes = gate_unit g OPEN } ∷ []
+  gate_write = write_anew w.sector (spare_at g was) (gate_unit k OPEN)
 
-  inside : AllInside (other + g) (other + slot_size was) before_gate
-  inside = (
-    omega (arith, places_of.1),
-    omega
-        (arith, places_of.1, a.sized.room, length-header_unit g (next_generation (generation (slot g was (active_at g was)))) len crc wide),
-    tt,
-  )
+  head_edge : IsEdge w.sector (other + 2 * g)
+  head_edge = data_edge w was a.sized whole mine other a.places
 
-  gate_inside : AllInside other (other + g) gate_write
-  gate_inside = (omega (arith, places_of.1), omega (arith, places_of.1, length-gate_unit g OPEN wide), tt)
+  gate_edge : IsEdge w.sector (other + g)
+  gate_edge = header_edge w was a.sized whole mine other a.places
+
+  pub head_inside : AllInside (other + g) (other + 2 * g) before_gate
+  head_inside =
+      anew_inside w.sector (other + g) (other + 2 * g) (spare_at g was + g) head_unit head_edge (omega (arith, places_of.1))
+      (omega (arith, places_of.1, head_length))
+
+  pub gate_inside : AllInside other (other + g) gate_write
+  gate_inside =
+      anew_inside w.sector other (other + g) (spare_at g was) (gate_unit k OPEN) gate_edge (omega (arith, places_of.1))
+      (omega (arith, places_of.1, gate_length))
 
   whole_length : length (slot g was other).data_bytes ≡ capacity g was
   whole_length = data_length g was other end (omega (arith, a.sized.room))
@@ -153,60 +181,61 @@ module _ (g : ℕ) (wide : 16 ≤ g) (s : MediumState) (mine other : ℕ) (image
 
   -- After the writes before the gate.
   module _ (mid : MediumState) (first : AllWrites s before_gate mid) where
-    mid_keeps : KeepsOutside (other + g) (other + slot_size was) was mid.bytes
-    mid_keeps = all_keep (other + g) (other + slot_size was) before_gate s mid end inside first
+    head_keeps : KeepsOutside (other + g) (other + 2 * g) was mid.bytes
+    head_keeps = all_keep (other + g) (other + 2 * g) before_gate s mid (omega (arith, end, a.sized.room)) head_inside first
 
-    mid_bytes : mid.bytes ≡ written was (spare_at g was + g) head_unit
-    mid_bytes = ap (λ (m : MediumState). m.bytes) first.2 ∙ first.1.bytes
+    mid_keeps : KeepsOutside (other + g) (other + slot_size was) was mid.bytes
+    mid_keeps = keeps_wider (other + g) (other + 2 * g) (other + g) (other + slot_size was) was mid.bytes head_keeps (omega arith)
+        (omega (arith, a.sized.room))
+
+    last : (e : MediumState) × KeepsOutside (spare_at g was + g) (other + 2 * g) was e.bytes
+        × (mid.bytes ≡ written e.bytes (spare_at g was + g) head_unit)
+    last = anew_last w.sector (other + 2 * g) (spare_at g was + g) head_unit head_edge (omega (arith, places_of.1, head_length)) s mid
+        (omega (arith, end, a.sized.room)) first
 
     mid_head : (slot g mid.bytes other).header
         ≡ header 2 (next_generation (generation (slot g was mine))) len (register (take len (slot g was other).data_bytes))
     mid_head =
         ap (λ (q : ℕ). slice_range mid.bytes (q + g) (q + g + 16)) places_of.1
-        ∙ ap (λ (l : List ℕ). slice_range l (spare_at g was + g) (spare_at g was + g + 16)) mid_bytes
-        ∙ header_written g wide was (spare_at g was + g) (next_generation (generation (slot g was (active_at g was)))) len crc
-        (omega (arith, places_of.1, end, a.sized.room))
+        ∙ ap (λ (l : List ℕ). slice_range l (spare_at g was + g) (spare_at g was + g + 16)) last.2
+        ∙ header_written k (unit_wide w.unit) last.0.bytes (spare_at g was + g) next len crc
+        (omega (arith, last.1.size, places_of.1, end, a.sized.room))
         ∙ (λ i. header 2 (next_generation (generation (slot g was (sym places_of.0 i)))) len
         (register (take len (slot g was (sym places_of.1 i)).data_bytes)))
 
     mid_data : (slot g mid.bytes other).data_bytes ≡ (slot g was other).data_bytes
-    mid_data =
-        data_outside g (other + g) (other + 2 * g) was mid.bytes other
-        (all_keep (other + g) (other + 2 * g) before_gate s mid (omega (arith, end, a.sized.room)) (
-          inside.0,
-          omega (arith, places_of.1, length-header_unit g (next_generation (generation (slot g was (active_at g was)))) len crc wide),
-          tt,
-        ) first)
-        (inr (omega arith))
+    mid_data = data_outside g (other + g) (other + 2 * g) was mid.bytes other head_keeps (inr (omega arith))
 
   abbrev new_image : List ℕ
   new_image = take len (spare g was).data_bytes
 
   -- All of them.
-  pub commit_done : (now : MediumState) → AllWrites s (commit_writes g was len crc) now → ActiveAt g now.bytes other mine new_image
+  pub commit_done : (now : MediumState) → AllWrites s (commit_writes w was len crc) now → ActiveAt g now.bytes other mine new_image
   commit_done now all =
       let parts = all_parts before_gate gate_write s now all in
       let mid = parts.0 in
       let first = parts.1.first in
       let size = (mid_keeps mid first).size in
       let torn = all_keep other (other + g) gate_write mid now (omega (arith, size, end, a.sized.room)) gate_inside parts.1.second in
-      let bytes_are : now.bytes ≡ written mid.bytes (spare_at g was) (gate_unit g OPEN) = ap (λ (m : MediumState). m.bytes) parts.1.second.2
-      ∙ parts.1.second.1.bytes in
+      let opens = anew_last w.sector (other + g) (spare_at g was) (gate_unit k OPEN) gate_edge (omega (arith, places_of.1, gate_length)) mid
+      now (omega (arith, size, end, a.sized.room)) parts.1.second in
       let is_open : IsOpen (slot g now.bytes other) =
-      ap (λ (q : ℕ). slice_index now.bytes q) places_of.1 ∙ ap (λ (l : List ℕ). slice_index l (spare_at g was)) bytes_are
-      ∙ gate_written g wide mid.bytes (spare_at g was) OPEN (omega (arith, size, end, places_of.1, a.sized.room)) in
+      ap (λ (q : ℕ). slice_index now.bytes q) places_of.1 ∙ ap (λ (l : List ℕ). slice_index l (spare_at g was)) opens.2
+      ∙ gate_written k (unit_wide w.unit) opens.0.bytes (spare_at g was) OPEN
+      (omega (arith, opens.1.size, size, end, places_of.1, a.sized.room)) in
       subst (λ (q : ℕ). ActiveAt g now.bytes other mine (take len (slot g was q).data_bytes)) places_of.1
       (opened g wide was mid.bytes now.bytes mine other image a len (slot g was other).data_bytes (omega (arith, whole_length)) bound
       (mid_keeps mid first) torn (mid_head mid first) (mid_data mid first) is_open)
 
   -- Those up to one that failed.
-  pub commit_broken : (fault : WriteFault) (now : MediumState) → BrokenWrites fault s (commit_writes g was len crc) now
+  pub commit_broken : (fault : WriteFault) (now : MediumState) → BrokenWrites fault s (commit_writes w was len crc) now
       → ActiveAt g now.bytes mine other image
       ⊎ ActiveAt g now.bytes other mine new_image
   commit_broken fault now broken = elim (broken_parts fault before_gate gate_write s now broken) [
     | inl early ↦
-        inl (closed_change g wide was now.bytes mine other image (other + g) (other + slot_size was) a
-        (broken_keep (other + g) (other + slot_size was) fault before_gate s now end inside early) shut (omega arith) (omega arith))
+        inl (closed_change g wide was now.bytes mine other image (other + g) (other + 2 * g) a
+        (broken_keep (other + g) (other + 2 * g) fault before_gate s now (omega (arith, end, a.sized.room)) head_inside early) shut
+        (omega (arith, wide)) (omega (arith, a.sized.room)))
     | inr late ↦
         let mid = late.0 in
         let first = late.1.first in

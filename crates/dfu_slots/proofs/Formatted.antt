@@ -1,147 +1,120 @@
 -- A formatted medium has its image.
-use Rattle.std.proofs.Common.{◌≡◌, inl, inr, ⊎_elim, ℕ, zero, suc, ◌+◌, ◌-◌, ◌*◌, ◌/◌, ◌^◌, ◌≤◌, ◌<◌, List, [], ◌∷◌, ◌++◌, length, take, drop, replicate, slice_index, slice_range, refl, sym, ◌∙◌, ap, subst, arith, length-drop, take-append-drop}
+use Rattle.std.proofs.Common.{◌≡◌, ◌≢◌, inl, inr, ⊎_elim, ℕ, zero, suc, ◌+◌, ◌-◌, ◌*◌, ◌/◌, ◌^◌, ◌≤◌, ◌<◌, List, [], ◌∷◌, ◌++◌, length, take, drop, replicate, slice_index, slice_range, refl, sym, ◌∙◌, ap, subst, arith, length-drop, take-append-drop}
 use Rattle.std.proofs.lemmas.List.{length-take, take_all, take_at, drop_all, take-take}
 use Rattle.std.proofs.lemmas.Bool.{cases_lt}
 use Rattle.std.specs.Int.{w32, from_le_bytes}
 use Rattle.std.proofs.lemmas.Nat.{from_le_bytes-to_le_bytes_4}
 use Rattle.dfu_suffix.specs.Register.{register}
-use Rattle.dfu_slots.specs.declared.unit.Unit.{Unit as WriteUnit}
-use Rattle.dfu_slots.specs.Units.{IsMultiple, fill_size, filled}
-use Rattle.dfu_slots.specs.Medium.{MediumState, Torn, written, AllWrites}
+use Rattle.dfu_slots.specs.Units.{Grain, gate_size, gate_room, IsWhole, fill_size, filled}
+use Rattle.dfu_slots.specs.Medium.{MediumState, Write, KeepsOutside, written, AllWrites}
 use Rattle.dfu_slots.specs.Layout.{slot_size, capacity, slot, OPEN, header_length, header, HasHeader, gate_unit, header_unit}
-use Rattle.dfu_slots.specs.Writes.{piece_writes, image_writes, open_writes, format_writes}
+use Rattle.dfu_slots.specs.Writes.{closed_gate, write_anew, piece_writes, image_writes, open_writes, format_writes}
 use Rattle.dfu_slots.proofs.Stands.{HasTwoSlots, ActiveAt}
-use Rattle.dfu_slots.proofs.Torn.{written_torn, written_range, range_outside, byte_outside}
+use Rattle.dfu_slots.proofs.Torn.{written_torn, range_outside, byte_outside, keeps_same, keeps_both, keeps_wider}
 use Rattle.dfu_slots.proofs.Parts.{length-gate_unit, length-header_unit, data_length}
 use Rattle.dfu_slots.proofs.Series.{all_parts}
-use Rattle.dfu_slots.proofs.Within.{written_written, written_nil}
+use Rattle.dfu_slots.proofs.ReadBack.{Stand, none_stand, both_stand, range_is}
+use Rattle.dfu_slots.proofs.Anew.{anew_keeps, anew_stands, anew_last}
+use Rattle.dfu_slots.proofs.Sectors.{IsEdge, unit_wide, gate_wide}
+use Rattle.dfu_slots.proofs.Edges.{half_edge, header_edge, data_edge}
 use Rattle.dfu_slots.proofs.Multiples.{length-filled, filled_within}
 use Rattle.dfu_slots.proofs.Pieces.{pieces_nil}
-use Rattle.dfu_slots.proofs.Begun.{gate_written}
+use Rattle.dfu_slots.proofs.Begun.{closed_most, closed_written, gate_written}
 use Rattle.dfu_slots.proofs.Commit.{header_written}
 
--- The pieces together are one write.
-pub pieces_written : (n at : ℕ) (bytes : List ℕ) (s now : MediumState) → length bytes ≤ n → at + length bytes ≤ length s.bytes
-    → AllWrites s (piece_writes n at bytes) now → now.bytes ≡ written s.bytes at bytes
-pieces_written zero at [] s now le fits same = ap (λ (m : MediumState). m.bytes) same ∙ sym (written_nil s.bytes at)
-pieces_written zero at (b ∷ bs) s now le fits same = absurd (omega arith)
-pieces_written (suc n) at [] s now le fits same = ap (λ (m : MediumState). m.bytes) same ∙ sym (written_nil s.bytes at)
-pieces_written (suc n) at (b ∷ bs) s now le fits (next, wrote, rest) =
-    let bytes = b ∷ bs in
-    let a = take 4096 bytes in
-    let c = drop 4096 bytes in
-    let la = length-take 4096 bytes in
-    let lc = length-drop 4096 bytes in
-    let kept : length next.bytes ≡ length s.bytes = ap length wrote.bytes ∙ (written_torn s.bytes at a (omega (arith, la))).size in
-    let whole : a ++ c ≡ bytes = take-append-drop 4096 bytes in
-    ⊎_elim
-    (λ short.
-    let none : c ≡ [] = drop_all 4096 bytes (omega arith) in
-    let all : a ≡ bytes = take_all 4096 bytes (omega arith) in
-    let same : now ≡ next = subst (λ ws. AllWrites next ws now) (pieces_nil n (at + 4096))
-    (subst (λ (l : List ℕ). AllWrites next (piece_writes n (at + 4096) l) now) none rest) in
-    ap (λ (m : MediumState). m.bytes) same ∙ wrote.bytes ∙ ap (λ (l : List ℕ). written s.bytes at l) all)
-    (λ long.
-    let size : length a ≡ 4096 = omega (arith, la) in
-    let ih = pieces_written n (at + 4096) c next now (omega (arith, lc)) (omega (arith, lc, kept)) rest in
-    ih ∙ (λ i. written (wrote.bytes i) (at + sym size i) c) ∙ written_written s.bytes at a c (omega (arith, la, lc))
-    ∙ ap (λ (l : List ℕ). written s.bytes at l) whole)
-    (cases_lt (length bytes) 4096)
+-- A piece, and what stands behind it.
+pieces_join : (to at : ℕ) (a c s mid now : List ℕ) → length a ≡ 4096 → at + length a + length c ≤ to → to ≤ length s
+    → KeepsOutside at to s mid → Stand mid at a → KeepsOutside (at + 4096) to mid now → Stand now (at + 4096) c
+    → KeepsOutside at to s now × Stand now at (a ++ c)
+pieces_join to at a c s mid now size fits room first stands second more = (
+  keeps_both at to s mid now first (keeps_wider (at + 4096) to at to mid now second (omega arith) (omega arith)),
+  both_stand now at a c (omega (arith, fits, room, first.size, second.size))
+      (range_outside (at + 4096) to mid now at (at + length a) second (inl (omega (arith, size))) ∙ stands)
+      (let there : at + 4096 ≡ at + length a = omega (arith, size) in subst (λ (p : ℕ). Stand now p c) there more),
+)
 
--- The five steps of a format, by the bytes that each leaves, on a medium of two halves of `h` bytes.
-module _ (g : ℕ) (wide : 16 ≤ g) (d a b c e now image units : List ℕ) (h : ℕ) (halves : length d ≡ h + h) (room : 2 * g + length units ≤ h)
+-- What the pieces of these bytes leave there.
+abbrev Left : ℕ → ℕ → List ℕ → List ℕ → List ℕ → Type 0
+Left at to bytes old now = KeepsOutside at to old now × Stand now at bytes
+
+-- A piece lies in the range of the bytes.
+take_fits : (at to : ℕ) (bytes : List ℕ) → at + length bytes ≤ to → at + length (take 4096 bytes) ≤ to
+take_fits at to bytes fits = omega (arith, fits, length-take 4096 bytes)
+
+-- The only piece.
+pieces_short : (sector n at to : ℕ) (bytes : List ℕ) (s mid now : MediumState) → length bytes < 4096
+    → Left at to (take 4096 bytes) s.bytes mid.bytes → AllWrites mid (piece_writes sector n (at + 4096) (drop 4096 bytes)) now
+    → Left at to bytes s.bytes now.bytes
+pieces_short sector n at to bytes s mid now short left more =
+    let none : drop 4096 bytes ≡ [] = drop_all 4096 bytes (omega (arith, short)) in
+    let equal : take 4096 bytes ≡ bytes = take_all 4096 bytes (omega (arith, short)) in
+    let same : now ≡ mid = subst (λ (ws : List Write). AllWrites mid ws now)
+    (ap (λ (l : List ℕ). piece_writes sector n (at + 4096) l) none ∙ pieces_nil sector n (at + 4096)) more in
+    subst (λ (m : MediumState). Left at to bytes s.bytes m.bytes) (sym same)
+    (left.0, subst (λ (l : List ℕ). Stand mid.bytes at l) equal left.1)
+
+-- A piece, and others behind it.
+pieces_long : (n at to : ℕ) (bytes s mid now : List ℕ) → 4096 ≤ length bytes → length bytes ≤ suc n → at + length bytes ≤ to → to ≤ length s
+    → Left at to (take 4096 bytes) s mid
+    → (length (drop 4096 bytes) ≤ n → at + 4096 + length (drop 4096 bytes) ≤ to → to ≤ length mid
+    → Left (at + 4096) to (drop 4096 bytes) mid now)
+    → Left at to bytes s now
+pieces_long n at to bytes s mid now long le fits room left others =
+    let front = length-take 4096 bytes in
+    let back = length-drop 4096 bytes in
+    let more = others (omega (arith, back, le)) (omega (arith, back, fits, long)) (omega (arith, room, left.0.size)) in
+    subst (λ (l : List ℕ). Left at to l s now) (take-append-drop 4096 bytes)
+    (pieces_join to at (take 4096 bytes) (drop 4096 bytes) s mid now (omega (arith, front, long)) (omega (arith, front, back, fits, long)) room
+    left.0 left.1 more.0 more.1)
+
+-- The pieces stand there, and nothing changes in front of them, nor behind the sector in which they end.
+pub pieces_stand : (sector to : ℕ) → IsEdge sector to → (n at : ℕ) (bytes : List ℕ) (s now : MediumState) → length bytes ≤ n
+    → at + length bytes ≤ to → to ≤ length s.bytes → AllWrites s (piece_writes sector n at bytes) now
+    → KeepsOutside at to s.bytes now.bytes × Stand now.bytes at bytes
+pieces_stand sector to edge zero at [] s now le fits room same =
+    (keeps_same at to s.bytes now.bytes (ap (λ (m : MediumState). m.bytes) same), none_stand now.bytes at)
+pieces_stand sector to edge zero at (b ∷ bs) s now le fits room same = absurd (omega arith)
+pieces_stand sector to edge (suc n) at [] s now le fits room same =
+    (keeps_same at to s.bytes now.bytes (ap (λ (m : MediumState). m.bytes) same), none_stand now.bytes at)
+pieces_stand sector to edge (suc n) at (b ∷ bs) s now le fits room all =
+    let parts = all_parts (write_anew sector at (take 4096 (b ∷ bs))) (piece_writes sector n (at + 4096) (drop 4096 (b ∷ bs))) s now all in
+    let high = take_fits at to (b ∷ bs) fits in
+    let left : Left at to (take 4096 (b ∷ bs)) s.bytes parts.0.bytes = (
+      anew_keeps sector to at (take 4096 (b ∷ bs)) edge high s parts.0 room parts.1.first,
+      anew_stands sector to at (take 4096 (b ∷ bs)) edge high s parts.0 room parts.1.first,
+    ) in
+    ⊎_elim
+    (λ short. pieces_short sector n at to (b ∷ bs) s parts.0 now short left parts.1.second)
+    (λ long. pieces_long n at to (b ∷ bs) s.bytes parts.0.bytes now.bytes long le fits room left
+    (λ few lies kept. pieces_stand sector to edge n (at + 4096) (drop 4096 (b ∷ bs)) parts.0 now few lies kept parts.1.second))
+    (cases_lt (length (b ∷ bs)) 4096)
+
+-- Where the first slot has the image, and its gate is open and the other one's closed, the image is active.
+module _ (g : ℕ) (wide : 16 ≤ g) (now image units : List ℕ) (sized : HasTwoSlots g now) (room : 2 * g + length units ≤ slot_size now)
     (front : take (length image) units ≡ image) (least : length image ≤ length units)
-    (is_a : a ≡ written d h (gate_unit g 0)) (is_b : b ≡ written a 0 (gate_unit g 0)) (is_c : c ≡ written b (2 * g) units)
-    (is_e : e ≡ written c g (header_unit g 0 (length image) (register image))) (is_now : now ≡ written e 0 (gate_unit g OPEN)) where
+    (shut : slice_index now (slot_size now) ≢ OPEN) (first_gate : slice_index now 0 ≡ OPEN)
+    (first_header : slice_range now (0 + g) (0 + g + 16) ≡ header 2 0 (length image) (register image))
+    (first_data : Stand now (0 + 2 * g) units) where
   abbrev len : ℕ
   len = length image
 
   abbrev crc : ℕ
   crc = register image
 
-  closed_size : length (gate_unit g 0) ≡ g
-  closed_size = length-gate_unit g 0 wide
-
-  open_size : length (gate_unit g OPEN) ≡ g
-  open_size = length-gate_unit g OPEN wide
-
-  head_size : length (header_unit g 0 len crc) ≡ g
-  head_size = length-header_unit g 0 len crc wide
-
-  ta : Torn d h (gate_unit g 0) a
-  ta = subst (λ (l : List ℕ). Torn d h (gate_unit g 0) l) (sym is_a) (written_torn d h (gate_unit g 0) (omega (arith, closed_size)))
-
-  len_a : length a ≡ h + h
-  len_a = ta.size ∙ halves
-
-  tb : Torn a 0 (gate_unit g 0) b
-  tb = subst (λ (l : List ℕ). Torn a 0 (gate_unit g 0) l) (sym is_b) (written_torn a 0 (gate_unit g 0) (omega (arith, closed_size, len_a)))
-
-  len_b : length b ≡ h + h
-  len_b = tb.size ∙ len_a
-
-  tc : Torn b (2 * g) units c
-  tc = subst (λ (l : List ℕ). Torn b (2 * g) units l) (sym is_c) (written_torn b (2 * g) units (omega (arith, len_b)))
-
-  len_c : length c ≡ h + h
-  len_c = tc.size ∙ len_b
-
-  te : Torn c g (header_unit g 0 len crc) e
-  te = subst (λ (l : List ℕ). Torn c g (header_unit g 0 len crc) l) (sym is_e)
-      (written_torn c g (header_unit g 0 len crc) (omega (arith, head_size, len_c)))
-
-  len_e : length e ≡ h + h
-  len_e = te.size ∙ len_c
-
-  tn : Torn e 0 (gate_unit g OPEN) now
-  tn = subst (λ (l : List ℕ). Torn e 0 (gate_unit g OPEN) l) (sym is_now)
-      (written_torn e 0 (gate_unit g OPEN) (omega (arith, open_size, len_e)))
-
-  len_now : length now ≡ h + h
-  len_now = tn.size ∙ len_e
-
-  size_now : slot_size now ≡ h
-  size_now = omega (arith, len_now)
-
-  -- The second slot is shut.
-  second_gate : slice_index now h ≡ 0
-  second_gate =
-      byte_outside 0 (0 + length (gate_unit g OPEN)) e now h tn (inr (omega (arith, open_size)))
-      ∙ byte_outside g (g + length (header_unit g 0 len crc)) c e h te (inr (omega (arith, head_size)))
-      ∙ byte_outside (2 * g) (2 * g + length units) b c h tc (inr room)
-      ∙ byte_outside 0 (0 + length (gate_unit g 0)) a b h tb (inr (omega (arith, closed_size)))
-      ∙ ap (λ (l : List ℕ). slice_index l h) is_a ∙ gate_written g wide d h 0 (omega arith)
-
-  first_gate : slice_index now 0 ≡ OPEN
-  first_gate = ap (λ (l : List ℕ). slice_index l 0) is_now ∙ gate_written g wide e 0 OPEN (omega (arith, len_e))
-
-  first_header : slice_range now (0 + g) (0 + g + 16) ≡ header 2 0 len crc
-  first_header =
-      (let e : 0 + g ≡ g = omega arith in ap (λ (q : ℕ). slice_range now q (q + 16)) e)
-      ∙ range_outside 0 (0 + length (gate_unit g OPEN)) e now g (g + 16) tn (inr (omega (arith, open_size)))
-      ∙ ap (λ (l : List ℕ). slice_range l g (g + 16)) is_e ∙ header_written g wide c g 0 len crc (omega (arith, len_c))
-
-  first_data : slice_range now (2 * g) (2 * g + length units) ≡ units
-  first_data =
-      range_outside 0 (0 + length (gate_unit g OPEN)) e now (2 * g) (2 * g + length units) tn (inr (omega (arith, open_size)))
-      ∙ range_outside g (g + length (header_unit g 0 len crc)) c e (2 * g) (2 * g + length units) te (inr (omega (arith, head_size)))
-      ∙ ap (λ (l : List ℕ). slice_range l (2 * g) (2 * g + length units)) is_c ∙ written_range b (2 * g) units (omega (arith, len_b))
-
   -- The image is the front of the slot's data.
   image_front : image ≡ take len (slot g now 0).data_bytes
   image_front =
-      let at : 2 * g ≡ 0 + 2 * g = omega arith in
-      let part : 2 * g + length units - 2 * g ≡ length units = omega arith in
-      sym front ∙ ap (λ (l : List ℕ). take len l) (sym first_data ∙ (λ i. take (part i) (drop (at i) now)))
+      sym front
+      ∙ ap (λ (l : List ℕ). take len l) (sym first_data ∙ range_is now (0 + 2 * g) (length units))
       ∙ take-take len (length units) (drop (0 + 2 * g) now) least
-      ∙ sym (take-take len (0 + slot_size now - (0 + 2 * g)) (drop (0 + 2 * g) now) (omega (arith, size_now)))
+      ∙ sym (take-take len (0 + slot_size now - (0 + 2 * g)) (drop (0 + 2 * g) now) (omega (arith, room, least)))
 
-  format_active : HasTwoSlots g now → ActiveAt g now 0 (slot_size now) image
-  format_active sized =
+  format_active : ActiveAt g now 0 (slot_size now) image
+  format_active =
       let room_is : length (slot g now 0).data_bytes ≡ capacity g now = data_length g now 0 (omega (arith, sized.even))
       (omega (arith, sized.room)) in
       let head : (slot g now 0).header ≡ header 2 0 len crc = first_header in
-      let fits : len ≤ length (slot g now 0).data_bytes = omega (arith, room_is, size_now) in
+      let fits : len ≤ length (slot g now 0).data_bytes = omega (arith, room_is, room, least) in
       let whole : HasHeader (slot g now 0) len = record {
         well_formed = inr (head ∙ (λ i. header 2 (slice_index (sym head i) 0) len (register (image_front i))));
         fits = fits;
@@ -149,7 +122,6 @@ module _ (g : ℕ) (wide : 16 ≤ g) (d a b c e now image units : List ℕ) (h :
       let told : header_length (slot g now 0) ≡ len =
       ap (λ (h : List ℕ). from_le_bytes w32 (take 4 (drop 4 h))) head
       ∙ from_le_bytes-to_le_bytes_4 len (omega (arith, fits, room_is, sized.bound)) in
-      let shut : slice_index now (slot_size now) ≡ 0 = ap (λ (q : ℕ). slice_index now q) size_now ∙ second_gate in
       record {
         sized = sized;
         places = inl (refl, refl);
@@ -158,25 +130,11 @@ module _ (g : ℕ) (wide : 16 ≤ g) (d a b c e now image units : List ℕ) (h :
             is_open = first_gate;
             intact = λ two. subst (λ (n : ℕ). HasHeader (slot g now 0) n) (sym told) whole;
           };
-          newer = inl (λ c. absurd (omega (arith, c.is_open, shut)));
+          newer = inl (λ c. shut c.is_open);
         };
         header_is = whole;
         image_is = image_front;
       }
-
--- The two halves of a medium have room for the gate units and what fits in the data.
-halves_of : (g : ℕ) (l : List ℕ) (n : ℕ) → HasTwoSlots g l → n ≤ capacity g l → (length l ≡ slot_size l + slot_size l)
-    × (2 * g + n ≤ slot_size l)
-halves_of g l n sized fits = (omega (arith, sized.even), omega (arith, fits, sized.room))
-
--- Once both gates are closed, what fits in the data lies within the medium.
-closed_room : (g : ℕ) → 16 ≤ g → (d a b : List ℕ) (n h : ℕ) → length d ≡ h + h → 2 * g + n ≤ h → a ≡ written d h (gate_unit g 0)
-    → b ≡ written a 0 (gate_unit g 0) → 2 * g + n ≤ length b
-closed_room g wide d a b n h halves room is_a is_b =
-    let gates = length-gate_unit g 0 wide in
-    let one : length a ≡ h + h = ap length is_a ∙ (written_torn d h (gate_unit g 0) (omega (arith, gates))).size ∙ halves in
-    let two : length b ≡ h + h = ap length is_b ∙ (written_torn a 0 (gate_unit g 0) (omega (arith, gates, one))).size ∙ one in
-    omega (arith, two)
 
 -- A length that stays keeps the two slots.
 sized_on : (g : ℕ) (l m : List ℕ) → HasTwoSlots g l → length m ≡ length l → HasTwoSlots g m
@@ -186,28 +144,127 @@ sized_on g l m sized same = record {
   bound = subst (λ (n : ℕ). n / 2 - 2 * g ≤ 2 ^ 24) (sym same) sized.bound;
 }
 
+-- The steps of a format: both gates are closed, the pieces are written, then the header, and then the gate.
+module _ (w : Grain) (s m1 m2 m3 m4 now : MediumState) (image : List ℕ) (sized : HasTwoSlots (gate_room w) s.bytes)
+    (whole : IsWhole w (capacity (gate_room w) s.bytes)) (small : length image ≤ capacity (gate_room w) s.bytes)
+    (is_1 : m1.bytes ≡ written s.bytes (slot_size s.bytes) (closed_gate w)) (is_2 : m2.bytes ≡ written m1.bytes 0 (closed_gate w))
+    (all_3 : AllWrites m2 (image_writes w image) m3)
+    (all_4 : AllWrites m3 (write_anew w.sector (0 + gate_room w) (header_unit (gate_size w.unit) 0 (length image) (register image))) m4)
+    (all_5 : AllWrites m4 (write_anew w.sector 0 (gate_unit (gate_size w.unit) OPEN)) now) where
+  abbrev g : ℕ
+  g = gate_room w
+
+  abbrev k : ℕ
+  k = gate_size w.unit
+
+  abbrev h : ℕ
+  h = slot_size s.bytes
+
+  abbrev units : List ℕ
+  units = filled w.unit image
+
+  fits : length units ≤ capacity g s.bytes
+  fits = filled_within w.unit (capacity g s.bytes) image whole.units small
+
+  least : length image ≤ length units
+  least = omega (arith, length-filled w.unit image)
+
+  halves : length s.bytes ≡ h + h
+  halves = omega (arith, sized.even)
+
+  room : 2 * g + length units ≤ h
+  room = omega (arith, fits, sized.room)
+
+  size_1 : length m1.bytes ≡ h + h
+  size_1 = ap length is_1 ∙ (written_torn s.bytes h (closed_gate w) (omega (arith, closed_most w, halves, sized.room))).size ∙ halves
+
+  keeps_2 : KeepsOutside 0 g m1.bytes m2.bytes
+  keeps_2 =
+      let fits_2 : 0 + length (closed_gate w) ≤ length m1.bytes = omega (arith, closed_most w, size_1, sized.room) in
+      keeps_wider 0 (0 + length (closed_gate w)) 0 g m1.bytes m2.bytes
+      (subst (λ (l : List ℕ). KeepsOutside 0 (0 + length (closed_gate w)) m1.bytes l) (sym is_2) (written_torn m1.bytes 0 (closed_gate w) fits_2))
+      (omega arith) (omega (arith, closed_most w))
+
+  size_2 : length m2.bytes ≡ h + h
+  size_2 = keeps_2.size ∙ size_1
+
+  stand_3 : KeepsOutside (2 * g) h m2.bytes m3.bytes × Stand m3.bytes (2 * g) units
+  stand_3 = pieces_stand w.sector h (half_edge w s.bytes sized whole) (length units) (2 * g) units m2 m3 (omega arith) room
+      (omega (arith, size_2)) all_3
+
+  size_3 : length m3.bytes ≡ h + h
+  size_3 = stand_3.0.size ∙ size_2
+
+  abbrev head : List ℕ
+  head = header_unit k 0 (length image) (register image)
+
+  head_fits : 0 + g + length head ≤ 0 + 2 * g
+  head_fits = omega (arith, length-header_unit k 0 (length image) (register image) (unit_wide w.unit))
+
+  last_4 : (e : MediumState) × KeepsOutside (0 + g) (0 + 2 * g) m3.bytes e.bytes × (m4.bytes ≡ written e.bytes (0 + g) head)
+  last_4 = anew_last w.sector (0 + 2 * g) (0 + g) head (data_edge w s.bytes sized whole h 0 (inr (refl, refl))) head_fits m3 m4
+      (omega (arith, size_3, sized.room)) all_4
+
+  keeps_4 : KeepsOutside (0 + g) (0 + 2 * g) m3.bytes m4.bytes
+  keeps_4 = anew_keeps w.sector (0 + 2 * g) (0 + g) head (data_edge w s.bytes sized whole h 0 (inr (refl, refl))) head_fits m3 m4
+      (omega (arith, size_3, sized.room)) all_4
+
+  size_4 : length m4.bytes ≡ h + h
+  size_4 = keeps_4.size ∙ size_3
+
+  gate_fits : 0 + length (gate_unit k OPEN) ≤ 0 + g
+  gate_fits = omega (arith, length-gate_unit k OPEN (unit_wide w.unit))
+
+  last_5 : (e : MediumState) × KeepsOutside 0 (0 + g) m4.bytes e.bytes × (now.bytes ≡ written e.bytes 0 (gate_unit k OPEN))
+  last_5 = anew_last w.sector (0 + g) 0 (gate_unit k OPEN) (header_edge w s.bytes sized whole h 0 (inr (refl, refl))) gate_fits m4 now
+      (omega (arith, size_4, sized.room)) all_5
+
+  keeps_5 : KeepsOutside 0 (0 + g) m4.bytes now.bytes
+  keeps_5 = anew_keeps w.sector (0 + g) 0 (gate_unit k OPEN) (header_edge w s.bytes sized whole h 0 (inr (refl, refl))) gate_fits m4 now
+      (omega (arith, size_4, sized.room)) all_5
+
+  size_5 : length now.bytes ≡ h + h
+  size_5 = keeps_5.size ∙ size_4
+
+  -- The second gate stays as it was closed.
+  second_gate : slice_index now.bytes h ≡ slice_index (written s.bytes h (closed_gate w)) h
+  second_gate =
+      byte_outside 0 (0 + g) m4.bytes now.bytes h keeps_5 (inr (omega (arith, sized.room)))
+      ∙ byte_outside (0 + g) (0 + 2 * g) m3.bytes m4.bytes h keeps_4 (inr (omega (arith, sized.room)))
+      ∙ byte_outside (2 * g) h m2.bytes m3.bytes h stand_3.0 (inr (omega arith))
+      ∙ byte_outside 0 g m1.bytes m2.bytes h keeps_2 (inr (omega (arith, sized.room)))
+      ∙ ap (λ (l : List ℕ). slice_index l h) is_1
+
+  -- The image is active then.
+  format_made : ActiveAt g now.bytes 0 (slot_size now.bytes) image
+  format_made =
+      let size_is : slot_size now.bytes ≡ h = omega (arith, size_5) in
+      let at_2 : 2 * g ≡ 0 + 2 * g = omega arith in
+      let gate : slice_index now.bytes 0 ≡ OPEN =
+      ap (λ (l : List ℕ). slice_index l 0) last_5.2
+      ∙ gate_written k (unit_wide w.unit) last_5.0.bytes 0 OPEN (omega (arith, last_5.1.size, size_4, sized.room)) in
+      let header_is : slice_range now.bytes (0 + g) (0 + g + 16) ≡ header 2 0 (length image) (register image) =
+      range_outside 0 (0 + g) m4.bytes now.bytes (0 + g) (0 + g + 16) keeps_5 (inr (omega arith))
+      ∙ ap (λ (l : List ℕ). slice_range l (0 + g) (0 + g + 16)) last_4.2
+      ∙ header_written k (unit_wide w.unit) last_4.0.bytes (0 + g) 0 (length image) (register image)
+      (omega (arith, last_4.1.size, size_3, sized.room)) in
+      let stands : Stand now.bytes (0 + 2 * g) units =
+      range_outside 0 (0 + g) m4.bytes now.bytes (0 + 2 * g) (0 + 2 * g + length units) keeps_5 (inr (omega arith))
+      ∙ range_outside (0 + g) (0 + 2 * g) m3.bytes m4.bytes (0 + 2 * g) (0 + 2 * g + length units) keeps_4 (inr (omega arith))
+      ∙ subst (λ (p : ℕ). Stand m3.bytes p units) at_2 stand_3.1 in
+      format_active g (gate_wide w) now.bytes image units (sized_on g s.bytes now.bytes sized (size_5 ∙ sym halves))
+      (omega (arith, size_is, room)) (take_at image (replicate (fill_size w.unit (length image)) 0) (length image) refl) least
+      (λ e. closed_written w s.bytes h (omega (arith, halves, sized.room))
+      (sym second_gate ∙ ap (λ (p : ℕ). slice_index now.bytes p) (sym size_is) ∙ e))
+      gate header_is stands
+
 -- A format that is done leaves the image active in the first slot.
-pub format_done : (u : WriteUnit) (g : ℕ) → 16 ≤ g → (s now : MediumState) (image : List ℕ) → HasTwoSlots g s.bytes
-    → IsMultiple u (capacity g s.bytes) → length image ≤ capacity g s.bytes
-    → AllWrites s (format_writes u g s.bytes image) now → ActiveAt g now.bytes 0 (slot_size now.bytes) image
-format_done u g wide s now image sized whole small (m1, w1, (m2, w2, rest)) =
-    let units = filled u image in
-    let parts = all_parts (image_writes u g image) (open_writes g 0 0 (length image) (register image)) m2 now rest in
-    let m3 = parts.0 in
-    let m4 = parts.1.second.0 in
-    let fits : length units ≤ capacity g s.bytes = filled_within u (capacity g s.bytes) image whole small in
-    let halves = halves_of g s.bytes (length units) sized fits in
-    let room2 = closed_room g wide s.bytes m1.bytes m2.bytes (length units) (slot_size s.bytes) halves.0 halves.1 w1.bytes w2.bytes in
-    let is_c : m3.bytes ≡ written m2.bytes (2 * g) units = pieces_written (length units) (2 * g) units m2 m3
-    (omega arith) room2 parts.1.first in
-    let zero_g : 0 + g ≡ g = omega arith in
-    let is_e = parts.1.second.1.bytes ∙ ap (λ (p : ℕ). written m3.bytes p (header_unit g 0 (length image) (register image))) zero_g in
-    let is_now : now.bytes ≡ written m4.bytes 0 (gate_unit g OPEN) = ap (λ (m : MediumState). m.bytes) parts.1.second.2.2
-    ∙ parts.1.second.2.1.bytes in
-    let front = take_at image (replicate (fill_size u (length image)) 0) (length image) refl in
-    let least : length image ≤ length units = omega (arith, length-filled u image) in
-    let size = len_now g wide s.bytes m1.bytes m2.bytes m3.bytes m4.bytes now.bytes image units
-    (slot_size s.bytes) halves.0 halves.1 front least w1.bytes w2.bytes is_c is_e is_now in
-    format_active g wide s.bytes m1.bytes m2.bytes m3.bytes m4.bytes now.bytes image units
-    (slot_size s.bytes) halves.0 halves.1 front least w1.bytes w2.bytes is_c is_e is_now
-    (sized_on g s.bytes now.bytes sized (size ∙ sym halves.0))
+pub format_done : (w : Grain) (s now : MediumState) (image : List ℕ) → HasTwoSlots (gate_room w) s.bytes
+    → IsWhole w (capacity (gate_room w) s.bytes) → length image ≤ capacity (gate_room w) s.bytes
+    → AllWrites s (format_writes w s.bytes image) now → ActiveAt (gate_room w) now.bytes 0 (slot_size now.bytes) image
+format_done w s now image sized whole small (m1, w1, (m2, w2, rest)) =
+    let head = write_anew w.sector (0 + gate_room w) (header_unit (gate_size w.unit) 0 (length image) (register image)) in
+    let gate = write_anew w.sector 0 (gate_unit (gate_size w.unit) OPEN) in
+    let parts = all_parts (image_writes w image) (open_writes w 0 0 (length image) (register image)) m2 now rest in
+    let opens = all_parts head gate parts.0 now parts.1.second in
+    format_made w s m1 m2 parts.0 opens.0 now image sized whole small w1.bytes w2.bytes parts.1.first opens.1.first opens.1.second

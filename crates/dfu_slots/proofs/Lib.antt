@@ -1,13 +1,13 @@
-mod AfterBegin
-mod AfterCall
-mod AfterCommit
-mod AfterPut
+pub mod AfterBegin
+pub mod AfterCall
+pub mod AfterCommit
+pub mod AfterPut
 pub mod Begun
 mod Commit
 mod Committed
 mod Comparing
 mod Counting
-mod Filled
+pub mod Filled
 mod Formatted
 mod Formatting
 mod Kept
@@ -20,17 +20,26 @@ pub mod Put
 mod PutSteps
 mod Refused
 mod Registering
-mod Seeing
+pub mod Seeing
 pub mod Series
 mod Simulated
 mod SlotOpened
 mod SpareData
 mod SpareOpened
 pub mod Stands
-mod Stays
+pub mod Stays
 pub mod Torn
 mod Unique
 pub mod Multiples
-mod Within
+pub mod Within
 mod ReadBack
-mod Written
+pub mod Written
+mod Blank
+pub mod Sectors
+pub mod Anew
+mod ErasedTo
+pub mod Edges
+mod SizedOn
+mod Ahead
+mod PutAhead
+mod LookedAhead

@@ -1,21 +1,17 @@
 -- Places and lengths that are whole in a unit.
-use Rattle.std.proofs.Common.{◌≡◌, ℕ, ◌+◌, ◌-◌, ◌*◌, ◌/◌, ◌%◌, ◌≤◌, ◌<◌, List, length, replicate, sym, ◌∙◌, ap, subst, arith, length-append}
+use Rattle.std.proofs.Common.{◌≡◌, Bool, true, false, if◌then◌else◌, ℕ, ◌+◌, ◌-◌, ◌*◌, ◌/◌, ◌%◌, ◌≤◌, ◌<◌, List, length, replicate, sym, ◌∙◌, ap, subst, arith, length-append}
 use Rattle.std.proofs.lemmas.List.{length-replicate}
 use Rattle.dfu_slots.specs.declared.unit.Unit.{Unit as WriteUnit}
 use Rattle.dfu_slots.specs.declared.unit.Unit.TheVariants.{Byte, U16, U64, U256}
-use Rattle.dfu_slots.specs.Units.{unit_size, gate_size, IsMultiple, whole_part, fill_size, filled}
+use Rattle.dfu_slots.specs.Units.{IsWhole, unit_size, IsMultiple, whole_part, fill_size, filled, gate_room, Grain}
 use Rattle.dfu_slots.specs.Medium.{MediumState}
-use Rattle.dfu_slots.specs.Image.{gate_of, capacity_of, IsSized}
+use Rattle.dfu_slots.specs.Layout.{slot_size}
+use Rattle.dfu_slots.specs.Image.{gate_of, capacity_of, first_is_active, spare_at, IsSized}
 use Rattle.dfu_slots.specs.Seen.{SlotsState, held_at, data_place}
 use Rattle.dfu_slots.specs.Store.{HasPuts}
 use Rattle.dfu_slots.proofs.Stands.{two_slots}
 use Rattle.dfu_slots.proofs.Newest.{spare_end}
-
--- The size of a unit.
-
--- A gate unit has at least 16 bytes.
-pub gate_wide : (u : WriteUnit) → 16 ≤ gate_size u
-gate_wide u = omega arith
+use Rattle.dfu_slots.proofs.Sectors.{room_multiple}
 
 -- Sums.
 
@@ -45,6 +41,20 @@ multiple_add Byte a b x y = omega (arith, x, y)
 multiple_add U16 a b x y = omega (arith, x, y)
 multiple_add U64 a b x y = omega (arith, x, y)
 multiple_add U256 a b x y = omega (arith, x, y)
+
+-- A unit is one.
+pub multiple_self : (u : WriteUnit) → IsMultiple u (unit_size u)
+multiple_self Byte = omega arith
+multiple_self U16 = omega arith
+multiple_self U64 = omega arith
+multiple_self U256 = omega arith
+
+-- So is what is a unit less.
+pub multiple_less : (u : WriteUnit) (n : ℕ) → IsMultiple u n → IsMultiple u (n - unit_size u)
+multiple_less Byte n x = omega (arith, x)
+multiple_less U16 n x = omega (arith, x)
+multiple_less U64 n x = omega (arith, x)
+multiple_less U256 n x = omega (arith, x)
 
 -- Parts.
 
@@ -113,35 +123,51 @@ filled_within u c bytes whole le = omega
 -- The places of a medium.
 
 -- The same length and the same unit are those that two slots can have.
-pub sized_after : (m n : MediumState) → IsSized m → n.unit ≡ m.unit → length n.bytes ≡ length m.bytes → IsSized n
-sized_after m n sized unit size = record {
+pub sized_after : (m n : MediumState) → IsSized m → n.grain ≡ m.grain → length n.bytes ≡ length m.bytes → IsSized n
+sized_after m n sized grain size = record {
   even = omega (arith, size, sized.even);
-  room = omega (arith, size, ap gate_size unit, sized.room);
-  bound = omega (arith, size, ap gate_size unit, sized.bound);
-  whole = subst (λ (u : WriteUnit). IsMultiple u (length n.bytes / 2 - 2 * gate_size u)) (sym unit)
-      (subst (λ (k : ℕ). IsMultiple m.unit (k / 2 - 2 * gate_of m)) (sym size) sized.whole);
+  room = omega (arith, size, ap gate_room grain, sized.room);
+  bound = omega (arith, size, ap gate_room grain, sized.bound);
+  whole = subst (λ (w : Grain). IsWhole w (length n.bytes / 2 - 2 * gate_room w)) (sym grain)
+      (subst (λ (k : ℕ). IsWhole m.grain (k / 2 - 2 * gate_of m)) (sym size) sized.whole);
 }
+
+-- The spare begins at a whole place.
+pub spare_multiple : (m : MediumState) → IsSized m → IsMultiple m.grain.unit (spare_at (gate_of m) m.bytes)
+spare_multiple m sized = by_test (first_is_active (gate_of m) m.bytes)
+  where
+    half : IsMultiple m.grain.unit (slot_size m.bytes)
+    half =
+        let g = gate_of m in
+        let gates = room_multiple m.grain (capacity_of m) sized.whole in
+        let e : g + g + capacity_of m ≡ slot_size m.bytes = omega (arith, sized.room) in
+        subst (λ (n : ℕ). IsMultiple m.grain.unit n) e
+        (multiple_add m.grain.unit (g + g) (capacity_of m) (multiple_add m.grain.unit g g gates gates) sized.whole.units)
+
+    by_test : (b : Bool) → IsMultiple m.grain.unit (if b then slot_size m.bytes else 0)
+    by_test true = half
+    by_test false = multiple_zero m.grain.unit
 
 -- What a store holds back.
 
 module _ (s : SlotsState) (puts : HasPuts s) where
   -- The bytes held back end where the puts end.
   pub held_end : held_at s + length s.held ≡ s.put_end
-  held_end = omega (arith, puts.part, part_le s.medium.unit s.put_end)
+  held_end = omega (arith, puts.part, part_le s.medium.grain.unit s.put_end)
 
-  held_multiple : IsMultiple s.medium.unit (held_at s)
-  held_multiple = subst (λ (n : ℕ). IsMultiple s.medium.unit (s.put_end - n)) (sym puts.part) (multiple_part s.medium.unit s.put_end)
+  held_multiple : IsMultiple s.medium.grain.unit (held_at s)
+  held_multiple = subst (λ (n : ℕ). IsMultiple s.medium.grain.unit (s.put_end - n)) (sym puts.part) (multiple_part s.medium.grain.unit s.put_end)
 
   -- Filled up with zeros, they end within the data of a slot.
-  pub held_fits : IsMultiple s.medium.unit (capacity_of s.medium) → held_at s + length (filled s.medium.unit s.held) ≤ capacity_of s.medium
-  held_fits whole = filled_fits s.medium.unit (held_at s) (capacity_of s.medium) s.held held_multiple whole
+  pub held_fits : IsMultiple s.medium.grain.unit (capacity_of s.medium) → held_at s + length (filled s.medium.grain.unit s.held) ≤ capacity_of s.medium
+  held_fits whole = filled_fits s.medium.grain.unit (held_at s) (capacity_of s.medium) s.held held_multiple whole
       (omega (arith, held_end, puts.fits))
 
   -- And within the medium.
-  pub place_fits : IsSized s.medium → data_place s (held_at s) + length (filled s.medium.unit s.held) ≤ length s.medium.bytes
+  pub place_fits : IsSized s.medium → data_place s (held_at s) + length (filled s.medium.grain.unit s.held) ≤ length s.medium.bytes
   place_fits sized = omega (
     arith,
-    held_fits sized.whole,
+    held_fits sized.whole.units,
     spare_end (gate_of s.medium) s.medium.bytes (two_slots s.medium sized),
     sized.room,
   )

@@ -1,18 +1,25 @@
 -- The writes of a `put`, and what they leave.
-use Rattle.std.proofs.Common.{◌≡◌, Bool, true, false, if◌then◌else◌, ◌==◌, ℕ, ◌+◌, ◌-◌, ◌≤◌, min, List, ◌++◌, length, take, drop, sym, ◌∙◌, ap, arith, length-append, length-drop, take-append-drop}
+use Rattle.std.proofs.Common.{◌≡◌, inl, Bool, true, false, if◌then◌else◌, ◌==◌, ℕ, ◌+◌, ◌-◌, ◌≤◌, min, List, ◌++◌, length, take, drop, sym, ◌∙◌, ap, subst, arith, length-append, length-drop, take-append-drop}
 use Rattle.std.proofs.lemmas.List.{length-take-le, take-take}
 use Rattle.dfu_slots.specs.declared.unit.Unit.{Unit as WriteUnit}
-use Rattle.dfu_slots.specs.Units.{unit_size, whole_part}
-use Rattle.dfu_slots.specs.Medium.{MediumState, AllWrites, written}
+use Rattle.dfu_slots.specs.Units.{Grain, unit_size, whole_part}
+use Rattle.dfu_slots.specs.Medium.{MediumState, KeepsOutside, AllWrites, written}
 use Rattle.dfu_slots.specs.Writes.{write_some, head_size, put_writes, put_rest}
-use Rattle.dfu_slots.proofs.Series.{AllInside, all_parts, some_written, inside_some, inside_append}
+use Rattle.dfu_slots.proofs.Torn.{range_outside, keeps_both, keeps_wider}
+use Rattle.dfu_slots.proofs.ReadBack.{Stand, both_stand}
+use Rattle.dfu_slots.proofs.Sectors.{IsEdge}
+use Rattle.dfu_slots.proofs.Series.{AllInside, all_parts, inside_append}
+use Rattle.dfu_slots.proofs.Anew.{some_inside, some_keeps, some_stands, some_written}
 use Rattle.dfu_slots.proofs.Within.{written_written}
 
 choice_le : (b : Bool) (m n k : ℕ) → m ≤ k → n ≤ k → (if b then m else n) ≤ k
 choice_le true m n k x y = x
 choice_le false m n k x y = y
 
-module _ (u : WriteUnit) (held bytes : List ℕ) where
+module _ (w : Grain) (held bytes : List ℕ) where
+  abbrev u : WriteUnit
+  u = w.unit
+
   abbrev all : List ℕ
   all = held ++ bytes
 
@@ -38,35 +45,89 @@ module _ (u : WriteUnit) (held bytes : List ℕ) where
   front_is = ap (λ (l : List ℕ). l ++ drop head (take whole all)) (sym (take-take head whole all head_le))
       ∙ take-append-drop head (take whole all)
 
-  front_length : length (take head all) ≡ head
+  -- So many bytes it has.
+  pub front_length : length (take head all) ≡ head
   front_length = length-take-le head all (omega (arith, head_le, whole_le))
 
   whole_length : length (take whole all) ≡ whole
   whole_length = length-take-le whole all whole_le
 
-  back_length : length (drop head (take whole all)) ≡ whole - head
+  -- And so many the further whole units.
+  pub back_length : length (drop head (take whole all)) ≡ whole - head
   back_length = length-drop head (take whole all) ∙ ap (λ (n : ℕ). n - head) whole_length
 
+  abbrev back : List ℕ
+  back = drop head (take whole all)
+
   -- The writes lie where the bytes go.
-  pub put_inside : (from to at : ℕ) → from ≤ at → at + length all ≤ to → AllInside from to (put_writes u at held bytes)
-  put_inside from to at low high =
-      inside_append from to (write_some at (take head all)) (write_some (at + head) (drop head (take whole all)))
-      (inside_some from to at (take head all) low (omega (arith, high, front_length, head_le, whole_le)))
-      (inside_some from to (at + head) (drop head (take whole all)) (omega (arith, low))
+  pub put_inside : (from to at : ℕ) → IsEdge w.sector to → from ≤ at → at + length all ≤ to
+      → AllInside from to (put_writes w at held bytes)
+  put_inside from to at edge low high =
+      inside_append from to (write_some w.sector at (take head all)) (write_some w.sector (at + head) back)
+      (some_inside w.sector from to at (take head all) edge low (omega (arith, high, front_length, head_le, whole_le)))
+      (some_inside w.sector from to (at + head) back edge (omega (arith, low))
       (omega (arith, high, back_length, head_le, whole_le)))
 
-  -- Together they are one write of all whole units.
-  pub put_written : (s now : MediumState) (at : ℕ) → at + length all ≤ length s.bytes → AllWrites s (put_writes u at held bytes) now
-      → now.bytes ≡ written s.bytes at (take whole all)
-  put_written s now at fits came =
-      let parts = all_parts (write_some at (take head all)) (write_some (at + head) (drop head (take whole all))) s now came in
-      let mid = parts.0 in
-      let one : mid.bytes ≡ written s.bytes at (take head all) = some_written s mid at (take head all) parts.1.first in
-      let two : now.bytes ≡ written mid.bytes (at + head) (drop head (take whole all)) =
-      some_written mid now (at + head) (drop head (take whole all)) parts.1.second in
+  module _ (s now : MediumState) (to at : ℕ) (edge : IsEdge w.sector to) (high : at + length all ≤ to) (room : to ≤ length s.bytes)
+      (came : AllWrites s (put_writes w at held bytes) now) where
+    abbrev mid : MediumState
+    mid = (all_parts (write_some w.sector at (take head all)) (write_some w.sector (at + head) back) s now came).0
+
+    first_end : at + length (take head all) ≤ to
+    first_end = omega (arith, high, front_length, head_le, whole_le)
+
+    first_keeps : KeepsOutside at to s.bytes mid.bytes
+    first_keeps =
+        some_keeps w.sector to at (take head all) edge first_end s mid room
+        (all_parts (write_some w.sector at (take head all)) (write_some w.sector (at + head) back) s now came).1.first
+
+    first_stands : Stand mid.bytes at (take head all)
+    first_stands =
+        some_stands w.sector to at (take head all) edge first_end s mid room
+        (all_parts (write_some w.sector at (take head all)) (write_some w.sector (at + head) back) s now came).1.first
+
+    second_end : at + head + length back ≤ to
+    second_end = omega (arith, high, back_length, head_le, whole_le)
+
+    second_keeps : KeepsOutside (at + head) to mid.bytes now.bytes
+    second_keeps =
+        some_keeps w.sector to (at + head) back edge second_end mid now (omega (arith, room, first_keeps.size))
+        (all_parts (write_some w.sector at (take head all)) (write_some w.sector (at + head) back) s now came).1.second
+
+    second_stands : Stand now.bytes (at + head) back
+    second_stands =
+        some_stands w.sector to (at + head) back edge second_end mid now (omega (arith, room, first_keeps.size))
+        (all_parts (write_some w.sector at (take head all)) (write_some w.sector (at + head) back) s now came).1.second
+
+    -- In front of them nothing changes.
+    pub put_keeps : KeepsOutside at to s.bytes now.bytes
+    put_keeps = keeps_both at to s.bytes mid.bytes now.bytes first_keeps
+        (keeps_wider (at + head) to at to mid.bytes now.bytes second_keeps (omega arith) (omega arith))
+
+    -- All whole units stand there then.
+    pub put_stands : Stand now.bytes at (take whole all)
+    put_stands =
+        let behind : at + head ≡ at + length (take head all) = omega (arith, front_length) in
+        subst (λ (l : List ℕ). Stand now.bytes at l) front_is
+        (both_stand now.bytes at (take head all) back
+        (omega (arith, room, first_keeps.size, second_keeps.size, high, front_length, back_length, head_le, whole_le))
+        (range_outside (at + head) to mid.bytes now.bytes at (at + length (take head all)) second_keeps (inl (omega (arith, front_length)))
+        ∙ first_stands)
+        (subst (λ (p : ℕ). Stand now.bytes p back) behind second_stands))
+
+  -- On a medium without sectors they are together one write of all whole units.
+  pub put_written : (s now : MediumState) (at : ℕ) → w.sector ≡ 0 → at + length all ≤ length s.bytes
+      → AllWrites s (put_writes w at held bytes) now → now.bytes ≡ written s.bytes at (take whole all)
+  put_written s now at none fits came =
+      let plain : AllWrites s (write_some 0 at (take head all) ++ write_some 0 (at + head) back) now =
+      subst (λ (n : ℕ). AllWrites s (write_some n at (take head all) ++ write_some n (at + head) back) now) none came in
+      let parts = all_parts (write_some 0 at (take head all)) (write_some 0 (at + head) back) s now plain in
+      let half = parts.0 in
+      let one : half.bytes ≡ written s.bytes at (take head all) = some_written s half at (take head all) parts.1.first in
+      let two : now.bytes ≡ written half.bytes (at + head) back = some_written half now (at + head) back parts.1.second in
       two
-      ∙ (λ i. written (one i) (at + sym front_length i) (drop head (take whole all)))
-      ∙ written_written s.bytes at (take head all) (drop head (take whole all))
+      ∙ (λ i. written (one i) (at + sym front_length i) back)
+      ∙ written_written s.bytes at (take head all) back
       (omega (arith, fits, front_length, back_length, head_le, whole_le))
       ∙ ap (λ (l : List ℕ). written s.bytes at l) front_is
 

@@ -21,8 +21,13 @@ found_other read piece differ false is d some = λ e. true≢false (sym (d.1 e))
 abbrev pub Stand : List ℕ → ℕ → List ℕ → Type 0
 Stand m at bytes = slice_range m at (at + length bytes) ≡ bytes
 
-range_is : (m : List ℕ) (at n : ℕ) → slice_range m at (at + n) ≡ take n (drop at m)
+-- A range by its length.
+pub range_is : (m : List ℕ) (at n : ℕ) → slice_range m at (at + n) ≡ take n (drop at m)
 range_is m at n = let e : at + n - at ≡ n = omega arith in ap (λ (k : ℕ). take k (drop at m)) e
+
+-- No bytes stand anywhere.
+pub none_stand : (m : List ℕ) (at : ℕ) → Stand m at []
+none_stand m at = range_is m at 0
 
 -- Two pieces stand there one behind the other.
 range_two : (m : List ℕ) (at a b : ℕ) → slice_range m at (at + (a + b)) ≡ slice_range m at (at + a) ++ slice_range m (at + a) (at + a + b)
@@ -41,15 +46,17 @@ module _ (m : List ℕ) (at : ℕ) (xs ys : List ℕ) (room : at + length xs + l
   whole_is = ap (λ (n : ℕ). slice_range m at (at + n)) (length-append xs ys) ∙ range_two m at (length xs) (length ys)
 
   -- The bytes stand there where both parts do.
-  both_stand : Stand m at xs → Stand m (at + length xs) ys → Stand m at (xs ++ ys)
+  pub both_stand : Stand m at xs → Stand m (at + length xs) ys → Stand m at (xs ++ ys)
   both_stand a b = whole_is ∙ (λ i. a i ++ b i)
 
-  front_stands : Stand m at (xs ++ ys) → Stand m at xs
+  -- Then the first part does.
+  pub front_stands : Stand m at (xs ++ ys) → Stand m at xs
   front_stands s =
       sym (take_at (slice_range m at (at + length xs)) (slice_range m (at + length xs) (at + length xs + length ys)) (length xs) size)
       ∙ ap (λ (l : List ℕ). take (length xs) l) (sym whole_is ∙ s) ∙ take_at xs ys (length xs) refl
 
-  back_stands : Stand m at (xs ++ ys) → Stand m (at + length xs) ys
+  -- And so does the second.
+  pub back_stands : Stand m at (xs ++ ys) → Stand m (at + length xs) ys
   back_stands s =
       sym (drop_at (slice_range m at (at + length xs)) (slice_range m (at + length xs) (at + length xs + length ys)) (length xs) size)
       ∙ ap (λ (l : List ℕ). drop (length xs) l) (sym whole_is ∙ s) ∙ drop_at xs ys (length xs) refl

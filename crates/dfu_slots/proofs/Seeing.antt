@@ -1,12 +1,11 @@
 -- What the layers above see of a store with an active image.
-use Rattle.std.proofs.Common.{◌≡◌, ◌==◌, not, true, false, ℕ, ◌-◌, ◌*◌, ◌/◌, ◌^◌, ◌≤◌, nat_le, List, [], length, take, refl, sym, ◌∙◌, ap, subst, arith}
+use Rattle.std.proofs.Common.{◌≡◌, ◌==◌, not, true, false, ℕ, ◌+◌, ◌-◌, ◌*◌, ◌/◌, ◌^◌, ◌≤◌, nat_le, List, [], length, take, refl, sym, ◌∙◌, ap, subst, arith}
 use Rattle.std.proofs.lemmas.Bool.{and_from, le-leb, ne_eqb, eqb-true, eqb-false, not_from_false, not_from_true, not-true, not-false, eq-eqb}
-use Rattle.dfu_slots.specs.declared.unit.Unit.{Unit as WriteUnit}
-use Rattle.dfu_slots.specs.Units.{gate_size, IsMultiple}
+use Rattle.dfu_slots.specs.Units.{IsWhole, gate_room, Grain}
 use Rattle.dfu_slots.specs.Medium.{MediumState, Fuse, written}
 use Rattle.dfu_slots.specs.Layout.{capacity, slot, OPEN, IsOpen, header_length}
-use Rattle.dfu_slots.specs.Image.{gate_of, capacity_of, Active, HasImage, has_image_fused, active_at, spare_at, spare}
-use Rattle.dfu_slots.specs.Seen.{SlotsState, store_of, store_on, fused, spare_slot, held_at, image_of, spare_of, is_begun, room_of, is_shaped, image_fused, spare_fused, begun_fused, room_fused}
+use Rattle.dfu_slots.specs.Image.{gate_of, capacity_of, IsSized, Active, HasImage, has_image_fused, active_at, spare_at, spare}
+use Rattle.dfu_slots.specs.Seen.{SlotsState, store_of, store_on, fused, spare_slot, held_at, data_place, image_of, spare_of, is_begun, room_of, is_shaped, image_fused, spare_fused, begun_fused, room_fused}
 use Rattle.dfu_slots.specs.Store.{HasPuts, IsStore}
 use Rattle.dfu_slots.specs.Leaves.{FuseLeaves}
 use Rattle.dfu_slots.proofs.Stands.{ActiveAt, standing, active_from}
@@ -17,6 +16,9 @@ use Rattle.dfu_slots.proofs.Newest.{spare_end}
 use Rattle.dfu_slots.proofs.Unique.{active_header, active_fits, image_at}
 use Rattle.dfu_slots.proofs.Within.{written_nil}
 use Rattle.dfu_slots.proofs.Multiples.{held_end, zero_part}
+use Rattle.dfu_slots.proofs.Sectors.{IsEdge}
+use Rattle.dfu_slots.proofs.Edges.{spare_data_edge}
+use Rattle.dfu_slots.proofs.Ahead.{edge_ahead}
 
 -- The image.
 
@@ -39,13 +41,13 @@ pub image_active : (s : SlotsState) → HasImage s.medium → Active s.medium (i
 image_active s has = subst (λ (l : List ℕ). Active s.medium l) (image_is s has.image has.active) has.active
 
 -- An image that stands on a medium of the same unit and the same length is active there.
-pub active_on : (m n : MediumState) (at spare : ℕ) (image : List ℕ) → n.unit ≡ m.unit → length n.bytes ≡ length m.bytes
-    → IsMultiple m.unit (capacity_of m) → ActiveAt (gate_of m) n.bytes at spare image → Active n image
-active_on m n at spare image unit size whole stands =
+pub active_on : (m n : MediumState) (at spare : ℕ) (image : List ℕ) → n.grain ≡ m.grain → length n.bytes ≡ length m.bytes
+    → IsWhole m.grain (capacity_of m) → ActiveAt (gate_of m) n.bytes at spare image → Active n image
+active_on m n at spare image grain size whole stands =
     active_from n at spare image
-    (subst (λ (u : WriteUnit). IsMultiple u (length n.bytes / 2 - 2 * gate_size u)) (sym unit)
-    (subst (λ (k : ℕ). IsMultiple m.unit (k / 2 - 2 * gate_of m)) (sym size) whole))
-    (subst (λ (u : WriteUnit). ActiveAt (gate_size u) n.bytes at spare image) (sym unit) stands)
+    (subst (λ (w : Grain). IsWhole w (length n.bytes / 2 - 2 * gate_room w)) (sym grain)
+    (subst (λ (k : ℕ). IsWhole m.grain (k / 2 - 2 * gate_of m)) (sym size) whole))
+    (subst (λ (w : Grain). ActiveAt (gate_room w) n.bytes at spare image) (sym grain) stands)
 
 -- The image stays where the store is opened anew.
 pub reopened_image : (s : SlotsState) → image_of (store_on s.medium) ≡ image_of s
@@ -65,12 +67,19 @@ unfolding spare_of
 spare_is s = refl
 
 -- Nothing is put on a fresh store.
-fresh_puts : (m : MediumState) → HasPuts (store_on m)
-fresh_puts m = record { fits = omega arith; part = sym (zero_part m.unit) }
+fresh_puts : (m : MediumState) → IsSized m → HasPuts (store_on m)
+fresh_puts m sized =
+    let here : spare_at (gate_of m) m.bytes + 2 * gate_of m ≡ data_place (store_on m) (held_at (store_on m)) = omega arith in
+    record {
+      fits = omega arith;
+      part = sym (zero_part m.grain.unit);
+      ahead = edge_ahead m (data_place (store_on m) (held_at (store_on m)))
+          (subst (λ (n : ℕ). IsEdge m.grain.sector n) here (spare_data_edge m sized));
+    }
 
 -- A medium with an active image is a store on which nothing was put.
 pub fresh_store : (m : MediumState) → HasImage m → IsStore (store_on m)
-fresh_store m has = record { has_image = has; puts = fresh_puts m }
+fresh_store m has = record { has_image = has; puts = fresh_puts m has.active.sized }
 
 -- A store that holds nothing and whose puts end at 0 is fresh.
 pub fresh_is : (m : MediumState) (held : List ℕ) (put_end : ℕ) → held ≡ [] → put_end ≡ 0 → store_of m held put_end ≡ store_on m
@@ -89,10 +98,10 @@ unfolding room_of
 room_capacity s = refl
 
 -- A medium of the same unit and the same length has the same room.
-pub room_from : (s now : SlotsState) → now.medium.unit ≡ s.medium.unit → length now.medium.bytes ≡ length s.medium.bytes
+pub room_from : (s now : SlotsState) → now.medium.grain ≡ s.medium.grain → length now.medium.bytes ≡ length s.medium.bytes
     → room_of now ≡ room_of s
 unfolding room_of
-room_from s now unit size = λ i. size i / 2 - 2 * gate_size (unit i)
+room_from s now grain size = λ i. size i / 2 - 2 * gate_room (grain i)
 
 -- The puts end within the room.
 pub puts_room : (s : SlotsState) → IsStore s → s.put_end ≤ room_of s
@@ -179,7 +188,7 @@ fuse_leaves {s} {v} view store m fuse is =
     let kept : IsStore (store_of m s.held s.put_end) =
     subst IsStore (sym same) (record {
       has_image = has_image_fused s.medium fuse store.has_image;
-      puts = record { fits = store.puts.fits; part = store.puts.part };
+      puts = record { fits = store.puts.fits; part = store.puts.part; ahead = store.puts.ahead };
     }) in
     subst (λ (x : SlotsState). FuseLeaves x fuse (store_of m s.held s.put_end)) view
     (record {

@@ -1,13 +1,9 @@
 -- Lists of writes: what they leave outside a range, the count of failures, and their parts.
-use Rattle.std.proofs.Common.{◌≡◌, ◌⊎◌, inl, inr, ⊎_elim, ◌==◌, Bool, true, false, if◌then◌else◌, ℕ, ◌+◌, ◌≤◌, List, [], ◌∷◌, ◌++◌, length, Result, Ok, Err, OnOk, IfErr, refl, sym, ◌∙◌, ap, subst, arith}
-use Rattle.std.proofs.lemmas.List.{nil_from_length}
-use Rattle.std.proofs.lemmas.Bool.{eqb-true}
+use Rattle.std.proofs.Common.{◌≡◌, ◌⊎◌, inl, inr, Bool, true, false, if◌then◌else◌, ℕ, ◌+◌, ◌≤◌, List, [], ◌∷◌, ◌++◌, length, Result, Ok, Err, OnOk, IfErr, refl, sym, ◌∙◌, ap, subst, arith}
 use Rattle.dfu_slots.specs.declared.fault.WriteFault.{WriteFault}
-use Rattle.dfu_slots.specs.Medium.{MediumState, Write, KeepsOutside, Torn, Rose, Wrote, FailedWrite, AllWrites, BrokenWrites, written}
+use Rattle.dfu_slots.specs.Medium.{MediumState, Write, KeepsOutside, Torn, Rose, Wrote, FailedWrite, AllWrites, BrokenWrites}
 use Rattle.dfu_slots.specs.inside.Series.{Series}
-use Rattle.dfu_slots.specs.Writes.{write_some}
 use Rattle.dfu_slots.proofs.Torn.{written_torn, keeps_wider, keeps_same, keeps_both}
-use Rattle.dfu_slots.proofs.Within.{written_nil}
 
 -- Every write of the list lies within this range.
 abbrev pub AllInside : ℕ → ℕ → List Write → Type 0
@@ -54,19 +50,19 @@ module _ (from to : ℕ) where
 -- The unit.
 
 -- Writes that all came keep the unit.
-pub all_unit : (ws : List Write) (s now : MediumState) → AllWrites s ws now → now.unit ≡ s.unit
-all_unit [] s now same = ap (λ (m : MediumState). m.unit) same
-all_unit (w ∷ ws) s now (next, wrote, more) = all_unit ws next now more ∙ wrote.unit
+pub all_grain : (ws : List Write) (s now : MediumState) → AllWrites s ws now → now.grain ≡ s.grain
+all_grain [] s now same = ap (λ (m : MediumState). m.grain) same
+all_grain (w ∷ ws) s now (next, wrote, more) = all_grain ws next now more ∙ wrote.grain
 
-broken_unit : (fault : WriteFault) (ws : List Write) (s now : MediumState) → BrokenWrites fault s ws now → now.unit ≡ s.unit
-broken_unit fault [] s now none = absurd none
-broken_unit fault (w ∷ ws) s now (inl failed) = failed.unit
-broken_unit fault (w ∷ ws) s now (inr (next, wrote, more)) = broken_unit fault ws next now more ∙ wrote.unit
+broken_grain : (fault : WriteFault) (ws : List Write) (s now : MediumState) → BrokenWrites fault s ws now → now.grain ≡ s.grain
+broken_grain fault [] s now none = absurd none
+broken_grain fault (w ∷ ws) s now (inl failed) = failed.grain
+broken_grain fault (w ∷ ws) s now (inr (next, wrote, more)) = broken_grain fault ws next now more ∙ wrote.grain
 
 -- So do writes that came to their end, or to one that failed.
-pub ends_unit : (ws : List Write) (s now : MediumState) → Ends s ws now → now.unit ≡ s.unit
-ends_unit ws s now (inl all) = all_unit ws s now all
-ends_unit ws s now (inr (fault, broken)) = broken_unit fault ws s now broken
+pub ends_grain : (ws : List Write) (s now : MediumState) → Ends s ws now → now.grain ≡ s.grain
+ends_grain ws s now (inl all) = all_grain ws s now all
+ends_grain ws s now (inr (fault, broken)) = broken_grain fault ws s now broken
 
 -- The count of failures.
 
@@ -84,16 +80,6 @@ broken_rose fault (w ∷ ws) s now (inr (next, wrote, more)) = omega (arith, wro
 -- So they do not lower it.
 pub broken_count : (fault : WriteFault) (ws : List Write) (s now : MediumState) → BrokenWrites fault s ws now → s.failures ≤ now.failures
 broken_count fault ws s now broken = omega (arith, broken_rose fault ws s now broken)
-
--- A write at a place, and of bytes, that are known by other terms.
-pub wrote_there : (s now : MediumState) (p q : ℕ) (x y : List ℕ) → p ≡ q → x ≡ y → Wrote s p x now → Wrote s q y now
-wrote_there s now p q x y place bytes wrote = subst (λ (l : List ℕ). Wrote s q l now) bytes (subst (λ (n : ℕ). Wrote s n x now) place wrote)
-
--- The same of a write that failed.
-pub failed_there : (fault : WriteFault) (s now : MediumState) (p q : ℕ) (x y : List ℕ) → p ≡ q → x ≡ y → FailedWrite fault s p x now
-    → FailedWrite fault s q y now
-failed_there fault s now p q x y place bytes failed = subst (λ (l : List ℕ). FailedWrite fault s q l now) bytes
-    (subst (λ (n : ℕ). FailedWrite fault s n x now) place failed)
 
 -- Parts of a list.
 
@@ -127,12 +113,6 @@ pub series_one : {T : Type 0} (s now : MediumState) (at : ℕ) (bytes : List ℕ
     → IfErr r (λ fault. FailedWrite fault s at bytes now) → Series s (record { at = at; bytes = bytes } ∷ []) r now
 series_one s now at bytes (Ok x) wrote failed = (now, wrote, refl)
 series_one s now at bytes (Err fault) wrote failed = inl failed
-
--- A write that came, and a series after it.
-pub series_next : {T : Type 0} (s mid now : MediumState) (at : ℕ) (bytes : List ℕ) (ws : List Write) (r : Result T WriteFault)
-    → Wrote s at bytes mid → Series mid ws r now → Series s (record { at = at; bytes = bytes } ∷ ws) r now
-series_next s mid now at bytes ws r wrote rest = series_after (record { at = at; bytes = bytes } ∷ []) ws s mid now r
-    (mid, wrote, refl) rest
 
 -- The medium after the first part of a list, all of which came.
 pub record Halfway (ws vs : List Write) (s : MediumState) (mid : MediumState) (rest : Type 0) : Type 0 where
@@ -171,7 +151,8 @@ pub all_if : (s now : MediumState) (b : Bool) (ws : List Write) → AllWrites s 
 all_if s now true ws all = inl (refl, all)
 all_if s now false ws same = inr (refl, same)
 
-all_unless : (s now : MediumState) (b : Bool) (ws : List Write) → AllWrites s (if b then [] else ws) now → ((b ≡ true) × (now ≡ s))
+-- Or those that a test does not ask for.
+pub all_unless : (s now : MediumState) (b : Bool) (ws : List Write) → AllWrites s (if b then [] else ws) now → ((b ≡ true) × (now ≡ s))
     ⊎ ((b ≡ false) × AllWrites s ws now)
 all_unless s now true ws same = inl (refl, same)
 all_unless s now false ws all = inr (refl, all)
@@ -186,24 +167,3 @@ inside_if from to false ws vs a b = b
 pub inside_append : (from to : ℕ) (ws vs : List Write) → AllInside from to ws → AllInside from to vs → AllInside from to (ws ++ vs)
 inside_append from to [] vs a b = b
 inside_append from to (w ∷ ws) vs (low, high, a) b = (low, high, inside_append from to ws vs a b)
-
--- A write of some bytes, or of none.
-
--- A write of some bytes or of none leaves those bytes there.
-pub some_written : (s now : MediumState) (at : ℕ) (bytes : List ℕ) → AllWrites s (write_some at bytes) now
-    → now.bytes ≡ written s.bytes at bytes
-some_written s now at bytes all =
-    ⊎_elim
-    (λ none. ap (λ (m : MediumState). m.bytes) none.1
-    ∙ sym (ap (λ (l : List ℕ). written s.bytes at l) (nil_from_length bytes (eqb-true _ _ none.0)) ∙ written_nil s.bytes at))
-    (λ one. ap (λ (m : MediumState). m.bytes) one.1.2 ∙ one.1.1.bytes)
-    (all_unless s now (length bytes == 0) (record { at = at; bytes = bytes } ∷ []) all)
-
--- So it keeps the length.
-pub some_size : (s now : MediumState) (at : ℕ) (bytes : List ℕ) → at + length bytes ≤ length s.bytes → AllWrites s (write_some at bytes) now
-    → length now.bytes ≡ length s.bytes
-some_size s now at bytes fits all = ap length (some_written s now at bytes all) ∙ (written_torn s.bytes at bytes fits).size
-
--- It lies within a range where its bytes do.
-pub inside_some : (from to at : ℕ) (bytes : List ℕ) → from ≤ at → at + length bytes ≤ to → AllInside from to (write_some at bytes)
-inside_some from to at bytes low high = inside_if from to (length bytes == 0) [] (record { at = at; bytes = bytes } ∷ []) tt (low, high, tt)

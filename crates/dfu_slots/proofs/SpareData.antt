@@ -1,10 +1,13 @@
 -- Writes in the spare's data keep the active image, and the spare's gate.
-use Rattle.std.proofs.Common.{◌≡◌, inl, ℕ, ◌+◌, ◌*◌, ◌≤◌, List, length, slice_index, slice_range, sym, ◌∙◌, ap, arith}
+use Rattle.std.proofs.Common.{◌≡◌, inl, ℕ, ◌+◌, ◌-◌, ◌*◌, ◌/◌, ◌≤◌, List, ◌++◌, length, take, drop, slice_index, slice_range, sym, ◌∙◌, ap, arith}
 use Rattle.dfu_slots.specs.Medium.{MediumState, Write, KeepsOutside, written}
 use Rattle.dfu_slots.specs.Layout.{slot_size, capacity, slot, IsOpen}
 use Rattle.dfu_slots.specs.Image.{spare_at, spare}
 use Rattle.dfu_slots.proofs.Stands.{HasTwoSlots, ActiveAt}
-use Rattle.dfu_slots.proofs.Torn.{written_torn}
+use Rattle.std.proofs.lemmas.List.{take-take, drop-drop}
+use Rattle.std.proofs.Math.Seq.{take-add}
+use Rattle.dfu_slots.proofs.ReadBack.{Stand, range_is}
+use Rattle.dfu_slots.proofs.Torn.{written_torn, range_outside}
 use Rattle.dfu_slots.proofs.Parts.{gate_outside}
 use Rattle.dfu_slots.proofs.Newest.{places_are, place_end, spare_end}
 use Rattle.dfu_slots.proofs.Kept.{closed_change}
@@ -59,3 +62,28 @@ pub data_written : (g : ℕ) (old now : List ℕ) → HasTwoSlots g old → spar
 data_written g old now sized same k new fits is =
     ap (λ (q : ℕ). (slot g now q).data_bytes) same
     ∙ data_at_written g old now (spare_at g old) k new (spare_end g old sized) (omega (arith, fits, sized.room)) is
+
+-- Where bytes were written at a place of a slot's data, and nothing in front of it, they stand behind what stood there.
+pub data_front : (g : ℕ) (old now : List ℕ) (p k : ℕ) (new : List ℕ) (to : ℕ) → 2 * g + k + length new ≤ slot_size old
+    → KeepsOutside (p + 2 * g + k) to old now → Stand now (p + 2 * g + k) new
+    → take (k + length new) (slot g now p).data_bytes ≡ take k (slot g old p).data_bytes ++ new
+data_front g old now p k new to fits keeps stands =
+    let q = p + 2 * g in
+    let n = length new in
+    let size : slot_size now ≡ slot_size old = ap (λ (j : ℕ). j / 2) keeps.size in
+    let first : take k (drop q now) ≡ take k (slot g old p).data_bytes =
+    sym (range_is now q k) ∙ range_outside (q + k) to old now q (q + k) keeps (inl (omega arith)) ∙ range_is old q k
+    ∙ sym (take-take k (p + slot_size old - q) (drop q old) (omega (arith, fits))) in
+    let second : take n (drop k (drop q now)) ≡ new =
+    ap (λ (l : List ℕ). take n l) (drop-drop k q now) ∙ sym (range_is now (q + k) n) ∙ stands in
+    take-take (k + n) (p + slot_size now - q) (drop q now) (omega (arith, size, fits))
+    ∙ take-add k n (drop q now) ∙ (λ i. first i ++ second i)
+
+-- So they do in the spare's data.
+pub spare_front : (g : ℕ) (old now : List ℕ) → HasTwoSlots g old → spare_at g now ≡ spare_at g old
+    → (k : ℕ) (new : List ℕ) (to : ℕ) → k + length new ≤ capacity g old
+    → KeepsOutside (spare_at g old + 2 * g + k) to old now → Stand now (spare_at g old + 2 * g + k) new
+    → take (k + length new) (spare g now).data_bytes ≡ take k (spare g old).data_bytes ++ new
+spare_front g old now sized same k new to fits keeps stands =
+    ap (λ (q : ℕ). take (k + length new) (slot g now q).data_bytes) same
+    ∙ data_front g old now (spare_at g old) k new to (omega (arith, fits, sized.room)) keeps stands

@@ -1,6 +1,6 @@
 -- What stands on a medium, by its bytes and by how many bytes a gate unit has.
 use Rattle.std.proofs.Common.{◌≡◌, ℕ, ◌*◌, ◌^◌, ◌≤◌, ◌<◌, List, length, take}
-use Rattle.dfu_slots.specs.Units.{IsMultiple}
+use Rattle.dfu_slots.specs.Units.{IsWhole}
 use Rattle.dfu_slots.specs.Medium.{MediumState}
 use Rattle.dfu_slots.specs.Layout.{slot_size, capacity, ArePlaces, slot, HasHeader}
 use Rattle.dfu_slots.specs.Image.{gate_of, capacity_of, IsSized, IsNewest, Active}
@@ -34,7 +34,7 @@ standing {m} a = record {
 }
 
 -- An image that stands on a medium, with whole units of data in a slot, is the active one.
-pub active_from : (m : MediumState) (at spare : ℕ) (image : List ℕ) → IsMultiple m.unit (capacity_of m)
+pub active_from : (m : MediumState) (at spare : ℕ) (image : List ℕ) → IsWhole m.grain (capacity_of m)
     → ActiveAt (gate_of m) m.bytes at spare image → Active m image
 active_from m at spare image whole stands = record {
   sized = record { even = stands.sized.even; room = stands.sized.room; bound = stands.sized.bound; whole = whole };

@@ -1,7 +1,6 @@
 -- The active slot and its image stay, and what a store is seen as then.
 use Rattle.std.proofs.Common.{◌≡◌, ℕ, length, sym, ◌∙◌, ap, subst}
-use Rattle.dfu_slots.specs.declared.unit.Unit.{Unit as WriteUnit}
-use Rattle.dfu_slots.specs.Units.{gate_size}
+use Rattle.dfu_slots.specs.Units.{gate_room, Grain}
 use Rattle.dfu_slots.specs.Medium.{MediumState}
 use Rattle.dfu_slots.specs.Layout.{Slot}
 use Rattle.dfu_slots.specs.Image.{gate_of, Active, HasImage, active_at, spare_at, spare}
@@ -15,12 +14,12 @@ use Rattle.dfu_slots.proofs.Seeing.{image_is, active_on, room_from}
 -- The active slot and its image stay.
 pub record Stays (s now : SlotsState) (has : HasImage s.medium) : Type 0 where
   pub stands : ActiveAt (gate_of s.medium) now.medium.bytes has.active.at has.active.spare has.image
-  pub unit : now.medium.unit ≡ s.medium.unit
+  pub grain : now.medium.grain ≡ s.medium.grain
   pub size : length now.medium.bytes ≡ length s.medium.bytes
 
 module _ (s now : SlotsState) (has : HasImage s.medium) (stays : Stays s now has) where
   stays_active : Active now.medium has.image
-  stays_active = active_on s.medium now.medium has.active.at has.active.spare has.image stays.unit stays.size has.active.sized.whole
+  stays_active = active_on s.medium now.medium has.active.at has.active.spare has.image stays.grain stays.size has.active.sized.whole
       stays.stands
 
   -- The medium has an active image then.
@@ -33,7 +32,7 @@ module _ (s now : SlotsState) (has : HasImage s.medium) (stays : Stays s now has
 
   -- It has the room that it had.
   pub stays_room : room_of now ≡ room_of s
-  stays_room = room_from s now stays.unit stays.size
+  stays_room = room_from s now stays.grain stays.size
 
 -- The slots of two media stand at the same places, and the same one is active.
 pub record SamePlaces (m n : MediumState) : Type 0 where
@@ -48,8 +47,8 @@ stays_places s now has stays =
     let was = places_are g s.medium.bytes a.at a.spare has.image (standing a) in
     let is = places_are g now.medium.bytes a.at a.spare has.image stays.stands in
     record {
-      active = ap (λ (u : WriteUnit). active_at (gate_size u) now.medium.bytes) stays.unit ∙ sym is.0 ∙ was.0;
-      spare = ap (λ (u : WriteUnit). spare_at (gate_size u) now.medium.bytes) stays.unit ∙ sym is.1 ∙ was.1;
+      active = ap (λ (w : Grain). active_at (gate_room w) now.medium.bytes) stays.grain ∙ sym is.0 ∙ was.0;
+      spare = ap (λ (w : Grain). spare_at (gate_room w) now.medium.bytes) stays.grain ∙ sym is.1 ∙ was.1;
     }
 
 -- So places that were kept may be kept on.
@@ -66,10 +65,10 @@ pub stays_same : (s now : SlotsState) (has : HasImage s.medium) → now ≡ s �
 stays_same s now has same = record {
   stands = subst (λ (x : SlotsState). ActiveAt (gate_of s.medium) x.medium.bytes has.active.at has.active.spare has.image) (sym same)
       (standing has.active);
-  unit = ap (λ (x : SlotsState). x.medium.unit) same;
+  grain = ap (λ (x : SlotsState). x.medium.grain) same;
   size = ap (λ (x : SlotsState). length x.medium.bytes) same;
 }
 
 -- The spare slot, where the unit is the same.
-pub spare_there : (m n : MediumState) → n.unit ≡ m.unit → ◌≡◌ {A = Slot} (spare (gate_of n) n.bytes) (spare (gate_of m) n.bytes)
-spare_there m n unit = ap (λ (u : WriteUnit). spare (gate_size u) n.bytes) unit
+pub spare_there : (m n : MediumState) → n.grain ≡ m.grain → ◌≡◌ {A = Slot} (spare (gate_of n) n.bytes) (spare (gate_of m) n.bytes)
+spare_there m n grain = ap (λ (w : Grain). spare (gate_room w) n.bytes) grain

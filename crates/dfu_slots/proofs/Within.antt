@@ -71,3 +71,20 @@ front_of_written d k xs zs len fits le =
     ap (λ (l : List ℕ). take len l) (ap (λ (l : List ℕ). l ++ past) (sym (append_assoc (take k d) xs zs)) ∙ append_assoc a zs past)
     ∙ take-append-le len a (zs ++ past) room
     ∙ sym (take-append-le len a (drop (k + length xs) d) room)
+
+-- Up to their end, written bytes show behind what stood in front of them.
+pub front_written : (d : List ℕ) (k : ℕ) (xs : List ℕ) → k ≤ length d → take (k + length xs) (written d k xs) ≡ take k d ++ xs
+front_written d k xs fits =
+    take_at (take k d ++ xs) (drop (k + length xs) d) (k + length xs) (omega (arith, length-append (take k d) xs, length-take-le k d fits))
+
+-- What begins as written bytes with more behind them do begins as those bytes do.
+pub front_shows : (d now : List ℕ) (k : ℕ) (xs zs : List ℕ) (len : ℕ) → k ≤ length d → len ≤ k + length xs
+    → take (k + length (xs ++ zs)) now ≡ take k d ++ (xs ++ zs) → take len now ≡ take len (written d k xs)
+front_shows d now k xs zs len fits le is =
+    let all = xs ++ zs in
+    let long = length-append xs zs in
+    sym (take-take len (k + length all) now (omega (arith, le, long)))
+    ∙ ap (λ (l : List ℕ). take len l) is
+    ∙ sym (take-append-le len (take k d ++ all) (drop (k + length all) d)
+    (omega (arith, le, long, length-append (take k d) all, length-take-le k d fits)))
+    ∙ front_of_written d k xs zs len fits le

@@ -39,7 +39,7 @@ was_written old at new now fits (inr lied) stands =
       bytes = right;
       failures = omega (arith, lied.failures);
       fuse = lie_works old.fuse old.bytes at new now.bytes now.fuse lied.fuse right;
-      unit = lied.unit;
+      grain = lied.grain;
       tag = lied.tag;
     }
 

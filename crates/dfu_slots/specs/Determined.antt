@@ -1,8 +1,8 @@
--- On a medium whose fuse is known, the bytes, the fuse and the unit fix what a list of writes leaves.
+-- On a medium whose fuse is known, the bytes, the fuse and the grain fix what a list of writes leaves.
 use Rattle.std.specs.Prelude.{◌≡◌, ◌+◌, ◌-◌, ◌*◌, List, [], ◌∷◌, ◌++◌, length, take}
 use Rattle.std.proofs.Common.{inl, inr, refl, sym, ap, ◌∙◌, subst}
 use Rattle.dfu_suffix.specs.Register.{register}
-use Rattle.dfu_slots.specs.Units.{gate_size}
+use Rattle.dfu_slots.specs.Units.{gate_room}
 use Rattle.dfu_slots.specs.declared.fault.WriteFault.{WriteFault}
 use Rattle.dfu_slots.specs.Medium.{MediumState, written, Write, AllWrites, BrokenWrites}
 use Rattle.dfu_slots.specs.OneWrite.{IsKnown, Same, wrote_same, failed_one, failed_same, one_way, known_next, flip}
@@ -22,7 +22,7 @@ pub all_same_end : (ws : List Write) (s t x y : MediumState) → Same s t → Al
 all_same_end [] s t x y same a b = record {
   bytes = ap (λ (m : MediumState). m.bytes) a ∙ same.bytes ∙ sym (ap (λ (m : MediumState). m.bytes) b);
   fuse = ap (λ (m : MediumState). m.fuse) a ∙ same.fuse ∙ sym (ap (λ (m : MediumState). m.fuse) b);
-  unit = ap (λ (m : MediumState). m.unit) a ∙ same.unit ∙ sym (ap (λ (m : MediumState). m.unit) b);
+  grain = ap (λ (m : MediumState). m.grain) a ∙ same.grain ∙ sym (ap (λ (m : MediumState). m.grain) b);
 }
 all_same_end (w ∷ ws) s t x y same (p, a, more) (q, b, rest) = all_same_end ws p q x y (wrote_same w s t p q same a b) more rest
 
@@ -73,29 +73,29 @@ spare_same : (s t : SlotsState) → SameStore s t → spare_of s ≡ spare_of t
 unfolding spare_of
 spare_same s t same =
     λ i.
-    written (spare (gate_size (same.medium.unit i)) (same.medium.bytes i)).data_bytes
+    written (spare (gate_room (same.medium.grain i)) (same.medium.bytes i)).data_bytes
     (same.put_end i - length (same.held i)) (same.held i)
 
 -- The same stores have the same writes.
 writes_same : (s t : SlotsState) (call : Call) → SameStore s t → writes_of s call ≡ writes_of t call
-writes_same s t Begin same = λ i. begin_writes (gate_size (same.medium.unit i)) (same.medium.bytes i)
+writes_same s t Begin same = λ i. begin_writes (same.medium.grain i) (same.medium.bytes i)
 writes_same s t (Put at bytes) same =
     λ i.
-    put_writes (same.medium.unit i)
-    (spare_at (gate_size (same.medium.unit i)) (same.medium.bytes i) + 2 * gate_size (same.medium.unit i) + (at - length (same.held i)))
+    put_writes (same.medium.grain i)
+    (spare_at (gate_room (same.medium.grain i)) (same.medium.bytes i) + 2 * gate_room (same.medium.grain i) + (at - length (same.held i)))
     (same.held i) bytes
 writes_same s t (Commit len) same =
     λ i.
-    part_writes (same.medium.unit i)
-    (spare_at (gate_size (same.medium.unit i)) (same.medium.bytes i) + 2 * gate_size (same.medium.unit i) +
+    part_writes (same.medium.grain i)
+    (spare_at (gate_room (same.medium.grain i)) (same.medium.bytes i) + 2 * gate_room (same.medium.grain i) +
     (same.put_end i - length (same.held i)))
     (same.held i)
-    ++ commit_writes (gate_size (same.medium.unit i)) (same.medium.bytes i) len (register (take len (spare_same s t same i)))
+    ++ commit_writes (same.medium.grain i) (same.medium.bytes i) len (register (take len (spare_same s t same i)))
 
 -- They hold the same back after a call.
 held_same : (s t : SlotsState) (call : Call) → SameStore s t → next_held s call ≡ next_held t call
 held_same s t Begin same = refl
-held_same s t (Put at bytes) same = λ i. put_rest (same.medium.unit i) (same.held i) bytes
+held_same s t (Put at bytes) same = λ i. put_rest (same.medium.grain i).unit (same.held i) bytes
 held_same s t (Commit len) same = refl
 
 module _ (s t x y : SlotsState) (call : Call) (same : SameStore s t) where

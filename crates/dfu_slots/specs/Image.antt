@@ -2,13 +2,13 @@
 use Rattle.std.specs.Prelude.{◌≡◌, ◌⊎◌, ◌&&◌, ◌||◌, not, ℕ, ◌*◌, ◌^◌, ◌<◌, ◌≤◌, Bool, List, length, take, if◌then◌else◌, ◌==◌, nat_le}
 use Rattle.std.specs.Str.{bytes_eq}
 use Rattle.dfu_suffix.specs.Register.{register}
-use Rattle.dfu_slots.specs.Units.{gate_size, IsMultiple}
+use Rattle.dfu_slots.specs.Units.{gate_room, IsWhole}
 use Rattle.dfu_slots.specs.Medium.{MediumState, Fuse}
 use Rattle.dfu_slots.specs.Layout.{Slot, slot, slot_size, capacity, ArePlaces, OPEN, generation, next_generation, version, header_length, header, HasHeader}
 
--- How many bytes the gate unit and the header unit of a medium have each.
+-- How many bytes the gate and the header of a slot have each for themselves.
 abbrev pub gate_of : MediumState → ℕ
-gate_of m = gate_size m.unit
+gate_of m = gate_room m.grain
 
 -- The slot of a medium that begins at this place.
 abbrev pub slot_of : MediumState → ℕ → Slot
@@ -18,12 +18,12 @@ slot_of m at = slot (gate_of m) m.bytes at
 abbrev pub capacity_of : MediumState → ℕ
 capacity_of m = capacity (gate_of m) m.bytes
 
--- The medium is two slots of one size, each with 1 to 2^24 bytes of data in whole units.
+-- The medium is two slots of one size, each with 1 to 2^24 bytes of data in whole units and sectors.
 pub record IsSized (m : MediumState) : Type 0 where
   pub even : length m.bytes ≡ 2 * slot_size m.bytes
   pub room : 2 * gate_of m < slot_size m.bytes
   pub bound : capacity_of m ≤ 2 ^ 24
-  pub whole : IsMultiple m.unit (capacity_of m)
+  pub whole : IsWhole m.grain (capacity_of m)
 
 -- A slot counts where its gate is open and its header, if that is of version 2, is well formed with the length in it.
 pub record Counts (s : Slot) : Type 0 where

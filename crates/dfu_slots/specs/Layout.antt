@@ -1,5 +1,5 @@
 -- Where the two slots of a medium stand, and what stands in them.
--- The gate unit and the header unit have `g` bytes each, at least 16.
+-- The gate and the header have `g` bytes each for themselves, at least 16.
 use Rattle.std.specs.Prelude.{◌≡◌, ◌⊎◌, ℕ, ◌+◌, ◌-◌, ◌*◌, ◌/◌, ◌%◌, ◌≤◌, List, ◌∷◌, ◌++◌, length, take, drop, replicate, slice_index, slice_range}
 use Rattle.std.specs.Int.{w32, to_le_bytes, from_le_bytes}
 use Rattle.dfu_suffix.specs.Register.{register}
@@ -8,7 +8,7 @@ use Rattle.dfu_suffix.specs.Register.{register}
 abbrev pub slot_size : List ℕ → ℕ
 slot_size bytes = length bytes / 2
 
--- The data of a slot is what the gate unit and the header unit leave of it.
+-- The data of a slot is what the gate and the header leave of it.
 abbrev pub capacity : ℕ → List ℕ → ℕ
 capacity g bytes = slot_size bytes - 2 * g
 

@@ -1,5 +1,5 @@
 -- What each call that changes a store leaves, whatever it answers.
-use Rattle.std.specs.Prelude.{◌≡◌, ◌⊎◌, ◌↔◌, ℕ, ◌+◌, ◌≤◌, ◌<◌, Bool, true, false, List, length, take, Result, OnOk, OnErr, IsErrOf}
+use Rattle.std.specs.Prelude.{◌≡◌, ◌⊎◌, ◌↔◌, ℕ, ◌+◌, ◌≤◌, ◌<◌, Bool, true, false, List, ◌++◌, length, take, Result, OnOk, OnErr, IsErrOf}
 use Rattle.dfu_slots.specs.declared.fault.PutFault.{PutFault}
 use Rattle.dfu_slots.specs.declared.fault.PutFault.TheVariants.{TooLarge, NotBegun}
 use Rattle.dfu_slots.specs.Medium.{Fuse, Rose, written}
@@ -65,8 +65,10 @@ pub record PutLeaves {T : Type 0} (old : SlotsState) (at : ℕ) (bytes : List �
   pub common : CallLeaves old (Put at bytes) result now
   -- The active image stays.
   pub image : image_of now ≡ image_of old
-  -- Ok leaves exactly the bytes at their place in the spare's data, and the puts end behind them.
-  pub spare : OnOk result (spare_of now ≡ written (spare_of old) at bytes)
+  -- Ok leaves exactly the bytes at their place in the spare's data, behind what was put before, and the puts end behind them.
+  pub front : OnOk result (take (at + length bytes) (spare_of now) ≡ take at (spare_of old) ++ bytes)
+  -- On a medium without sectors it leaves the rest of the data as it was.
+  pub spare : OnOk result (old.medium.grain.sector ≡ 0 → spare_of now ≡ written (spare_of old) at bytes)
   pub end : OnOk result (now.put_end ≡ at + length bytes)
   -- After Ok the gate of the spare is as it was.
   pub gate : OnOk result ((spare_slot now).gate ≡ (spare_slot old).gate)

@@ -1,6 +1,6 @@
 -- What a medium is seen as, and what a write may do to it.
-use Rattle.std.specs.Prelude.{◌≡◌, ◌≢◌, ◌⊎◌, ℕ, ◌+◌, ◌-◌, ◌^◌, ◌≤◌, min, max, Bool, true, false, List, [], ◌∷◌, ◌++◌, length, take, drop}
-use Rattle.dfu_slots.specs.declared.unit.Unit.{Unit as WriteUnit}
+use Rattle.std.specs.Prelude.{◌≡◌, ◌≢◌, ◌⊎◌, ℕ, ◌+◌, ◌-◌, ◌^◌, ◌%◌, ◌≤◌, ◌<◌, min, max, Bool, true, false, List, [], ◌∷◌, ◌++◌, length, take, drop, replicate, slice_index, slice_range}
+use Rattle.dfu_slots.specs.Units.{Grain}
 use Rattle.dfu_slots.specs.declared.fault.WriteFault.{WriteFault}
 use Rattle.dfu_slots.specs.declared.fault.WriteFault.TheVariants.{Failed, NotVerified}
 
@@ -18,18 +18,38 @@ pub data Fuse : Type 0 where
   -- Every write fails and leaves nothing.
   Stopped : Fuse
 
--- A medium: its bytes, how often a write has failed, what the next writes will do, the unit in which it is written, and a tag of its
--- owner's choice, by which the owner knows it again.
+-- A medium: its bytes, how often a write has failed, what the next writes will do, its grain, and a tag of its owner's choice, by which
+-- the owner knows it again.
 pub record MediumState : Type 0 where
   pub bytes : List ℕ
   pub failures : ℕ
   pub fuse : Fuse
-  pub unit : WriteUnit
+  pub grain : Grain
   pub tag : List ℕ
+
+-- A medium of so many bytes FFh, which no write has failed on, and none will.
+abbrev pub blank_medium : Grain → ℕ → MediumState
+blank_medium grain len = record { bytes = replicate len 255; failures = 0; fuse = Whole; grain = grain; tag = [] }
 
 -- These bytes stand in place of those from `at` on.
 abbrev pub written : List ℕ → ℕ → List ℕ → List ℕ
 written old at new = take at old ++ new ++ drop (at + length new) old
+
+-- So many bytes from there on are erased: FFh.
+abbrev pub IsBlank : List ℕ → ℕ → ℕ → Type 0
+IsBlank bytes at n = slice_range bytes at (at + n) ≡ replicate n 255
+
+-- From there on all bytes are erased up to the first sector that begins at the second place or behind it.
+abbrev pub IsErased : ℕ → List ℕ → ℕ → ℕ → Type 0
+IsErased sector bytes at to = (p : ℕ) → at ≤ p → p < length bytes → ((q : ℕ) → to ≤ q → q ≤ p → q % sector ≢ 0) → slice_index bytes p ≡ 255
+
+-- A medium without sectors may be written anywhere; else the bytes from there on have to be erased, up to the next sector's begin.
+abbrev pub IsAhead : MediumState → ℕ → Type 0
+IsAhead m at = 0 < m.grain.sector → IsErased m.grain.sector m.bytes at at
+
+-- So have those of a range that is written.
+abbrev pub IsWritable : MediumState → ℕ → ℕ → Type 0
+IsWritable m at n = 0 < m.grain.sector → (p : ℕ) → at ≤ p → p < at + n → slice_index m.bytes p ≡ 255
 
 -- From `from` to `to` anything may stand now, and elsewhere the old bytes do.
 pub record KeepsOutside (from to : ℕ) (old now : List ℕ) : Type 0 where
@@ -76,7 +96,7 @@ pub record Wrote (old : MediumState) (at : ℕ) (new : List ℕ) (now : MediumSt
   pub bytes : now.bytes ≡ written old.bytes at new
   pub failures : old.failures ≤ now.failures
   pub fuse : MayWork old.fuse old.bytes at new now.fuse
-  pub unit : now.unit ≡ old.unit
+  pub grain : now.grain ≡ old.grain
   pub tag : now.tag ≡ old.tag
 
 -- A write answered Failed, or it lied: it was torn, and the count rose.
@@ -84,7 +104,7 @@ pub record FailedWrite (fault : WriteFault) (old : MediumState) (at : ℕ) (new 
   pub bytes : Torn old.bytes at new now.bytes
   pub failures : Rose old.failures now.failures
   pub fuse : MayFail old.fuse fault old.bytes at new now.bytes now.fuse
-  pub unit : now.unit ≡ old.unit
+  pub grain : now.grain ≡ old.grain
   pub tag : now.tag ≡ old.tag
 
 -- A write that answered Ok worked, or it lied.

@@ -1,4 +1,4 @@
--- On a medium whose fuse is known, the bytes, the fuse and the unit fix what one write leaves.
+-- On a medium whose fuse is known, the bytes, the fuse and the grain fix what one write leaves.
 use Rattle.std.specs.Prelude.{◌≡◌, ℕ, ◌+◌, true, false, List}
 use Rattle.std.proofs.Common.{inl, inr, refl, sym, ap, ◌∙◌, subst, arith}
 use Rattle.dfu_slots.specs.declared.fault.WriteFault.{WriteFault}
@@ -11,11 +11,11 @@ abbrev pub IsKnown : Fuse → Type 0
 IsKnown Unknown = ⊥
 IsKnown fuse = Unit {0}
 
--- Two media have the same bytes, the same fuse and the same unit.
+-- Two media have the same bytes, the same fuse and the same grain.
 pub record Same (a b : MediumState) : Type 0 where
   pub bytes : a.bytes ≡ b.bytes
   pub fuse : a.fuse ≡ b.fuse
-  pub unit : a.unit ≡ b.unit
+  pub grain : a.grain ≡ b.grain
 
 -- A fuse that counts to one number counts to the other.
 counts_on : {more less : ℕ} (fuse : ℕ → Fuse) → more + 1 ≡ less + 1 → fuse more ≡ fuse less
@@ -102,7 +102,7 @@ module _ (w : Write) (s t x y : MediumState) (same : Same s t) where
   wrote_same a b = record {
     bytes = a.bytes ∙ ap (λ (l : List ℕ). written l w.at w.bytes) same.bytes ∙ sym b.bytes;
     fuse = works_one t.bytes w.at w.bytes t.fuse x.fuse y.fuse (works_on x.fuse a.fuse) b.fuse;
-    unit = a.unit ∙ same.unit ∙ sym b.unit;
+    grain = a.grain ∙ same.grain ∙ sym b.grain;
   }
 
   -- A write that has a fault on both has the same one.
@@ -115,7 +115,7 @@ module _ (w : Write) (s t x y : MediumState) (same : Same s t) where
   failed_same f k a b =
       let both = breaks_one t.bytes w.at w.bytes t.fuse f x.bytes y.bytes x.fuse y.fuse (known_on k) (breaks_on f x.bytes x.fuse a.fuse)
       b.fuse in
-      record { bytes = both.0; fuse = both.1; unit = a.unit ∙ same.unit ∙ sym b.unit }
+      record { bytes = both.0; fuse = both.1; grain = a.grain ∙ same.grain ∙ sym b.grain }
 
   -- It does not work on one and have a fault on the other.
   pub one_way : (f : WriteFault) → IsKnown s.fuse → Wrote s w.at w.bytes x → FailedWrite f t w.at w.bytes y → ⊥
@@ -127,4 +127,4 @@ known_next w s x k a = works_known s.bytes w.at w.bytes s.fuse x.fuse k a.fuse
 
 -- The same holds the other way round.
 pub flip : (s t : MediumState) → Same s t → Same t s
-flip s t same = record { bytes = sym same.bytes; fuse = sym same.fuse; unit = sym same.unit }
+flip s t same = record { bytes = sym same.bytes; fuse = sym same.fuse; grain = sym same.grain }

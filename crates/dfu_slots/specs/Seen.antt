@@ -73,15 +73,15 @@ pub data Call : Type 0 where
 
 -- The writes of a call, in their order.
 abbrev pub writes_of : SlotsState → Call → List Write
-writes_of s Begin = begin_writes (gate_of s.medium) s.medium.bytes
-writes_of s (Put at bytes) = put_writes s.medium.unit (data_place s (at - length s.held)) s.held bytes
-writes_of s (Commit len) = part_writes s.medium.unit (data_place s (held_at s)) s.held ++ commit_writes
-    (gate_of s.medium) s.medium.bytes len (register (take len (spare_of s)))
+writes_of s Begin = begin_writes s.medium.grain s.medium.bytes
+writes_of s (Put at bytes) = put_writes s.medium.grain (data_place s (at - length s.held)) s.held bytes
+writes_of s (Commit len) = part_writes s.medium.grain (data_place s (held_at s)) s.held ++ commit_writes
+    s.medium.grain s.medium.bytes len (register (take len (spare_of s)))
 
 -- What a store holds back after a call that is Ok.
 abbrev pub next_held : SlotsState → Call → List ℕ
 next_held s Begin = []
-next_held s (Put at bytes) = put_rest s.medium.unit s.held bytes
+next_held s (Put at bytes) = put_rest s.medium.grain.unit s.held bytes
 next_held s (Commit len) = []
 
 -- Where its puts end then.
@@ -92,7 +92,7 @@ next_end (Commit len) = 0
 
 -- The writes of a `format` of this medium with this image, in their order.
 abbrev pub format_series : MediumState → List ℕ → List Write
-format_series m image = format_writes m.unit (gate_of m) m.bytes image
+format_series m image = format_writes m.grain m.bytes image
 
 -- A call whose writes all worked holds back what is left of the puts.
 pub record CallWorked (old : SlotsState) (call : Call) (now : SlotsState) : Type 0 where

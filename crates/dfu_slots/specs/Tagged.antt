@@ -4,7 +4,7 @@ use Rattle.std.proofs.Common.{inl, inr, sym, ap, ◌∙◌, subst}
 use Rattle.dfu_suffix.specs.Register.{register}
 use Rattle.dfu_slots.specs.declared.fault.WriteFault.{WriteFault}
 use Rattle.dfu_slots.specs.Medium.{MediumState, Write, AllWrites, BrokenWrites}
-use Rattle.dfu_slots.specs.Image.{gate_of, Active, HasImage}
+use Rattle.dfu_slots.specs.Image.{Active, HasImage}
 use Rattle.dfu_slots.specs.Writes.{part_writes, commit_writes}
 use Rattle.dfu_slots.specs.Store.{IsStore}
 use Rattle.dfu_slots.specs.Seen.{SlotsState, image_of, spare_of, is_begun, room_of, held_at, data_place, Call, Begin, Put, Commit, Ending, AllWorked, BrokenBy, writes_of, next_held, Calls, Called}
@@ -64,7 +64,7 @@ has_image_tagged m tag has = record { image = has.image; active = active_tagged 
 pub is_store_tagged : (s : SlotsState) (tag : List ℕ) → IsStore s → IsStore (store_tagged s tag)
 is_store_tagged s tag store = record {
   has_image = has_image_tagged s.medium tag store.has_image;
-  puts = record { fits = store.puts.fits; part = store.puts.part };
+  puts = record { fits = store.puts.fits; part = store.puts.part; ahead = store.puts.ahead };
 }
 
 -- Nor the image.
@@ -93,8 +93,8 @@ writes_tagged s tag Begin = refl
 writes_tagged s tag (Put at bytes) = refl
 writes_tagged s tag (Commit len) =
     λ i.
-    part_writes s.medium.unit (data_place s (held_at s)) s.held
-    ++ commit_writes (gate_of s.medium) s.medium.bytes len (register (take len (sym (spare_tagged s tag) i)))
+    part_writes s.medium.grain (data_place s (held_at s)) s.held
+    ++ commit_writes s.medium.grain s.medium.bytes len (register (take len (sym (spare_tagged s tag) i)))
 
 -- A list of writes is the same with another tag.
 pub all_writes_tagged : (s now : MediumState) (tag : List ℕ) (ws : List Write) → AllWrites s ws now
@@ -102,7 +102,7 @@ pub all_writes_tagged : (s now : MediumState) (tag : List ℕ) (ws : List Write)
 all_writes_tagged s now tag [] same = ap (λ (m : MediumState). tagged m tag) same
 all_writes_tagged s now tag (w ∷ ws) (next, wrote, more) = (
   tagged next tag,
-  record { bytes = wrote.bytes; failures = wrote.failures; fuse = wrote.fuse; unit = wrote.unit; tag = refl },
+  record { bytes = wrote.bytes; failures = wrote.failures; fuse = wrote.fuse; grain = wrote.grain; tag = refl },
   all_writes_tagged next now tag ws more,
 )
 

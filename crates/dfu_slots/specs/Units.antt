@@ -1,5 +1,5 @@
 -- The unit in which a medium is written, and what is whole in it.
-use Rattle.std.specs.Prelude.{◌≡◌, ℕ, ◌-◌, ◌%◌, max, List, ◌++◌, length, replicate}
+use Rattle.std.specs.Prelude.{◌≡◌, ℕ, ◌-◌, ◌%◌, ◌^◌, ◌<◌, ◌≤◌, max, List, ◌++◌, length, replicate}
 use Rattle.dfu_slots.specs.declared.unit.Unit.{Unit as WriteUnit}
 use Rattle.dfu_slots.specs.declared.unit.Unit.TheVariants.{Byte, U16, U64, U256}
 
@@ -10,13 +10,33 @@ unit_size U16 = 16
 unit_size U64 = 64
 unit_size U256 = 256
 
+-- How a medium is written: in this unit, and erased in sectors of so many bytes before; at 0 it is written over in place.
+pub record Grain : Type 0 where
+  pub unit : WriteUnit
+  pub sector : ℕ
+
+-- The medium is written over in place, in this unit.
+abbrev pub in_place : WriteUnit → Grain
+in_place unit = record { unit = unit; sector = 0 }
+
 -- The gate unit of a slot has 16 bytes, or as many as a unit where that is more; so has its header unit.
 abbrev pub gate_size : WriteUnit → ℕ
 gate_size unit = max 16 (unit_size unit)
 
+-- So many bytes the gate of a slot has for itself, and its header as many: their unit, and at least a sector.
+abbrev pub gate_room : Grain → ℕ
+gate_room grain = max (gate_size grain.unit) grain.sector
+
 -- A place or a length is whole in a unit where it is a multiple of the unit's size.
 abbrev pub IsMultiple : WriteUnit → ℕ → Type 0
 IsMultiple unit n = n % unit_size unit ≡ 0
+
+-- So many bytes are whole in the unit, and in the sector, which is one that the store takes.
+pub record IsWhole (grain : Grain) (n : ℕ) : Type 0 where
+  pub units : IsMultiple grain.unit n
+  pub sectors : 0 < grain.sector → n % grain.sector ≡ 0
+  pub pages : grain.sector % 256 ≡ 0
+  pub bound : grain.sector ≤ 2 ^ 17
 
 -- So many of n bytes make whole units.
 abbrev pub whole_part : WriteUnit → ℕ → ℕ

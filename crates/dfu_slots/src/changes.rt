@@ -6,7 +6,8 @@ use crate::places::look;
 use crate::{Medium, PutFault, Slots, steps};
 
 impl<M: Medium> Slots<M> {
-    /// Closes the gate of the spare slot, so that `put` may write to its data. A gate that reads closed is not written.
+    /// Closes the gate of the spare slot, so that `put` may write to its data: on a medium with sectors it erases the gate's.
+    /// A gate that reads closed is neither written nor erased.
     /// What was put before is forgotten, and so are the bytes held back, also after an error: `put_end` is 0.
     ///
     /// The active image stays, also after an error.
@@ -25,7 +26,7 @@ impl<M: Medium> Slots<M> {
     /// The bytes go to the medium as far as they make whole units, in at most two writes: first the unit that
     /// bytes held back have begun, where it is full now, and then all further whole units in one. The rest,
     /// less than a unit, is held back until a later `put` or `commit`. On a medium that is written in bytes it
-    /// is one write, and none for no bytes.
+    /// is one write, and none for no bytes. Before each write it erases the sectors that begin in its range.
     ///
     /// The active image stays, also after an error.
     ///
@@ -43,7 +44,8 @@ impl<M: Medium> Slots<M> {
     }
 
     /// Makes the first `len` bytes of what was put the active image; `len` is at most `put_end`. The slot that
-    /// was active becomes the spare. Bytes held back are written first, with zeros up to the end of their unit.
+    /// was active becomes the spare. Bytes held back are written first, with zeros up to the end of their unit. On a medium
+    /// with sectors the header's and the gate's are erased before each is written.
     ///
     /// After `Failed` and `NotVerified` the active image is the old one or the whole new one; `active_len` and
     /// `read_active` tell which.

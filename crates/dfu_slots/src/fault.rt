@@ -4,8 +4,9 @@ use thiserror::Error;
 /// Why `format` gave the medium back. It looks for them in this order.
 #[derive(Clone, Copy, Debug, PartialEq, Eq, Drop, Error)]
 pub enum FormatFault {
-    /// The medium's length is not 2 * (2 * G + C) with C from 1 to 16,777,216 and whole in the unit, G being
-    /// 16 or the unit's size where that is more. Nothing was written.
+    /// The medium's length is not 2 * (2 * G + C) with C from 1 to 16,777,216 and whole in the unit and the sector, G being
+    /// the most of 16, the unit's size and the sector's; or its sector is not 0, nor a multiple of 256 up to 131,072.
+    /// Nothing was written.
     #[error("the medium has no length that two slots can have")]
     WrongSize,
     /// The image has more bytes than the data of a slot. Nothing was written.
@@ -22,8 +23,8 @@ pub enum FormatFault {
 /// bytes are 0, its length is at most C, and its register is that of so many bytes from the front of the slot's data.
 #[derive(Clone, Copy, Debug, PartialEq, Eq, Drop, Error)]
 pub enum OpenFault {
-    /// The medium's length is not 2 * (2 * G + C) with C from 1 to 16,777,216 and whole in the unit, G being
-    /// 16 or the unit's size where that is more.
+    /// The medium's length is not 2 * (2 * G + C) with C from 1 to 16,777,216 and whole in the unit and the sector, G being
+    /// the most of 16, the unit's size and the sector's; or its sector is not 0, nor a multiple of 256 up to 131,072.
     #[error("the medium has no length that two slots can have")]
     WrongSize,
     /// Neither slot counts.

@@ -1,15 +1,15 @@
 //! Formatting a medium: an image goes into the first slot, whatever stood on the medium.
 ghost use Rattle.std.specs.Prelude.{◌≡◌, ℕ, ◌+◌, ◌*◌, ◌≤◌, ◌<◌, ◌^◌, length};
 ghost use Rattle.dfu_slots.specs.Units.{IsMultiple, filled};
+ghost use Rattle.dfu_slots.specs.Medium.{IsAhead};
 ghost use Rattle.dfu_slots.specs.inside.Series.{Series};
-ghost use Rattle.dfu_slots.specs.Image.{gate_of, IsSized};
+ghost use Rattle.dfu_slots.specs.Image.{IsSized};
 ghost use Rattle.dfu_slots.specs.Writes.{piece_writes, close_writes};
 ghost use Rattle.dfu_slots.specs.Seen.{format_series};
 ghost use Rattle.dfu_slots.specs.Changes.{CanFormat};
 
-use crate::layout::CLOSED_GATE;
 use crate::read::data_at;
-use crate::writes::{open_slot, write, write_filled, write_gate};
+use crate::writes::{close_gate, open_slot, write_anew, write_filled};
 use crate::{Medium, WriteFault};
 
 // How many bytes of the image are written at a time: whole units, whatever the unit is.
@@ -17,17 +17,19 @@ const PIECE: usize = 4096;
 
 // Writes the bytes from there on, in pieces.
 fn write_pieces<M: Medium>(medium: &mut M, at: u32, bytes: &[u8]) -> Result<(), WriteFault>
-    requires within { at + length (filled (M.state medium.old).unit bytes.now) ≤ length (M.state medium.old).bytes }
+    requires sized { IsSized (M.state medium.old) }
+    requires ahead { IsAhead (M.state medium.old) at }
+    requires within { at + length (filled (M.state medium.old).grain.unit bytes.now) ≤ length (M.state medium.old).bytes }
     requires room { at + length bytes.now < 2 ^ 32 }
-    requires place { IsMultiple (M.state medium.old).unit at }
-    ensures { let unit = (M.state medium.old).unit in (n : ℕ) → length (filled unit bytes.now) ≤ n →
-        Series (M.state medium.old) (piece_writes n at (filled unit bytes.now)) result (M.state medium.new) }
+    requires place { IsMultiple (M.state medium.old).grain.unit at }
+    ensures { let was = M.state medium.old in let units = filled was.grain.unit bytes.now in (n : ℕ) → length units ≤ n →
+        Series was (piece_writes was.grain.sector n at units) result (M.state medium.new) }
 {
     let mut place = at;
     let mut rest = bytes;
     while rest.len() > PIECE {
         let (piece, left) = rest.split_at(PIECE);
-        match write(medium, place, piece) {
+        match write_anew(medium, place, piece) {
             Err(fault) => return Err(fault),
             Ok(()) => {
                 place += PIECE as u32;
@@ -42,12 +44,12 @@ fn write_pieces<M: Medium>(medium: &mut M, at: u32, bytes: &[u8]) -> Result<(), 
 fn close_gates<M: Medium>(medium: &mut M) -> Result<(), WriteFault>
     requires { IsSized (M.state medium.old) }
     ensures { let was = M.state medium.old in
-        Series was (close_writes (gate_of was) was.bytes) result (M.state medium.new) }
+        Series was (close_writes was.grain was.bytes) result (M.state medium.new) }
 {
     let second = medium.len() / 2;
-    match write_gate(medium, second, CLOSED_GATE) {
+    match close_gate(medium, second) {
         Err(fault) => Err(fault),
-        Ok(()) => write_gate(medium, 0, CLOSED_GATE),
+        Ok(()) => close_gate(medium, 0),
     }
 }
 

@@ -1,20 +1,54 @@
 //! A store is taken apart, and put together again: for a caller who keeps its parts between two calls.
-ghost use Rattle.std.specs.Prelude.{◌≡◌, ◌↔◌, length, IsOk, IfOk, IfErr, IsTrue};
-ghost use Rattle.dfu_slots.specs.Image.{IsSized};
+ghost use Rattle.std.specs.Prelude.{◌≡◌, ◌≤◌, ◌↔◌, length, IsOk, IfOk, IfErr, IsTrue};
+ghost use Rattle.dfu_slots.specs.Image.{gate_of, spare_at, IsSized};
+ghost use Rattle.dfu_slots.specs.Medium.{IsAhead};
 ghost use Rattle.dfu_slots.specs.Seen.{store_of};
 ghost use Rattle.dfu_slots.specs.Store.{HasPuts, IsStore};
 
 use crate::puts::Puts;
-use crate::read::capacity_of;
+use crate::read::{byte_at, capacity_of, data_at};
 use crate::{Medium, Slots, open};
 use arrayvec::ArrayVec;
 
-/// Whether so many bytes are held back as puts that end there leave.
-pub(crate) fn has_puts<M: Medium>(medium: &M, held: &ArrayVec<u8, 256>, end: u32) -> bool
-    requires { IsSized (M.state medium.now) }
+// Whether the bytes from there on are erased up to the sector that begins next, where there are sectors.
+fn is_ahead<M: Medium>(medium: &M, at: u32) -> bool
+    requires { at ≤ length (M.state medium.now).bytes }
+    ensures { IsTrue result ↔ IsAhead (M.state medium.now) at }
+{
+    let sector = medium.sector();
+    if sector == 0 {
+        return true;
+    }
+    let end = medium.len();
+    let mut place = at;
+    while place < end {
+        if place % sector == 0 {
+            return true;
+        }
+        if byte_at(medium, place) != 0xff {
+            return false;
+        }
+        place += 1;
+    }
+    true
+}
+
+/// Whether so many bytes are held back as puts that end there leave, and the sector is erased behind what was written. The
+/// spare begins at `spare`.
+pub(crate) fn has_puts<M: Medium>(
+    medium: &M,
+    held: &ArrayVec<u8, 256>,
+    end: u32,
+    spare: u32,
+) -> bool
+    requires sized { IsSized (M.state medium.now) }
+    requires spare { spare ≡ spare_at (gate_of (M.state medium.now)) (M.state medium.now).bytes }
     ensures { IsTrue result ↔ HasPuts (store_of (M.state medium.now) held.now.items end) }
 {
-    end <= capacity_of(medium) && held.len() == (end % medium.unit().size()) as usize
+    if end > capacity_of(medium) || held.len() != (end % medium.unit().size()) as usize {
+        return false;
+    }
+    is_ahead(medium, data_at(medium, spare) + (end - held.len() as u32))
 }
 
 impl<M: Medium> Slots<M> {
@@ -43,8 +77,8 @@ impl<M: Medium> Slots<M> {
     }
 
     /// Puts a store together of a medium, the bytes held back, and where the puts end. They are a store's exactly where
-    /// the medium has an active image, the end is at most the capacity, and as many bytes are held back as the end is
-    /// over a multiple of the unit. Of each open slot of version 2 it reads the whole image. It writes nothing.
+    /// the medium has an active image, the end is at most the capacity, as many bytes are held back as the end is
+    /// over a multiple of the unit, and, with sectors, those behind what was written are FFh up to the next sector. Of each open slot of version 2 it reads the whole image. It writes nothing.
     ///
     /// # Errors
     ///
@@ -58,7 +92,7 @@ impl<M: Medium> Slots<M> {
             Ok(places) => places,
             Err(_) => return Err(medium),
         };
-        if !has_puts(&medium, &held, end) {
+        if !has_puts(&medium, &held, end, places.spare) {
             return Err(medium);
         }
         Ok(Slots {

@@ -147,7 +147,7 @@ impl<M: Medium> Slots<M> {
             Some(places) => places,
             None => return Err(medium),
         };
-        if !has_puts(&medium, &held, end) {
+        if !has_puts(&medium, &held, end, places.spare) {
             return Err(medium);
         }
         Ok(Slots {

@@ -1,7 +1,11 @@
 //! Laws of the slot store. Each is the contract of a function with an empty body, which is proved and
 //! not to be called for what it does. A function above calls one for its law alone, as dfu_link does.
 
-ghost use Rattle.std.specs.Prelude.{◌≡◌, ℕ, List};
+ghost use Rattle.std.specs.Prelude.{◌≡◌, ℕ, List, [], ◌∷◌};
+ghost use Rattle.dfu_slots.specs.declared.unit.Unit.{Unit as WriteUnit};
+ghost use Rattle.dfu_slots.specs.Units.{in_place, gate_size, gate_room};
+ghost use Rattle.dfu_slots.specs.Layout.{gate_unit};
+ghost use Rattle.dfu_slots.specs.Writes.{closed_gate, write_anew};
 ghost use Rattle.dfu_slots.specs.Medium.{MediumState, Write, AllWrites, BrokenWrites};
 ghost use Rattle.dfu_slots.specs.Medium.Fuse.{Whole};
 ghost use Rattle.dfu_slots.specs.Image.{Active, HasImage};
@@ -21,6 +25,14 @@ pub fn active_image_is_one()
     ensures refused { (fault : OpenFault) (m : MediumState) → IsOpenFault fault m → ¬ HasImage m }
 {}
 
+/// On a medium without sectors nothing is erased: bytes are written over in place in one write, a closed gate is a gate unit
+/// of zeros, and gate and header have a unit each.
+pub fn without_sectors_nothing_is_erased()
+    ensures writes { (at : ℕ) (bytes : List ℕ) → write_anew 0 at bytes ≡ record { at = at; bytes = bytes } ∷ [] }
+    ensures gate { (unit : WriteUnit) → closed_gate (in_place unit) ≡ gate_unit (gate_size unit) 0 }
+    ensures room { (unit : WriteUnit) → gate_room (in_place unit) ≡ gate_size unit }
+{}
+
 /// A medium whose fuse is whole (as `SimMedium::new` and `disarm` leave it) fails no write and no call, and lies in none,
 /// whatever they are, and stays so. Of a medium whose fuse is unknown nothing is said.
 pub fn unarmed_never_fails()
@@ -35,7 +47,7 @@ pub fn unarmed_never_fails()
 {}
 
 /// From the same store the same calls end alike, where the fuse is known: all their writes work on both or they are broken off by the
-/// same fault, and leave the same store (the same bytes, fuse and unit, the same bytes held back, the same end of the puts).
+/// same fault, and leave the same store (the same bytes, fuse and grain, the same bytes held back, the same end of the puts).
 pub fn same_bytes_same_end()
     ensures outcome { (calls : List Call) (e d : Ending) (a b x y : SlotsState) →
         SameStore a b → IsKnown a.medium.fuse → Called a calls e x → Called b calls d y → e ≡ d }

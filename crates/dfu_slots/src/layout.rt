@@ -1,4 +1,4 @@
-//! How a slot is laid out: a gate unit, a header unit, and the data.
+//! How a slot is laid out: the gate, the header, and the data.
 ghost use Rattle.std.specs.Prelude.{◌≡◌, ◌-◌, ◌<◌, ◌≤◌, ◌++◌, length, replicate};
 ghost use Rattle.dfu_slots.specs.Units.{gate_size, fill_size};
 ghost use Rattle.dfu_slots.specs.Layout.{header};
@@ -7,6 +7,9 @@ use crate::Unit;
 
 /// How many bytes the header has, and how many the gate unit and the header unit have at least.
 const HEADER_SIZE: u32 = 16;
+
+/// How many bytes a sector may have at most.
+pub const MAX_SECTOR: u32 = 1 << 17;
 
 /// How many bytes of data a slot may have at most.
 pub const MAX_CAPACITY: u32 = 1 << 24;
@@ -20,6 +23,7 @@ pub const CLOSED_GATE: u8 = 0x00;
 /// How many bytes the gate unit has, and as many the header unit, from 16 to 256.
 pub(crate) fn gate_size(unit: Unit) -> u32
     ensures value { result ≡ gate_size unit }
+    ensures least { 16 ≤ result }
     ensures most { result ≤ 256 }
 {
     HEADER_SIZE.max(unit.size())

@@ -3,6 +3,7 @@
 #![tactic(auto)]
 
 mod changes;
+mod erasing;
 mod fault;
 mod format;
 mod from_parts;

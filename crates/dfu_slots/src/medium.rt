@@ -1,7 +1,7 @@
 //! A medium of bytes whose writes may fail.
-ghost use Rattle.std.specs.Prelude.{◌≡◌, ◌+◌, ◌≤◌, length, take, slice_range, OnOk, OnErr};
+ghost use Rattle.std.specs.Prelude.{◌≡◌, ◌+◌, ◌%◌, ◌≤◌, length, take, replicate, slice_range, OnOk, OnErr};
 ghost use Rattle.dfu_slots.specs.Units.{IsMultiple};
-ghost use Rattle.dfu_slots.specs.Medium.{MediumState, Fuse, FailedWrite, WroteOrLied};
+ghost use Rattle.dfu_slots.specs.Medium.{MediumState, Fuse, FailedWrite, WroteOrLied, IsWritable};
 ghost use Rattle.dfu_slots.specs.Medium.Fuse.{Armed, Lying, Whole};
 
 use crate::Unit;
@@ -13,14 +13,15 @@ use thiserror::Error;
 #[error("a write to the medium failed")]
 pub struct Failed;
 
-/// Bytes that can be read, and written over in units of 1, 16, 64 or 256 bytes, as FRAM, MRAM and EEPROM are.
+/// Bytes that can be read, and written in units of 1, 16, 64 or 256 bytes: over older bytes, as FRAM, MRAM and EEPROM
+/// are, or once after an erase, as NOR flash is.
 ///
-/// A write must leave every byte outside its range as it was, also where it is torn. So erasing within `write` is
-/// sound only where `unit` is a multiple of the part's erase unit: a part that erases a sector larger than its unit
-/// within `write` loses the active image with the other bytes of the sector.
+/// A write must leave every byte outside its range as it was, also where it is torn, and an erase every byte outside its
+/// sector. So erasing within `write` is sound only where `unit` is a multiple of the part's erase unit. A part with larger
+/// sectors says so by `sector`: the store erases each before it writes in it, and writes no unit twice between two erases.
 pub trait Medium: Drop {
-    /// The bytes now, how often a write has failed, what is known of the next writes, the unit, and a tag that is always
-    /// the same: what the tag says is for the implementer to choose.
+    /// The bytes now, how often a write has failed, what is known of the next writes, the grain (unit and sector), and a tag
+    /// that is always the same: what the tag says is for the implementer to choose.
     ghost state: { Self → MediumState };
 
     /// How many bytes it has, always the same.
@@ -29,7 +30,12 @@ pub trait Medium: Drop {
 
     /// In which unit it is written, always the same. It is read byte by byte.
     fn unit(&self) -> Unit
-        ensures { result ≡ (state self.now).unit };
+        ensures { result ≡ (state self.now).grain.unit };
+
+    /// How many bytes are erased at a time, always the same. At 0 it is written over in place, and never erased. The store
+    /// takes 0 and the multiples of 256 up to 131,072. All sectors have this size: of a part with others show a run of equal ones.
+    fn sector(&self) -> u32
+        ensures { result ≡ (state self.now).grain.sector };
 
     /// Whether the register over its images goes by a table of 64 bytes, in over four times as many instructions, and not
     /// by those of 8,192 bytes. It is the same register. A program all of whose media answer the constant `true` links
@@ -43,18 +49,30 @@ pub trait Medium: Drop {
         requires { at + length out.old ≤ length (state self.now).bytes }
         ensures { out.new ≡ slice_range (state self.now).bytes at (at + length out.old) };
 
-    /// Writes over the bytes from `at` on, whatever stood there. The range must lie within the length, and `at`
-    /// and the number of bytes must be multiples of the unit's size.
+    /// Writes over the bytes from `at` on, whatever stood there: on a medium with sectors all are FFh, and none was written since
+    /// its sector was erased. The range must lie within the length, and `at` and the number of bytes must be multiples of the
+    /// unit's size.
     ///
     /// After Ok exactly `bytes` stand there; or the part lied: any bytes may stand there, and the count of failures rose.
     /// After `Failed` any bytes may stand there, and the count rose (at its last value, 2^64 - 1, it stays; a medium
     /// may say that it stands there always). All other bytes are as they were, also when the power goes within the write.
     fn write(&mut self, at: u32, bytes: &[u8]) -> Result<(), Failed>
         requires within { at + length bytes.now ≤ length (state self.old).bytes }
-        requires place { IsMultiple (state self.old).unit at }
-        requires whole { IsMultiple (state self.old).unit (length bytes.now) }
+        requires place { IsMultiple (state self.old).grain.unit at }
+        requires whole { IsMultiple (state self.old).grain.unit (length bytes.now) }
+        requires blank { IsWritable (state self.old) at (length bytes.now) }
         ensures ok { OnOk result (WroteOrLied (state self.old) at bytes.now (state self.new)) }
         ensures failed { OnErr result (FailedWrite WriteFault.Failed (state self.old) at bytes.now (state self.new)) };
+
+    /// Erases the sector that begins at `at`: it writes FFh over it, and may fail or lie as `write` may. The sector must lie
+    /// within the length. Where there are no sectors, `at` is 0, and it changes no byte.
+    fn erase(&mut self, at: u32) -> Result<(), Failed>
+        requires within { at + (state self.old).grain.sector ≤ length (state self.old).bytes }
+        requires place { at % (state self.old).grain.sector ≡ 0 }
+        ensures ok { OnOk result (
+            WroteOrLied (state self.old) at (replicate (state self.old).grain.sector 255) (state self.new)) }
+        ensures failed { OnErr result (
+            FailedWrite WriteFault.Failed (state self.old) at (replicate (state self.old).grain.sector 255) (state self.new)) };
 }
 
 /// A medium that can be told which write is to fail or to lie, and what that write leaves.

@@ -1,32 +1,42 @@
 //! Opening a medium: the tests that tell whether it has an active image.
-ghost use Rattle.std.specs.Prelude.{◌≡◌, ◌/◌, OnOk, IfOk, IfErr, length, IsTrue, ◌↔◌};
-ghost use Rattle.dfu_slots.specs.Units.{IsMultiple};
+ghost use Rattle.std.specs.Prelude.{◌≡◌, ◌%◌, ◌^◌, ◌<◌, ◌≤◌, OnOk, IfOk, IfErr, length, IsTrue, ◌↔◌};
+ghost use Rattle.dfu_slots.specs.Units.{unit_size};
 ghost use Rattle.dfu_slots.specs.Image.{HasImage, IsSized, gate_of, active_at, spare_at};
 ghost use Rattle.dfu_slots.specs.Changes.{IsOpenFault};
 
-use crate::layout::{MAX_CAPACITY, gate_size};
+use crate::layout::{MAX_CAPACITY, MAX_SECTOR};
 use crate::places::{Places, count_slots, find_places, has_newest, is_none};
-use crate::read::header_len;
+use crate::read::{gate_of, header_len};
 use crate::{Medium, OpenFault, Unit};
 
-// Whether a length is a multiple of the unit's size.
-fn is_multiple(unit: Unit, len: u32) -> bool
-    ensures { IsTrue result ↔ IsMultiple unit len }
+// Whether the store takes sectors of so many bytes: 0, or a multiple of 256 up to 131,072.
+fn is_sector(sector: u32) -> bool
+    ensures { IsTrue result ↔ ((sector % 256 ≡ 0) × (sector ≤ 2 ^ 17)) }
 {
-    len % unit.size() == 0
+    sector % 256 == 0 && sector <= MAX_SECTOR
 }
 
-/// Whether the medium has a length that two slots can have, with whole units of data each.
+// Whether a length is a multiple of the unit's size, and of the sector's.
+fn is_whole(unit: Unit, sector: u32, len: u32) -> bool
+    ensures { IsTrue result ↔ ((len % unit_size unit ≡ 0) × (0 < sector → len % sector ≡ 0)) }
+{
+    len % unit.size() == 0 && (sector == 0 || len % sector == 0)
+}
+
+/// Whether the medium has a length that two slots can have, with whole units and sectors of data each.
 pub(crate) fn is_sized<M: Medium>(medium: &M) -> bool
     ensures { IsTrue result ↔ IsSized (M.state medium.now) }
 {
-    let unit = medium.unit();
-    let units = 2 * gate_size(unit);
+    let sector = medium.sector();
+    if !is_sector(sector) {
+        return false;
+    }
+    let gates = 2 * gate_of(medium);
     let len = medium.len();
     len % 2 == 0
-        && len > 2 * units
-        && len <= 2 * (units + MAX_CAPACITY)
-        && is_multiple(unit, len / 2 - units)
+        && len > 2 * gates
+        && len <= 2 * (gates + MAX_CAPACITY)
+        && is_whole(medium.unit(), sector, len / 2 - gates)
 }
 
 /// Where the slots of a medium stand that has an active image, or else the first fault of it.

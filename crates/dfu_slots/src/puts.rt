@@ -1,7 +1,9 @@
 //! What was put since `begin`: whole units go to the medium as they come, and the rest is held back.
 ghost use Rattle.std.specs.Prelude.{◌≡◌, ◌+◌, ◌-◌, ◌^◌, ◌≤◌, ◌<◌, ◌++◌, [], length, take, drop, OnOk};
 ghost use Rattle.dfu_slots.specs.Units.{IsMultiple, unit_size};
+ghost use Rattle.dfu_slots.specs.Medium.{IsAhead};
 ghost use Rattle.dfu_slots.specs.inside.Series.{Series};
+ghost use Rattle.dfu_slots.specs.Image.{IsSized};
 ghost use Rattle.dfu_slots.specs.Writes.{write_some, put_writes, put_rest};
 
 use crate::writes::write_some;
@@ -55,12 +57,15 @@ fn put_front<M: Medium>(
     bytes: &[u8],
     count: usize,
 ) -> Result<(), WriteFault>
+    requires sized { IsSized (M.state medium.old) }
+    requires ahead { IsAhead (M.state medium.old) at }
     requires front { count ≤ length bytes.now }
     requires back { length held.old.items + (length bytes.now - count) ≤ 256 }
     requires within { at + count ≤ length (M.state medium.old).bytes }
-    requires place { IsMultiple (M.state medium.old).unit at }
-    requires whole { IsMultiple (M.state medium.old).unit count }
-    ensures writes { Series (M.state medium.old) (write_some at (take count bytes.now)) result (M.state medium.new) }
+    requires place { IsMultiple (M.state medium.old).grain.unit at }
+    requires whole { IsMultiple (M.state medium.old).grain.unit count }
+    ensures writes { let was = M.state medium.old in
+        Series was (write_some was.grain.sector at (take count bytes.now)) result (M.state medium.new) }
     ensures held { OnOk result (held.new.items ≡ held.old.items ++ drop count bytes.now) }
 {
     let (front, back) = bytes.split_at(count);
@@ -81,14 +86,16 @@ pub(crate) fn put_units<M: Medium>(
     at: u32,
     bytes: &[u8],
 ) -> Result<(), WriteFault>
-    requires part { length held.old.items < unit_size (M.state medium.old).unit }
+    requires sized { IsSized (M.state medium.old) }
+    requires ahead { IsAhead (M.state medium.old) at }
+    requires part { length held.old.items < unit_size (M.state medium.old).grain.unit }
     requires short { length bytes.now ≤ 4096 }
     requires within { at + (length held.old.items + length bytes.now) ≤ length (M.state medium.old).bytes }
     requires small { at + (length held.old.items + length bytes.now) < 2 ^ 32 }
-    requires place { IsMultiple (M.state medium.old).unit at }
-    ensures writes { let unit = (M.state medium.old).unit in
-        Series (M.state medium.old) (put_writes unit at held.old.items bytes.now) result (M.state medium.new) }
-    ensures held { OnOk result (held.new.items ≡ put_rest (M.state medium.old).unit held.old.items bytes.now) }
+    requires place { IsMultiple (M.state medium.old).grain.unit at }
+    ensures writes { let was = M.state medium.old in
+        Series was (put_writes was.grain at held.old.items bytes.now) result (M.state medium.new) }
+    ensures held { OnOk result (held.new.items ≡ put_rest (M.state medium.old).grain.unit held.old.items bytes.now) }
 {
     let size = medium.unit().size() as usize;
     let all = held.len() + bytes.len();

@@ -19,7 +19,8 @@ use crate::register::register_of;
 // How many bytes are read back at a time.
 const PIECE: usize = 256;
 
-fn byte_at<M: Medium>(medium: &M, at: u32) -> u8
+/// The byte that stands there.
+pub(crate) fn byte_at<M: Medium>(medium: &M, at: u32) -> u8
     requires { at < length (M.state medium.now).bytes }
     ensures { result ≡ slice_index (M.state medium.now).bytes at }
 {
@@ -50,12 +51,11 @@ pub(crate) fn stands_at<M: Medium>(medium: &M, at: u32, bytes: &[u8]) -> bool
     true
 }
 
-/// How many bytes the gate unit of a slot has, and as many its header unit, from 16 to 256.
+/// How many bytes the gate of a slot has for itself, and as many its header: a unit of at least 16, or a sector.
 pub(crate) fn gate_of<M: Medium>(medium: &M) -> u32
-    ensures value { result ≡ gate_of (M.state medium.now) }
-    ensures most { result ≤ 256 }
+    ensures { result ≡ gate_of (M.state medium.now) }
 {
-    gate_size(medium.unit())
+    gate_size(medium.unit()).max(medium.sector())
 }
 
 /// How many bytes of data each slot has.

@@ -1,10 +1,10 @@
 //! A medium in memory.
-ghost use Rattle.std.specs.Prelude.{◌≡◌, [], ◌+◌, ◌≤◌, length, take, replicate, if◌then◌else◌, IfOk};
-ghost use Rattle.dfu_slots.specs.Units.{IsMultiple};
-ghost use Rattle.dfu_slots.specs.Medium.{written};
-ghost use Rattle.dfu_slots.specs.Medium.Fuse.{Whole};
+ghost use Rattle.std.specs.Prelude.{◌≡◌, ◌+◌, ◌≤◌, length, take, if◌then◌else◌, IfOk, OnOk, OnErr};
+ghost use Rattle.dfu_slots.specs.Units.{Grain, in_place, IsMultiple};
+ghost use Rattle.dfu_slots.specs.Medium.{WroteOrLied, FailedWrite, blank_medium, written};
+ghost use Rattle.dfu_slots.specs.inside.Sim.{sim_state};
 
-use crate::{Failed, Faulty, Medium, Unit};
+use crate::{Failed, Faulty, Medium, Unit, WriteFault};
 use arrayvec::ArrayVec;
 use std::alloc::{AllocError, Global};
 use std::marker::Model;
@@ -34,69 +34,94 @@ pub enum Mode {
     Stopped,
 }
 
-/// A medium in memory that can be told to fail or to lie.
+/// What the next writes do, and how often one has failed.
 #[derive(Drop)]
-pub struct SimMedium {
-    bytes: Vec<u8>,
+pub struct SimFuse {
     failures: u64,
-    unit: Unit,
     mode: Mode,
     writes: u32,
     tear: ArrayVec<u8, 4096>,
     stop: bool,
 }
 
+/// A medium in memory that can be told to fail or to lie.
+#[derive(Drop)]
+pub struct SimMedium {
+    bytes: Vec<u8>,
+    fuse: SimFuse,
+    unit: Unit,
+    sector: u32,
+    // What an erase writes: FFh over a sector.
+    blank: Vec<u8>,
+}
+
 impl Model for SimMedium {
-    ghost use Rattle.std.specs.Prelude.{◌<◌, ◌^◌, length, []};
+    ghost use Rattle.std.specs.Prelude.{◌≡◌, ◌<◌, ◌^◌, length, replicate};
     ghost use Rattle.dfu_slots.specs.Medium.{MediumState};
-    ghost use Rattle.dfu_slots.specs.inside.Sim.{fuse_of};
+    ghost use Rattle.dfu_slots.specs.inside.Sim.{sim_state};
 
     ghost Value = { MediumState };
 
-    ghost view = { λ m. record {
-      bytes = m.bytes.items;
-      failures = m.failures;
-      fuse = fuse_of m.mode m.writes m.tear.items m.stop;
-      unit = m.unit;
-      tag = [];
-    } };
+    ghost view = { λ m. sim_state m.bytes.items m.fuse (record { unit = m.unit; sector = m.sector }) };
 
-    ghost invariant = { λ m. length m.bytes.items < 2 ^ 32 };
+    ghost invariant = { λ m. (length m.bytes.items < 2 ^ 32) × (m.blank.items ≡ replicate m.sector 255) };
 }
 
 impl SimMedium {
-    /// A medium of `len` bytes FFh, which is written in bytes and not armed.
+    /// A medium of `len` bytes FFh, which is written over in place, in bytes, and not armed.
     ///
     /// # Errors
     ///
     /// `NoMemory` where there is no memory for the bytes.
     pub fn new(alloc: Global, len: u32) -> Result<SimMedium, NoMemory>
-        ensures { IfOk result (λ medium.
-            medium ≡ record { bytes = replicate len 255; failures = 0; fuse = Whole; unit = Unit.Byte; tag = [] }) }
+        ensures { IfOk result (λ medium. medium ≡ blank_medium (in_place (Unit.Byte)) len) }
     {
         SimMedium::with_unit(alloc, len, Unit::Byte)
     }
 
-    /// A medium of `len` bytes FFh, which is written in this unit and not armed. `len` must be whole in it.
+    /// A medium of `len` bytes FFh, which is written over in place, in this unit, and not armed. `len` must be whole in it.
     ///
     /// # Errors
     ///
     /// `NoMemory` where there is no memory for the bytes.
     pub fn with_unit(alloc: Global, len: u32, unit: Unit) -> Result<SimMedium, NoMemory>
         requires { IsMultiple unit len }
-        ensures { IfOk result (λ medium.
-            medium ≡ record { bytes = replicate len 255; failures = 0; fuse = Whole; unit = unit; tag = [] }) }
+        ensures { IfOk result (λ medium. medium ≡ blank_medium (in_place unit) len) }
+    {
+        SimMedium::with_sectors(alloc, len, unit, 0)
+    }
+
+    /// A medium of `len` bytes FFh, which is written in this unit, erased in sectors of so many bytes (0: written over in
+    /// place), and not armed. `len` must be whole in the unit. An erase goes by the same fuse as a write.
+    ///
+    /// # Errors
+    ///
+    /// `NoMemory` where there is no memory for the bytes and a sector more.
+    pub fn with_sectors(
+        alloc: Global,
+        len: u32,
+        unit: Unit,
+        sector: u32,
+    ) -> Result<SimMedium, NoMemory>
+        requires { IsMultiple unit len }
+        ensures { IfOk result (λ medium. medium ≡ blank_medium (record { unit = unit; sector = sector }) len) }
     {
         let mut bytes = Vec::new(alloc);
         bytes.resize(len as usize, 0xff)?;
+        let mut blank = Vec::new(alloc);
+        blank.resize(sector as usize, 0xff)?;
         Ok(SimMedium {
             bytes,
-            failures: 0,
+            fuse: SimFuse {
+                failures: 0,
+                mode: Mode::Whole,
+                writes: 0,
+                tear: ArrayVec::new(),
+                stop: false,
+            },
             unit,
-            mode: Mode::Whole,
-            writes: 0,
-            tear: ArrayVec::new(),
-            stop: false,
+            sector,
+            blank,
         })
     }
 }
@@ -134,6 +159,49 @@ fn keep_tear(tear: &[u8]) -> ArrayVec<u8, 4096>
     kept
 }
 
+// Writes these bytes there, as the fuse lets it.
+fn change(bytes: &mut Vec<u8>, fuse: &mut SimFuse, at: usize, new: &[u8]) -> Result<(), Failed>
+    requires { at + length new.now ≤ length bytes.old.items }
+    ensures ok { (grain : Grain) → OnOk result (
+        WroteOrLied (sim_state bytes.old.items fuse.old grain) at new.now (sim_state bytes.new.items fuse.new grain)) }
+    ensures failed { (grain : Grain) → OnErr result (
+        FailedWrite WriteFault.Failed (sim_state bytes.old.items fuse.old grain) at new.now (sim_state bytes.new.items fuse.new grain)) }
+    ensures size { length bytes.new.items ≡ length bytes.old.items }
+{
+    match fuse.mode {
+        Mode::Whole => {
+            write_over(bytes, at, new);
+            Ok(())
+        }
+        Mode::Armed if fuse.writes > 0 => {
+            fuse.writes -= 1;
+            write_over(bytes, at, new);
+            Ok(())
+        }
+        Mode::Armed => {
+            tear_front(bytes, at, fuse.tear.as_slice(), new.len());
+            fuse.failures = fuse.failures.saturating_add(1);
+            fuse.mode = after_tear(fuse.stop);
+            Err(Failed)
+        }
+        Mode::Lying if fuse.writes > 0 => {
+            fuse.writes -= 1;
+            write_over(bytes, at, new);
+            Ok(())
+        }
+        Mode::Lying => {
+            tear_front(bytes, at, fuse.tear.as_slice(), new.len());
+            fuse.failures = fuse.failures.saturating_add(1);
+            fuse.mode = Mode::Whole;
+            Ok(())
+        }
+        Mode::Stopped => {
+            fuse.failures = fuse.failures.saturating_add(1);
+            Err(Failed)
+        }
+    }
+}
+
 impl Medium for SimMedium {
     ghost state = { λ m. m };
 
@@ -145,63 +213,44 @@ impl Medium for SimMedium {
         self.unit
     }
 
+    fn sector(&self) -> u32 {
+        self.sector
+    }
+
     fn read(&self, at: u32, out: &mut [u8]) {
         let from = at as usize;
         out.copy_from_slice(&self.bytes[from..from + out.len()]);
     }
 
     fn write(&mut self, at: u32, bytes: &[u8]) -> Result<(), Failed> {
-        let from = at as usize;
-        match self.mode {
-            Mode::Whole => {
-                write_over(&mut self.bytes, from, bytes);
-                Ok(())
-            }
-            Mode::Armed if self.writes > 0 => {
-                self.writes -= 1;
-                write_over(&mut self.bytes, from, bytes);
-                Ok(())
-            }
-            Mode::Armed => {
-                tear_front(&mut self.bytes, from, self.tear.as_slice(), bytes.len());
-                self.failures = self.failures.saturating_add(1);
-                self.mode = after_tear(self.stop);
-                Err(Failed)
-            }
-            Mode::Lying if self.writes > 0 => {
-                self.writes -= 1;
-                write_over(&mut self.bytes, from, bytes);
-                Ok(())
-            }
-            Mode::Lying => {
-                tear_front(&mut self.bytes, from, self.tear.as_slice(), bytes.len());
-                self.failures = self.failures.saturating_add(1);
-                self.mode = Mode::Whole;
-                Ok(())
-            }
-            Mode::Stopped => {
-                self.failures = self.failures.saturating_add(1);
-                Err(Failed)
-            }
-        }
+        change(&mut self.bytes, &mut self.fuse, at as usize, bytes)
+    }
+
+    fn erase(&mut self, at: u32) -> Result<(), Failed> {
+        change(
+            &mut self.bytes,
+            &mut self.fuse,
+            at as usize,
+            self.blank.as_slice(),
+        )
     }
 }
 
 impl Faulty for SimMedium {
     fn arm(&mut self, writes: u32, tear: &[u8], stop: bool) {
-        self.tear = keep_tear(tear);
-        self.mode = Mode::Armed;
-        self.writes = writes;
-        self.stop = stop;
+        self.fuse.tear = keep_tear(tear);
+        self.fuse.mode = Mode::Armed;
+        self.fuse.writes = writes;
+        self.fuse.stop = stop;
     }
 
     fn arm_lie(&mut self, writes: u32, tear: &[u8]) {
-        self.tear = keep_tear(tear);
-        self.mode = Mode::Lying;
-        self.writes = writes;
+        self.fuse.tear = keep_tear(tear);
+        self.fuse.mode = Mode::Lying;
+        self.fuse.writes = writes;
     }
 
     fn disarm(&mut self) {
-        self.mode = Mode::Whole;
+        self.fuse.mode = Mode::Whole;
     }
 }

@@ -43,7 +43,8 @@ impl<M: Medium> Slots<M> {
     /// # Errors
     ///
     /// `WrongSize` where the medium's length is not 2 * (2 * G + C) with C from 1 to 16,777,216 and whole in
-    /// the unit, G being 16 or the unit's size where that is more; `TooLarge` where the image has more than C bytes;
+    /// the unit and the sector, G being the most of 16, the unit's size and the sector's, or where the sector is not 0, nor a
+    /// multiple of 256 up to 131,072; `TooLarge` where the image has more than C bytes;
     /// `Failed` where a write failed, or other bytes were read back. They are looked for in this order. The first two hand
     /// the medium back unchanged.
     pub fn format(medium: M, image: &[u8]) -> Result<Slots<M>, (FormatFault, M)>

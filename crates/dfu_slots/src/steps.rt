@@ -8,11 +8,10 @@ ghost use Rattle.dfu_slots.specs.Seen.{store_on, store_of, spare_slot, writes_of
 ghost use Rattle.dfu_slots.specs.Store.{HasPuts};
 ghost use Rattle.dfu_slots.specs.Changes.{IsBroken, Changes};
 
-use crate::layout::CLOSED_GATE;
 use crate::places::Places;
 use crate::puts::{Puts, put_units};
 use crate::read::{capacity_of, data_at, generation, is_open};
-use crate::writes::{open_slot, write_gate, write_part};
+use crate::writes::{close_gate, open_slot, write_part};
 use crate::{Medium, PutFault, WriteFault};
 
 // Closes the spare's gate, where it reads open.
@@ -20,10 +19,10 @@ fn close_spare<M: Medium>(medium: &mut M, places: Places) -> Result<(), WriteFau
     requires sized { IsSized (M.state medium.old) }
     requires spare { places.spare ≡ spare_at (gate_of (M.state medium.old)) (M.state medium.old).bytes }
     ensures { let was = M.state medium.old in
-        Series was (begin_writes (gate_of was) was.bytes) result (M.state medium.new) }
+        Series was (begin_writes was.grain was.bytes) result (M.state medium.new) }
 {
     if is_open(medium, places.spare) {
-        return write_gate(medium, places.spare, CLOSED_GATE);
+        return close_gate(medium, places.spare);
     }
     Ok(())
 }

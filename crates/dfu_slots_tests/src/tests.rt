@@ -13,6 +13,7 @@ mod known;
 mod lies;
 mod media;
 mod rows;
+mod sectors;
 mod tears;
 mod texts;
 mod versions;

@@ -19,6 +19,7 @@ pub use answer::Answer;
 pub use checking::{check_text, check_with_fault};
 pub use exit::Exit;
 pub use faults::{bad_words, fault_text};
+pub use numbers::{field, made_field, push};
 pub use output::write_out;
 pub use reasons::reason_line;
 pub use showing::show_text;

@@ -22,7 +22,7 @@ pub(crate) fn hex8(alloc: Global, n: u32) -> Result<String, AllocError>
 
 /// Adds a text to a line.
 #[inline(never)]
-pub(crate) fn push(line: &mut String, text: &str) -> Result<(), AllocError>
+pub fn push(line: &mut String, text: &str) -> Result<(), AllocError>
     ensures { OnOk result (string_bytes line.new ≡ string_bytes line.old ++ text.now) }
 {
     line.push_str(text)
@@ -30,7 +30,7 @@ pub(crate) fn push(line: &mut String, text: &str) -> Result<(), AllocError>
 
 /// Adds a label and a value to a line.
 #[inline(never)]
-pub(crate) fn field(line: &mut String, label: &str, value: &str) -> Result<(), AllocError>
+pub fn field(line: &mut String, label: &str, value: &str) -> Result<(), AllocError>
     ensures { OnOk result (string_bytes line.new ≡ string_bytes line.old ++ (label.now ++ value.now)) }
 {
     push(line, label)?;
@@ -39,7 +39,7 @@ pub(crate) fn field(line: &mut String, label: &str, value: &str) -> Result<(), A
 
 /// Adds a label and a value that was made for it to a line.
 #[inline(never)]
-pub(crate) fn made_field(line: &mut String, label: &str, value: String) -> Result<(), AllocError>
+pub fn made_field(line: &mut String, label: &str, value: String) -> Result<(), AllocError>
     ensures { OnOk result (string_bytes line.new ≡ string_bytes line.old ++ (label.now ++ string_bytes value)) }
 {
     field(line, label, &value)

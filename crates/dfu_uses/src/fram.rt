@@ -47,13 +47,14 @@ pub struct Fram<C: Chip> {
 
 impl<C: Chip> Medium for Fram<C> {
     ghost use Rattle.std.specs.Prelude.{◌-◌, ◌^◌, []};
+    ghost use Rattle.dfu_slots.specs.Units.{in_place};
     ghost use Rattle.dfu_slots.specs.Medium.{MediumState};
     ghost use Rattle.dfu_slots.specs.Medium.Fuse.{Unknown};
     ghost use Rattle.dfu_slots.specs.declared.unit.Unit.TheVariants.{Byte};
 
     // Any write may fail or lie. A count of failures that stands at its last value always leaves that open, so that
     // nothing need be counted.
-    ghost state = { λ m. record { bytes = C.cells m.chip; failures = 2 ^ 64 - 1; fuse = Unknown; unit = Byte; tag = [] } };
+    ghost state = { λ m. record { bytes = C.cells m.chip; failures = 2 ^ 64 - 1; fuse = Unknown; grain = in_place Byte; tag = [] } };
 
     fn len(&self) -> u32 {
         self.chip.size()
@@ -61,6 +62,10 @@ impl<C: Chip> Medium for Fram<C> {
 
     fn unit(&self) -> Unit {
         Unit::Byte
+    }
+
+    fn sector(&self) -> u32 {
+        0
     }
 
     fn read(&self, at: u32, out: &mut [u8]) {
@@ -72,5 +77,10 @@ impl<C: Chip> Medium for Fram<C> {
             Ok(()) => Ok(()),
             Err(_) => Err(Failed),
         }
+    }
+
+    // The chip has no sectors.
+    fn erase(&mut self, at: u32) -> Result<(), Failed> {
+        Ok(())
     }
 }

@@ -1,16 +1,18 @@
 //! The three callers together: the flashing tool's session reaches the bootloader's device, on a chip in memory.
 
 mod cable;
+mod part;
 mod ram;
 mod seat;
 
-use crate::{Fram, Start, UsbHost, boot, flash, load};
+use crate::{Fram, Nor, Start, UsbHost, boot, flash, load};
 use cable::Cable;
 use dfu_device::{Config, Device};
 use dfu_host::{Host, Limits, Report};
 use dfu_slots::{OpenFault, Slots};
 use dfu_suffix::read;
 use dfu_wire::{Code, Functional, Ids};
+use part::Part;
 use ram::Ram;
 use seat::Seat;
 use std::process::Abort;
@@ -156,5 +158,27 @@ fn bootloader_refuses_a_blank_chip(rt: HostRuntime) -> Result<(), Fail> {
         Ok(_start) => assert!(rt; false),
         Err((fault, _medium)) => assert_eq!(rt; fault, OpenFault::NoImage),
     }
+    Ok(())
+}
+
+// Format erases five sectors, the first install three, and the second four, for the gate that it finds open. None is erased
+// twice for one write, and no unit is programmed over.
+#[test]
+fn flash_is_erased_before_it_is_programmed(rt: HostRuntime) -> Result<(), Fail> {
+    let mut slots = match Slots::format(Nor { flash: Part::new() }, &[0]) {
+        Ok(slots) => slots,
+        Err((fault, _medium)) => Err(fault)?,
+    };
+    assert!(rt; slots.medium().flash.erases == 5 && slots.capacity() == 256);
+    slots.begin()?;
+    slots.put(0, &[7; 20])?;
+    slots.commit(20)?;
+    assert!(rt; slots.medium().flash.erases == 8 && slots.active_len() == 20);
+    slots.begin()?;
+    slots.put(0, &[9; 200])?;
+    slots.put(200, &[8; 56])?;
+    slots.commit(256)?;
+    assert!(rt; slots.medium().flash.erases == 12 && slots.active_len() == 256);
+    assert!(rt; slots.medium().flash.twice == 0);
     Ok(())
 }

@@ -5,11 +5,15 @@ use Rattle.std.specs.String.{string_bytes}
 use Rattle.clap.specs.Words.{App, Row, Rule, Text, first_of, matches_of, new_app, new_rule, subcommand_of, with_rule, with_subcommand}
 use Rattle.clap.specs.declared.builder.ArgAction.TheVariants.{Set, SetTrue}
 use Rattle.dfu_words.specs.declared.task.Job.{Job}
-use Rattle.dfu_words.specs.declared.task.Job.TheVariants.{Check, Add, Show, Run}
+use Rattle.dfu_words.specs.declared.task.Job.TheVariants.{Check, Add, Show, Run, Judge}
 
 -- A positional argument that is needed has to be there, with one value.
 abbrev pub needed : Text → Rule
 needed id = record (new_rule id) { required = true; action = Some Set; value_names = 1 }
+
+-- A positional argument that is optional has a default.
+abbrev pub optional : Text → Text → Rule
+optional id default = record (new_rule id) { action = Some Set; value_names = 1; defaults = default ∷ [] }
 
 -- An option `--ID` has a value, and a default where it isn't given.
 abbrev pub option : Text → Text → Rule
@@ -37,9 +41,15 @@ add_app =
 abbrev pub show_app : App
 show_app = explained (with_rule (with_rule (new_app (codes "show")) (needed (codes "kind"))) (needed (codes "hex")))
 
--- The command `run` takes SCRIPT.
+-- The command `run` takes SCRIPT and the flag `--trace`.
 abbrev pub run_app : App
-run_app = explained (with_rule (new_app (codes "run")) (needed (codes "script")))
+run_app = explained (with_rule (with_rule (new_app (codes "run")) (needed (codes "script"))) (flag (codes "trace")))
+
+-- The command `judge` takes FILE, `-` by default, and the options `--interface`, `0` by default, and `--device`, `only` by default.
+abbrev pub judge_app : App
+judge_app =
+    explained (with_rule (with_rule (with_rule (new_app (codes "judge")) (optional (codes "file") (codes "-")))
+    (option (codes "interface") (codes "0"))) (option (codes "device") (codes "only")))
 
 -- The command `dfu` with no subcommand yet has to get one, and has a version.
 abbrev pub bare_app : App
@@ -51,9 +61,16 @@ bare_app = record (new_app (codes "dfu")) {
 abbrev pub top_app : App
 top_app = explained bare_app
 
--- The whole command `dfu` has the subcommands `check`, `add`, `show` and `run`.
+-- The whole command `dfu` has the subcommands `check`, `add`, `show`, `run` and `judge`.
 unfoldable pub dfu_app : App
-dfu_app = with_subcommand (with_subcommand (with_subcommand (with_subcommand top_app check_app.top) add_app.top) show_app.top) run_app.top
+dfu_app =
+    with_subcommand (with_subcommand (with_subcommand (with_subcommand (with_subcommand top_app check_app.top) add_app.top) show_app.top)
+    run_app.top) judge_app.top
+
+-- The text of a flag says that it is on.
+abbrev pub is_on : Option Text → Bool
+is_on None = false
+is_on (Some text) = bytes_eq text (codes "true")
 
 -- The job is what the subcommand and its arguments state, each text in its own place.
 abbrev pub States : Option (Text × List Row) → Job → Type 0
@@ -65,12 +82,11 @@ States (Some p) (Add file to vid pid did) =
     × (first_of (codes "did") p.1 ≡ Some (string_bytes did))
 States (Some p) (Show kind hex) = (p.0 ≡ codes "show") × (first_of (codes "kind") p.1 ≡ Some (string_bytes kind))
     × (first_of (codes "hex") p.1 ≡ Some (string_bytes hex))
-States (Some p) (Run script) = (p.0 ≡ codes "run") × (first_of (codes "script") p.1 ≡ Some (string_bytes script))
-
--- The text of a flag says that it is on.
-abbrev pub is_on : Option Text → Bool
-is_on None = false
-is_on (Some text) = bytes_eq text (codes "true")
+States (Some p) (Run script trace) = (p.0 ≡ codes "run") × (first_of (codes "script") p.1 ≡ Some (string_bytes script))
+    × (trace ≡ is_on (first_of (codes "trace") p.1))
+States (Some p) (Judge file interface device) =
+    (p.0 ≡ codes "judge") × (first_of (codes "file") p.1 ≡ Some (string_bytes file))
+    × (first_of (codes "interface") p.1 ≡ Some (string_bytes interface)) × (first_of (codes "device") p.1 ≡ Some (string_bytes device))
 
 -- The rows of a subcommand, which has none where there is no subcommand.
 abbrev pub rows_in : Option (Text × List Row) → List Row

@@ -4,7 +4,7 @@
 ghost use Rattle.std.specs.Prelude.{◌≡◌, IfOk, false, true};
 ghost use Rattle.clap.specs.Words.{App, Rule, app_of, new_app, rule_of, with_rule, with_subcommand};
 ghost use Rattle.clap.specs.declared.builder.Command.TheViews.{out-Command};
-ghost use Rattle.dfu_words.specs.CommandLine.{needed, option, flag, explained, check_app, add_app, show_app, run_app, bare_app, top_app, dfu_app};
+ghost use Rattle.dfu_words.specs.CommandLine.{needed, optional, option, flag, explained, check_app, add_app, show_app, run_app, judge_app, bare_app, top_app, dfu_app};
 
 use crate::help;
 use clap::{Arg, ArgAction, Command};
@@ -20,6 +20,25 @@ fn needed<'a>(alloc: Global, id: &'a str, name: &'a str, help: &'a str) -> Arg<'
         .required(true)
         .action(ArgAction::Set)
         .value_name(name)
+        .help(help)
+}
+
+/// A positional argument that has a default.
+#[inline(never)]
+fn optional<'a>(
+    alloc: Global,
+    id: &'a str,
+    name: &'a str,
+    default: &'a str,
+    help: &'a str,
+) -> Arg<'a>
+    ensures rule { rule_of result ≡ optional id.entry.now default.entry.now }
+    ensures local { result.global ≡ false }
+{
+    Arg::new(alloc, id)
+        .action(ArgAction::Set)
+        .value_name(name)
+        .default_value(default)
         .help(help)
 }
 
@@ -137,8 +156,27 @@ fn run_command<'a>(alloc: Global) -> Result<Command<'a>, AllocError>
     ensures local { IfOk result (λ c. (out-Command c).has_globals ≡ false) }
 {
     let command = described(alloc, "run", help::RUN, help::RUN_EXAMPLE);
-    let script = needed(alloc, "script", "SCRIPT", help::RUN_SCRIPT);
-    explained(alloc, with(Ok(command), script))
+    let command = with(
+        Ok(command),
+        needed(alloc, "script", "SCRIPT", help::RUN_SCRIPT),
+    );
+    let command = with(command, flag(alloc, "trace", help::RUN_TRACE));
+    explained(alloc, command)
+}
+
+fn judge_command<'a>(alloc: Global) -> Result<Command<'a>, AllocError>
+    ensures app { IfOk result (λ c. app_of c ≡ judge_app) }
+    ensures local { IfOk result (λ c. (out-Command c).has_globals ≡ false) }
+{
+    let command = described(alloc, "judge", help::JUDGE, help::JUDGE_EXAMPLE);
+    let file = optional(alloc, "file", "FILE", "-", help::JUDGE_FILE);
+    let command = with(Ok(command), file);
+    let command = with(
+        command,
+        option(alloc, "interface", "0", help::JUDGE_INTERFACE),
+    );
+    let command = with(command, option(alloc, "device", "only", help::JUDGE_DEVICE));
+    explained(alloc, command)
 }
 
 /// The command before its arguments: it has to get a subcommand, and has a version.
@@ -169,5 +207,6 @@ pub(crate) fn dfu_command<'a>(alloc: Global) -> Result<Command<'a>, AllocError>
     let command = with_sub(top_command(alloc), check_command(alloc));
     let command = with_sub(command, add_command(alloc));
     let command = with_sub(command, show_command(alloc));
-    with_sub(command, run_command(alloc))
+    let command = with_sub(command, run_command(alloc));
+    with_sub(command, judge_command(alloc))
 }

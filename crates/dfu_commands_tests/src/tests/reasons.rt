@@ -29,9 +29,12 @@ pub fn says(
 const BAD_LINE: &str =
     "dfu: standard input: line 2: its word 3 isn't a number from 1 to 1,000,000\n";
 
+const BAD_SETUP: &str =
+    "dfu: standard input: line 1: its first field isn't the sixteen hexadecimal digits of a setup, and it isn't reset or power\n";
+
 /// Words, the call that fails, and the status, what is printed and what is said.
 #[rattlefmt::skip]
-static SAID: [(&str, &str, (u8, &str, &str)); 11] = [
+static SAID: [(&str, &str, (u8, &str, &str)); 14] = [
     ("dfu check c", "", (3, "fault Read\n", "dfu: c: entity not found\n")),
     ("dfu check a", "open", (3, "fault Read\n", "dfu: a: permission denied\n")),
     ("dfu add c b", "", (3, "fault Read\n", "dfu: c: entity not found\n")),
@@ -43,6 +46,9 @@ static SAID: [(&str, &str, (u8, &str, &str)); 11] = [
     ("dfu add a b", "", (0, "wrote 25\n", "")),
     ("dfu check a", "", (1, "refused TooShort\n", "")),
     ("dfu run -", "", (1, "state appIDLE status OK image 00\nrefused BadLine 2\n", BAD_LINE)),
+    ("dfu judge -", "", (1, "refused BadLine 1\n", BAD_SETUP)),
+    ("dfu judge - --interface 256", "", (2, "bad words\n", "dfu: --interface 256: it has to be a number from 0 to 255\n")),
+    ("dfu judge - --device 1", "", (2, "bad words\n", "dfu: --device 1: it has to be only, or a bus and a device, as 1.7\n")),
 ];
 
 #[test]

@@ -16,6 +16,7 @@ use crate::scripting::playing::{file_of, play_events, play_live, tear_of};
 use crate::scripting::reading::parse;
 use crate::scripting::showing::{write_image, write_show};
 use crate::scripting::source::Source;
+use crate::tracing::telling::Telling;
 use crate::world::World;
 use dfu_device::Device;
 use dfu_host::Limits;
@@ -53,7 +54,7 @@ fn plain_line<'l, M: Medium, W: Write>(
 }
 
 /// Does a line while a session is live.
-fn live_line<'f, M: Faulty, W: Write>(
+fn live_line<'f, T: Telling<M, W>, M: Faulty, W: Write>(
     alloc: Global,
     world: &mut World<'f, M>,
     line: &[u8],
@@ -70,14 +71,14 @@ fn live_line<'f, M: Faulty, W: Write>(
     let plain = plain_line(world.device(), line, number, limits, writer)?;
     if let Some(events) = plain {
         let torn = tear_of(alloc, events)?;
-        play_live(world, events, &torn, *limits, writer)?;
+        play_live::<T, M, W>(world, events, &torn, *limits, writer)?;
     }
     Ok(())
 }
 
 /// Does lines until no session is live, and gives the device back; or all that are left, and then
 /// writes the line of the image.
-fn follow<'f, R: Read + Drop, M: Faulty, W: Write>(
+fn follow<'f, T: Telling<M, W>, R: Read + Drop, M: Faulty, W: Write>(
     alloc: Global,
     world: World<'f, M>,
     source: &mut Source<R>,
@@ -101,7 +102,7 @@ fn follow<'f, R: Read + Drop, M: Faulty, W: Write>(
             write_image(writer, world.device())?;
             return Ok(None);
         }
-        live_line(
+        live_line::<T, M, W>(
             alloc,
             &mut world,
             source.line(),
@@ -114,7 +115,7 @@ fn follow<'f, R: Read + Drop, M: Faulty, W: Write>(
 
 /// Does the line that the source gave while no session is live, and those after it until the session
 /// that it begins is over. The device is given back, unless all lines were done first.
-fn act<R: Read + Drop, M: Faulty, W: Write>(
+fn act<T: Telling<M, W>, R: Read + Drop, M: Faulty, W: Write>(
     alloc: Global,
     device: Device<M>,
     source: &mut Source<R>,
@@ -136,14 +137,14 @@ fn act<R: Read + Drop, M: Faulty, W: Write>(
     let file = file_of(alloc, events)?;
     let torn = tear_of(alloc, events)?;
     let mut world = World::new(alloc, device);
-    play_events(&mut world, events, &file, &torn, *limits, writer)?;
-    let after = follow(alloc, world, source, limits, writer)?;
+    play_events::<T, M, W>(&mut world, events, &file, &torn, *limits, writer)?;
+    let after = follow::<T, R, M, W>(alloc, world, source, limits, writer)?;
     Ok(after)
 }
 
 /// Does the lines from the one that the source gave on, if it did, and then writes the line of the
 /// image.
-pub(crate) fn run_on<R: Read + Drop, M: Faulty, W: Write>(
+pub(crate) fn run_on<T: Telling<M, W>, R: Read + Drop, M: Faulty, W: Write>(
     alloc: Global,
     device: Device<M>,
     source: &mut Source<R>,
@@ -161,7 +162,7 @@ pub(crate) fn run_on<R: Read + Drop, M: Faulty, W: Write>(
     let mut limits = limits;
     let mut more = given;
     while more {
-        match act(alloc, device, source, &mut limits, writer)? {
+        match act::<T, R, M, W>(alloc, device, source, &mut limits, writer)? {
             Some(after) => device = after,
             None => return Ok(()),
         }

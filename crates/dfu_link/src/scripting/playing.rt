@@ -1,7 +1,9 @@
 //! The events of an event line, played.
 
-ghost use Rattle.std.specs.Prelude.{◌≡◌, OnOk, OnErr, IfOk, IfErr, replicate};
-ghost use Rattle.dfu_link.specs.Happening.{Offers, harmed, fate_of, harm_in, happening};
+ghost use Rattle.std.specs.Prelude.{◌≡◌, [], ◌∷◌, OnOk, OnErr, IfOk, IfErr, IfSome, replicate};
+ghost use Rattle.std.specs.Io.KnownBytes.{Keeps};
+ghost use Rattle.dfu_link.specs.Tracing.{IsOfPlay};
+ghost use Rattle.dfu_link.specs.Happening.{Offers, Goes, Passes, harmed, fate_of, harm_in, happening};
 ghost use Rattle.dfu_link.specs.Refusing.{IsLive};
 ghost use Rattle.dfu_link.specs.Said.{EventLine, harm_fate, event_line_of, tear_bytes};
 ghost use Rattle.dfu_link.specs.ScriptRun.{events_of};
@@ -16,7 +18,11 @@ use crate::scripting::fault::ScriptFault;
 use crate::scripting::line::{EventLine, HarmKind};
 use crate::scripting::saying::say;
 use crate::scripting::starting::bytes_of;
+use crate::tracing::step::Step;
+use crate::tracing::telling::Telling;
 use crate::world::World;
+use arrayvec::ArrayVec;
+use dfu_device::Device;
 use dfu_host::Limits;
 use dfu_slots::Faulty;
 use std::alloc::Global;
@@ -40,6 +46,79 @@ fn play<'f, M: Faulty, W: Write>(
         say(writer, answer, world.uploaded())?;
     }
     Ok(())
+}
+
+/// Lets the host take so many actions of one fate, tells of each, and writes what is printed of it.
+fn play_told<'f, T: Telling<M, W>, M: Faulty, W: Write>(
+    world: &mut World<'f, M>,
+    fate: Fate<'_>,
+    times: u32,
+    writer: &mut W,
+) -> Result<(), ScriptFault>
+    ensures ok { OnOk result (HasPlayed world.old.bench (replicate times (Goes (fate_of fate.entry) (harm_in fate.entry)))
+        (W.contents writer.old) world.new.bench (W.contents writer.new)) }
+    ensures err { OnErr result (HasBroken world.old.bench (replicate times (Goes (fate_of fate.entry) (harm_in fate.entry)))
+        (W.contents writer.old) (W.contents writer.new)) }
+    ensures fault { IfErr result (λ f. f ≡ ScriptFault.Write) }
+{
+    let mut out = ArrayVec::new();
+    for turn in 0..times {
+        let (answer, step) = world.take_action(fate, &mut out);
+        tell_step::<T, M, W>(writer, fate, step, out.as_slice(), world.device());
+        say(writer, answer, world.uploaded())?;
+    }
+    Ok(())
+}
+
+/// Tells of an action, if there was one.
+fn tell_step<T: Telling<M, W>, M: Faulty, W: Write>(
+    writer: &mut W,
+    fate: Fate<'_>,
+    step: Option<Step<'_>>,
+    out: &[u8],
+    device: &Device<M>,
+)
+    requires { IfSome step (λ s. IsOfPlay fate s out.now) }
+    ensures { Keeps (W.contents writer.old) (W.contents writer.new) }
+{
+    if let Some(step) = step {
+        T::tell(writer, fate, &step, out, device);
+    }
+}
+
+/// Time passes between two actions, and that is told.
+fn pass_time<'f, T: Telling<M, W>, M: Faulty, W: Write>(
+    world: &mut World<'f, M>,
+    ms: u32,
+    writer: &mut W,
+) -> Result<(), ScriptFault>
+    ensures ok { OnOk result (HasPlayed world.old.bench (Passes ms ∷ []) (W.contents writer.old) world.new.bench (W.contents writer.new)) }
+    ensures err { OnErr result (HasBroken world.old.bench (Passes ms ∷ []) (W.contents writer.old) (W.contents writer.new)) }
+    ensures fault { IfErr result (λ f. f ≡ ScriptFault.Write) }
+{
+    play(world, Event::Time(ms), 1, writer)?;
+    T::pass(writer, ms, world.device());
+    Ok(())
+}
+
+/// Lets the same event come so many times, as `play` does, and tells of it where it is an action and that
+/// is wanted.
+fn play_by<'f, T: Telling<M, W>, M: Faulty, W: Write>(
+    world: &mut World<'f, M>,
+    event: Event<'f, '_>,
+    times: u32,
+    writer: &mut W,
+) -> Result<(), ScriptFault>
+    ensures ok { OnOk result (HasPlayed world.old.bench (replicate times (happening event.entry)) (W.contents writer.old) world.new.bench
+        (W.contents writer.new)) }
+    ensures err { OnErr result (HasBroken world.old.bench (replicate times (happening event.entry)) (W.contents writer.old)
+        (W.contents writer.new)) }
+    ensures fault { IfErr result (λ f. f ≡ ScriptFault.Write) }
+{
+    match event {
+        Event::Go(fate) if T::is_on() => play_told::<T, M, W>(world, fate, times, writer),
+        _ => play(world, event, times, writer),
+    }
 }
 
 /// The file that is offered. Other events have none.
@@ -87,7 +166,7 @@ fn offered<'f>(aim: Aim, file: &'f [u8], limits: Limits) -> Event<'f, 'static>
 }
 
 /// Plays the events of a line, and writes what is printed of them.
-pub(crate) fn play_events<'f, M: Faulty, W: Write>(
+pub(crate) fn play_events<'f, T: Telling<M, W>, M: Faulty, W: Write>(
     world: &mut World<'f, M>,
     events: EventLine<'_>,
     file: &'f [u8],
@@ -107,18 +186,20 @@ pub(crate) fn play_events<'f, M: Faulty, W: Write>(
         EventLine::Offer { aim, .. } => play(world, offered(aim, file, limits), 1, writer),
         EventLine::Upload => play(world, Event::Upload { limits }, 1, writer),
         EventLine::Abort => play(world, Event::Abort, 1, writer),
-        EventLine::Go { fate, times } => play(world, Event::Go(fate), times, writer),
-        EventLine::GoHarmed { harm, writes, .. } => {
-            play(world, Event::Go(harmed(harm, writes, torn)), 1, writer)
+        EventLine::Go { fate, times } => {
+            play_by::<T, M, W>(world, Event::Go(fate), times, writer)
         }
-        EventLine::Time(ms) => play(world, Event::Time(ms), 1, writer),
+        EventLine::GoHarmed { harm, writes, .. } => {
+            play_by::<T, M, W>(world, Event::Go(harmed(harm, writes, torn)), 1, writer)
+        }
+        EventLine::Time(ms) => pass_time::<T, M, W>(world, ms, writer),
         EventLine::Reset => play(world, Event::Reset, 1, writer),
         EventLine::Cut => play(world, Event::Cut, 1, writer),
     }
 }
 
 /// The same while a session is live: an offer is refused whatever its file is.
-pub(crate) fn play_live<'f, M: Faulty, W: Write>(
+pub(crate) fn play_live<'f, T: Telling<M, W>, M: Faulty, W: Write>(
     world: &mut World<'f, M>,
     events: EventLine<'_>,
     torn: &[u8],
@@ -140,6 +221,6 @@ pub(crate) fn play_live<'f, M: Faulty, W: Write>(
             let _ = world.device();
             say(writer, Err(LinkFault::HostBusy), &[])
         }
-        _ => play_events(world, events, &[], torn, limits, writer),
+        _ => play_events::<T, M, W>(world, events, &[], torn, limits, writer),
     }
 }

@@ -13,6 +13,7 @@ use crate::scripting::fault::ScriptFault;
 use crate::scripting::hex_text::HexText;
 use crate::scripting::line::Room;
 use crate::scripting::setup::Setup;
+use crate::tracing::noting::Noting;
 use dfu_device::{Config, Device};
 use dfu_slots::{FormatFault, SimMedium, Slots, Unit};
 use std::alloc::Global;
@@ -55,14 +56,14 @@ fn form(
     unit: Unit,
     room: Room,
     image: &[u8],
-) -> Result<Slots<SimMedium>, ScriptFault>
+) -> Result<Slots<Noting<SimMedium>>, ScriptFault>
     ensures ok { IfOk result (λ slots. Formed unit room.bytes image.now slots) }
     ensures fault { IfErr result (λ f. FormFalls unit room.bytes image.now f) }
 {
     if room.bytes % unit.size() != 0 {
         return Err(ScriptFault::BadConfig);
     }
-    let Ok(medium) = SimMedium::with_unit(alloc, medium_len(unit, room), unit) else {
+    let Ok(medium) = Noting::with_unit(alloc, medium_len(unit, room), unit) else {
         return Err(ScriptFault::NoMemory);
     };
     match Slots::format(medium, image) {
@@ -76,7 +77,7 @@ fn form(
 }
 
 /// Starts the device, in appIDLE on a formatted medium in memory.
-pub(crate) fn start(alloc: Global, setup: &Setup) -> Result<Device<SimMedium>, ScriptFault>
+pub(crate) fn start(alloc: Global, setup: &Setup) -> Result<Device<Noting<SimMedium>>, ScriptFault>
     ensures ok { IfOk result (λ d. Starts (settings_of setup.now) d) }
     ensures unarmed { IfOk result (λ d. IsUnarmed d) }
     ensures fault { IfErr result (λ f. StartFalls (settings_of setup.now) f) }

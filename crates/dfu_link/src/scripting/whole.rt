@@ -1,8 +1,9 @@
 //! Whole scripts.
 
-ghost use Rattle.std.specs.Prelude.{◌≤◌, OnOk, OnErr, IfOk, IfErr, IfSome};
+ghost use Rattle.std.specs.Prelude.{◌≡◌, [], Some, OnOk, OnErr, IfOk, IfErr, IfSome};
 ghost use Rattle.dfu_link.specs.ScriptRun.{WroteRun};
 ghost use Rattle.dfu_link.specs.Falls.{Falls};
+ghost use Rattle.dfu_link.specs.KeptLines.{untraced};
 ghost use Rattle.dfu_link.specs.ScriptLegal.{WroteLegal, StopsLegally};
 ghost use Rattle.dfu_link.specs.ScriptHeadline.{WroteHeadline, StopsWithHeadline};
 ghost use Rattle.dfu_link.specs.inside.Moving.{Configured, CannotConfigure};
@@ -16,7 +17,11 @@ use crate::scripting::reading::parse;
 use crate::scripting::setup::{Setup, beginning, set, set_limits};
 use crate::scripting::source::Source;
 use crate::scripting::starting::start;
+use crate::tracing::noting::Noting;
+use crate::tracing::telling::{Loud, Quiet, Telling};
+use crate::tracing::traced::Traced;
 use dfu_host::Limits;
+use dfu_slots::SimMedium;
 use std::alloc::Global;
 use std::io::{Read, Write};
 
@@ -47,7 +52,7 @@ fn configure<R: Read + Drop>(
 }
 
 /// Runs what a reader gives.
-fn run_lines<R: Read + Drop, W: Write>(
+fn run_lines<T: Telling<Noting<SimMedium>, W>, R: Read + Drop, W: Write>(
     alloc: Global,
     reader: R,
     writer: &mut W,
@@ -59,7 +64,7 @@ fn run_lines<R: Read + Drop, W: Write>(
     let mut setup = beginning();
     let given = configure(alloc, &mut setup, &mut source)?;
     let device = start(alloc, &setup)?;
-    run_on(alloc, device, &mut source, given, setup.limits, writer)
+    run_on::<T, R, Noting<SimMedium>, W>(alloc, device, &mut source, given, setup.limits, writer)
 }
 
 /// Runs a script: reads it line by line, and does each line before the next one is read. Lines that
@@ -100,5 +105,34 @@ pub fn script<R: Read + Drop, W: Write>(
 {
     // Called for its law, which `legal` needs: no image but the one that is shown is active.
     image_shown();
-    run_lines(alloc, reader, writer)
+    run_lines::<Quiet, R, W>(alloc, reader, writer)
+}
+
+/// Runs a script as `script` does, and writes a line for each action of the host, before what is printed
+/// of it: the number of the action, the phase of the host, what it asks for, the fate, what the device
+/// answers, the state of the device before and after, the writes of the medium, and the milliseconds since
+/// the start, once it is over. Such a line begins with `# `, and no line of `script` begins with `#`. It hands
+/// back the writer.
+///
+/// It takes memory for one line of the trace at a time.
+///
+/// # Errors
+///
+/// Those of `script`, of the text without the lines that begin with `#`. Where there is no memory for a line
+/// of the trace nothing more is written, and Write comes.
+pub fn script_traced<R: Read + Drop, W: Write + Drop>(
+    alloc: Global,
+    reader: R,
+    writer: W,
+) -> (Result<(), ScriptFault>, W)
+    // What was written without the lines that begin with `#` is a run of what was read.
+    ensures ok { IfSome (R.remaining reader) (λ text. W.contents writer ≡ Some [] →
+        OnOk result.0 (WroteRun text (Some []) (untraced (W.contents result.1)))) }
+    // Which fault comes when, and what is out then without those lines.
+    ensures fault { IfSome (R.remaining reader) (λ text. W.contents writer ≡ Some [] →
+        IfErr result.0 (λ f. Falls text (Some []) (untraced (W.contents result.1)) f)) }
+{
+    let mut traced = Traced::new(alloc, writer);
+    let answer = run_lines::<Loud, R, Traced<W>>(alloc, reader, &mut traced);
+    (answer, traced.writer)
 }

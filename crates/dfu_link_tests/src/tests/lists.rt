@@ -48,7 +48,7 @@ fn gate_size(unit: u32) -> usize {
 fn copy(rt: &impl Abort, alloc: Global, unit: u32, bytes: &[u8]) -> Result<SimMedium, Fail> {
     let mut medium = blank(alloc, unit)?;
     let size = medium.unit().size() as usize;
-    if bytes.len() != medium.len() as usize || bytes.len() % size != 0 {
+    if bytes.len() != medium.len() as usize || bytes.len() % size != 0 || medium.sector() != 0 {
         panic!(rt; "the medium has another length");
     }
     medium.write(0, bytes)?;

@@ -3,6 +3,7 @@
 mod portions;
 mod rows;
 mod streams;
+mod traces;
 
 use dfu_link::ScriptFault;
 use std::test::Fail;

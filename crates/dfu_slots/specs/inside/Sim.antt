@@ -1,8 +1,10 @@
 -- What the medium in memory stands for.
-use Rattle.std.specs.Prelude.{ℕ, Bool, List}
-use Rattle.dfu_slots.specs.Medium.{Fuse}
+use Rattle.std.specs.Prelude.{ℕ, Bool, List, []}
+use Rattle.dfu_slots.specs.Units.{Grain}
+use Rattle.dfu_slots.specs.Medium.{MediumState, Fuse}
 use Rattle.dfu_slots.specs.Medium.Fuse.{Whole as WholeFuse, Armed as ArmedFuse, Lying as LyingFuse, Stopped as StoppedFuse}
 use Rattle.dfu_slots.specs.declared.sim.Mode.{Mode}
+use Rattle.dfu_slots.specs.declared.sim.SimFuse.{SimFuse}
 use Rattle.dfu_slots.specs.declared.sim.Mode.TheVariants.{Whole, Armed, Lying, Stopped}
 
 -- The fuse that these fields of the medium in memory stand for.
@@ -11,3 +13,13 @@ fuse_of Whole writes tear stop = WholeFuse
 fuse_of Armed writes tear stop = ArmedFuse writes tear stop
 fuse_of Lying writes tear stop = LyingFuse writes tear
 fuse_of Stopped writes tear stop = StoppedFuse
+
+-- The medium of these bytes and this grain, whose next writes go by this fuse.
+abbrev pub sim_state : List ℕ → SimFuse → Grain → MediumState
+sim_state bytes fuse grain = record {
+  bytes = bytes;
+  failures = fuse.failures;
+  fuse = fuse_of fuse.mode fuse.writes fuse.tear.items fuse.stop;
+  grain = grain;
+  tag = [];
+}

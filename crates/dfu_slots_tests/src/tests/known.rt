@@ -32,7 +32,7 @@ static FRONTS: [(&[(u32, u8)], bool, bool); 25] = [
 fn with_bytes(rt: &impl Abort, alloc: Global, bytes: &[(u32, u8)]) -> Result<SimMedium, Fail> {
     let mut medium = with_slots(rt, alloc, [0xa5, 0, 1, 1], [0xa5, 1, 1, 4])?;
     for (at, byte) in bytes {
-        assert!(rt; medium.len() == 192 && medium.unit().size() == 1 && *at < 192);
+        assert!(rt; medium.len() == 192 && medium.unit().size() == 1 && medium.sector() == 0 && *at < 192);
         medium.write(*at, &[*byte])?;
     }
     Ok(medium)

@@ -25,7 +25,7 @@ fn installed_before(rt: &impl Abort, alloc: Global) -> Result<SimMedium, Fail> {
 // Writes one byte past the store.
 #[rattlefmt::skip]
 fn put_byte(rt: &impl Abort, medium: &mut SimMedium, at: u32, byte: u8) -> Result<(), Fail> {
-    assert!(rt; medium.len() == 192 && medium.unit().size() == 1 && at < 192);
+    assert!(rt; medium.len() == 192 && medium.unit().size() == 1 && medium.sector() == 0 && at < 192);
     medium.write(at, &[byte])?;
     Ok(())
 }
@@ -109,7 +109,7 @@ fn a_spare_of_version_2_beside_version_1_stays_the_spare(rt: HostRuntime) -> Res
         assert!(rt; old.len() == 192);
         old.read(96, &mut half);
         let mut medium = formatted(rt.alloc())?.into_medium();
-        assert!(rt; medium.len() == 192 && medium.unit().size() == 1);
+        assert!(rt; medium.len() == 192 && medium.unit().size() == 1 && medium.sector() == 0);
         medium.write(96, &half)?;
         put_byte(&rt, &mut medium, at, byte)?;
         let mut slots = reopened(medium)?;

@@ -2,14 +2,11 @@ use Rattle.std.proofs.Common.{◌≡◌, true, ℕ, ◌+◌, ◌≤◌, ◌++◌
 use Rattle.dfu_slots.specs.Seen.{spare_of, room_of}
 use Rattle.dfu_slots.specs.Changes.{fault_of, ending_of}
 use Rattle.dfu_device.specs.Parts.{is_put}
-use Rattle.dfu_device.proofs.Calls.{block_begun, block_not_begun, block_further, begun_before, spare_put, fits_spare, put_on, rose_since}
+use Rattle.dfu_device.proofs.Calls.{block_begun, block_not_begun, block_further, begun_before, fits_spare, put_on, rose_since}
 use Rattle.dfu_device.proofs.effects.put_block.Goals as goal
 
 pub returns-then-written-gt0-clause-spare : goal.returns-then-written-gt0-clause-spare
-returns-then-written-gt0-clause-spare g c =
-    let fits : c.args.written ≤ room_of c.args.slots.now = omega (arith, c.requires.room) in
-    spare_put c.put.result c.args.slots.now c.args.slots.now c.put.new.self c.args.written c.args.block.now refl
-    (fits_spare c.args.slots.now c.args.written c.requires.shape fits) c.put.ensures.spare
+returns-then-written-gt0-clause-spare g c = c.put.ensures.front
 
 pub returns-in-Ok-clause-calls : goal.returns-in-Ok-clause-calls
 returns-in-Ok-clause-calls g c =
@@ -24,8 +21,7 @@ returns-in-Ok-clause-spare g c =
     let none : c.args.written ≡ 0 = omega (arith, c.if-written-gt0.false) in
     subst (λ (k : ℕ). OnOk c.put-in-Ok.result (take (k + length c.args.block.now) (spare_of c.put-in-Ok.new.self) ≡ take k
     (spare_of c.args.slots.now) ++ c.args.block.now)) (sym none)
-    (spare_put c.put-in-Ok.result c.args.slots.now c.begin.new.self c.put-in-Ok.new.self 0 c.args.block.now refl
-    (omega arith) c.put-in-Ok.ensures.spare)
+    c.put-in-Ok.ensures.front
 
 pub returns-in-Err-clause-calls : goal.returns-in-Err-clause-calls
 returns-in-Err-clause-calls g c =

@@ -1,46 +1,32 @@
-use Rattle.std.proofs.Common.{pos, ap, sym, ◌∙◌, inl, inr, refl, arith}
+use Rattle.std.proofs.Common.{pos, sym, ◌∙◌, inl, inr, refl}
 use Rattle.std.proofs.lemmas.Bool.{true≢false}
-use Rattle.dfu_wire.specs.declared.functionals.Functional.{Functional}
-use Rattle.dfu_device_c.specs.Config.{setting_of}
-use Rattle.dfu_device_c.proofs.Asked.{found_one, told_stall}
+use Rattle.dfu_device_c.proofs.Asked.{found_one, same_limits, told_stall}
 use Rattle.dfu_device_c.proofs.asking.dfu_device_would_stall.Goals as goal
 
 pub returns-then-will_stall : goal.returns-then-will_stall
 returns-then-will_stall c =
-    let s = setting_of c.args.config.now in
     record {
       outcome = inl (
         inr refl,
-        told_stall s c.args.device.now c.args.size c.args.setup.now c.decode.result c.request.result c.in-Some.mode
+        told_stall c.args.config.now c.args.device.now c.args.size c.args.setup.now c.decode.result c.request.result c.in-Some.mode
             c.will_stall.result c.decode.ensures.only c.request.ensures.only
             (λ m has. found_one c.mode_of.result c.in-Some.mode m c.in-Some.is (c.mode_of.ensures.only m has))
-            (λ p image spare unwritten body limits holds fits. c.will_stall.ensures p image spare unwritten body (record {
-              can_download = limits.can_download ∙ sym (ap (λ (f : Functional). f.can_download) c.functional_of.ensures);
-              can_upload = limits.can_upload ∙ sym (ap (λ (f : Functional). f.can_upload) c.functional_of.ensures);
-              transfer = limits.transfer ∙ sym (ap (λ (f : Functional). f.transfer) c.functional_of.ensures);
-              least = limits.least;
-              capacity = omega (arith, limits.capacity, c.saturating_sub.ensures);
-            }) holds fits)
+            (λ p image spare unwritten body limits holds fits. c.will_stall.ensures p image spare unwritten body
+            (same_limits p c.functional_of.result _ _ _ _ c.functional_of.ensures c.saturating_sub.ensures limits) holds fits)
             (pos 1) (λ is. refl) (λ is. absurd (true≢false (sym c.if-will_stall.true ∙ is))),
       );
     }
 
 pub returns-else-will_stall : goal.returns-else-will_stall
 returns-else-will_stall c =
-    let s = setting_of c.args.config.now in
     record {
       outcome = inl (
         inl refl,
-        told_stall s c.args.device.now c.args.size c.args.setup.now c.decode.result c.request.result c.in-Some.mode
+        told_stall c.args.config.now c.args.device.now c.args.size c.args.setup.now c.decode.result c.request.result c.in-Some.mode
             c.will_stall.result c.decode.ensures.only c.request.ensures.only
             (λ m has. found_one c.mode_of.result c.in-Some.mode m c.in-Some.is (c.mode_of.ensures.only m has))
-            (λ p image spare unwritten body limits holds fits. c.will_stall.ensures p image spare unwritten body (record {
-              can_download = limits.can_download ∙ sym (ap (λ (f : Functional). f.can_download) c.functional_of.ensures);
-              can_upload = limits.can_upload ∙ sym (ap (λ (f : Functional). f.can_upload) c.functional_of.ensures);
-              transfer = limits.transfer ∙ sym (ap (λ (f : Functional). f.transfer) c.functional_of.ensures);
-              least = limits.least;
-              capacity = omega (arith, limits.capacity, c.saturating_sub.ensures);
-            }) holds fits)
+            (λ p image spare unwritten body limits holds fits. c.will_stall.ensures p image spare unwritten body
+            (same_limits p c.functional_of.result _ _ _ _ c.functional_of.ensures c.saturating_sub.ensures limits) holds fits)
             (pos 0) (λ is. absurd (true≢false (sym is ∙ c.if-will_stall.false))) (λ is. refl),
       );
     }

@@ -32,16 +32,17 @@ note-requires c =
     omega (arith, sized.even, sized.room, ap (λ (m : MediumState). length m.bytes) is, ap length back.bytes)
 
 pub returns-in-Ok-clause-ok : goal.returns-in-Ok-clause-ok
-returns-in-Ok-clause-ok c = λ s allowed.
+returns-in-Ok-clause-ok c = λ k block config room.
     let memory = c.args.memory.now.bytes in
     let taken = (λ i. memory_at (c.take.ensures.bytes i) (c.take.ensures.cover i)) ∙ memory_off memory c.args.memory.now.cover c.requires.plain in
     let medium_is = c.in-Ok.ensures.ok ∙ taken in
     let set = c.set_mode.ensures.others in
     let kept : DfuDevice = record c.set_mode.new.kept { put_end = c.put_end-device.result } in
-    noted_device s kept c.note.new.kept memory.now _ c.note.ensures.others
-    (fresh_device s kept memory.now memory.ghost_name c.in-Ok.slots c.args.mode allowed (c.in-Ok.ensures.fresh ∙ ap store_on medium_is)
-    (subst (λ m. HasImage m) taken c.in-Ok.ensures.has_image) c.in-Ok.ensures.shape c.set_mode.ensures.mode
-    (c.put_end-device.ensures.value ∙ c.in-Ok.ensures.end) (ap (λ (r : DfuDevice). r.length) set ∙ c.set_block.ensures.length)
+    noted_device k kept c.note.new.kept block memory.now _ c.note.ensures.others
+    (fresh_device k kept block memory.now memory.ghost_name c.in-Ok.slots c.args.mode config room (c.in-Ok.ensures.fresh ∙ ap store_on medium_is)
+    (subst (λ m. HasImage m) taken c.in-Ok.ensures.has_image) c.in-Ok.ensures.shape
+    (record { version_is = c.set_mode.ensures.mode.version_is; numbers = c.set_mode.ensures.mode.numbers })
+    (c.put_end-device.ensures.value ∙ c.in-Ok.ensures.end) (ap (λ (r : DfuDevice). r.length) set)
     (free c.args.mode c.requires.mode) (alone c.args.mode c.requires.mode))
 
 pub returns-in-Ok-clause-notes : goal.returns-in-Ok-clause-notes

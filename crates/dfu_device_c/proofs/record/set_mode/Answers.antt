@@ -4,5 +4,13 @@ use Rattle.dfu_device_c.proofs.record.set_mode.Goals as goal
 pub returns-clause-mode : goal.returns-clause-mode
 returns-clause-mode c =
     let numbers = c.numbers_of-own.result in
-    c.numbers_of-own.ensures (record c.args.kept.now { mode = numbers.0; first = numbers.1; second = numbers.2; number = numbers.3 })
-    refl refl refl refl
+    record {
+      version_is = refl;
+      numbers = c.numbers_of-own.ensures (record c.args.kept.now {
+        version = 100;
+        mode = numbers.0;
+        first = numbers.1;
+        second = numbers.2;
+        number = numbers.3;
+      }) refl refl refl refl;
+    }

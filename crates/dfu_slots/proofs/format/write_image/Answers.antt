@@ -1,4 +1,4 @@
-use Rattle.dfu_slots.proofs.Formatting.{pieces_broken, pieces_sized, front_within, image_within, pieces_opened}
+use Rattle.dfu_slots.proofs.Formatting.{data_ahead, pieces_broken, pieces_sized, front_within, image_within, pieces_opened}
 use Rattle.dfu_slots.proofs.format.write_image.Goals as goal
 
 pub open_slot-requires-clause-sized : goal.open_slot-requires-clause-sized
@@ -31,3 +31,8 @@ returns-in-Ok-write_pieces g c =
     (g.M.Medium.state c.close_gates.new.medium) c.args.image.now c.requires c.data_at-data.result c.data_at-data.ensures c.in-Ok.ensures
     (g.M.Medium.state c.write_pieces.new.medium) c.in-Ok-write_pieces.ensures
     (g.M.Medium.state c.open_slot.new.medium) c.open_slot.result c.open_slot.ensures
+
+pub write_pieces-requires-clause-ahead : goal.write_pieces-requires-clause-ahead
+write_pieces-requires-clause-ahead g c =
+    data_ahead (g.M.Medium.state c.args.medium.now)
+    (g.M.Medium.state c.close_gates.new.medium) c.args.image.now c.requires c.data_at-data.result c.data_at-data.ensures c.in-Ok.ensures

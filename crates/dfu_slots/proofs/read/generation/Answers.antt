@@ -6,5 +6,5 @@ use Rattle.dfu_slots.proofs.read.generation.Goals as goal
 pub returns : goal.returns
 returns g c =
     let m = g.M.Medium.state c.args.medium.now in
-    c.byte_at.ensures ∙ ap (λ (n : ℕ). slice_index m.bytes (c.args.at + n)) c.gate_of.ensures.value
+    c.byte_at.ensures ∙ ap (λ (n : ℕ). slice_index m.bytes (c.args.at + n)) c.gate_of.ensures
     ∙ generation_at (gate_of m) m.bytes c.args.at

@@ -4,12 +4,10 @@ use Rattle.dfu_device.specs.inside.View.{shown}
 use Rattle.dfu_device.proofs.Passing.{write_late}
 use Rattle.dfu_device.proofs.machine.Machine.elapse_download_busy.Goals as goal
 
-pub returns-else-now-busy_ms : goal.returns-else-now-busy_ms
-returns-else-now-busy_ms g c =
+pub returns-else-now-busy_ms-clause-row : goal.returns-else-now-busy_ms-clause-row
+returns-else-now-busy_ms-clause-row g c =
     let d = c.args.self.now in
-    record {
-      row = write_late d.config d.slots (take c.args.written (spare_of d.slots)) d.block.items c.args.number c.args.passed c.args.ms
-          (shown c.write_block.new.self) c.write_block.result
-          (λ e. omega (arith, e, c.if-ms-eq0.false))
-          (omega (arith, c.if-now-busy_ms.false)) c.write_block.ensures.done c.write_block.ensures.failed;
-    }
+    write_late d.config d.slots (take c.args.written (spare_of d.slots)) (g.B.Block.items d.block) c.args.number c.args.passed c.args.ms
+    (shown c.write_block.new.self) c.write_block.result
+    (λ e. omega (arith, e, c.if-ms-eq0.false))
+    (omega (arith, c.if-now-busy_ms.false)) c.write_block.ensures.done c.write_block.ensures.failed

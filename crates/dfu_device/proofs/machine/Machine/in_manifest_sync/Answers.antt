@@ -4,22 +4,18 @@ use Rattle.dfu_device.specs.inside.View.{shown}
 use Rattle.dfu_device.proofs.Asked.{commit_now, commit_later}
 use Rattle.dfu_device.proofs.machine.Machine.in_manifest_sync.Goals as goal
 
-pub returns-else-manifest_ms-gt0 : goal.returns-else-manifest_ms-gt0
-returns-else-manifest_ms-gt0 g c =
+pub returns-else-manifest_ms-gt0-clause-row : goal.returns-else-manifest_ms-gt0-clause-row
+returns-else-manifest_ms-gt0-clause-row g c =
     let d = c.args.self.now in
     let done = c.commit_taken in
-    record {
-      row = λ body a out says. rw c.in-GetStatus.is (commit_now d.config d.slots
-          (take c.args.written (spare_of d.slots)) body c.in-GetStatus.length a out
-          (shown done.new.self) done.result (omega (arith, c.if-manifest_ms-gt0.false, c.manifest_ms.ensures.value)) done.ensures.done
-          done.ensures.failed says);
-    }
+    λ body a out says. rw c.in-GetStatus.is (commit_now d.config d.slots
+    (take c.args.written (spare_of d.slots)) body c.in-GetStatus.length a out
+    (shown done.new.self) done.result (omega (arith, c.if-manifest_ms-gt0.false, c.manifest_ms.ensures.value)) done.ensures.done
+    done.ensures.failed says)
 
-pub returns-then-manifest_ms-gt0 : goal.returns-then-manifest_ms-gt0
-returns-then-manifest_ms-gt0 g c =
+pub returns-then-manifest_ms-gt0-clause-row : goal.returns-then-manifest_ms-gt0-clause-row
+returns-then-manifest_ms-gt0-clause-row g c =
     let d = c.args.self.now in
-    record {
-      row = λ body a out says. rw c.in-GetStatus.is (commit_later d.config d.slots
-          (take c.args.written (spare_of d.slots)) body c.in-GetStatus.length a out
-          (omega (arith, c.if-manifest_ms-gt0.true, c.manifest_ms.ensures.value)) says);
-    }
+    λ body a out says. rw c.in-GetStatus.is (commit_later d.config d.slots
+    (take c.args.written (spare_of d.slots)) body c.in-GetStatus.length a out
+    (omega (arith, c.if-manifest_ms-gt0.true, c.manifest_ms.ensures.value)) says)

@@ -20,7 +20,7 @@ returns-in_default g c =
     let d = c.args.self.now in
     record {
       value = no_poll (profile (shown d)) d.mode
-          (spare_of d.slots) d.block.items c.in_default.not-DownloadBusy c.in_default.not-Manifest;
+          (spare_of d.slots) (g.B.Block.items d.block) c.in_default.not-DownloadBusy c.in_default.not-Manifest;
       fits = omega arith;
     }
 

@@ -54,3 +54,13 @@ pub returns-in-Err-clause-rose : goal.returns-in-Err-clause-rose
 returns-in-Err-clause-rose g c is =
     broken_rose c.in-Err.field-0 (format_series (g.M.Medium.state c.args.medium) c.args.image.now) (g.M.Medium.state c.args.medium)
     (g.M.Medium.state c.write_image.new.medium) c.in-Err.ensures
+
+pub returns-in-Ok-clause-formats : goal.returns-in-Ok-clause-formats
+returns-in-Ok-clause-formats g c =
+    can_format (g.M.Medium.state c.args.medium) c.args.image.now c.capacity_of.result c.from.result
+    (c.is_sized.ensures.0 c.if-not-is_sized.false) c.if-image-from.false c.from.ensures c.capacity_of.ensures
+
+pub returns-in-Err-clause-fault : goal.returns-in-Err-clause-fault
+returns-in-Err-clause-fault g c =
+    can_format (g.M.Medium.state c.args.medium) c.args.image.now c.capacity_of.result c.from.result
+    (c.is_sized.ensures.0 c.if-not-is_sized.false) c.if-image-from.false c.from.ensures c.capacity_of.ensures

@@ -1,0 +1,46 @@
+/* How many instructions a run of counted.c takes on a Cortex-M of QEMU's mps2 boards. With `-icount shift=6` an instruction takes 64 ns,
+ * and the board's timer ticks each 40 ns. Two loops whose instructions are known show whether that is so. */
+#include <stdint.h>
+#include <stdio.h>
+
+#include "machine.h"
+
+#define TIMER ((volatile uint32_t *)0x40000000) /* of the CMSDK: control, value, what it begins with, and whether it came to 0 */
+
+int counted(int count, char **words);
+
+static uint32_t began;
+
+static void start(void) {
+    TIMER[0] = 0, TIMER[1] = TIMER[2] = 0xffffffff, TIMER[3] = 1;
+    TIMER[0] = 9; /* it runs, and notes that it came to 0 */
+    began = TIMER[1];
+}
+
+static uint64_t stop(void) {
+    uint32_t ended = TIMER[1];
+    if (TIMER[3] != 0) {
+        puts("the timer is over");
+        leave(1);
+    }
+    return (uint64_t)(began - ended) * 40 / 64;
+}
+
+/* Twice as many instructions. */
+__attribute__((noinline)) static uint64_t loop(uint32_t turns) {
+    start();
+    __asm__ volatile(".syntax unified\n1: subs %0, %0, #1\nbne 1b" : "+l"(turns) : : "cc");
+    return stop();
+}
+
+int main(int count, char **words) {
+    uint64_t more = loop(200000) - loop(100000);
+    if (more != 200000) {
+        printf("200000 instructions are counted as %llu\n", (unsigned long long)more);
+        return 1;
+    }
+    start();
+    int status = counted(count, words);
+    printf("%llu\n", (unsigned long long)stop());
+    return status;
+}

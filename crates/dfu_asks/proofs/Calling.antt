@@ -1,0 +1,155 @@
+-- What a call of a device that asks leaves.
+use Rattle.std.proofs.Common.{◌≡◌, inr, ◌&&◌, Bool, true, false, not, IsTrue, ℕ, ◌+◌, ◌≤◌, List, ◌++◌, length, drop, slice_range, Option, Some, None, is_some, refl, sym, ◌∙◌, ap, subst, arith}
+use Rattle.std.proofs.lemmas.Grind.{common_steps}
+use Rattle.dfu_slots.specs.declared.unit.Unit.{Unit as WriteUnit}
+use Rattle.dfu_slots.specs.declared.fault.WriteFault.{WriteFault}
+use Rattle.dfu_slots.specs.declared.fault.WriteFault.TheVariants.{NotVerified}
+use Rattle.dfu_slots.specs.Medium.{Write, Torn, FailedWrite}
+use Rattle.dfu_slots.specs.Seen.{SlotsState, store_of, is_shaped}
+use Rattle.dfu_slots.specs.Store.{IsStore}
+use Rattle.dfu_slots.proofs.Written.{was_written}
+use Rattle.dfu_slots.proofs.Seeing.{shaped}
+use Rattle.dfu_device.specs.declared.answer.Answer.{Answer}
+use Rattle.dfu_device.specs.declared.mode.Mode.{Mode}
+use Rattle.dfu_device.specs.declared.mode.Mode.TheVariants as mode
+use Rattle.dfu_device.specs.Shown.{Shown}
+use Rattle.dfu_device.specs.Parts.{shows, stage_of, is_sound}
+use Rattle.dfu_asks.specs.declared.job.Job.{Job}
+use Rattle.dfu_asks.specs.declared.work.Work.{Work}
+use Rattle.dfu_asks.specs.declared.asking.Asking.{Asking}
+use Rattle.dfu_asks.specs.declared.reply.Reply.{Reply}
+use Rattle.dfu_asks.specs.Mapped.{mapped}
+use Rattle.dfu_asks.specs.Carried.{carried, IsPiece}
+use Rattle.dfu_asks.specs.Due.{IsDueRow, Fails}
+use Rattle.dfu_asks.specs.Asks.{block_in, store_in, device_in, device_of, IsDevice, IsDue, IsJobOf, IsDueStage, IsWorking, writes_in, IsBrokenOff, Gives, IsRest}
+use Rattle.dfu_asks.specs.Calls.{HasEnded, Asks, Comes, comes_asks, comes_ended, Called, called_ended, called_asks}
+use Rattle.dfu_asks.proofs.Carrying.{step_carried, broken_carried}
+use Rattle.dfu_asks.proofs.Inside.{working_within}
+use Rattle.dfu_asks.proofs.Ended.{broken_ended}
+
+-- Nothing is due where no work is kept.
+pub no_work : (w : Option Work) → is_some w ≡ false → w ≡ None
+no_work (Some w) e = cc
+no_work None e = refl
+
+-- The work that is kept is one.
+pub same_work : (x y : Work) → Some x ≡ Some y → x ≡ y
+same_work x y e = cc
+
+-- A test that is true, and one that is not.
+pub is_true : (b : Bool) → b ≡ true → IsTrue b
+is_true b e = grind (arith, common_steps)
+
+pub is_false : (b : Bool) → b ≡ false → ¬ IsTrue b
+is_false b e t = grind (arith, common_steps)
+
+pub is_off : (b : Bool) → b ≡ false → IsTrue (not b)
+is_off b e = grind (arith, common_steps)
+
+-- The store is as it was where all but the mode and the block is.
+pub rest_store : (a mid : Asking) (flash : List ℕ) → IsRest a mid → store_in mid flash ≡ store_in a flash
+rest_store a mid flash r = λ i. store_of (mapped (r.unit i) flash) (r.held i) (r.end i)
+
+-- A call that begins.
+
+due_of : (m : Mode) (xs ys : List ℕ) (asked : Option ℕ) (len : ℕ) (s : SlotsState) (j : Job) (end : ℕ) (held : List ℕ)
+    → IsDueStage (stage_of m xs ys) asked len → IsJobOf m s j end held → IsDue m asked len s j end held
+due_of (mode.DownloadSync n number) xs ys asked len s j end held due is = (due, is)
+due_of (mode.DownloadBusy n number passed) xs ys asked len s j end held due is = (due, is)
+due_of (mode.ManifestSync n) xs ys asked len s j end held due is = (due, is)
+due_of (mode.Manifest n passed) xs ys asked len s j end held due is = (due, is)
+due_of m xs ys asked len s j end held due is = absurd due
+
+-- A device that begins the job of the row that is due works for it.
+pub begins : (a : Asking) (m : Mode) (b : List ℕ) (there s : SlotsState) (u : WriteUnit) (flash xs ys : List ℕ) (j : Job) (asked : Option ℕ)
+    (len : ℕ) → a.unit ≡ u → a.mode ≡ m → block_in a ≡ b → there ≡ s → s.medium ≡ mapped u flash → IsStore s
+    → IsTrue (is_sound m (length b) there) → IsDueStage (stage_of m xs ys) asked len → IsJobOf m there j a.put_end a.held.items
+    → IsWorking a (record { job = j; asked = asked; done = 0 }) len s flash
+begins a m b there s u flash xs ys j asked len unit mode_is block same medium store sound due is = record {
+  medium = medium ∙ ap (λ (x : WriteUnit). mapped x flash) (sym unit);
+  store = store;
+  sound = subst (λ (x : Mode). IsTrue (is_sound x (length (block_in a)) s)) (sym mode_is)
+      (subst (λ (l : List ℕ). IsTrue (is_sound m (length l) s)) (sym block)
+      (subst (λ (x : SlotsState). IsTrue (is_sound m (length b) x)) same sound));
+  due = subst (λ (x : Mode). IsDue x asked len s j a.put_end a.held.items) (sym mode_is)
+      (due_of m xs ys asked len s j a.put_end a.held.items due
+      (subst (λ (x : SlotsState). IsJobOf m x j a.put_end a.held.items) same is));
+}
+
+-- What comes of it is what the call answers, where the row that is due is the call's.
+pub called_from : (a : Asking) (flash out : List ℕ) (Row : Answer → List ℕ → Shown → Type 0) (now : Asking) (out' : List ℕ) (r : Reply)
+    (d : Shown) (len : ℕ) → d ≡ device_in a flash → Comes d len d.slots flash flash out now out' r → IsDueRow len (device_in a flash) Row
+    → Called a flash out Row now out' r
+called_from a flash out Row now out' r d len is comes due = from r (subst (λ (x : Shown). Comes x len x.slots flash flash out now out' r) is comes)
+  where
+    from : (r : Reply) → Comes (device_in a flash) len (store_in a flash) flash flash out now out' r → Called a flash out Row now out' r
+    from _ (comes_asks asks same out_is) = called_asks len asks same due out_is
+    from _ (comes_ended x count e) = called_ended x count (record {
+      gave = record {
+        sent = e.gave.sent;
+        count_is = e.gave.count_is;
+        out_is = e.gave.out_is;
+        row = due.works x e.gave.sent (device_in now flash) e.gave.row;
+      };
+      work = e.work;
+      is = e.is;
+    })
+
+-- A call that writes nothing.
+
+module _ (a mid now : Asking) (flash : List ℕ) (d : Shown) (first : IsRest a mid) (second : IsRest mid now)
+    (parts : shows d.config d.slots now.mode (block_in now) ≡ d)
+    (sound : IsTrue (is_sound now.mode (length (block_in now)) d.slots)) (is : IsDevice a flash)
+    (slots : d.slots ≡ store_in a flash) (config : d.config ≡ a.config) (none : a.work ≡ None) where
+  store_kept : store_in now flash ≡ d.slots
+  store_kept = (λ i. store_of (mapped ((second.unit ∙ first.unit) i) flash) ((second.held ∙ first.held) i) ((second.end ∙ first.end) i)) ∙ sym slots
+
+  -- What is kept is the device that was.
+  pub kept_device : device_in now flash ≡ d
+  kept_device = (λ i. shows ((second.config ∙ first.config ∙ sym config) i) (store_kept i) now.mode (block_in now)) ∙ parts
+
+  -- The call has come to its end.
+  pub kept_ended : (x : Answer) (count : ℕ) (out out' sent : List ℕ) (Row : Answer → List ℕ → Shown → Type 0) → count ≡ length sent
+      → out' ≡ sent ++ drop count out → Row x sent d → HasEnded flash x count out out' now Row
+  kept_ended x count out out' sent Row count_is out_is row = record {
+    gave = record { sent = sent; count_is = count_is; out_is = out_is; row = subst (λ (y : Shown). Row x sent y) (sym kept_device) row };
+    work = second.work ∙ first.work ∙ none;
+    is = record {
+      store = subst IsStore (sym (store_kept ∙ slots)) is.store;
+      sound = subst (λ (s : SlotsState). IsTrue (is_sound now.mode (length (block_in now)) s)) (sym store_kept) sound;
+    };
+  }
+
+-- How a piece went.
+
+module _ (a : Asking) (len : ℕ) (s : SlotsState) (was before : List ℕ) (asks : Asks a len s was before) (p : Write)
+    (piece : IsPiece (writes_in a asks.work) asks.work.done p) (flash : List ℕ) (torn : Torn before p.at p.bytes flash) where
+  torn_there : Torn (carried was (writes_in a asks.work) asks.work.done) p.at p.bytes flash
+  torn_there = subst (λ (l : List ℕ). Torn l p.at p.bytes flash) asks.flash_is torn
+
+  -- It failed, or other bytes stand there: the row with that fault.
+  pub piece_failed : (fault : WriteFault) (now : Asking) (asked : Option ℕ) (x : Answer) (count : ℕ) (out out' : List ℕ) → asks.work.asked ≡ asked
+      → IsBrokenOff fault a now → Gives now.mode asked x count out out'
+      → HasEnded flash x count out out' now (λ y sent w'. Fails fault len (device_of a s) y sent w')
+  piece_failed fault now asked x count out out' same off gives =
+      broken_ended a now asks.work len s was flash asks.working x count out out' fault
+      (broken_carried a.unit fault (writes_in a asks.work) was flash asks.work.done p (working_within a asks.work len s was asks.working)
+      piece torn_there) off
+      (subst (λ (y : Option ℕ). Gives now.mode y x count out out') (sym same) gives)
+
+  -- It stands there: the series stands one piece further.
+  pub piece_stands : p.at + length p.bytes ≤ length flash → slice_range flash p.at (p.at + length p.bytes) ≡ p.bytes
+      → flash ≡ carried was (writes_in a asks.work) (asks.work.done + length p.bytes)
+  piece_stands fits stands =
+      let old = carried was (writes_in a asks.work) asks.work.done in
+      let lied : FailedWrite NotVerified (mapped a.unit old) p.at p.bytes (mapped a.unit flash) =
+      record { bytes = torn_there; failures = omega arith; fuse = refl; grain = refl; tag = refl } in
+      (was_written (mapped a.unit old) p.at p.bytes (mapped a.unit flash) (omega (arith, fits, torn_there.size)) (inr lied) stands).bytes
+      ∙ sym (step_carried (writes_in a asks.work) was asks.work.done p (working_within a asks.work len s was asks.working) piece)
+
+-- A store is sound where nothing is put.
+pub idle_sound : (s : SlotsState) → IsStore s → IsTrue (is_shaped s && true)
+idle_sound s store = both (is_shaped s) (shaped s store)
+  where
+    both : (p : Bool) → p ≡ true → IsTrue (p && true)
+    both p e = grind (arith, common_steps)

@@ -1,0 +1,84 @@
+-- What each call of a slot store leaves, by its writes alone.
+use Rattle.std.proofs.Common.{◌≡◌, ℕ, ◌+◌, ◌≤◌, ◌<◌, List, length, true, Result, Ok, Err, IsErrOf, refl, arith}
+use Rattle.dfu_slots.specs.declared.fault.PutFault.{PutFault}
+use Rattle.dfu_slots.specs.declared.fault.PutFault.TheVariants.{Failed as PutFailed, NotVerified as PutNotVerified, NotBegun, TooLarge}
+use Rattle.dfu_slots.specs.declared.fault.WriteFault.{WriteFault}
+use Rattle.dfu_slots.specs.declared.fault.WriteFault.TheVariants.{Failed, NotVerified}
+use Rattle.dfu_slots.specs.Image.{capacity_of}
+use Rattle.dfu_slots.specs.Seen.{SlotsState, is_begun, room_of, Call, Begin, Put, Commit, BrokenBy, CallWorked, CallFailed}
+use Rattle.dfu_slots.specs.Store.{IsStore}
+use Rattle.dfu_slots.specs.Changes.{ending_of, Changes}
+use Rattle.dfu_slots.specs.Leaves.{BeginLeaves, PutLeaves, CommitLeaves}
+use Rattle.dfu_slots.proofs.Seeing.{begun_closed, room_capacity}
+use Rattle.dfu_slots.proofs.Stays.{SamePlaces}
+use Rattle.dfu_slots.proofs.AfterCall.{put_refuses}
+use Rattle.dfu_slots.proofs.AfterBegin.{begin_leaves, begin_places}
+use Rattle.dfu_slots.proofs.AfterPut.{put_leaves}
+use Rattle.dfu_slots.proofs.AfterCommit.{commit_leaves}
+
+-- The answer of a call whose writes all worked.
+abbrev pub done : Result (Unit {0}) PutFault
+done = Ok tt
+
+-- The answer of a call of which a write had this fault.
+abbrev pub broken : WriteFault → Result (Unit {0}) PutFault
+broken Failed = Err PutFailed
+broken NotVerified = Err PutNotVerified
+
+-- It tells the fault.
+pub broken_ending : (fault : WriteFault) → ending_of (broken fault) ≡ BrokenBy fault
+broken_ending Failed = refl
+broken_ending NotVerified = refl
+
+changes_broken : (fault : WriteFault) (s now : SlotsState) (call : Call) → CallFailed fault s call now → Changes s call (broken fault) now
+changes_broken Failed s now call failed = failed
+changes_broken NotVerified s now call failed = failed
+
+no_other : (fault : WriteFault) → ¬ IsErrOf (broken fault) NotBegun
+no_other Failed e = cc
+no_other NotVerified e = cc
+
+not_large : (fault : WriteFault) → ¬ IsErrOf (broken fault) TooLarge
+not_large Failed e = cc
+not_large NotVerified e = cc
+
+large : (s : SlotsState) (n : ℕ) → n ≤ room_of s → capacity_of s.medium < n → ⊥
+large s n fits over = omega (arith, fits, over, room_capacity s)
+
+module _ (s now : SlotsState) (store : IsStore s) where
+  -- A `begin` whose writes worked.
+  pub begun : CallWorked s Begin now → BeginLeaves s done now
+  begun worked = begin_leaves {T = Unit {0}} {s = s} {v = s} (λ i. s) store now done tt worked
+
+  -- It leaves the slots where they were.
+  pub begun_places : CallWorked s Begin now → SamePlaces s.medium now.medium
+  begun_places worked = begin_places {T = Unit {0}} s now store.has_image done tt worked
+
+  -- A `begin` that was broken off.
+  pub begin_broken : (fault : WriteFault) → CallFailed fault s Begin now → BeginLeaves s (broken fault) now
+  begin_broken Failed failed = begin_leaves {T = Unit {0}} {s = s} {v = s} (λ i. s) store now (broken Failed) tt failed
+  begin_broken NotVerified failed = begin_leaves {T = Unit {0}} {s = s} {v = s} (λ i. s) store now (broken NotVerified) tt failed
+
+  module _ (at : ℕ) (bytes : List ℕ) (here : at ≡ s.put_end) (ready : is_begun s ≡ true) (fits : at + length bytes ≤ room_of s) where
+    -- A `put` whose writes worked.
+    pub put_came : CallWorked s (Put at bytes) now → PutLeaves s at bytes done now
+    put_came worked = put_leaves {T = Unit {0}} {s = s} {v = s} (λ i. s) store now at bytes here done
+        (put_refuses {T = Unit {0}} s done (λ e. cc, λ o. absurd (begun_closed s ready o)) at bytes
+        (λ e. cc, λ over. absurd (large s (at + length bytes) fits over.1))) worked
+
+    -- A `put` that was broken off.
+    pub put_broken : (fault : WriteFault) → CallFailed fault s (Put at bytes) now → PutLeaves s at bytes (broken fault) now
+    put_broken fault failed = put_leaves {T = Unit {0}} {s = s} {v = s} (λ i. s) store now at bytes here (broken fault)
+        (put_refuses {T = Unit {0}} s (broken fault) (λ e. absurd (no_other fault e), λ o. absurd (begun_closed s ready o)) at bytes
+        (λ e. absurd (not_large fault e), λ over. absurd (large s (at + length bytes) fits over.1))) (changes_broken fault s now (Put at bytes) failed)
+
+  module _ (len : ℕ) (within : len ≤ s.put_end) (ready : is_begun s ≡ true) where
+    -- A `commit` whose writes worked.
+    pub commit_came : CallWorked s (Commit len) now → CommitLeaves s len done now
+    commit_came worked = commit_leaves {T = Unit {0}} {s = s} {v = s} (λ i. s) store now len within done
+        (λ e. cc, λ o. absurd (begun_closed s ready o)) (λ e. cc) worked
+
+    -- A `commit` that was broken off.
+    pub commit_broken : (fault : WriteFault) → CallFailed fault s (Commit len) now → CommitLeaves s len (broken fault) now
+    commit_broken fault failed = commit_leaves {T = Unit {0}} {s = s} {v = s} (λ i. s) store now len within (broken fault)
+        (λ e. absurd (no_other fault e), λ o. absurd (begun_closed s ready o)) (not_large fault) (changes_broken fault s now (Commit len) failed)

@@ -1,0 +1,75 @@
+-- A row that has come to its end, in what is kept.
+use Rattle.std.proofs.Common.{◌≡◌, ℕ, ◌≤◌, IsTrue, List, length, Option, None, sym, subst}
+use Rattle.dfu_slots.specs.declared.fault.WriteFault.{WriteFault}
+use Rattle.dfu_slots.specs.Medium.{AllWrites, BrokenWrites}
+use Rattle.dfu_slots.specs.Seen.{SlotsState, store_of, store_on}
+use Rattle.dfu_slots.specs.Store.{IsStore}
+use Rattle.dfu_device.specs.declared.answer.Answer.{Answer}
+use Rattle.dfu_device.specs.declared.mode.Mode.{Mode}
+use Rattle.dfu_device.specs.Shown.{Shown}
+use Rattle.dfu_device.specs.Parts.{shows, is_sound}
+use Rattle.dfu_asks.specs.declared.work.Work.{Work}
+use Rattle.dfu_asks.specs.declared.asking.Asking.{Asking}
+use Rattle.dfu_asks.specs.Mapped.{mapped}
+use Rattle.dfu_asks.specs.Carried.{total, carried}
+use Rattle.dfu_asks.specs.Due.{Works, Fails}
+use Rattle.dfu_asks.specs.Asks.{block_in, store_in, device_of, IsWorking, writes_in, IsFinished, IsBrokenOff, IsAnswered, Gives, done_mode, failed_mode}
+use Rattle.dfu_asks.specs.Calls.{HasEnded}
+use Rattle.dfu_asks.proofs.Carrying.{all_carried}
+use Rattle.dfu_asks.proofs.Working.{Ends, held_after, end_after, works, fails}
+
+-- What came of a row that left this store and this mode, in what is kept then.
+ended : (a now : Asking) (asked : Option ℕ) (flash : List ℕ) (x : Answer) (count : ℕ) (out out' : List ℕ) (S : SlotsState) (M : Mode)
+    (Row : Answer → List ℕ → Shown → Type 0)
+    → now.config ≡ a.config → store_in now flash ≡ S → now.mode ≡ M → block_in now ≡ block_in a → now.work ≡ None
+    → Gives now.mode asked x count out out'
+    → ((sent : List ℕ) → IsAnswered M asked x sent → Ends a.config S M (block_in a) (Row x sent (shows a.config S M (block_in a))))
+    → HasEnded flash x count out out' now Row
+ended a now asked flash x count out out' S M Row config store mode block work gives comes =
+    let e = comes gives.sent (subst (λ (m : Mode). IsAnswered m asked x gives.sent) mode gives.says) in
+    record {
+      gave = record {
+        sent = gives.sent;
+        count_is = gives.count_is;
+        out_is = gives.out_is;
+        row = subst (λ (d : Shown). Row x gives.sent d) (λ i. shows (sym config i) (sym store i) (sym mode i) (sym block i)) e.comes;
+      };
+      work = work;
+      is = record {
+        store = subst IsStore (sym store) e.store;
+        sound = subst (λ (m : Mode). IsTrue (is_sound m (length (block_in now)) (store_in now flash))) (sym mode)
+            (subst (λ (l : List ℕ). IsTrue (is_sound M (length l) (store_in now flash))) (sym block)
+            (subst (λ (s : SlotsState). IsTrue (is_sound M (length (block_in a)) s)) (sym store) e.sound));
+      };
+    }
+
+module _ (a now : Asking) (w : Work) (len : ℕ) (s : SlotsState) (was flash : List ℕ) (working : IsWorking a w len s was) (x : Answer)
+    (count : ℕ) (out out' : List ℕ) where
+  -- All its writes worked.
+  pub all_ended : AllWrites (mapped a.unit was) (writes_in a w) (mapped a.unit flash) → IsFinished a now
+      → Gives now.mode w.asked x count out out' → HasEnded flash x count out out' now (λ y sent w'. Works len (device_of a s) y sent w')
+  all_ended all fin gives =
+      ended a now w.asked flash x count out out'
+      (store_of (mapped a.unit flash) (held_after a.unit a.mode a.held.items (block_in a)) (end_after a.mode a.put_end (block_in a)))
+      (done_mode a.config a.mode (length (block_in a))) (λ y sent w'. Works len (device_of a s) y sent w') fin.config
+      (λ i. store_of (mapped (fin.unit i) flash) (fin.held i) (fin.end i)) fin.mode fin.block fin.work gives
+      (λ sent says. works a.config a.unit (block_in a) a.held.items a.put_end w.job len s was flash working.medium working.store
+      a.mode w.asked working.sound working.due all x sent says)
+
+  -- One of them had this fault.
+  pub broken_ended : (fault : WriteFault) → BrokenWrites fault (mapped a.unit was) (writes_in a w) (mapped a.unit flash)
+      → IsBrokenOff fault a now → Gives now.mode w.asked x count out out'
+      → HasEnded flash x count out out' now (λ y sent w'. Fails fault len (device_of a s) y sent w')
+  broken_ended fault broken off gives =
+      ended a now w.asked flash x count out out' (store_on (mapped a.unit flash)) (failed_mode fault a.mode)
+      (λ y sent w'. Fails fault len (device_of a s) y sent w') off.config
+      (λ i. store_of (mapped (off.unit i) flash) (off.held i) (off.end i)) off.mode off.block off.work gives
+      (λ sent says. fails a.config a.unit (block_in a) a.held.items a.put_end w.job len s was flash working.medium working.store
+      fault a.mode w.asked working.sound working.due broken x sent says)
+
+  -- All are carried out.
+  pub carried_ended : flash ≡ carried was (writes_in a w) w.done → total (writes_in a w) ≤ w.done → IsFinished a now
+      → Gives now.mode w.asked x count out out' → HasEnded flash x count out out' now (λ y sent w'. Works len (device_of a s) y sent w')
+  carried_ended is le fin gives = all_ended
+      (subst (λ (l : List ℕ). AllWrites (mapped a.unit was) (writes_in a w) (mapped a.unit l)) (sym is)
+      (all_carried a.unit (writes_in a w) was w.done le)) fin gives

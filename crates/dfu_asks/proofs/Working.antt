@@ -1,0 +1,314 @@
+-- What comes of a row once its writes are carried out.
+use Rattle.std.proofs.Common.{◌≡◌, ◌⊎◌, inl, inr, ◌==◌, ◌&&◌, ◌||◌, not, nat_lt, nat_le, Bool, true, false, IsTrue, if◌then◌else◌, ℕ, ◌+◌, ◌-◌, ◌^◌, ◌≤◌, ◌<◌, List, [], ◌++◌, length, take, Option, refl, sym, ◌∙◌, ap, subst, arith}
+use Rattle.std.proofs.lemmas.Grind.{common_steps}
+use Rattle.std.proofs.lemmas.Bool.{cases_eq, ne_eqb, and_parts, eqb-true}
+use Rattle.dfu_suffix.specs.Register.{register}
+use Rattle.dfu_slots.specs.declared.unit.Unit.{Unit as WriteUnit}
+use Rattle.dfu_slots.specs.declared.fault.WriteFault.{WriteFault}
+use Rattle.dfu_slots.specs.Units.{Grain, in_place}
+use Rattle.dfu_slots.specs.Medium.{MediumState, Write, Rose, AllWrites, BrokenWrites}
+use Rattle.dfu_slots.specs.Layout.{OPEN, next_generation, generation}
+use Rattle.dfu_slots.specs.Image.{gate_of, spare_at}
+use Rattle.dfu_slots.specs.Writes.{put_writes, put_rest, part_writes, open_writes}
+use Rattle.dfu_slots.specs.Seen.{SlotsState, store_of, store_on, data_place, spare_slot, active_slot, spare_of, is_begun, room_of, is_shaped, Begin, Put, Commit, writes_of}
+use Rattle.dfu_slots.specs.Store.{IsStore}
+use Rattle.dfu_slots.proofs.Seeing.{shaped, room_capacity}
+use Rattle.dfu_device.specs.declared.answer.Answer.{Answer}
+use Rattle.dfu_device.specs.declared.answer.Answer.TheVariants as answer
+use Rattle.dfu_device.specs.declared.mode.Mode.{Mode}
+use Rattle.dfu_device.specs.declared.mode.Mode.TheVariants as mode
+use Rattle.dfu_device.specs.Setting.{Setting}
+use Rattle.dfu_device.specs.Stage.{Stage, InDownloadIdle, InDownloadSyncWritten, InManifestSyncComplete, InManifestWaitReset}
+use Rattle.dfu_device.specs.Parts.{shows, is_put, is_sound}
+use Rattle.dfu_device.specs.Rows.{Committed}
+use Rattle.dfu_device.specs.Table.{write_code, commit_code}
+use Rattle.dfu_device.proofs.Commits.{written_sound}
+use Rattle.dfu_asks.specs.declared.job.Job.{Job}
+use Rattle.dfu_asks.specs.declared.job.Job.TheVariants as job
+use Rattle.dfu_asks.specs.Mapped.{mapped}
+use Rattle.dfu_asks.specs.Series.{block_series, block_store, BlockWritten, BlockBroken, CommitDone, CommitBroken}
+use Rattle.dfu_asks.specs.Jobs.{held_place, job_writes}
+use Rattle.dfu_asks.specs.Due.{Works, Fails}
+use Rattle.dfu_asks.specs.Asks.{IsBlockJob, IsCommitJob, IsDue, capped, is_block, done_mode, failed_mode, IsAnswered}
+use Rattle.dfu_asks.proofs.Rows.{block_written, block_broken, commit_done, commit_off}
+
+-- A block that is due has bytes and finds room, behind what was put.
+pub record IsNext (s : SlotsState) (n b : ℕ) : Type 0 where
+  pub some : 0 < b
+  pub room : n + b ≤ room_of s
+  pub before : (n ≡ 0) ⊎ (is_put n s ≡ true)
+
+or_before : (n : ℕ) (p : Bool) → ((n == 0) || p) ≡ true → (n ≡ 0) ⊎ (p ≡ true)
+or_before n true e = inr refl
+or_before n false e = inl (eqb-true _ _ (grind (arith, common_steps, e)))
+
+-- A sound device has such a block.
+pub next_in : (n b : ℕ) (s : SlotsState) → IsTrue (is_shaped s && (nat_lt 0 b && (nat_le (n + b) (room_of s) && ((n == 0) || is_put n s))))
+    → IsNext s n b
+next_in n b s sound = record {
+  some = grind (arith, common_steps);
+  room = grind (arith, common_steps);
+  before = or_before n (is_put n s) (grind (arith, common_steps));
+}
+
+-- A commit that is due is of what was put.
+pub record IsAll (s : SlotsState) (n : ℕ) : Type 0 where
+  pub room : n ≤ room_of s
+  pub put : is_put n s ≡ true
+
+-- Or such a commit.
+pub all_in : (n : ℕ) (s : SlotsState) → IsTrue (is_shaped s && (nat_lt 0 n && (nat_le n (room_of s) && is_put n s))) → IsAll s n
+all_in n s sound = record { room = grind (arith, common_steps); put = grind (arith, common_steps) }
+
+-- Whether the gate of a store's spare is open.
+not_begun : (s : SlotsState) → not (is_begun s) ≡ ((spare_slot s).gate == OPEN)
+unfolding is_begun
+not_begun s = not_not ((spare_slot s).gate == OPEN)
+  where
+    not_not : (b : Bool) → not (not b) ≡ b
+    not_not true = refl
+    not_not false = refl
+
+-- The writes of the job of a block are those of the block.
+series_of_block : (s : SlotsState) (n : ℕ) (j : Job) (u : Grain) (end : ℕ) (held block : List ℕ) → s.medium.grain ≡ u
+    → IsBlockJob n s j end held → job_writes j u end held block ≡ block_series s n block
+series_of_block s n j u end held block unit is =
+    let g = gate_of s.medium in
+    let spare = spare_at g s.medium.bytes in
+    (λ i. job_writes (is.job_is i) (sym unit i) (is.end_is i) (is.held_is i) block)
+    ∙ (elim (cases_eq n 0) [
+      | inl none ↦
+          let e : (n == 0) ≡ true = ap (λ (k : ℕ). k == 0) none in
+          first e none
+      | inr some ↦ further (ne_eqb n 0 some)
+    ])
+  where
+    choose : Bool → Bool → List Write
+    choose first close = job_writes (job.Block (spare_at (gate_of s.medium) s.medium.bytes) (first && close)) s.medium.grain n
+        (if first then [] else s.held) block
+
+    chosen : Bool → List Write
+    chosen first = if first then writes_of s Begin ++ put_writes s.medium.grain (data_place s 0) [] block else writes_of s (Put n block)
+
+    first : (n == 0) ≡ true → n ≡ 0 → choose (n == 0) (not (is_begun s)) ≡ chosen (n == 0)
+    first e none =
+        (λ i. choose (e i) (not_begun s i))
+        ∙ (λ i. writes_of s Begin ++ put_writes s.medium.grain (held_place s.medium.grain (spare_at (gate_of s.medium) s.medium.bytes) (none i) []) [] block)
+        ∙ (λ i. chosen (sym e i))
+
+    further : (n == 0) ≡ false → choose (n == 0) (not (is_begun s)) ≡ chosen (n == 0)
+    further e = (λ i. choose (e i) (not (is_begun s))) ∙ (λ i. chosen (sym e i))
+
+-- The writes of the job of a commit are those of the commit.
+series_of_commit : (s : SlotsState) (n : ℕ) (j : Job) (u : Grain) (end : ℕ) (held block : List ℕ) → s.medium.grain ≡ u
+    → is_put n s ≡ true → IsCommitJob n s j end held → job_writes j u end held block ≡ writes_of s (Commit n)
+series_of_commit s n j u end held block unit put is =
+    let here : s.put_end ≡ n = eqb-true _ _ (and_parts (is_begun s) (s.put_end == n) put).1 in
+    (λ i. job_writes (is.job_is i) (sym unit i) (is.end_is i) (is.held_is i) block)
+    ∙ (λ i. part_writes s.medium.grain (data_place s (sym here i - length s.held)) s.held
+    ++ open_writes s.medium.grain (spare_at (gate_of s.medium) s.medium.bytes) (next_generation (generation (active_slot s))) n
+    (register (take n (spare_of s))))
+
+-- What is held back once all is written.
+abbrev pub held_after : WriteUnit → Mode → List ℕ → List ℕ → List ℕ
+held_after u m held b = if is_block m then put_rest u held b else []
+
+-- Where the puts end then.
+abbrev pub end_after : Mode → ℕ → List ℕ → ℕ
+end_after m end b = if is_block m then capped end (length b) else 0
+
+-- A device on these bytes of flash.
+pub record Ends (c : Setting) (s : SlotsState) (m : Mode) (b : List ℕ) (Comes : Type 0) : Type 0 where
+  pub comes : Comes
+  pub store : IsStore s
+  pub sound : IsTrue (is_sound m (length b) s)
+
+module _ (c : Setting) (u : WriteUnit) (b held : List ℕ) (end : ℕ) (j : Job) (len : ℕ) (s : SlotsState) (m flash : List ℕ)
+    (medium : s.medium ≡ mapped u m) (store : IsStore s) where
+  unit_is : s.medium.grain ≡ in_place u
+  unit_is = ap (λ (x : MediumState). x.grain) medium
+
+  shape : is_shaped s ≡ true
+  shape = shaped s store
+
+  small : (n : ℕ) → n ≤ room_of s → n ≤ 2 ^ 24
+  small n le = omega (arith, le, room_capacity s, store.has_image.active.sized.bound)
+
+  rose : (now : SlotsState) → now.medium.failures ≡ 2 ^ 64 - 1 → Rose s.medium.failures now.medium.failures
+  rose now is = omega (arith, is, ap (λ (x : MediumState). x.failures) medium)
+
+  abbrev left : SlotsState
+  left = store_of (mapped u flash) (put_rest u held b) (capped end (length b))
+
+  -- All writes of a block.
+  block_left : (n : ℕ) → IsNext s n (length b) → IsBlockJob n s j end held
+      → AllWrites (mapped u m) (job_writes j (in_place u) end held b) (mapped u flash) → (capped end (length b) ≡ n + length b) × BlockWritten s n b left
+  block_left n next job all =
+      let cap : capped end (length b) ≡ n + length b = omega (arith, job.end_is, small (n + length b) next.room) in
+      let is : block_store s n b (mapped u flash) ≡ left =
+      (λ i. store_of (mapped u flash) (put_rest (unit_is i).unit (sym job.held_is i) b) (sym cap i)) in (
+        cap,
+        subst (λ (x : SlotsState). BlockWritten s n b x) is
+            (block_written s store shape n b next.before next.room (mapped u flash)
+            (subst (λ (x : MediumState). AllWrites x (block_series s n b) (mapped u flash)) (sym medium)
+            (subst (λ (ws : List Write). AllWrites (mapped u m) ws (mapped u flash)) (series_of_block s n j (in_place u) end held b unit_is job) all))),
+      )
+
+  -- A broken write of a block.
+  block_off : (fault : WriteFault) (n : ℕ) → IsNext s n (length b) → IsBlockJob n s j end held
+      → BrokenWrites fault (mapped u m) (job_writes j (in_place u) end held b) (mapped u flash) → BlockBroken fault s n b (store_on (mapped u flash))
+  block_off fault n next job all =
+      block_broken s store shape n b next.before next.room (mapped u flash) fault
+      (subst (λ (x : MediumState). BrokenWrites fault x (block_series s n b) (mapped u flash)) (sym medium)
+      (subst (λ (ws : List Write). BrokenWrites fault (mapped u m) ws (mapped u flash)) (series_of_block s n j (in_place u) end held b unit_is job) all))
+
+  -- All writes of a commit.
+  commit_left : (n : ℕ) → IsAll s n → IsCommitJob n s j end held
+      → AllWrites (mapped u m) (job_writes j (in_place u) end held b) (mapped u flash) → CommitDone s n (store_on (mapped u flash))
+  commit_left n whole job all =
+      commit_done s store shape n whole.put whole.room (mapped u flash)
+      (subst (λ (x : MediumState). AllWrites x (writes_of s (Commit n)) (mapped u flash)) (sym medium)
+      (subst (λ (ws : List Write). AllWrites (mapped u m) ws (mapped u flash)) (series_of_commit s n j (in_place u) end held b unit_is whole.put job) all))
+
+  -- A broken write of a commit.
+  commit_broke : (fault : WriteFault) (n : ℕ) → IsAll s n → IsCommitJob n s j end held
+      → BrokenWrites fault (mapped u m) (job_writes j (in_place u) end held b) (mapped u flash) → CommitBroken fault s n (store_on (mapped u flash))
+  commit_broke fault n whole job all =
+      commit_off s store shape n whole.put whole.room (mapped u flash) fault
+      (subst (λ (x : MediumState). BrokenWrites fault x (writes_of s (Commit n)) (mapped u flash)) (sym medium)
+      (subst (λ (ws : List Write). BrokenWrites fault (mapped u m) ws (mapped u flash)) (series_of_commit s n j (in_place u) end held b unit_is whole.put job) all))
+
+  shaped_left : (x : SlotsState) → IsStore x → IsTrue (is_shaped x && true)
+  shaped_left x st = sound_shape (is_shaped x) (shaped x st)
+    where
+      sound_shape : (p : Bool) → p ≡ true → IsTrue (p && true)
+      sound_shape p e = grind (arith, common_steps)
+
+  -- All is written: the row that is due, and the device after it.
+  pub works : (d : Mode) (asked : Option ℕ) → IsTrue (is_sound d (length b) s) → IsDue d asked len s j end held
+      → AllWrites (mapped u m) (job_writes j (in_place u) end held b) (mapped u flash) → (a : Answer) (out : List ℕ)
+      → IsAnswered (done_mode c d (length b)) asked a out
+      → Ends c (store_of (mapped u flash) (held_after u d held b) (end_after d end b)) (done_mode c d (length b)) b
+      (Works len (shows c s d b) a out (shows c (store_of (mapped u flash) (held_after u d held b) (end_after d end b)) (done_mode c d (length b)) b))
+  works (mode.DownloadSync n number) asked sound due all a out says =
+      let next = next_in n (length b) s sound in
+      let got = block_left n next due.1 all in
+      let cap : capped n (length b) ≡ n + length b = omega (arith, got.0, due.1.end_is) in
+      record {
+        comes = (
+          subst (λ (x : Option ℕ). IsAnswered (mode.DownloadIdle (capped n (length b)) number) x a out) due.0 says [] [],
+          record {
+            config_is = refl;
+            room = got.1.room;
+            stage_is = ap (λ (l : List ℕ). InDownloadIdle l number) (ap (λ (k : ℕ). take k (spare_of left)) cap ∙ got.1.spare);
+            calls = got.1.calls;
+            image = got.1.image;
+          },
+        );
+        store = got.1.store;
+        sound = written_sound (mode.DownloadIdle (capped n (length b)) number) (length b) (capped n (length b)) number left (inr refl)
+            (omega (arith, cap, next.some)) (omega (arith, cap, next.room, got.1.room)) (shaped left got.1.store)
+            (subst (λ (k : ℕ). is_put k left ≡ true) (sym cap) got.1.put);
+      }
+  works (mode.DownloadBusy n number passed) asked sound due all a out says =
+      let next = next_in n (length b) s sound in
+      let got = block_left n next due.1 all in
+      let cap : capped n (length b) ≡ n + length b = omega (arith, got.0, due.1.end_is) in
+      record {
+        comes = (
+          subst (λ (x : Option ℕ). IsAnswered (mode.DownloadSyncWritten (capped n (length b)) number) x a out) due.0 says,
+          record {
+            config_is = refl;
+            room = got.1.room;
+            stage_is = ap (λ (l : List ℕ). InDownloadSyncWritten l number) (ap (λ (k : ℕ). take k (spare_of left)) cap ∙ got.1.spare);
+            calls = got.1.calls;
+            image = got.1.image;
+          },
+        );
+        store = got.1.store;
+        sound = written_sound (mode.DownloadSyncWritten (capped n (length b)) number) (length b) (capped n (length b)) number left (inl refl)
+            (omega (arith, cap, next.some)) (omega (arith, cap, next.room, got.1.room)) (shaped left got.1.store)
+            (subst (λ (k : ℕ). is_put k left ≡ true) (sym cap) got.1.put);
+      }
+  works (mode.ManifestSync n) asked sound due all a out says =
+      let got = commit_left n (all_in n s sound) due.1 all in
+      record {
+        comes = (
+          subst (λ (x : Option ℕ). IsAnswered mode.DfuIdle x a out) due.0 says [] [],
+          record { config_is = refl; room = got.room; stage_is = refl; calls = got.calls; image = got.image },
+        );
+        store = got.store;
+        sound = shaped_left (store_on (mapped u flash)) got.store;
+      }
+  works (mode.Manifest n passed) asked sound due all a out says =
+      let got = commit_left n (all_in n s sound) due.1 all in
+      tolerant c.functional.tolerant got (subst (λ (x : Option ℕ). IsAnswered (done_mode c (mode.Manifest n passed) (length b)) x a out) due.0 says)
+    where
+      next_mode : Bool → Mode
+      next_mode t = if t then mode.ManifestSyncComplete else mode.ManifestWaitReset
+
+      next_stage : Bool → Stage
+      next_stage t = if t then InManifestSyncComplete else InManifestWaitReset
+
+      tolerant : (t : Bool) → CommitDone s n (store_on (mapped u flash)) → (a ≡ answer.Ack) × (out ≡ [])
+          → Ends c (store_on (mapped u flash)) (next_mode t) b (((a ≡ answer.Ack) × (out ≡ []))
+          × Committed (take n (spare_of s)) c s (next_stage t) (shows c (store_on (mapped u flash)) (next_mode t) b))
+      tolerant true got says = record {
+        comes = (says, record { config_is = refl; room = got.room; stage_is = refl; calls = got.calls; image = got.image });
+        store = got.store;
+        sound = shaped_left (store_on (mapped u flash)) got.store;
+      }
+      tolerant false got says = record {
+        comes = (says, record { config_is = refl; room = got.room; stage_is = refl; calls = got.calls; image = got.image });
+        store = got.store;
+        sound = shaped_left (store_on (mapped u flash)) got.store;
+      }
+  works d asked sound due all a out says = absurd due
+
+  -- A write had a fault: the row with that fault, and the device after it.
+  pub fails : (fault : WriteFault) (d : Mode) (asked : Option ℕ) → IsTrue (is_sound d (length b) s) → IsDue d asked len s j end held
+      → BrokenWrites fault (mapped u m) (job_writes j (in_place u) end held b) (mapped u flash) → (a : Answer) (out : List ℕ)
+      → IsAnswered (failed_mode fault d) asked a out
+      → Ends c (store_on (mapped u flash)) (failed_mode fault d) b
+      (Fails fault len (shows c s d b) a out (shows c (store_on (mapped u flash)) (failed_mode fault d) b))
+  fails fault (mode.DownloadSync n number) asked sound due all a out says =
+      let got = block_off fault n (next_in n (length b) s sound) due.1 all in
+      record {
+        comes = (
+          subst (λ (x : Option ℕ). IsAnswered (mode.Error (write_code fault)) x a out) due.0 says [] [],
+          record { config_is = refl; room = got.room; stage_is = refl; calls = got.calls; image = got.image; failed = rose (store_on (mapped u flash)) refl },
+        );
+        store = got.store;
+        sound = shaped_left (store_on (mapped u flash)) got.store;
+      }
+  fails fault (mode.DownloadBusy n number passed) asked sound due all a out says =
+      let got = block_off fault n (next_in n (length b) s sound) due.1 all in
+      record {
+        comes = (
+          subst (λ (x : Option ℕ). IsAnswered (mode.Error (write_code fault)) x a out) due.0 says,
+          record { config_is = refl; room = got.room; stage_is = refl; calls = got.calls; image = got.image; failed = rose (store_on (mapped u flash)) refl },
+        );
+        store = got.store;
+        sound = shaped_left (store_on (mapped u flash)) got.store;
+      }
+  fails fault (mode.ManifestSync n) asked sound due all a out says =
+      let got = commit_broke fault n (all_in n s sound) due.1 all in
+      record {
+        comes = (
+          subst (λ (x : Option ℕ). IsAnswered (mode.Error (commit_code fault)) x a out) due.0 says [] [],
+          record { config_is = refl; room = got.room; stage_is = refl; calls = got.calls; image = got.image; failed = rose (store_on (mapped u flash)) refl },
+        );
+        store = got.store;
+        sound = shaped_left (store_on (mapped u flash)) got.store;
+      }
+  fails fault (mode.Manifest n passed) asked sound due all a out says =
+      let got = commit_broke fault n (all_in n s sound) due.1 all in
+      record {
+        comes = (
+          subst (λ (x : Option ℕ). IsAnswered (mode.Error (commit_code fault)) x a out) due.0 says,
+          record { config_is = refl; room = got.room; stage_is = refl; calls = got.calls; image = got.image; failed = rose (store_on (mapped u flash)) refl },
+        );
+        store = got.store;
+        sound = shaped_left (store_on (mapped u flash)) got.store;
+      }
+  fails fault d asked sound due all a out says = absurd due

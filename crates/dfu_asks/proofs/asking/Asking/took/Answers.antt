@@ -1,0 +1,72 @@
+use Rattle.std.proofs.Common.{◌≡◌, ℕ, ◌+◌, ◌≤◌, List, length, slice_range, refl, sym, ◌∙◌, ap, subst, arith}
+use Rattle.dfu_slots.specs.declared.fault.WriteFault.TheVariants.{Failed, NotVerified}
+use Rattle.dfu_slots.specs.Units.{in_place}
+use Rattle.dfu_slots.specs.Medium.{Write}
+use Rattle.dfu_asks.specs.declared.work.Work.{Work}
+use Rattle.dfu_asks.specs.declared.asking.Asking.{Asking}
+use Rattle.dfu_asks.specs.Carried.{carried, IsPiece}
+use Rattle.dfu_asks.specs.Jobs.{asked, writes_for, job_writes}
+use Rattle.dfu_asks.specs.Asks.{writes_in, IsWorking}
+use Rattle.dfu_asks.specs.Calls.{took_well, took_failed, took_lied}
+use Rattle.dfu_asks.proofs.Pieces.{piece_one}
+use Rattle.dfu_asks.proofs.Calling.{same_work, is_true, is_false, piece_failed, piece_stands}
+use Rattle.dfu_asks.proofs.asking.Asking.took.Goals as goal
+
+pub returns-then-failed-clause-outcome : goal.returns-then-failed-clause-outcome
+returns-then-failed-clause-outcome c = λ len s was before asks p piece torn.
+    let w = c.in-Some.work in
+    let same : asks.work ≡ w = same_work asks.work w (sym asks.work_is ∙ c.in-Some.is) in
+    took_failed c.fail-answer.result.0 c.fail-answer.result.1 c.if-failed.true refl
+    (piece_failed c.args.self.now len s was before asks p piece c.args.flash.now torn Failed c.fail-answer.new.self w.asked
+    c.fail-answer.result.0 c.fail-answer.result.1 c.args.out.now c.fail-answer.new.out (ap (λ (x : Work). x.asked) same)
+    c.fail-answer.ensures.broken c.fail-answer.ensures.gives)
+
+-- The piece that was asked for is the one that was taken.
+one_piece : (a : Asking) (w : Work) (x : Work) (ws : List Write) (p q : Write) → x ≡ w → ws ≡ writes_in a w → IsPiece (writes_in a x) x.done p
+    → IsPiece ws w.done q → p ≡ q
+one_piece a w x ws p q same is first second = piece_one (writes_in a w) w.done p q
+    (subst (λ (y : Work). IsPiece (writes_in a y) y.done p) same first) (subst (λ (l : List Write). IsPiece l w.done q) is second)
+
+pub returns-then-not-stands-clause-outcome : goal.returns-then-not-stands-clause-outcome
+returns-then-not-stands-clause-outcome c = λ len s was before asks p piece torn.
+    let a = c.args.self.now in
+    let w = c.in-Some.work in
+    let same : asks.work ≡ w = same_work asks.work w (sym asks.work_is ∙ c.in-Some.is) in
+    let e = c.stock.ensures in
+    let q = asked c.in-Some-next_piece.piece in
+    let one : p ≡ q = one_piece a w asks.work (writes_for w.job c.stock.result) p q same
+    (λ i. job_writes w.job (in_place (e.unit i)) (e.end i) (e.held i) (e.block i)) piece c.in-Some-next_piece.ensures.some in
+    let fail = c.fail-answer-then-not-stands in
+    took_lied fail.result.0 fail.result.1 c.if-failed.false
+    (λ st. is_false c.stands.result c.if-not-stands.true
+    (c.stands.ensures.stands.1 (subst (λ (y : Write). slice_range c.args.flash.now y.at (y.at + length y.bytes) ≡ y.bytes) one st)))
+    refl
+    (piece_failed a len s was before asks p piece c.args.flash.now torn NotVerified fail.new.self w.asked
+    fail.result.0 fail.result.1 c.args.out.now fail.new.out (ap (λ (x : Work). x.asked) same) fail.ensures.broken fail.ensures.gives)
+
+pub returns-clause-outcome : goal.returns-clause-outcome
+returns-clause-outcome c = λ len s was before asks p piece torn.
+    let a = c.args.self.now in
+    let flash = c.args.flash.now in
+    let w = c.in-Some.work in
+    let n = c.in-Some-next_piece.piece.len in
+    let same : asks.work ≡ w = same_work asks.work w (sym asks.work_is ∙ c.in-Some.is) in
+    let e = c.stock.ensures in
+    let q = asked c.in-Some-next_piece.piece in
+    let one : p ≡ q = one_piece a w asks.work (writes_for w.job c.stock.result) p q same
+    (λ i. job_writes w.job (in_place (e.unit i)) (e.end i) (e.held i) (e.block i)) piece c.in-Some-next_piece.ensures.some in
+    let on = is_true c.stands.result c.if-not-stands.false in
+    let there : slice_range flash p.at (p.at + length p.bytes) ≡ p.bytes =
+    subst (λ (y : Write). slice_range flash y.at (y.at + length y.bytes) ≡ y.bytes) (sym one) (c.stands.ensures.stands.0 on) in
+    let size : length p.bytes ≡ n = ap (λ (y : Write). length y.bytes) one ∙ c.in-Some-next_piece.ensures.count in
+    let fits : p.at + length p.bytes ≤ length flash =
+    omega (arith, c.stands.ensures.within on, ap (λ (y : Write). y.at) one, size) in
+    let k : IsWorking a w len s was = subst (λ (x : Work). IsWorking a x len s was) same asks.working in
+    let further : Work = record { job = w.job; asked = w.asked; done = w.done + n } in
+    let stood : flash ≡ carried was (writes_in a w) (w.done + length p.bytes) =
+    subst (λ (x : Work). flash ≡ carried was (writes_in a x) (x.done + length p.bytes)) same
+    (piece_stands a len s was before asks p piece flash torn fits there) in
+    took_well c.if-failed.false there
+    (c.advance.ensures len s was flash
+    (record { medium = k.medium; store = k.store; sound = k.sound; due = k.due })
+    (stood ∙ ap (λ (m : ℕ). carried was (writes_in a w) (w.done + m)) size))

@@ -1,0 +1,40 @@
+use Rattle.std.proofs.Common.{◌≡◌, ◌⊎◌, inl, inr, ◌/◌, ◌≤◌, length, sym, ◌∙◌, ap, arith}
+use Rattle.dfu_slots.specs.Medium.{MediumState}
+use Rattle.dfu_slots.specs.Image.{gate_of, spare_at}
+use Rattle.dfu_asks.specs.Mapped.{mapped}
+use Rattle.dfu_asks.proofs.Spared.{eq_from, spare_closed, spare_found}
+use Rattle.dfu_asks.proofs.asks.is_spare.Goals as goal
+use Rattle.dfu_asks.proofs.asks.is_spare.Goals.{then-at-half, else-at-half}
+
+pub bounds-flash-slot : goal.bounds-flash-slot
+bounds-flash-slot c = elim c.if-at-half.branch [
+  | then-at-half w ↦ omega (arith, w.if-at-half.true, w.slot-is, c.requires.some)
+  | else-at-half w ↦ omega (arith, w.if-at-half.false, w.slot-is, c.requires.some, c.if-at-len.false)
+]
+
+pub returns-then-flash-slot : goal.returns-then-flash-slot
+returns-then-flash-slot c = λ t image a.
+    let flash = c.args.flash.now in
+    let slot = c.if-at-half.slot in
+    let either : (slot ≡ 0) ⊎ (slot ≡ length flash / 2) = elim c.if-at-half.branch [
+      | then-at-half w ↦ inl w.slot-is
+      | else-at-half w ↦ inr w.slot-is
+    ] in
+    let low : slot ≤ c.args.at = elim c.if-at-half.branch [
+      | then-at-half w ↦ omega (arith, w.slot-is)
+      | else-at-half w ↦ omega (arith, w.if-at-half.false, w.slot-is)
+    ] in
+    spare_closed (mapped c.args.unit flash) image slot c.args.at c.args.len a either c.if-flash-slot.true low (omega (arith, c.if-at-len.false))
+
+pub returns-in-Ok : goal.returns-in-Ok
+returns-in-Ok c = λ t image a.
+    let flash = c.args.flash.now in
+    let slot = c.if-at-half.slot in
+    let m : c.in-Ok.slots.medium ≡ mapped c.args.unit flash = c.in-Ok.ensures.ok ∙ c.in-Some.ensures.some in
+    let is : spare_at (gate_of (mapped c.args.unit flash)) flash ≡ slot =
+    sym (ap (λ (x : MediumState). spare_at (gate_of x) x.bytes) m) ∙ sym c.spare_place.ensures ∙ sym c.from.ensures ∙ eq_from _ _ t in
+    let low : slot ≤ c.args.at = elim c.if-at-half.branch [
+      | then-at-half w ↦ omega (arith, w.slot-is)
+      | else-at-half w ↦ omega (arith, w.if-at-half.false, w.slot-is)
+    ] in
+    spare_found (mapped c.args.unit flash) slot c.args.at c.args.len is low (omega (arith, c.if-at-len.false))

@@ -1,0 +1,160 @@
+-- A device that asks for its writes.
+use Rattle.std.specs.Prelude.{◌≡◌, ℕ, ◌+◌, ◌-◌, ◌^◌, ◌≤◌, ◌==◌, ◌&&◌, not, min, Bool, true, false, IsTrue, List, [], ◌++◌, length, take, drop, Option, Some, None, if◌then◌else◌}
+use Rattle.dfu_suffix.specs.Register.{register}
+use Rattle.dfu_slots.specs.declared.fault.WriteFault.{WriteFault}
+use Rattle.dfu_slots.specs.Units.{in_place}
+use Rattle.dfu_slots.specs.Medium.{Write}
+use Rattle.dfu_slots.specs.Layout.{generation, next_generation}
+use Rattle.dfu_slots.specs.Image.{gate_of, spare_at}
+use Rattle.dfu_slots.specs.Writes.{put_rest}
+use Rattle.dfu_slots.specs.Seen.{SlotsState, store_of, active_slot, spare_of, is_begun}
+use Rattle.dfu_slots.specs.Store.{IsStore}
+use Rattle.dfu_device.specs.declared.mode.Mode.{Mode}
+use Rattle.dfu_device.specs.declared.mode.Mode.TheVariants as mode
+use Rattle.dfu_device.specs.Setting.{Setting}
+use Rattle.dfu_device.specs.declared.answer.Answer.{Answer}
+use Rattle.dfu_device.specs.declared.answer.Answer.TheVariants as answer
+use Rattle.dfu_device.specs.Stage.{StatusOf, Stage, InDownloadSync, InDownloadBusy, InManifestSync, InManifest, code_of, state_of}
+use Rattle.dfu_device.specs.Rows.{Answers}
+use Rattle.dfu_device.specs.Parts.{shows, stage_of, is_sound}
+use Rattle.dfu_device.specs.Shown.{Shown}
+use Rattle.dfu_device.specs.Table.{write_code, commit_code}
+use Rattle.dfu_asks.specs.declared.job.Job.{Job}
+use Rattle.dfu_asks.specs.declared.job.Job.TheVariants as job
+use Rattle.dfu_asks.specs.declared.work.Work.{Work}
+use Rattle.dfu_asks.specs.declared.asking.Asking.{Asking}
+use Rattle.dfu_asks.specs.Mapped.{mapped}
+use Rattle.dfu_asks.specs.Series.{held_before}
+use Rattle.dfu_asks.specs.Jobs.{job_writes}
+
+-- The block that is not written.
+abbrev pub block_in : Asking → List ℕ
+block_in a = take a.block.len a.block.memory.now
+
+-- The slot store on these bytes of flash.
+abbrev pub store_in : Asking → List ℕ → SlotsState
+store_in a flash = store_of (mapped a.unit flash) a.held.items a.put_end
+
+-- The device on these bytes of flash.
+abbrev pub device_in : Asking → List ℕ → Shown
+device_in a flash = shows a.config (store_in a flash) a.mode (block_in a)
+
+-- It is a device's.
+pub record IsDevice (a : Asking) (flash : List ℕ) : Type 0 where
+  pub store : IsStore (store_in a flash)
+  pub sound : IsTrue (is_sound a.mode (length (block_in a)) (store_in a flash))
+
+-- The job of a block behind n bytes, where the puts end here and this is held back.
+pub record IsBlockJob (n : ℕ) (s : SlotsState) (j : Job) (end : ℕ) (held : List ℕ) : Type 0 where
+  pub job_is : j ≡ job.Block (spare_at (gate_of s.medium) s.medium.bytes) ((n == 0) && not (is_begun s))
+  pub end_is : end ≡ n
+  pub held_is : held ≡ held_before s n
+
+-- The job of a commit of n bytes.
+pub record IsCommitJob (n : ℕ) (s : SlotsState) (j : Job) (end : ℕ) (held : List ℕ) : Type 0 where
+  pub job_is : j ≡ job.Commit (spare_at (gate_of s.medium) s.medium.bytes) (next_generation (generation (active_slot s)))
+      (register (take n (spare_of s)))
+  pub end_is : end ≡ n
+  pub held_is : held ≡ s.held
+
+-- The job of the row that is due in a mode, and how many bytes of a status are asked for then.
+abbrev pub IsDue : Mode → Option ℕ → ℕ → SlotsState → Job → ℕ → List ℕ → Type 0
+IsDue (mode.DownloadSync written number) asked len s j end held = (asked ≡ Some len) × IsBlockJob written s j end held
+IsDue (mode.DownloadBusy written number passed) asked len s j end held = (asked ≡ None) × IsBlockJob written s j end held
+IsDue (mode.ManifestSync written) asked len s j end held = (asked ≡ Some len) × IsCommitJob written s j end held
+IsDue (mode.Manifest written passed) asked len s j end held = (asked ≡ None) × IsCommitJob written s j end held
+IsDue m asked len s j end held = ⊥
+
+-- The writes of its work.
+abbrev pub writes_in : Asking → Work → List Write
+writes_in a w = job_writes w.job (in_place a.unit) a.put_end a.held.items (block_in a)
+
+-- It works for the row that is due in the device that it was, on these bytes of flash, in this slot store.
+pub record IsWorking (a : Asking) (w : Work) (len : ℕ) (s : SlotsState) (flash : List ℕ) : Type 0 where
+  pub medium : s.medium ≡ mapped a.unit flash
+  pub store : IsStore s
+  pub sound : IsTrue (is_sound a.mode (length (block_in a)) s)
+  pub due : IsDue a.mode w.asked len s w.job a.put_end a.held.items
+
+-- The device that it works for.
+abbrev pub device_of : Asking → SlotsState → Shown
+device_of a s = shows a.config s a.mode (block_in a)
+
+-- Where it goes once all is written; a sum of bytes stops at the largest number.
+abbrev pub capped : ℕ → ℕ → ℕ
+capped a b = min (a + b) (2 ^ 32 - 1)
+
+abbrev pub done_mode : Setting → Mode → ℕ → Mode
+done_mode c (mode.DownloadSync written number) n = mode.DownloadIdle (capped written n) number
+done_mode c (mode.DownloadBusy written number passed) n = mode.DownloadSyncWritten (capped written n) number
+done_mode c (mode.ManifestSync written) n = mode.DfuIdle
+done_mode c (mode.Manifest written passed) n = if c.functional.tolerant then mode.ManifestSyncComplete else mode.ManifestWaitReset
+done_mode c m n = m
+
+-- A block is written in this mode, and no image put in place.
+abbrev pub is_block : Mode → Bool
+is_block (mode.DownloadSync written number) = true
+is_block (mode.DownloadBusy written number passed) = true
+is_block m = false
+
+-- Where it goes where a write had this fault.
+abbrev pub failed_mode : WriteFault → Mode → Mode
+failed_mode fault m = if is_block m then mode.Error (write_code fault) else mode.Error (commit_code fault)
+
+-- All is written: what is kept then.
+pub record IsFinished (a : Asking) (a' : Asking) : Type 0 where
+  pub config : a'.config ≡ a.config
+  pub unit : a'.unit ≡ a.unit
+  pub mode : a'.mode ≡ done_mode a.config a.mode (length (block_in a))
+  pub block : block_in a' ≡ block_in a
+  pub held : a'.held.items ≡ (if is_block a.mode then put_rest a.unit a.held.items (block_in a) else [])
+  pub end : a'.put_end ≡ (if is_block a.mode then capped a.put_end (length (block_in a)) else 0)
+  pub work : a'.work ≡ None
+
+-- A write had this fault: what is kept then.
+pub record IsBrokenOff (fault : WriteFault) (a : Asking) (a' : Asking) : Type 0 where
+  pub config : a'.config ≡ a.config
+  pub unit : a'.unit ≡ a.unit
+  pub mode : a'.mode ≡ failed_mode fault a.mode
+  pub block : block_in a' ≡ block_in a
+  pub held : a'.held.items ≡ []
+  pub end : a'.put_end ≡ 0
+  pub work : a'.work ≡ None
+
+-- What is answered in this mode: the status, where a GETSTATUS asked for so many bytes of it.
+abbrev pub IsAnswered : Mode → Option ℕ → Answer → List ℕ → Type 0
+IsAnswered m None a out = (a ≡ answer.Ack) × (out ≡ [])
+IsAnswered m (Some len) a out = (spare block : List ℕ)
+    → Answers len (StatusOf (code_of (stage_of m spare block)) 0 (state_of (stage_of m spare block))) a out
+
+-- The bytes of that answer stand at the front of a buffer.
+pub record Gives (m : Mode) (asked : Option ℕ) (a : Answer) (count : ℕ) (out out' : List ℕ) : Type 0 where
+  pub sent : List ℕ
+  pub says : IsAnswered m asked a sent
+  pub count_is : count ≡ length sent
+  pub fits : count ≤ 6
+  pub out_is : out' ≡ sent ++ drop count out
+
+-- All that is kept but the mode and the block is as it was.
+pub record IsRest (a a' : Asking) : Type 0 where
+  pub config : a'.config ≡ a.config
+  pub unit : a'.unit ≡ a.unit
+  pub held : a'.held.items ≡ a.held.items
+  pub end : a'.put_end ≡ a.put_end
+  pub work : a'.work ≡ a.work
+
+-- The job of the row that is due in a mode.
+abbrev pub IsJobOf : Mode → SlotsState → Job → ℕ → List ℕ → Type 0
+IsJobOf (mode.DownloadSync written number) s j end held = IsBlockJob written s j end held
+IsJobOf (mode.DownloadBusy written number passed) s j end held = IsBlockJob written s j end held
+IsJobOf (mode.ManifestSync written) s j end held = IsCommitJob written s j end held
+IsJobOf (mode.Manifest written passed) s j end held = IsCommitJob written s j end held
+IsJobOf m s j end held = ⊥
+
+-- A row that writes is due in this stage, and so many bytes of a status are asked for then.
+abbrev pub IsDueStage : Stage → Option ℕ → ℕ → Type 0
+IsDueStage (InDownloadSync before block number) asked len = asked ≡ Some len
+IsDueStage (InDownloadBusy before block number passed) asked len = asked ≡ None
+IsDueStage (InManifestSync taken) asked len = asked ≡ Some len
+IsDueStage (InManifest taken passed) asked len = asked ≡ None
+IsDueStage stage asked len = ⊥

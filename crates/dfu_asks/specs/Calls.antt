@@ -1,0 +1,65 @@
+-- What a call of a device that asks leaves.
+use Rattle.std.specs.Prelude.{◌≡◌, ℕ, ◌+◌, ◌<◌, Bool, true, false, List, ◌++◌, length, drop, slice_range, Some, None}
+use Rattle.dfu_slots.specs.declared.fault.WriteFault.TheVariants.{Failed, NotVerified}
+use Rattle.dfu_slots.specs.Medium.{Write}
+use Rattle.dfu_slots.specs.Seen.{SlotsState}
+use Rattle.dfu_device.specs.declared.answer.Answer.{Answer}
+use Rattle.dfu_device.specs.Shown.{Shown}
+use Rattle.dfu_asks.specs.declared.work.Work.{Work}
+use Rattle.dfu_asks.specs.declared.asking.Asking.{Asking}
+use Rattle.dfu_asks.specs.declared.reply.Reply.{Reply}
+use Rattle.dfu_asks.specs.declared.reply.Reply.TheVariants as reply
+use Rattle.dfu_asks.specs.Carried.{total, carried}
+use Rattle.dfu_asks.specs.Due.{IsDueRow, Works, Fails}
+use Rattle.dfu_asks.specs.Asks.{store_in, device_in, device_of, IsDevice, IsWorking, writes_in}
+
+-- The bytes of an answer stand at the front of a buffer, and the rest of it is as it was.
+pub record Gave (a : Answer) (count : ℕ) (out out' : List ℕ) (Row : Answer → List ℕ → Type 0) : Type 0 where
+  pub sent : List ℕ
+  pub count_is : count ≡ length sent
+  pub out_is : out' ≡ sent ++ drop count out
+  pub row : Row a sent
+
+-- A call has come to its end: it made this row, and what is kept is a device, with nothing left to be written.
+pub record HasEnded (flash : List ℕ) (a : Answer) (count : ℕ) (out out' : List ℕ) (now : Asking)
+    (Row : Answer → List ℕ → Shown → Type 0) : Type 0 where
+  pub gave : Gave a count out out' (λ x sent. Row x sent (device_in now flash))
+  pub work : now.work ≡ None
+  pub is : IsDevice now flash
+
+-- A device asks for the writes of the row that is due in it, of which so many bytes are carried out on its flash: `was` was its flash
+-- before the first of them.
+pub record Asks (a : Asking) (len : ℕ) (s : SlotsState) (was flash : List ℕ) : Type 0 where
+  pub work : Work
+  pub work_is : a.work ≡ Some work
+  pub working : IsWorking a work len s was
+  pub left : work.done < total (writes_in a work)
+  pub flash_is : flash ≡ carried was (writes_in a work) work.done
+
+-- What comes of a device that works for the row that is due: it asks, further on; or the row came to its end.
+pub data Comes (d : Shown) (len : ℕ) (s : SlotsState) (was flash out : List ℕ) (now : Asking) (out' : List ℕ) : Reply → Type 0 where
+  comes_asks : Asks now len s was flash → device_of now s ≡ d → out' ≡ out → Comes d len s was flash out now out' reply.Asks
+  comes_ended : (x : Answer) (count : ℕ) → HasEnded flash x count out out' now (λ y sent w'. Works len d y sent w')
+      → Comes d len s was flash out now out' (reply.Answered x count)
+
+-- A call of a device on this flash answered by this row; or the row writes, and its writes are asked for now, from the first on.
+pub data Called (a : Asking) (flash out : List ℕ) (Row : Answer → List ℕ → Shown → Type 0) (now : Asking) (out' : List ℕ)
+    : Reply → Type 0 where
+  called_ended : (x : Answer) (count : ℕ) → HasEnded flash x count out out' now Row → Called a flash out Row now out' (reply.Answered x count)
+  called_asks : (len : ℕ) → Asks now len (store_in a flash) flash flash → device_of now (store_in a flash) ≡ device_in a flash
+      → IsDueRow len (device_in a flash) Row → out' ≡ out → Called a flash out Row now out' reply.Asks
+
+-- The program says how a piece went, which was to be written where these bytes stood.
+pub data Took (d : Shown) (len : ℕ) (s : SlotsState) (was : List ℕ) (p : Write) (failed : Bool) (flash out : List ℕ) (now : Asking)
+    (out' : List ℕ) (r : Reply) : Type 0 where
+  -- It stands there: the device asks on, or the row came to its end.
+  took_well : failed ≡ false → slice_range flash p.at (p.at + length p.bytes) ≡ p.bytes → Comes d len s was flash out now out' r
+      → Took d len s was p failed flash out now out' r
+  -- The write failed: the row with that fault.
+  took_failed : (x : Answer) (count : ℕ) → failed ≡ true → r ≡ reply.Answered x count
+      → HasEnded flash x count out out' now (λ y sent w'. Fails Failed len d y sent w')
+      → Took d len s was p failed flash out now out' r
+  -- Other bytes stand there: the row with that fault.
+  took_lied : (x : Answer) (count : ℕ) → failed ≡ false → ¬ (slice_range flash p.at (p.at + length p.bytes) ≡ p.bytes)
+      → r ≡ reply.Answered x count → HasEnded flash x count out out' now (λ y sent w'. Fails NotVerified len d y sent w')
+      → Took d len s was p failed flash out now out' r

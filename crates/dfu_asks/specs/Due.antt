@@ -1,0 +1,51 @@
+-- The rows that write, and what comes of them once their writes are carried out.
+use Rattle.std.specs.Prelude.{ℕ, ◌==◌, Bool, false, List, ◌++◌, if◌then◌else◌}
+use Rattle.dfu_slots.specs.declared.fault.WriteFault.{WriteFault}
+use Rattle.dfu_device.specs.declared.answer.Answer.{Answer}
+use Rattle.dfu_device.specs.Stage.{Request, GetStatus, Ack, Stall, Profile, Stage, InDownloadSync, InDownloadSyncWritten, InDownloadBusy, InDownloadIdle, InManifestSync, InManifestSyncComplete, InManifest, InManifestWaitReset, InDfuIdle}
+use Rattle.dfu_device.specs.Table.{Plan, Sure, Writes, Commits, write_and_report, commit_and_report}
+use Rattle.dfu_device.specs.Shown.{Shown, profile}
+use Rattle.dfu_device.specs.Rows.{Answers, WroteBlock, FailedBlock, Committed, FailedCommit}
+
+-- The row of a stage that writes: GETSTATUS with a time of 0 in dfuDNLOAD-SYNC and dfuMANIFEST-SYNC, the end of dfuDNBUSY and of dfuMANIFEST.
+abbrev pub due_plan : Profile → Stage → Plan
+due_plan c (InDownloadSync before block number) = write_and_report c before block (InDownloadIdle (before ++ block) number)
+due_plan c (InDownloadBusy before block number passed) =
+    Writes before block Ack (InDownloadSyncWritten (before ++ block) number) (λ fault. Ack)
+due_plan c (InManifestSync taken) = commit_and_report c taken InDfuIdle
+due_plan c (InManifest taken passed) =
+    Commits taken Ack (if c.tolerant then InManifestSyncComplete else InManifestWaitReset) (λ fault. Ack)
+due_plan c stage = Sure Stall stage
+
+-- A plan that writes was carried out, and all its writes worked.
+abbrev pub WorksOut : Plan → ℕ → Shown → Answer → List ℕ → Shown → Type 0
+WorksOut (Sure reply stage) len w a out w' = ⊥
+WorksOut (Writes before block reply stage bad) len w a out w' = Answers len reply a out × WroteBlock before block w.config w.slots stage w'
+WorksOut (Commits taken reply stage bad) len w a out w' = Answers len reply a out × Committed taken w.config w.slots stage w'
+
+-- A plan that writes was broken off by a write that had this fault.
+abbrev pub FailsOut : WriteFault → Plan → ℕ → Shown → Answer → List ℕ → Shown → Type 0
+FailsOut fault (Sure reply stage) len w a out w' = ⊥
+FailsOut fault (Writes before block reply stage bad) len w a out w' =
+    Answers len (bad fault) a out × FailedBlock fault before block w.config w.slots w'
+FailsOut fault (Commits taken reply stage bad) len w a out w' =
+    Answers len (bad fault) a out × FailedCommit fault taken w.config w.slots w'
+
+-- What comes of the row that is due in a device.
+abbrev pub Works : ℕ → Shown → Answer → List ℕ → Shown → Type 0
+Works len w a out w' = WorksOut (due_plan (profile w) w.stage) len w a out w'
+
+-- And what comes of it where a write has this fault.
+abbrev pub Fails : WriteFault → ℕ → Shown → Answer → List ℕ → Shown → Type 0
+Fails fault len w a out w' = FailsOut fault (due_plan (profile w) w.stage) len w a out w'
+
+-- What comes of the due row, its writes working or one of them having a fault, is what this row says.
+pub record IsDueRow (len : ℕ) (w : Shown) (Row : Answer → List ℕ → Shown → Type 0) : Type 0 where
+  pub works : (a : Answer) (out : List ℕ) (w' : Shown) → Works len w a out w' → Row a out w'
+  pub fails : (fault : WriteFault) (a : Answer) (out : List ℕ) (w' : Shown) → Fails fault len w a out w' → Row a out w'
+
+-- A request writes in this stage.
+abbrev pub writes_now : Profile → Stage → Request → Bool
+writes_now c (InDownloadSync before block number) GetStatus = c.busy == 0
+writes_now c (InManifestSync taken) GetStatus = c.manifest == 0
+writes_now c stage request = false

@@ -1,0 +1,7 @@
+pub mod Mapped
+pub mod Carried
+pub mod Series
+pub mod Jobs
+pub mod Due
+pub mod Asks
+pub mod Calls

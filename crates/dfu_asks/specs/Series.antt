@@ -1,0 +1,51 @@
+-- The series of writes of a row, as one list, and what is left once they are carried out.
+use Rattle.std.specs.Prelude.{◌≡◌, ◌⊎◌, ℕ, ◌+◌, ◌==◌, true, if◌then◌else◌, List, [], ◌∷◌, ◌++◌, length, take}
+use Rattle.dfu_slots.specs.declared.fault.WriteFault.{WriteFault}
+use Rattle.dfu_slots.specs.Medium.{MediumState, Write}
+use Rattle.dfu_slots.specs.Writes.{put_writes, put_rest}
+use Rattle.dfu_slots.specs.Seen.{SlotsState, store_of, data_place, image_of, spare_of, room_of, Begin, Put, Commit, writes_of, AllWorked, BrokenBy, Called}
+use Rattle.dfu_slots.specs.Store.{IsStore}
+use Rattle.dfu_device.specs.Parts.{is_put}
+use Rattle.dfu_device.specs.Rows.{block_calls}
+
+-- What is held back before a block that comes behind so many bytes: nothing before the first one.
+abbrev pub held_before : SlotsState → ℕ → List ℕ
+held_before s n = if n == 0 then [] else s.held
+
+-- The writes of a block behind so many bytes; before the first one the spare is closed.
+abbrev pub block_series : SlotsState → ℕ → List ℕ → List Write
+block_series s n block = if n == 0 then writes_of s Begin ++ put_writes s.medium.grain (data_place s 0) [] block else writes_of s (Put n block)
+
+-- The store once they are made.
+abbrev pub block_store : SlotsState → ℕ → List ℕ → MediumState → SlotsState
+block_store s n block m = store_of m (put_rest s.medium.grain.unit (held_before s n) block) (n + length block)
+
+-- The block was written behind so many bytes: the calls of its row worked, and the image stays.
+pub record BlockWritten (s : SlotsState) (n : ℕ) (block : List ℕ) (now : SlotsState) : Type 0 where
+  pub calls : Called s (block_calls (take n (spare_of s)) block) AllWorked now
+  pub store : IsStore now
+  pub image : image_of now ≡ image_of s
+  pub room : room_of now ≡ room_of s
+  pub put : is_put (n + length block) now ≡ true
+  pub spare : take (n + length block) (spare_of now) ≡ take n (spare_of s) ++ block
+
+-- A write of the block had this fault: the calls of its row were broken off by it, and the image stays.
+pub record BlockBroken (fault : WriteFault) (s : SlotsState) (n : ℕ) (block : List ℕ) (now : SlotsState) : Type 0 where
+  pub calls : Called s (block_calls (take n (spare_of s)) block) (BrokenBy fault) now
+  pub store : IsStore now
+  pub image : image_of now ≡ image_of s
+  pub room : room_of now ≡ room_of s
+
+-- What was put was made the active image.
+pub record CommitDone (s : SlotsState) (n : ℕ) (now : SlotsState) : Type 0 where
+  pub calls : Called s (Commit (length (take n (spare_of s))) ∷ []) AllWorked now
+  pub store : IsStore now
+  pub image : image_of now ≡ take n (spare_of s)
+  pub room : room_of now ≡ room_of s
+
+-- A write of the commit had this fault: the old image is active, or the whole new one.
+pub record CommitBroken (fault : WriteFault) (s : SlotsState) (n : ℕ) (now : SlotsState) : Type 0 where
+  pub calls : Called s (Commit (length (take n (spare_of s))) ∷ []) (BrokenBy fault) now
+  pub store : IsStore now
+  pub image : (image_of now ≡ image_of s) ⊎ (image_of now ≡ take n (spare_of s))
+  pub room : room_of now ≡ room_of s

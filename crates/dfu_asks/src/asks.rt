@@ -1,0 +1,118 @@
+//! The writes that are asked for: the next one, and how it went.
+ghost use Rattle.std.specs.Prelude.{◌≡◌, ◌≢◌, ◌+◌, ◌≤◌, ◌<◌, ◌^◌, ◌↔◌, ℕ, List, length, take, slice_range, Some, IfOk, IfSome, OnErr, IsTrue};
+ghost use Rattle.dfu_slots.specs.Medium.{Write, Torn};
+ghost use Rattle.dfu_slots.specs.Image.{Active};
+ghost use Rattle.dfu_slots.specs.Seen.{SlotsState};
+ghost use Rattle.dfu_asks.specs.Mapped.{mapped, IsInSpare};
+ghost use Rattle.dfu_asks.specs.Carried.{IsPiece};
+ghost use Rattle.dfu_asks.specs.Jobs.{asked};
+ghost use Rattle.dfu_asks.specs.Asks.{writes_in, device_of};
+ghost use Rattle.dfu_asks.specs.Calls.{Asks, Took};
+ghost use Rattle.dfu_asks.specs.declared.work.Work.{Work};
+
+use crate::piece::next_piece;
+use crate::start::spare_place;
+use crate::{Asking, Mapped, Piece, Refusal, Reply, Work};
+use dfu_slots::{Slots, Unit, WriteFault};
+
+// The first byte of an open gate.
+const OPEN_GATE: u8 = 0xa5;
+
+// Whether the bytes of a piece stand where it was to be written.
+fn stands(flash: &[u8], piece: &Piece) -> bool
+    requires some { 0 < piece.now.len }
+    requires most { piece.now.len ≤ 256 }
+    requires small { piece.now.at < 2 ^ 41 }
+    ensures within { IsTrue result → piece.now.at + piece.now.len ≤ length flash.now }
+    ensures stands { let p = asked piece.now in
+        IsTrue result ↔ (slice_range flash.now p.at (p.at + length p.bytes) ≡ p.bytes) }
+{
+    if piece.at + piece.len as u64 > flash.len() as u64 {
+        return false;
+    }
+    let at = piece.at as usize;
+    flash[at..at + piece.len] == piece.bytes[..piece.len]
+}
+
+// Whether a range lies within the spare slot of this flash.
+fn is_spare(flash: &[u8], unit: Unit, at: u64, len: u64) -> bool
+    requires small { at + len < 2 ^ 42 }
+    requires some { 0 < len }
+    ensures { IsTrue result → (image : List ℕ) → Active (mapped unit flash.now) image → IsInSpare (mapped unit flash.now) at len }
+{
+    let half = flash.len() as u64 / 2;
+    let slot = if at < half { 0 } else { half };
+    if at + len > slot + half {
+        return false;
+    }
+    if flash[slot as usize] != OPEN_GATE {
+        return true;
+    }
+    let Some(medium) = Mapped::new(flash, unit) else {
+        return false;
+    };
+    match Slots::open(medium) {
+        Ok(slots) => u64::from(spare_place(&slots)) == slot,
+        Err(_) => false,
+    }
+}
+
+impl Asking<'_> {
+    /// The next write that is asked for, at most 256 bytes. Whatever is kept, it lies within the spare slot of the flash as it
+    /// stands, where that has an active image.
+    ///
+    /// None where no write is due, or its range does not lie so.
+    pub fn next(&self, flash: &[u8]) -> Option<Piece>
+        ensures piece { IfSome result (λ p. (w : Work) → self.now.work ≡ Some w → IsPiece (writes_in self.now w) w.done (asked p)) }
+        ensures most { IfSome result (λ p. (0 < p.len) × (p.len ≤ 256)) }
+        ensures spare { IfSome result (λ p. (image : List ℕ) → Active (mapped self.now.unit flash.now) image →
+            IsInSpare (mapped self.now.unit flash.now) p.at p.len) }
+    {
+        let work = self.work?;
+        let piece = next_piece(work.job, &self.stock(), work.done as usize)?;
+        if is_spare(flash, self.unit, piece.at, piece.len as u64) {
+            Some(piece)
+        } else {
+            None
+        }
+    }
+
+    /// The write that `next` gave was carried out, or it failed. It is read back on the flash.
+    ///
+    /// It asks for the next write; or the row has come to its end, and this is its answer.
+    ///
+    /// # Errors
+    ///
+    /// `NoRoom` where the buffer has less than 6 bytes; else `NoDevice` where no write is due. Nothing changed then.
+    pub fn took(&mut self, flash: &[u8], failed: bool, out: &mut [u8]) -> Result<Reply, Refusal>
+        ensures outcome { IfOk result (λ r. (len : ℕ) (s : SlotsState) (was before : List ℕ) (asks : Asks self.old len s was before) (p : Write) →
+            IsPiece (writes_in self.old asks.work) asks.work.done p → Torn before p.at p.bytes flash.now →
+            Took (device_of self.old s) len s was p failed flash.now out.old self.new out.new r) }
+        ensures refused { OnErr result ((len : ℕ) (s : SlotsState) (was before : List ℕ) → Asks self.old len s was before → length out.old < 6) }
+        ensures unchanged { OnErr result ((self.new ≡ self.old) × (out.new ≡ out.old)) }
+    {
+        if out.len() < 6 {
+            return Err(Refusal::NoRoom);
+        }
+        let Some(work) = self.work else {
+            return Err(Refusal::NoDevice);
+        };
+        let Some(piece) = next_piece(work.job, &self.stock(), work.done as usize) else {
+            return Err(Refusal::NoDevice);
+        };
+        if failed {
+            let (answer, count) = self.fail(WriteFault::Failed, work.asked, out);
+            return Ok(Reply::Answered(answer, count));
+        }
+        if !stands(flash, &piece) {
+            let (answer, count) = self.fail(WriteFault::NotVerified, work.asked, out);
+            return Ok(Reply::Answered(answer, count));
+        }
+        let further = Work {
+            job: work.job,
+            asked: work.asked,
+            done: work.done + piece.len as u32,
+        };
+        Ok(self.advance(further, out))
+    }
+}

@@ -1,0 +1,41 @@
+//! Laws of what is asked. Each is the contract of a function with an empty body, which is proved and not to be called.
+
+ghost use Rattle.std.specs.Prelude.{◌≡◌, ◌⊎◌, ◌+◌, ◌≤◌, ℕ, List, length, true};
+ghost use Rattle.dfu_slots.specs.declared.unit.Unit.{Unit as WriteUnit};
+ghost use Rattle.dfu_slots.specs.declared.fault.WriteFault.{WriteFault};
+ghost use Rattle.dfu_slots.specs.Medium.{MediumState, Write, AllWrites, BrokenWrites, Torn, written};
+ghost use Rattle.dfu_slots.specs.Seen.{SlotsState, Commit, writes_of, store_on, room_of, is_shaped};
+ghost use Rattle.dfu_slots.specs.Store.{IsStore};
+ghost use Rattle.dfu_device.specs.Parts.{is_put};
+ghost use Rattle.dfu_asks.specs.Mapped.{mapped};
+ghost use Rattle.dfu_asks.specs.Carried.{total, carried, AreWithin, IsPiece};
+ghost use Rattle.dfu_asks.specs.Series.{block_series, block_store, BlockWritten, BlockBroken, CommitDone, CommitBroken};
+
+/// Whoever carries a series out piece by piece has made its writes: carried out to its end it is all of them; behind a piece
+/// that is carried out it stands one piece further; and whatever becomes of a piece, any bytes in its range, the series was
+/// broken off in the write that the piece is of.
+pub fn pieces_are_the_writes()
+    ensures all { (unit : WriteUnit) (writes : List Write) (bytes : List ℕ) →
+        AllWrites (mapped unit bytes) writes (mapped unit (carried bytes writes (total writes))) }
+    ensures next { (writes : List Write) (bytes : List ℕ) (n : ℕ) (piece : Write) → AreWithin writes (length bytes) → IsPiece writes n piece →
+        carried bytes writes (n + length piece.bytes) ≡ written (carried bytes writes n) piece.at piece.bytes }
+    ensures torn { (unit : WriteUnit) (fault : WriteFault) (writes : List Write) (bytes now : List ℕ) (n : ℕ) (piece : Write) →
+        AreWithin writes (length bytes) → IsPiece writes n piece → Torn (carried bytes writes n) piece.at piece.bytes now →
+        BrokenWrites fault (mapped unit bytes) writes (mapped unit now) }
+{}
+
+/// Whoever makes the writes of a row, in their order, has made the calls of the row; where one of them had a fault, the row's
+/// calls were broken off by it. Nothing else of a row touches the medium.
+pub fn writes_are_the_calls()
+    ensures block { (s : SlotsState) (n : ℕ) (block : List ℕ) (now : MediumState) → IsStore s → is_shaped s ≡ true →
+        (n ≡ 0) ⊎ (is_put n s ≡ true) → n + length block ≤ room_of s →
+        AllWrites s.medium (block_series s n block) now → BlockWritten s n block (block_store s n block now) }
+    ensures block_broken { (fault : WriteFault) (s : SlotsState) (n : ℕ) (block : List ℕ) (now : MediumState) → IsStore s →
+        is_shaped s ≡ true → (n ≡ 0) ⊎ (is_put n s ≡ true) → n + length block ≤ room_of s →
+        BrokenWrites fault s.medium (block_series s n block) now → BlockBroken fault s n block (store_on now) }
+    ensures commit { (s : SlotsState) (n : ℕ) (now : MediumState) → IsStore s → is_shaped s ≡ true → is_put n s ≡ true → n ≤ room_of s →
+        AllWrites s.medium (writes_of s (Commit n)) now → CommitDone s n (store_on now) }
+    ensures commit_broken { (fault : WriteFault) (s : SlotsState) (n : ℕ) (now : MediumState) → IsStore s → is_shaped s ≡ true →
+        is_put n s ≡ true → n ≤ room_of s →
+        BrokenWrites fault s.medium (writes_of s (Commit n)) now → CommitBroken fault s n (store_on now) }
+{}

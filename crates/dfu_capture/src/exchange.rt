@@ -1,0 +1,53 @@
+//! A request and its answer.
+
+use crate::address::Address;
+
+/// What was seen of an answer.
+#[derive(Clone, Copy)]
+pub(crate) enum Seen<'c> {
+    Stall,
+    Nothing,
+    Bytes(&'c [u8]),
+}
+
+/// A request and its answer.
+#[derive(Clone, Copy)]
+pub(crate) struct Exchange<'c> {
+    pub address: Address,
+    pub setup: [u8; 8],
+    pub body: &'c [u8],
+    pub seen: Seen<'c>,
+    /// Not all of its bytes were captured.
+    pub is_cut: bool,
+}
+
+impl Exchange<'_> {
+    /// The address that SET_ADDRESS gives, where it is one.
+    pub(crate) fn new_address(&self) -> Option<Address> {
+        match self.setup {
+            [0, 5, low, ..] => Some(Address {
+                bus: self.address.bus,
+                device: low,
+            }),
+            _ => None,
+        }
+    }
+
+    /// Whether it is a request of the class to an interface.
+    pub(crate) fn is_class(&self) -> bool {
+        let [kind, ..] = self.setup;
+        kind == 0x21 || kind == 0xa1
+    }
+
+    /// Whether it is one by which a device of DFU is known, at this interface: DETACH, GETSTATUS of 6 bytes, or GETSTATE of 1.
+    pub(crate) fn tells_dfu(&self, interface: u8) -> bool {
+        let [kind, request, _, _, low, high, length, length_high] = self.setup;
+        low == interface
+            && high == 0
+            && length_high == 0
+            && matches!(
+                (kind, request, length),
+                (0x21, 0, 0) | (0xa1, 3, 6) | (0xa1, 5, 1)
+            )
+    }
+}

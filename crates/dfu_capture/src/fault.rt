@@ -1,0 +1,16 @@
+//! Why a capture gives no log.
+
+/// Why a capture gives no log.
+#[derive(Clone, Copy, Debug, PartialEq, Eq)]
+pub enum CaptureFault {
+    /// Its packets aren't those of usbmon: link type 189 or 220.
+    NotUsbmon,
+    /// A transfer of the device was captured in part.
+    CutPacket,
+    /// No device, or not the one that was asked for, got a request of DFU.
+    NoDevice,
+    /// More than one device got requests of DFU, and none was asked for.
+    ManyDevices,
+    /// An allocation was refused.
+    NoMemory,
+}

@@ -1,0 +1,143 @@
+//! Submissions and completions are joined.
+
+ghost use Rattle.std.specs.Prelude.{◌≤◌, length};
+
+use crate::address::Address;
+use crate::exchange::{Exchange, Seen};
+use crate::fault::CaptureFault;
+use crate::numbers::from;
+use crate::records::{Form, form_of, head_of};
+use crate::usbmon::{self, Kind, UsbEvent, event_of};
+use std::alloc::Global;
+
+/// A transfer that was submitted and isn't completed.
+#[derive(Clone, Copy)]
+struct Pending<'c> {
+    id: [u8; 8],
+    address: Address,
+    setup: [u8; 8],
+    body: &'c [u8],
+    is_cut: bool,
+    is_done: bool,
+}
+
+/// What was seen of the answer to a transfer, by its completion.
+fn seen_of<'c>(setup: &[u8; 8], event: &UsbEvent<'c>) -> Seen<'c> {
+    let [kind, _, _, _, _, _, low, high] = *setup;
+    let wanted = u16::from_le_bytes([low, high]) as u32;
+    match event.status {
+        0 if kind >= 0x80 => Seen::Bytes(event.data),
+        0 if event.length == wanted => Seen::Bytes(&[]),
+        usbmon::STALL => Seen::Stall,
+        _ => Seen::Nothing,
+    }
+}
+
+/// Transfers, as they come.
+#[derive(Drop)]
+struct Joining<'c> {
+    pending: Vec<Pending<'c>>,
+    exchanges: Vec<Exchange<'c>>,
+}
+
+impl<'c> Joining<'c> {
+    /// A transfer is submitted.
+    fn submit(&mut self, event: &UsbEvent<'c>, setup: [u8; 8]) -> Result<(), CaptureFault> {
+        let [kind, ..] = setup;
+        let new = Pending {
+            id: event.id,
+            address: event.address,
+            setup,
+            body: if kind < 0x80 { event.data } else { &[] },
+            is_cut: kind < 0x80 && event.is_cut,
+            is_done: false,
+        };
+        for old in &mut self.pending {
+            if old.is_done || old.id == new.id {
+                *old = new;
+                return Ok(());
+            }
+        }
+        match self.pending.push(new) {
+            Ok(()) => Ok(()),
+            Err(_) => Err(CaptureFault::NoMemory),
+        }
+    }
+
+    /// The transfer of this id, which is taken.
+    fn take(&mut self, id: &[u8; 8]) -> Option<Pending<'c>> {
+        for old in &mut self.pending {
+            if !old.is_done && old.id == *id {
+                old.is_done = true;
+                return Some(*old);
+            }
+        }
+        None
+    }
+
+    /// A transfer is completed.
+    fn complete(&mut self, event: &UsbEvent<'c>) -> Result<(), CaptureFault> {
+        let Some(began) = self.take(&event.id) else {
+            return Ok(());
+        };
+        let [kind, ..] = began.setup;
+        let exchange = Exchange {
+            address: began.address,
+            setup: began.setup,
+            body: began.body,
+            seen: seen_of(&began.setup, event),
+            is_cut: began.is_cut || kind >= 0x80 && event.status == 0 && event.is_cut,
+        };
+        if !exchange.is_class() && exchange.new_address().is_none() {
+            return Ok(());
+        }
+        match self.exchanges.push(exchange) {
+            Ok(()) => Ok(()),
+            Err(_) => Err(CaptureFault::NoMemory),
+        }
+    }
+
+    /// An event comes.
+    fn come(&mut self, event: &UsbEvent<'c>) -> Result<(), CaptureFault> {
+        match (event.kind, event.setup) {
+            (Kind::Submits, Some(setup)) => self.submit(event, setup),
+            (Kind::Completes, _) => self.complete(event),
+            _ => Ok(()),
+        }
+    }
+}
+
+/// The requests of the class and those of SET_ADDRESS, with their answers, in the order of the completions. A completion without a
+/// submission is passed over, as at the begin of a capture, and so is a submission without a completion.
+///
+/// NotUsbmon where it is no capture, or a packet has another link type; NoMemory where an allocation was refused.
+pub(crate) fn exchanges_of(
+    alloc: Global,
+    capture: &[u8],
+) -> Result<Vec<Exchange<'_>>, CaptureFault> {
+    let Some(mut form) = form_of(capture) else {
+        return Err(CaptureFault::NotUsbmon);
+    };
+    let mut joining = Joining {
+        pending: Vec::new(alloc),
+        exchanges: Vec::new(alloc),
+    };
+    let mut rest = from(capture, head_of(&form));
+    while !rest.is_empty() {
+        let Some(record) = form.record(rest) else {
+            break;
+        };
+        if let Some(packet) = record.packet {
+            if usbmon::head_of(packet.link).is_none() {
+                return Err(CaptureFault::NotUsbmon);
+            }
+            if let Some(event) = event_of(&packet) {
+                joining.come(&event)?;
+            }
+        }
+        let (_, behind) = rest.split_at(record.size.min(rest.len()));
+        rest = behind;
+    }
+    let Joining { exchanges, .. } = joining;
+    Ok(exchanges)
+}

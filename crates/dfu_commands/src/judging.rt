@@ -1,0 +1,158 @@
+//! `dfu judge`: the verdict on a log or a capture of a file or of standard input.
+
+use crate::captures::{Headed, MAX_CAPTURE, capture_line, capture_why, gather_fault};
+use crate::field::number_of;
+use crate::watching::Watched;
+use dfu_capture::{Address, is_capture, log_of};
+use dfu_files::{error_reason, file_reason, open};
+use dfu_judge::LineFault;
+use dfu_judge_text::{LogFault, judge_with_fault};
+use dfu_suffix::{SuffixFault, gather};
+use dfu_text::{Answer, Exit, fault_text, write_out};
+use std::alloc::Global;
+use std::io::{self, Read};
+use std::rt::Files;
+
+/// The number of an interface, 0 to 255.
+pub(crate) fn interface_in(word: &str) -> Option<u8> {
+    match number_of(word) {
+        Some(number) => u8::try_from(number).ok(),
+        None => None,
+    }
+}
+
+/// What is wrong with a line, in words.
+fn fault_why(why: LineFault) -> &'static str {
+    match why {
+        LineFault::Long => "it has over 262,158 bytes",
+        LineFault::Setup => {
+            "its first field isn't the sixteen hexadecimal digits of a setup, and it isn't reset or power"
+        }
+        LineFault::Body => "its second field isn't the bytes of a body in hexadecimal digits, or -",
+        LineFault::Answer => {
+            "behind its second field isn't ack, stall, nothing or the bytes of an answer in hexadecimal digits"
+        }
+    }
+}
+
+/// Why a log was judged no further, where its line doesn't say it.
+fn stop_reason<S>(
+    alloc: Global,
+    name: &str,
+    fault: LogFault,
+    watched: &Watched<S>,
+) -> Option<String> {
+    match fault {
+        LogFault::BadLine { number, why } => {
+            let why = fault_why(why);
+            match format!(in alloc; "line {number}: {why}") {
+                Ok(why) => file_reason(alloc, name, &why),
+                Err(_) => None,
+            }
+        }
+        LogFault::Read => match &watched.error {
+            Some(error) => error_reason(alloc, name, error),
+            None => None,
+        },
+        _ => None,
+    }
+}
+
+/// What is to be judged of what a reader gives: the number of the interface, and of a capture the address.
+#[derive(Clone, Copy)]
+pub(crate) struct Judged<'w> {
+    /// The name of the file.
+    pub name: &'w str,
+    /// The number of the interface.
+    pub interface: u8,
+    /// The address, where one is named.
+    pub only: Option<Address>,
+}
+
+/// Judges the log that a reader gives.
+fn judge_text_of<R: Print + AllocGlobal, S: Read + Drop>(
+    rt: &R,
+    judged: Judged<'_>,
+    log: S,
+) -> Answer {
+    let alloc = rt.alloc();
+    let mut watched = Watched::new(alloc, log, false);
+    let (exit, fault) = judge_with_fault(
+        alloc,
+        judged.interface,
+        &mut watched,
+        &mut io::writer(rt),
+    );
+    let reason = match fault {
+        Some(fault) => stop_reason(alloc, judged.name, fault, &watched),
+        None => None,
+    };
+    Answer { exit, reason }
+}
+
+/// Judges the log of a device that is in a capture.
+fn judge_bytes<R: Print + AllocGlobal>(rt: &R, judged: Judged<'_>, capture: &[u8]) -> Answer {
+    let alloc = rt.alloc();
+    match log_of(alloc, capture, judged.interface, judged.only) {
+        Ok(log) => judge_text_of(rt, judged, log.as_slice()),
+        Err(fault) => {
+            let line = capture_line(fault).as_bytes();
+            Answer {
+                exit: write_out(&mut io::writer(rt), line, Exit::Refused),
+                reason: match capture_why(fault) {
+                    Some(why) => file_reason(alloc, judged.name, why),
+                    None => None,
+                },
+            }
+        }
+    }
+}
+
+/// Judges the capture that a reader gives.
+fn judge_capture<R: Print + AllocGlobal, S: Read + Drop>(
+    rt: &R,
+    judged: Judged<'_>,
+    capture: S,
+) -> Answer {
+    let alloc = rt.alloc();
+    let mut watched = Watched::new(alloc, capture, false);
+    match gather(alloc, &mut watched, MAX_CAPTURE) {
+        Ok(bytes) => judge_bytes(rt, judged, &bytes),
+        Err(fault) => Answer {
+            exit: fault_text(gather_fault(fault), &mut io::writer(rt)),
+            reason: match &watched.error {
+                Some(error) => error_reason(alloc, judged.name, error),
+                None => None,
+            },
+        },
+    }
+}
+
+/// A file or standard input that can't be read.
+fn unread<R: Print + AllocGlobal>(rt: &R, judged: Judged<'_>, error: &io::Error) -> Answer {
+    Answer {
+        exit: fault_text(SuffixFault::Read, &mut io::writer(rt)),
+        reason: error_reason(rt.alloc(), judged.name, error),
+    }
+}
+
+/// Judges a log or a capture, or that of standard input where the name is `-`, with the reason where it is judged no further.
+pub(crate) fn judge_file<R: Files + Input + Print + AllocGlobal>(
+    rt: &R,
+    judged: Judged<'_>,
+) -> Answer {
+    let given = match open(rt, judged.name) {
+        Ok(given) => given,
+        Err(error) => return unread(rt, judged, &error),
+    };
+    match Headed::new(given) {
+        Ok(given) => {
+            if is_capture(given.head()) {
+                judge_capture(rt, judged, given)
+            } else {
+                judge_text_of(rt, judged, given)
+            }
+        }
+        Err(error) => unread(rt, judged, &error),
+    }
+}

@@ -1,0 +1,5 @@
+pub mod Names
+pub mod Texts
+pub mod Course
+pub mod Judging
+pub mod inside

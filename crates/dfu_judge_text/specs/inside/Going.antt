@@ -1,0 +1,55 @@
+-- A log that is judged, as it stands in memory.
+use Rattle.std.specs.Prelude.{◌≡◌, ℕ, ◌+◌, List, [], ◌∷◌, ◌++◌, length, Option, Some, None}
+use Rattle.std.specs.Io.KnownBytes.{Appends}
+use Rattle.dfu_judge.specs.declared.event.Event.{Event}
+use Rattle.dfu_judge.specs.declared.verdict.Departure.{Departure}
+use Rattle.dfu_judge.specs.MayAnswer.{IsHeld, IsHeldPlain}
+use Rattle.dfu_judge_text.specs.Course.{Course, Comes, Judges}
+use Rattle.dfu_judge_text.specs.Texts.{departure_text}
+
+-- The devices that a judge holds, the line, how many bytes may still come, how many lines and events came, and after how many events one
+-- state was left.
+pub record JudgingState : Type 0 where
+  pub whole : List (List ℕ)
+  pub since : List (List ℕ)
+  pub line : List ℕ
+  pub room : ℕ
+  pub number : ℕ
+  pub events : ℕ
+  pub single : ℕ
+
+-- It stands where a text was judged so far.
+pub record IsAt (s : JudgingState) (text : List ℕ) (c : Course) : Type 0 where
+  pub whole : IsHeld s.whole c.events
+  pub since : IsHeldPlain s.since c.since
+  pub line : s.line ≡ c.line
+  pub room : s.room + length text ≡ 1099511627776
+  pub number : s.number ≡ c.number
+  pub events : s.events ≡ length c.events
+  pub single : s.single ≡ c.single
+
+-- What is printed of a departure, if there is one.
+abbrev pub told_text : (number : ℕ) → Option Departure → List ℕ
+told_text n None = []
+told_text n (Some d) = departure_text n d
+
+-- An event came, with this departure, if any.
+pub record Came (text : List ℕ) (c : Course) (event : Event) (departure : Option Departure) (s : JudgingState) : Type 0 where
+  pub next : Course
+  pub comes : Comes c event next
+  pub at : IsAt s text next
+  pub out : next.out ≡ c.out ++ told_text s.number departure
+
+-- A text was judged so far, with this departure at its last byte, if any.
+pub record Took (interface : ℕ) (text : List ℕ) (c : Course) (departure : Option Departure) (s : JudgingState) : Type 0 where
+  pub next : Course
+  pub judged : Judges interface text next
+  pub at : IsAt s text next
+  pub out : next.out ≡ c.out ++ told_text s.number departure
+
+-- A text was judged so far, and what is printed of it is out.
+pub record Going (interface : ℕ) (old new : Option (List ℕ)) (text : List ℕ) (s : JudgingState) : Type 0 where
+  pub course : Course
+  pub judged : Judges interface text course
+  pub at : IsAt s text course
+  pub out : Appends old new course.out

@@ -1,0 +1,86 @@
+-- What a script with a trace writes, without the lines of the trace.
+use Rattle.std.proofs.Common.{◌≡◌, ℕ, Bool, true, false, if◌then◌else◌, List, [], ◌∷◌, Option, Some, None, Result, Ok, Err, refl, sym, ◌∙◌, subst}
+use Rattle.std.specs.Prelude.{OnOk, IfErr, IfSome}
+use Rattle.std.specs.Io.KnownBytes.{Appends}
+use Rattle.dfu_suffix.specs.Writing.{IsOutInPart}
+use Rattle.dfu_link.specs.ScriptRun.{Point, WroteRun}
+use Rattle.dfu_link.specs.Falls.{BreaksIn, in_events, in_show, NextFalls, Falls, no_memory, in_setting, at_start, in_run}
+use Rattle.dfu_link.specs.KeptLines.{place_in, without_trace, is_same, untraced, seen_at}
+use Rattle.dfu_link.specs.declared.tracing.place.Place.{Place}
+use Rattle.dfu_link.specs.declared.tracing.place.Place.TheVariants.{Start}
+use Rattle.dfu_link.specs.declared.scripting.fault.ScriptFault.{ScriptFault}
+use Rattle.dfu_link.specs.declared.scripting.fault.ScriptFault.TheVariants.{BadLine, LateConfig, BadConfig, TooLarge, NoMemory, Read, Write}
+
+-- What a writer holds is known.
+abbrev IsKnown : Option (List ℕ) → Type 0
+IsKnown held = (text : List ℕ) × (held ≡ Some text)
+
+appends_known : (a : List ℕ) (new : Option (List ℕ)) (out : List ℕ) → Appends (Some a) new out → IsKnown new
+appends_known a None out told = absurd told
+appends_known a (Some b) out told = (b, refl)
+
+part_known : {old new : Option (List ℕ)} {text : List ℕ} → IsKnown old → IsOutInPart old new text → IsKnown new
+part_known {new = new} known part =
+    appends_known known.0 new part.front (subst (λ (x : Option (List ℕ)). Appends x new part.front) known.1 part.told)
+
+line_known : {p : Point} {line : List ℕ} {old new : Option (List ℕ)} → IsKnown old → BreaksIn p line old new → IsKnown new
+line_known known (in_events says broken) = part_known known broken.broke
+line_known known (in_show says part) = part_known known part
+
+next_known : (p : Point) (k : ℕ) (lines : List (List ℕ)) (old new : Option (List ℕ)) (fault : ScriptFault) → IsKnown old
+    → NextFalls p k lines old new fault → IsKnown new
+next_known p k lines old new TooLarge known e = (known.0, e ∙ known.1)
+next_known p k lines old new Read known e = (known.0, e ∙ known.1)
+next_known p k (line ∷ lines) old new (BadLine n) known (is, none, e) = (known.0, e ∙ known.1)
+next_known p k (line ∷ lines) old new (LateConfig n) known (is, late, e) = (known.0, e ∙ known.1)
+next_known p k (line ∷ lines) old new NoMemory known (needs, e) = (known.0, e ∙ known.1)
+next_known p k (line ∷ lines) old new Write known breaks = line_known known breaks
+next_known p k (line ∷ lines) old new BadConfig known falls = absurd falls
+next_known p k [] old new Write known (is, broke) = part_known known broke
+next_known p k [] old new (BadLine n) known (is, broke) = cc
+next_known p k [] old new (LateConfig n) known (is, broke) = cc
+next_known p k [] old new NoMemory known (is, broke) = cc
+next_known p k [] old new BadConfig known (is, broke) = cc
+
+falls_known : {text a : List ℕ} {new : Option (List ℕ)} {fault : ScriptFault} → Falls text (Some a) new fault → IsKnown new
+falls_known {a = a} (no_memory e) = (a, e)
+falls_known {a = a} (in_setting falls e) = (a, e)
+falls_known {a = a} (at_start sets_up cannot there e) = (a, e)
+falls_known {a = a} {new = new} (in_run {fault = fault} sets_up starts falls there) =
+    next_known falls.end _ falls.rest falls.mid new fault (appends_known a falls.mid falls.shown falls.told) falls.falls
+
+seen_known : (t : Bool) (text x : List ℕ) → ◌≡◌ {A = Option (List ℕ)} (if t then Some (without_trace text) else None) (Some x)
+    → ◌≡◌ {A = Option (List ℕ)} (Some (without_trace text)) (Some x)
+seen_known true text x e = e
+seen_known false text x e = cc
+
+-- Where something is seen, it is what is held without the trace.
+untraced_is : (is_broken : Bool) (p : Place) (all : Option (List ℕ)) (x : List ℕ) → seen_at is_broken p all ≡ Some x → untraced all ≡ Some x
+untraced_is is_broken p None x e = cc
+untraced_is true p (Some text) x e = e
+untraced_is false p (Some text) x e = seen_known (is_same (place_in Start text) p) text x e
+
+same_seen : (is_broken : Bool) (p : Place) (all : Option (List ℕ)) → IsKnown (seen_at is_broken p all) → seen_at is_broken p all ≡ untraced all
+same_seen is_broken p all known = known.1 ∙ sym (untraced_is is_broken p all known.0 known.1)
+
+-- A run was written.
+pub wrote_untraced : (given : Option (List ℕ)) (start : Option (List ℕ)) (is_broken : Bool) (p : Place) (all : Option (List ℕ))
+    (r : Result Unit ScriptFault)
+    → IfSome given (λ text. OnOk r (WroteRun text (seen_at false Start start) (seen_at is_broken p all)))
+    → IfSome given (λ text. start ≡ Some [] → OnOk r (WroteRun text (Some []) (untraced all)))
+wrote_untraced None start is_broken p all r ok = tt
+wrote_untraced (Some text) start is_broken p all (Err f) ok = λ e. tt
+wrote_untraced (Some text) start is_broken p all (Ok done) ok = λ e.
+    let run = subst (λ (s : Option (List ℕ)). WroteRun text (seen_at false Start s) (seen_at is_broken p all)) e ok in
+    subst (λ (new : Option (List ℕ)). WroteRun text (Some []) new) (same_seen is_broken p all (appends_known [] _ run.out run.told)) run
+
+-- It fell.
+pub falls_untraced : (given : Option (List ℕ)) (start : Option (List ℕ)) (is_broken : Bool) (p : Place) (all : Option (List ℕ))
+    (r : Result Unit ScriptFault)
+    → IfSome given (λ text. IfErr r (λ f. Falls text (seen_at false Start start) (seen_at is_broken p all) f))
+    → IfSome given (λ text. start ≡ Some [] → IfErr r (λ f. Falls text (Some []) (untraced all) f))
+falls_untraced None start is_broken p all r fault = tt
+falls_untraced (Some text) start is_broken p all (Ok done) fault = λ e. tt
+falls_untraced (Some text) start is_broken p all (Err f) fault = λ e.
+    let fell = subst (λ (s : Option (List ℕ)). Falls text (seen_at false Start s) (seen_at is_broken p all) f) e fault in
+    subst (λ (new : Option (List ℕ)). Falls text (Some []) new f) (same_seen is_broken p all (falls_known fell)) fell

@@ -1,0 +1,63 @@
+-- What an action of the host came to, as a trace tells it.
+use Rattle.std.specs.Prelude.{◌≡◌, ℕ, List, Option, Some, Result}
+use Rattle.dfu_wire.specs.declared.states.State.{State}
+use Rattle.dfu_device.specs.Stage.{state_of}
+use Rattle.dfu_device.specs.Shown.{Shown}
+use Rattle.dfu_device.specs.Rows.{Elapses}
+use Rattle.dfu_host.specs.declared.action.Action.{Action}
+use Rattle.dfu_host.specs.declared.phase.Phase.{Phase}
+use Rattle.dfu_host.specs.Phases.{Deed, Send, Wait, Reset, Done}
+use Rattle.dfu_host.specs.Table.{deed}
+use Rattle.dfu_host.specs.Host.{HostState}
+use Rattle.dfu_host.specs.InParts.{IsPhase}
+use Rattle.dfu_host.specs.Wire.{IsAsked, Spells}
+use Rattle.dfu_link.specs.declared.back.Back.{Back}
+use Rattle.dfu_link.specs.declared.back.Back.TheVariants.{Lost}
+use Rattle.dfu_link.specs.declared.fate.Fate.{Fate as GivenFate}
+use Rattle.dfu_link.specs.declared.fault.LinkFault.{LinkFault}
+use Rattle.dfu_link.specs.declared.tracing.step.Step.{Step}
+use Rattle.dfu_link.specs.Happening.{Harm, Goes, fate_of, harm_in}
+use Rattle.dfu_link.specs.Course.{Course, course_of}
+use Rattle.dfu_link.specs.Play.{Answered, waits_for}
+use Rattle.dfu_link.specs.Bench.{Bench}
+use Rattle.dfu_link.specs.Standing.{session_of}
+use Rattle.dfu_link.specs.Bytes.{fuse_of, armed, bus_was_reset, Reaches, Slips, left_by}
+use Rattle.dfu_link.specs.Comes.{Comes}
+
+-- What a device answers to an action, by its rows: to a request what it answers last, if it sees it. A wait and a reset have no answer.
+abbrev pub Replies : Deed → Course → Shown → Shown → Back → List ℕ → Type 0
+Replies (Send q body) course w w' came out = (setup : List ℕ) × IsAsked q setup × Reaches setup body course.handling w came out w'
+Replies (Wait ms) course w w' came out = (came ≡ Lost) × Elapses (waits_for course.handling ms) w w'
+Replies Reset course w w' came out = (came ≡ Lost) × Slips course.handling (bus_was_reset w) w'
+Replies (Done report) course w w' came out = ⊥
+
+-- So a device answers that is armed for the action, and then left as it has to be.
+pub record RepliesArmed (h : HostState) (course : Course) (harm : Harm) (w w' : Shown) (came : Back) (out : List ℕ) : Type 0 where
+  pub last : Shown
+  pub replies : Replies (deed h.task h.phase) course (armed w (fuse_of course.harming harm)) last came out
+  pub device : w' ≡ left_by course.harming last
+
+-- A host is live in this phase and asks for this.
+pub record Asks (live : Option HostState) (phase : Phase) (action : Action) : Type 0 where
+  pub host : HostState
+  pub is : live ≡ Some host
+  pub in_phase : IsPhase host.phase phase
+  pub spells : Spells (deed host.task host.phase) action
+
+-- An action of the host of this bench, by this fate, is a play that leads to that bench. The step has its phase, what it asks for, what the
+-- device answers, and the states of the device before and after.
+pub record IsStep (b : Bench) (fate : GivenFate) (step : Step) (out : List ℕ) (b' : Bench) : Type 0 where
+  pub live : Option HostState
+  pub session : b.session ≡ session_of live
+  pub asks : Asks live step.phase step.action
+  pub answer : Result Answered LinkFault
+  pub comes : Comes b (Goes (fate_of fate) (harm_in fate)) b' answer
+  pub replies : RepliesArmed asks.host (course_of (fate_of fate)) (harm_in fate) b.device b'.device step.came out
+  pub before : step.before ≡ state_of b.device.stage
+  pub after : step.after ≡ state_of b'.device.stage
+
+-- Some play is this step.
+pub record IsOfPlay (fate : GivenFate) (step : Step) (out : List ℕ) : Type 0 where
+  pub from : Bench
+  pub to : Bench
+  pub is : IsStep from fate step out to

@@ -1,0 +1,10 @@
+//! What an action of the host came to, for a trace.
+
+pub(crate) mod asking;
+pub(crate) mod line;
+pub(crate) mod noting;
+pub(crate) mod place;
+pub(crate) mod step;
+pub(crate) mod telling;
+pub(crate) mod traced;
+pub(crate) mod words;

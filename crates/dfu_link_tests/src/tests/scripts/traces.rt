@@ -1,0 +1,78 @@
+//! Scripts with a line for each action, worked out by hand.
+
+use super::rows::text_of;
+use dfu_link::script_traced;
+use std::alloc::Global;
+use std::process::Abort;
+use std::test::Fail;
+
+/// What a row prints with a trace.
+fn traced(rt: &impl Abort, alloc: Global, row: &str, wanted: &str) -> Result<(), Fail> {
+    let text = text_of(alloc, row)?;
+    let (answer, out) = script_traced(alloc, text.as_slice(), Vec::new(alloc));
+    assert!(rt; answer.is_ok());
+    assert_eq!(rt; std::str::from_utf8(&out)?, wanted);
+    Ok(())
+}
+
+/// A clean download: docs/PROFILE.md has its actions. The medium has two slots of 16 + 16 + 64 bytes, the second of
+/// which is the spare one: its gate is at 96, its header at 112, and its data begin at 128.
+const CLEAN: &str = "\
+# 1 Find; GETSTATUS 0 6; pass; OK 0 appIDLE; appIDLE; appIDLE; -; 0 ms
+# 2 Detach; DETACH 255 0; pass; ack; appIDLE; appDETACH; -; 0 ms
+# 3 Enter; reset; pass; -; appDETACH; dfuIDLE; -; 0 ms
+# 4 Find; GETSTATUS 0 6; pass; OK 0 dfuIDLE; dfuIDLE; dfuIDLE; -; 0 ms
+# 5 Block 0; DNLOAD 0 4; pass; ack; dfuIDLE; dfuDNLOAD-SYNC; -; 0 ms
+# 6 Poll 0; GETSTATUS 0 6; pass; OK 5 dfuDNBUSY; dfuDNLOAD-SYNC; dfuDNBUSY; -; 0 ms
+# 7 WaitPoll 0; wait 5; pass; -; dfuDNBUSY; dfuDNLOAD-SYNC; 4 at 128; 5 ms
+# 8 Poll 0; GETSTATUS 0 6; pass; OK 0 dfuDNLOAD-IDLE; dfuDNLOAD-SYNC; dfuDNLOAD-IDLE; -; 5 ms
+# 9 Close; DNLOAD 1 0; pass; ack; dfuDNLOAD-IDLE; dfuMANIFEST-SYNC; -; 5 ms
+# 10 Manifest; GETSTATUS 0 6; pass; OK 10 dfuMANIFEST; dfuMANIFEST-SYNC; dfuMANIFEST; -; 5 ms
+# 11 WaitManifest; wait 10; pass; -; dfuMANIFEST; dfuMANIFEST-SYNC; 16 at 112, 16 at 96; 15 ms
+# 12 Manifest; GETSTATUS 0 6; pass; OK 0 dfuIDLE; dfuMANIFEST-SYNC; dfuIDLE; -; 15 ms
+# 13 Last; reset; pass; -; dfuIDLE; appIDLE; -; 15 ms
+report installed
+image ffffffff
+";
+
+#[test]
+fn clean_run_is_told(rt: HostRuntime) -> Result<(), Fail> {
+    traced(&rt, rt.alloc(), "offer W/go pass 13", CLEAN)
+}
+
+/// The answer to block 0 is lost, then time passes, then the first write of the block fails, and the host asks why.
+const HARMED: &str = "\
+# 1 Find; GETSTATUS 0 6; pass; OK 0 appIDLE; appIDLE; appIDLE; -; 7 ms
+# 2 Detach; DETACH 255 0; pass; ack; appIDLE; appDETACH; -; 7 ms
+# 3 Enter; reset; pass; -; appDETACH; dfuIDLE; -; 7 ms
+# 4 Find; GETSTATUS 0 6; pass; OK 0 dfuIDLE; dfuIDLE; dfuIDLE; -; 7 ms
+# 5 Block 0; DNLOAD 0 4; lostback; ack; dfuIDLE; dfuDNLOAD-SYNC; -; 7 ms
+# 6 Ask 0; GETSTATE 0 1; pass; dfuDNLOAD-SYNC; dfuDNLOAD-SYNC; dfuDNLOAD-SYNC; -; 7 ms
+# 7 Poll 0; GETSTATUS 0 6; pass; OK 5 dfuDNBUSY; dfuDNLOAD-SYNC; dfuDNBUSY; -; 7 ms
+# 8 WaitPoll 0; wait 5; fail 0 -; -; dfuDNBUSY; dfuERROR; 4 at 128 failed; 12 ms
+image 00
+";
+
+#[test]
+fn harms_are_told(rt: HostRuntime) -> Result<(), Fail> {
+    traced(
+        &rt,
+        rt.alloc(),
+        "time 7/offer W/go pass 4/go lostback/go pass 2/go fail 0 -",
+        HARMED,
+    )
+}
+
+/// An upload of the image of one byte: the part is shorter than a block, so it is the last.
+const UPLOAD: &str = "\
+# 1 Find; GETSTATUS 0 6; pass; OK 0 appIDLE; appIDLE; appIDLE; -; 0 ms
+# 2 Detach; DETACH 255 0; pass; ack; appIDLE; appDETACH; -; 0 ms
+# 3 Enter; reset; pass; -; appDETACH; dfuIDLE; -; 0 ms
+# 4 Find; GETSTATUS 0 6; lostout; -; dfuIDLE; dfuIDLE; -; 0 ms
+";
+
+#[test]
+fn lost_requests_have_no_answer(rt: HostRuntime) -> Result<(), Fail> {
+    let wanted = format!(in rt.alloc(); "{UPLOAD}image 00\n")?;
+    traced(&rt, rt.alloc(), "upload/go pass 3/go lostout", &wanted)
+}

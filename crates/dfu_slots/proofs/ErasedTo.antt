@@ -1,0 +1,147 @@
+-- Sectors that are erased one after the other.
+use Rattle.std.proofs.Common.{◌≡◌, ◌≢◌, inl, ⊎_elim, ◌==◌, ℕ, zero, suc, ◌+◌, ◌-◌, ◌%◌, ◌≤◌, ◌<◌, List, [], ◌∷◌, ◌++◌, length, replicate, refl, sym, ◌∙◌, ap, subst, arith}
+use Rattle.std.proofs.lemmas.List.{append_assoc, append-nil, length-replicate}
+use Rattle.std.proofs.lemmas.Bool.{cases_lt, cond-true, cond-false, ne_eqb, eq-eqb}
+use Rattle.std.proofs.Math.Nat.{mod-lt, mod-add-mod, mod_self}
+use Rattle.dfu_slots.specs.declared.fault.WriteFault.{WriteFault}
+use Rattle.dfu_slots.specs.Medium.{MediumState, Write, Wrote, FailedWrite, AllWrites, BrokenWrites}
+use Rattle.dfu_slots.specs.Writes.{erase_write, erases}
+use Rattle.dfu_slots.proofs.Torn.{written_torn}
+use Rattle.dfu_slots.proofs.Series.{all_append, broken_later}
+use Rattle.dfu_slots.proofs.Sectors.{mod_next, edge_add, edge_next}
+
+-- Where no sector begins, none is erased.
+erases_on : (sector at n : ℕ) → 0 < at % sector → erases sector at (suc n) ≡ erases sector (at + 1) n
+erases_on sector at n inner = ap (λ (l : List Write). l ++ erases sector (at + 1) n)
+    (cond-false (at % sector == 0) (erase_write sector at ∷ []) [] (ne_eqb (at % sector) 0 (λ e. omega (arith, inner, e))))
+
+-- None is up to the end of a sector that began before.
+pub erases_skip : (sector d at n : ℕ) → 0 < sector → 0 < at % sector → at % sector + d ≡ sector
+    → erases sector at n ≡ erases sector (at + d) (n - d)
+erases_skip sector zero at n some inner is = absurd (omega (arith, mod-lt at some, is))
+erases_skip sector (suc d) at zero some inner is =
+    let e : 0 ≡ 0 - suc d = omega arith in ap (λ (k : ℕ). erases sector (at + suc d) k) e
+erases_skip sector (suc zero) at (suc n) some inner is =
+    let e : n ≡ suc n - 1 = omega arith in erases_on sector at n inner ∙ ap (λ (k : ℕ). erases sector (at + 1) k) e
+erases_skip sector (suc (suc d)) at (suc n) some inner is =
+    let next : (at + 1) % sector ≡ at % sector + 1 = mod_next sector at (omega (arith, is)) in
+    let e : at + 1 + suc d ≡ at + suc (suc d) = omega arith in
+    let f : n - suc d ≡ suc n - suc (suc d) = omega arith in
+    erases_on sector at n inner ∙ erases_skip sector (suc d) (at + 1) n some (omega (arith, next)) (omega (arith, next, is))
+    ∙ (λ i. erases sector (e i) (f i))
+
+-- Where one begins, it is erased first.
+pub erases_step : (sector at n : ℕ) → 1 < sector → at % sector ≡ 0 → 0 < n
+    → erases sector at n ≡ erase_write sector at ∷ erases sector (at + sector) (n - sector)
+erases_step sector at zero some begins more = absurd (omega (arith, more))
+erases_step sector at (suc n) some begins more =
+    let next : (at + 1) % sector ≡ 1 = mod_next sector at (omega (arith, begins, some)) ∙ ap (λ (k : ℕ). k + 1) begins in
+    let e : at + 1 + (sector - 1) ≡ at + sector = omega (arith, some) in
+    let f : n - (sector - 1) ≡ suc n - sector = omega (arith, some) in
+    ap (λ (l : List Write). l ++ erases sector (at + 1) n)
+    (cond-true (at % sector == 0) (erase_write sector at ∷ []) [] (eq-eqb (at % sector) 0 begins))
+    ∙ ap (λ (l : List Write). erase_write sector at ∷ l)
+    (erases_skip sector (sector - 1) (at + 1) n (omega (arith, some)) (omega (arith, next)) (omega (arith, next, some))
+    ∙ (λ i. erases sector (e i) (f i)))
+
+-- The sectors that begin before a place are erased, and a sector begins at this place.
+pub record ErasedTo (old mid : MediumState) (sector at n place : ℕ) : Type 0 where
+  pub front : List Write
+  pub all : AllWrites old front mid
+  pub pieces : erases sector at n ≡ front ++ erases sector place (at + n - place)
+  pub edge : place % sector ≡ 0
+  pub within : place ≤ length mid.bytes
+  pub grain : mid.grain ≡ old.grain
+  pub size : length mid.bytes ≡ length old.bytes
+
+module _ (s : MediumState) (sector at n : ℕ) (some : 0 < sector) (fits : at + n ≤ length s.bytes) (end : length s.bytes % sector ≡ 0) where
+  -- Nothing is erased before the first sector, which may begin at once.
+  pub erased_here : at % sector ≡ 0 → ErasedTo s s sector at n at
+  erased_here begins =
+      let all : n ≡ at + n - at = omega arith in
+      record {
+        front = [];
+        all = refl;
+        pieces = ap (λ (k : ℕ). erases sector at k) all;
+        edge = begins;
+        within = omega (arith, fits);
+        grain = refl;
+        size = refl;
+      }
+
+  -- Or it begins where the one ends in which the place lies.
+  pub erased_later : 0 < at % sector → ErasedTo s s sector at n (at + (sector - at % sector))
+  erased_later inner =
+      let d = sector - at % sector in
+      let less : at % sector < sector = mod-lt at some in
+      let is : at % sector + d ≡ sector = omega (arith, less) in
+      let edge : (at + d) % sector ≡ 0 =
+      sym (mod-add-mod at sector d) ∙ ap (λ (k : ℕ). k % sector) is ∙ mod_self sector in
+      let rest : n - d ≡ at + n - (at + d) = omega arith in
+      record {
+        front = [];
+        all = refl;
+        pieces = erases_skip sector d at n some inner is ∙ ap (λ (k : ℕ). erases sector (at + d) k) rest;
+        edge = edge;
+        within = ⊎_elim
+            (λ past. absurd (omega (arith, edge_next sector (length s.bytes) (at + d) end edge past, is, inner, fits)))
+            (λ le. le) (cases_lt (length s.bytes) (at + d));
+        grain = refl;
+        size = refl;
+      }
+
+  -- The same, by what the code reads.
+  pub erased_first : (size : ℕ) → size ≡ sector → (place : ℕ) → (at % size ≡ 0 → place ≡ at → ErasedTo s s sector at n place)
+      × (at % size ≢ 0 → place ≡ at + (size - at % size) → ErasedTo s s sector at n place)
+  erased_first size is place = (
+    λ begins here. subst (λ (p : ℕ). ErasedTo s s sector at n p) (sym here)
+        (erased_here (subst (λ (k : ℕ). at % k ≡ 0) is begins)),
+    λ inner here.
+        let rest : at % sector ≢ 0 = subst (λ (k : ℕ). at % k ≢ 0) is inner in
+        subst (λ (p : ℕ). ErasedTo s s sector at n p) (sym (here ∙ ap (λ (k : ℕ). at + (k - at % k)) is))
+        (erased_later (omega (arith, rest))),
+  )
+
+module _ (old mid now : MediumState) (sector at n place : ℕ) (large : 1 < sector) (to : ErasedTo old mid sector at n place)
+    (more : place < at + n) (fits : at + n ≤ length old.bytes) (end : length old.bytes % sector ≡ 0) where
+  -- The next sector lies within the medium.
+  pub next_within : place + sector ≤ length mid.bytes
+  next_within = omega (arith, edge_next sector place (length old.bytes) to.edge end (omega (arith, more, fits)), to.size)
+
+  step : erases sector place (at + n - place) ≡ erase_write sector place ∷ erases sector (place + sector) (at + n - place - sector)
+  step = erases_step sector place (at + n - place) large to.edge (omega (arith, more))
+
+  -- One sector more.
+  pub erased_more : Wrote mid place (replicate sector 255) now → ErasedTo old now sector at n (place + sector)
+  erased_more wrote =
+      let first : List Write = erase_write sector place ∷ [] in
+      let kept : length now.bytes ≡ length mid.bytes = ap length wrote.bytes
+      ∙ (written_torn mid.bytes place (replicate sector 255) (omega (arith, next_within, length-replicate {A = ℕ} sector 255))).size in
+      let left : at + n - place - sector ≡ at + n - (place + sector) = omega arith in
+      record {
+        front = to.front ++ first;
+        all = all_append to.front first old mid now to.all (now, wrote, refl);
+        pieces = to.pieces ∙ ap (λ (ws : List Write). to.front ++ ws) (step
+            ∙ ap (λ (k : ℕ). erase_write sector place ∷ erases sector (place + sector) k) left)
+            ∙ sym (append_assoc to.front first (erases sector (place + sector) (at + n - (place + sector))));
+        edge = edge_add sector place sector (λ s. to.edge) (λ s. mod_self sector) (omega (arith, large));
+        within = omega (arith, kept, next_within);
+        grain = wrote.grain ∙ to.grain;
+        size = kept ∙ to.size;
+      }
+
+  -- The next erase fails.
+  pub erased_stopped : (fault : WriteFault) → FailedWrite fault mid place (replicate sector 255) now
+      → BrokenWrites fault old (erases sector at n) now
+  erased_stopped fault failed =
+      subst (λ (ws : List Write). BrokenWrites fault old ws now) (sym (to.pieces ∙ ap (λ (ws : List Write). to.front ++ ws) step))
+      (broken_later fault to.front (erase_write sector place ∷ erases sector (place + sector) (at + n - place - sector)) old mid now to.all
+      (inl failed))
+
+-- All of them are erased.
+pub erased_all : (old mid : MediumState) (sector at n place : ℕ) → ErasedTo old mid sector at n place → at + n ≤ place
+    → AllWrites old (erases sector at n) mid
+erased_all old mid sector at n place to done =
+    let none : at + n - place ≡ 0 = omega (arith, done) in
+    subst (λ (ws : List Write). AllWrites old ws mid)
+    (sym (to.pieces ∙ ap (λ (k : ℕ). to.front ++ erases sector place k) none ∙ append-nil to.front)) to.all

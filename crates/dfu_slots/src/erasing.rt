@@ -1,0 +1,74 @@
+//! Erasing sectors.
+ghost use Rattle.std.specs.Prelude.{◌≡◌, ◌+◌, ◌%◌, ◌≤◌, ◌<◌, ◌↔◌, IsTrue, length, replicate, OnOk, IfErr};
+ghost use Rattle.dfu_slots.specs.Medium.{Wrote, FailedWrite, IsBlank};
+ghost use Rattle.dfu_slots.specs.inside.Series.{Series};
+ghost use Rattle.dfu_slots.specs.Image.{IsSized};
+ghost use Rattle.dfu_slots.specs.Writes.{erases};
+
+use crate::read::stands_at;
+use crate::{Medium, WriteFault};
+
+/// Whether so many bytes from there on are FFh.
+pub(crate) fn is_blank<M: Medium>(medium: &M, at: u32, len: u32) -> bool
+    requires { at + len ≤ length (M.state medium.now).bytes }
+    ensures { IsTrue result ↔ IsBlank (M.state medium.now).bytes at len }
+{
+    let blank = [0xff; 256];
+    let _end = medium.len();
+    let mut done = 0;
+    while done < len {
+        let size = (len - done).min(256);
+        if stands_at(medium, at + done, &blank[..size as usize]) {
+            done += size;
+        } else {
+            return false;
+        }
+    }
+    true
+}
+
+/// Erases the sector that begins there, and reads it back. All erases of the store go through it.
+pub(crate) fn erase<M: Medium>(medium: &mut M, at: u32) -> Result<(), WriteFault>
+    requires within { at + (M.state medium.old).grain.sector ≤ length (M.state medium.old).bytes }
+    requires place { at % (M.state medium.old).grain.sector ≡ 0 }
+    ensures ok { let was = M.state medium.old in
+        OnOk result (Wrote was at (replicate was.grain.sector 255) (M.state medium.new)) }
+    ensures failed { let was = M.state medium.old in
+        IfErr result (λ fault. FailedWrite fault was at (replicate was.grain.sector 255) (M.state medium.new)) }
+{
+    let size = medium.sector();
+    match medium.erase(at) {
+        Err(_) => Err(WriteFault::Failed),
+        Ok(()) => {
+            if is_blank(medium, at, size) {
+                return Ok(());
+            }
+            Err(WriteFault::NotVerified)
+        }
+    }
+}
+
+/// Erases the sectors that begin in so many bytes from there on, one after the other.
+pub(crate) fn erase_within<M: Medium>(medium: &mut M, at: u32, len: u32) -> Result<(), WriteFault>
+    requires sized { IsSized (M.state medium.old) }
+    requires within { at + len ≤ length (M.state medium.old).bytes }
+    requires some { 0 < (M.state medium.old).grain.sector }
+    ensures { let was = M.state medium.old in Series was (erases was.grain.sector at len) result (M.state medium.new) }
+{
+    let _end = medium.len();
+    let sector = medium.sector();
+    let end = at + len;
+    let behind = at % sector;
+    let mut place = if behind == 0 {
+        at
+    } else {
+        at + (sector - behind)
+    };
+    while place < end {
+        match erase(medium, place) {
+            Err(fault) => return Err(fault),
+            Ok(()) => place += sector,
+        }
+    }
+    Ok(())
+}

@@ -1,0 +1,109 @@
+//! A medium on NOR flash, whose sectors are erased before bytes are programmed in them.
+
+ghost use Rattle.std.specs.Prelude.{◌≡◌, ◌+◌, ◌%◌, ◌<◌, ◌≤◌, ℕ, List, length, slice_index, slice_range};
+ghost use Rattle.dfu_slots.specs.Units.{Grain, IsMultiple};
+ghost use Rattle.dfu_slots.specs.Medium.{KeepsOutside};
+
+use crate::ChipFault;
+use dfu_slots::{Failed, Medium, Unit};
+
+/// A driver of NOR flash with sectors of one size.
+///
+/// It owes little: what `read` answers stands in the flash, and neither a `program` nor an `erase` changes a byte outside its
+/// range, also when the power goes within it. It need not find out whether the bytes stand there, since the store reads
+/// back what it wrote. The store erases each sector before it programs in it, and programs no unit twice between two erases.
+pub trait Flash: Drop {
+    /// The bytes that stand in the flash.
+    ghost cells: { Self → List ℕ };
+
+    /// In which units it is programmed, and in sectors of how many bytes it is erased.
+    ghost grain: { Self → Grain };
+
+    /// How many bytes the flash has.
+    fn size(&self) -> u32
+        ensures { result ≡ length (cells self.now) };
+
+    /// In which units it is programmed.
+    fn unit(&self) -> Unit
+        ensures { result ≡ (grain self.now).unit };
+
+    /// How many bytes a sector has. The store takes multiples of 256 up to 131,072.
+    fn sector(&self) -> u32
+        ensures { result ≡ (grain self.now).sector };
+
+    /// Reads the bytes from `at` on. The range must lie within the size.
+    fn read(&self, at: u32, out: &mut [u8])
+        requires { at + length out.old ≤ length (cells self.now) }
+        ensures { out.new ≡ slice_range (cells self.now) at (at + length out.old) };
+
+    /// Programs whole units from `at` on. The range must lie within the size, and all its bytes are FFh, erased since they were
+    /// programmed. Whatever it answers, and whatever stands in the
+    /// range then, all other bytes, the size, the unit and the sector are as they were.
+    fn program(&mut self, at: u32, bytes: &[u8]) -> Result<(), ChipFault>
+        requires within { at + length bytes.now ≤ length (cells self.old) }
+        requires place { IsMultiple (grain self.old).unit at }
+        requires whole { IsMultiple (grain self.old).unit (length bytes.now) }
+        requires blank { 0 < (grain self.old).sector → (p : ℕ) → at ≤ p → p < at + length bytes.now →
+            slice_index (cells self.old) p ≡ 255 }
+        ensures cells { KeepsOutside at (at + length bytes.now) (cells self.old) (cells self.new) }
+        ensures grain { grain self.new ≡ grain self.old };
+
+    /// Erases the sector that begins at `at`, which must lie within the size. Whatever it answers, and whatever stands in the
+    /// sector then, all else is as it was.
+    fn erase(&mut self, at: u32) -> Result<(), ChipFault>
+        requires within { at + (grain self.old).sector ≤ length (cells self.old) }
+        requires place { at % (grain self.old).sector ≡ 0 }
+        ensures cells { KeepsOutside at (at + (grain self.old).sector) (cells self.old) (cells self.new) }
+        ensures grain { grain self.new ≡ grain self.old };
+}
+
+/// The medium of NOR flash.
+#[derive(Drop)]
+pub struct Nor<F: Flash> {
+    pub flash: F,
+}
+
+impl<F: Flash> Medium for Nor<F> {
+    ghost use Rattle.std.specs.Prelude.{◌-◌, ◌^◌, []};
+    ghost use Rattle.dfu_slots.specs.Medium.{MediumState};
+    ghost use Rattle.dfu_slots.specs.Medium.Fuse.{Unknown};
+
+    // Any write or erase may fail or lie, as of a `Fram`.
+    ghost state = { λ m. record {
+      bytes = F.cells m.flash;
+      failures = 2 ^ 64 - 1;
+      fuse = Unknown;
+      grain = F.grain m.flash;
+      tag = [];
+    } };
+
+    fn len(&self) -> u32 {
+        self.flash.size()
+    }
+
+    fn unit(&self) -> Unit {
+        self.flash.unit()
+    }
+
+    fn sector(&self) -> u32 {
+        self.flash.sector()
+    }
+
+    fn read(&self, at: u32, out: &mut [u8]) {
+        self.flash.read(at, out);
+    }
+
+    fn write(&mut self, at: u32, bytes: &[u8]) -> Result<(), Failed> {
+        match self.flash.program(at, bytes) {
+            Ok(()) => Ok(()),
+            Err(_) => Err(Failed),
+        }
+    }
+
+    fn erase(&mut self, at: u32) -> Result<(), Failed> {
+        match self.flash.erase(at) {
+            Ok(()) => Ok(()),
+            Err(_) => Err(Failed),
+        }
+    }
+}

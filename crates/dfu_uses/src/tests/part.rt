@@ -1,0 +1,80 @@
+//! NOR flash in memory: a program clears bits alone, and each unit is programmed once between two erases.
+
+ghost use Rattle.std.specs.Prelude.{◌≡◌, ◌+◌, ◌≤◌, length, replicate};
+ghost use Rattle.dfu_slots.specs.Medium.{written};
+
+use crate::{ChipFault, Flash};
+use dfu_slots::Unit;
+
+/// Two slots with a sector of 256 bytes each for gate, header and data, programmed in units of 16.
+#[derive(Drop)]
+pub(crate) struct Part {
+    bytes: [u8; 1536],
+    /// How many units were programmed that were not erased.
+    pub(crate) twice: u32,
+    /// How many sectors were erased.
+    pub(crate) erases: u32,
+}
+
+impl Part {
+    // Of no use yet: any bytes stand in it.
+    pub(crate) fn new() -> Part {
+        Part {
+            bytes: [0x5a; 1536],
+            twice: 0,
+            erases: 0,
+        }
+    }
+}
+
+// Writes these bytes there.
+fn write_over(bytes: &mut [u8; 1536], at: usize, new: &[u8])
+    requires { at + length new.now ≤ 1536 }
+    ensures { bytes.new ≡ written bytes.old at new.now }
+{
+    bytes[at..at + new.len()].copy_from_slice(new);
+}
+
+impl Flash for Part {
+    ghost use Rattle.dfu_slots.specs.declared.unit.Unit.TheVariants.{U16};
+
+    ghost cells = { λ p. p.bytes };
+
+    ghost grain = { λ p. record { unit = U16; sector = 256 } };
+
+    fn size(&self) -> u32 {
+        1536
+    }
+
+    fn unit(&self) -> Unit {
+        Unit::U16
+    }
+
+    fn sector(&self) -> u32 {
+        256
+    }
+
+    fn read(&self, at: u32, out: &mut [u8]) {
+        let from = at as usize;
+        out.copy_from_slice(&self.bytes[from..from + out.len()]);
+    }
+
+    fn program(&mut self, at: u32, bytes: &[u8]) -> Result<(), ChipFault> {
+        let from = at as usize;
+        if self.bytes[from..from + bytes.len()]
+            .iter()
+            .any(|byte| *byte != 0xff)
+        {
+            self.twice = self.twice.saturating_add(1);
+            return Err(ChipFault::Protected);
+        }
+        write_over(&mut self.bytes, from, bytes);
+        Ok(())
+    }
+
+    fn erase(&mut self, at: u32) -> Result<(), ChipFault> {
+        self.erases = self.erases.saturating_add(1);
+        write_over(&mut self.bytes, at as usize, &[0xff; 256]);
+        Ok(())
+    }
+}
