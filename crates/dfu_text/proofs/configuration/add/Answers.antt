@@ -1,6 +1,6 @@
-use Rattle.std.proofs.Common.{rules, ◌≡◌, ◌≢◌, ◌⊎◌, inl, inr, List, [], slice_index}
+use Rattle.std.proofs.Common.{rules, inl, inr, [], slice_index}
 use Rattle.dfu_text.specs.ShowLines.{functional_line}
-use Rattle.dfu_text.specs.Configuration.{upgrade, other_interface, short_interface, functional, bad_functional, other, IsUpgrade, interface_line}
+use Rattle.dfu_text.specs.Configuration.{upgrade, other_interface, short_interface, functional, bad_functional, other, interface_line}
 use Rattle.dfu_text.proofs.configuration.add.Goals as goal
 use Rattle.dfu_text.proofs.configuration.add.Goals.{then-descriptor-via-then-descriptor, then-descriptor-via-else-descriptor+then-descriptor-ne1, then-not-inside-via-then-not-inside, then-not-inside-via-else-not-inside+then-descriptor-ne-FUNCTIONAL}
 
