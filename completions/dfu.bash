@@ -37,7 +37,7 @@ _dfu() {
     help:*:-*) ;;
     *:-?* | *:-) COMPREPLY=($(compgen -W "$options" -- "$word")) ;;
     check:0:* | run:0:* | judge:0:* | add:[01]:*) compopt -o default ;;
-    show:0:*) COMPREPLY=($(compgen -W 'functional status' -- "$word")) ;;
+    show:0:*) COMPREPLY=($(compgen -W 'functional status state setup configuration' -- "$word")) ;;
     help:0:*) COMPREPLY=($(compgen -W 'check add show run judge help' -- "$word")) ;;
     esac
 }

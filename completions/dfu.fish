@@ -34,5 +34,5 @@ complete -c dfu -x -n '__fish_seen_subcommand_from add' -l did -d 'Device releas
 complete -c dfu -n '__fish_seen_subcommand_from run' -l trace -d 'Print a line for each action of the host too'
 complete -c dfu -x -n '__fish_seen_subcommand_from judge' -l interface -d 'The number of the DFU interface'
 complete -c dfu -x -n '__fish_seen_subcommand_from judge' -l device -d 'Of a capture the device'
-complete -c dfu -n '__dfu_at show' -a 'functional status'
+complete -c dfu -n '__dfu_at show' -a 'functional status state setup configuration'
 complete -c dfu -n '__dfu_at help' -a 'check add show run judge help'

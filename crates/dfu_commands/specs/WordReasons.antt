@@ -7,7 +7,7 @@ out_why = codes "it has to be a file, as ./- for one with this name"
 
 -- Why KIND is none.
 unfoldable pub kind_why : List ℕ
-kind_why = codes "it has to be functional or status"
+kind_why = codes "it has to be functional, status, state, setup or configuration"
 
 -- Why an interface is none.
 unfoldable pub interface_why : List ℕ

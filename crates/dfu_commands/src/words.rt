@@ -38,7 +38,7 @@ pub(crate) fn bad_identifier(alloc: Global, texts: &IdTexts<'_>) -> Option<Strin
 pub(crate) fn bad_kind(alloc: Global, kind: &str) -> Option<String>
     ensures { IfSome result (λ t. string_bytes t ≡ reason_line (codes "KIND ") kind.now kind_why) }
 {
-    let why = "it has to be functional or status";
+    let why = "it has to be functional, status, state, setup or configuration";
     made(reason_line(alloc, "KIND ", kind, why))
 }
 

@@ -1,1 +1,2 @@
 mod ShownLaws
+mod Behind

@@ -3,6 +3,7 @@ pub mod Output
 pub mod AnswerLines
 pub mod CheckText
 pub mod ShowLines
+pub mod Configuration
 pub mod ShowText
 pub mod AddText
 pub mod ReasonLines

@@ -7,6 +7,10 @@ use Rattle.dfu_wire.specs.Code.{code_name}
 use Rattle.dfu_wire.specs.State.{state_name}
 use Rattle.dfu_wire.specs.Status.{StatusFields}
 use Rattle.dfu_wire.specs.declared.functionals.Functional.{Functional}
+use Rattle.dfu_wire.specs.declared.requests.Request.{Request}
+use Rattle.dfu_wire.specs.declared.requests.Request.TheVariants as request
+use Rattle.dfu_wire.specs.declared.setups.Setup.{Setup}
+use Rattle.dfu_wire.specs.declared.states.State.{State}
 use Rattle.dfu_wire.specs.declared.fault.WireFault.{WireFault}
 use Rattle.dfu_wire.specs.FaultName.{wire_fault_name}
 use Rattle.dfu_suffix.specs.declared.fault.SuffixFault.TheVariants.{NoMemory}
@@ -30,6 +34,28 @@ unfoldable pub status_line : StatusFields → ℕ → List ℕ
 status_line s string =
     codes "status" ++ (codes " " ++ code_name s.code) ++ (codes " poll " ++ decimal s.poll_ms) ++ (codes " state " ++ state_name s.state)
     ++ (codes " string " ++ decimal string) ++ 10 ∷ []
+
+-- The line for a state is `state STATE`.
+unfoldable pub state_line : State → List ℕ
+state_line s = codes "state " ++ state_name s ++ 10 ∷ []
+
+-- What a setup asks for: one of the seven requests, another request of the class, or none of the class.
+abbrev pub request_name : Request → List ℕ
+request_name (request.Detach timeout) = codes "DETACH"
+request_name (request.Dnload block len) = codes "DNLOAD"
+request_name (request.Upload block len) = codes "UPLOAD"
+request_name (request.GetStatus len) = codes "GETSTATUS"
+request_name request.ClrStatus = codes "CLRSTATUS"
+request_name (request.GetState len) = codes "GETSTATE"
+request_name request.Abort = codes "ABORT"
+request_name request.OtherClass = codes "other-class"
+request_name request.NotDfu = codes "not-dfu"
+
+-- The line for a setup is `setup REQUEST kind HH number HH value N index N length N`.
+unfoldable pub setup_line : Setup → Request → List ℕ
+setup_line s asked =
+    codes "setup" ++ (codes " " ++ request_name asked) ++ (codes " kind " ++ hex 2 s.kind) ++ (codes " number " ++ hex 2 s.request)
+    ++ (codes " value " ++ decimal s.value) ++ (codes " index " ++ decimal s.index) ++ (codes " length " ++ decimal s.length) ++ 10 ∷ []
 
 -- The line for bytes that can't be read is `refused NAME`, with the name of their fault.
 unfoldable pub wire_line : WireFault → List ℕ

@@ -5,7 +5,9 @@
 
 mod adding;
 mod answer;
+mod asked;
 mod checking;
+mod configuration;
 mod exit;
 mod faults;
 mod numbers;

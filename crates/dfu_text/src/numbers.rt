@@ -6,6 +6,13 @@ ghost use Rattle.dfu_text.specs.AnswerLines.{hex};
 
 use std::alloc::{AllocError, Global};
 
+/// Two lower-case hexadecimal digits.
+pub(crate) fn hex2(alloc: Global, n: u8) -> Result<String, AllocError>
+    ensures { IfOk result (λ t. string_bytes t ≡ hex 2 n) }
+{
+    format!(in alloc; "{n:02x}")
+}
+
 /// Four lower-case hexadecimal digits.
 pub(crate) fn hex4(alloc: Global, n: u16) -> Result<String, AllocError>
     ensures { IfOk result (λ t. string_bytes t ≡ hex 4 n) }

@@ -2,12 +2,12 @@
 
 ghost use Rattle.std.specs.Prelude.{◌≡◌, ◌++◌, IfOk, OnOk};
 ghost use Rattle.std.specs.String.{string_bytes};
-ghost use Rattle.dfu_text.specs.ShowLines.{bad_hex_line, functional_line, status_line, wire_line, yes_no};
+ghost use Rattle.dfu_text.specs.ShowLines.{bad_hex_line, functional_line, request_name, setup_line, state_line, status_line, wire_line, yes_no};
 
 use crate::faults::fault_line;
-use crate::numbers::{field, hex4, made_field, push};
+use crate::numbers::{field, hex2, hex4, made_field, push};
 use dfu_suffix::SuffixFault;
-use dfu_wire::{Functional, Status, WireFault};
+use dfu_wire::{Functional, Request, Setup, State, Status, WireFault};
 use hex::FromHexError;
 use std::alloc::{AllocError, Global};
 
@@ -51,6 +51,59 @@ pub(crate) fn status_line(alloc: Global, status: &Status, string: u8) -> Result<
     made_field(&mut line, " poll ", status.poll_ms().to_string(alloc)?)?;
     field(&mut line, " state ", status.state().name())?;
     made_field(&mut line, " string ", u32::from(string).to_string(alloc)?)?;
+    push(&mut line, "\n")?;
+    Ok(line)
+}
+
+#[tactic(auto, unfolding(crate::specs::ShowLines::state_line))]
+pub(crate) fn state_line(alloc: Global, state: State) -> Result<String, AllocError>
+    ensures { IfOk result (λ t. string_bytes t ≡ state_line state) }
+{
+    let mut line = String::from_str(alloc, "state ")?;
+    push(&mut line, state.name())?;
+    push(&mut line, "\n")?;
+    Ok(line)
+}
+
+fn request_name(request: Request) -> &'static str
+    ensures { result.now ≡ request_name request }
+{
+    match request {
+        Request::Detach { .. } => "DETACH",
+        Request::Dnload { .. } => "DNLOAD",
+        Request::Upload { .. } => "UPLOAD",
+        Request::GetStatus { .. } => "GETSTATUS",
+        Request::ClrStatus => "CLRSTATUS",
+        Request::GetState { .. } => "GETSTATE",
+        Request::Abort => "ABORT",
+        Request::OtherClass => "other-class",
+        Request::NotDfu => "not-dfu",
+    }
+}
+
+#[tactic(auto, unfolding(crate::specs::ShowLines::setup_line))]
+pub(crate) fn setup_line(alloc: Global, setup: &Setup, asked: Request) -> Result<String, AllocError>
+    ensures { IfOk result (λ t. string_bytes t ≡ setup_line setup.now asked) }
+{
+    let mut line = String::from_str(alloc, "setup")?;
+    field(&mut line, " ", request_name(asked))?;
+    made_field(&mut line, " kind ", hex2(alloc, setup.kind)?)?;
+    made_field(&mut line, " number ", hex2(alloc, setup.request)?)?;
+    made_field(
+        &mut line,
+        " value ",
+        u32::from(setup.value).to_string(alloc)?,
+    )?;
+    made_field(
+        &mut line,
+        " index ",
+        u32::from(setup.index).to_string(alloc)?,
+    )?;
+    made_field(
+        &mut line,
+        " length ",
+        u32::from(setup.length).to_string(alloc)?,
+    )?;
     push(&mut line, "\n")?;
     Ok(line)
 }

@@ -23,7 +23,7 @@ pub enum Job {
     },
     /// Show the fields of bytes.
     Show {
-        /// KIND: `functional` or `status`.
+        /// KIND: `functional`, `status`, `state`, `setup` or `configuration`.
         kind: String,
         /// HEX: the bytes, two hexadecimal digits each.
         hex: String,

@@ -91,8 +91,8 @@ static WORDS: [(&str, &str); 7] = [
     ("dfu add a b --vid 1209 --pid 0001 --did 1", "dfu: --did 1: it has to be four hexadecimal digits, as 1209\n"),
     ("dfu add a b --did 1 --vid 12095", "dfu: --vid 12095: it has to be four hexadecimal digits, as 1209\n"),
     ("dfu add a -", "dfu: OUT -: it has to be a file, as ./- for one with this name\n"),
-    ("dfu show setup 00", "dfu: KIND setup: it has to be functional or status\n"),
-    ("dfu show a\u{1b}[31m\u{7f}\u{fc} 00", "dfu: KIND a?[31m?\u{fc}: it has to be functional or status\n"),
+    ("dfu show name 00", "dfu: KIND name: it has to be functional, status, state, setup or configuration\n"),
+    ("dfu show a\u{1b}[31m\u{7f}\u{fc} 00", "dfu: KIND a?[31m?\u{fc}: it has to be functional, status, state, setup or configuration\n"),
 ];
 
 #[test]
