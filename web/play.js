@@ -12,7 +12,7 @@ import { ScriptEnd, World } from './world.js'
 const MOST_ROWS = 500
 const MOST_AT_ONCE = 10000
 const MOST_PASSES = 1000000 // of a line
-const SETUP = ['blank', 'ids', 'device', 'unit', 'capacity', 'image', 'limits']
+const SETUP = ['blank', 'ids', 'device', 'unit', 'erase', 'capacity', 'image', 'limits']
 const HEARS = ['it is acknowledged', '', 'a stall', 'nothing', 'the time has passed', 'the bus was reset', 'the device restarted']
 
 const FATES = { pass: 'it goes well', lostout: 'the request is lost', lostback: 'the answer is lost', twice: 'it comes twice',

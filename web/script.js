@@ -35,6 +35,7 @@ const FORMS = {
     manifest_ms: number(manifest),
   })],
   unit: [1, word => ({ what: 'unit', unit: UNITS.includes(number(word)) ? number(word) : undefined })],
+  erase: [1, word => ({ what: 'erase', sector: number(word, 131072) % 256 === 0 ? number(word) : undefined })],
   capacity: [1, word => ({ what: 'capacity', capacity: number(word, 1048576, 1) })],
   image: [1, word => ({ what: 'image', image: bytesOf(word) })],
   limits: [2, (actions, restarts) => ({ what: 'limits', actions: number(actions), restarts: number(restarts, 65535) })],

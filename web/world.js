@@ -8,7 +8,7 @@ import { refusalOf } from './refusals.js'
 import { lineOf } from './script.js'
 
 const NONE = new Uint8Array(0)
-const SETTINGS = ['ids', 'device', 'unit', 'capacity', 'image']
+const SETTINGS = ['ids', 'device', 'unit', 'erase', 'capacity', 'image']
 const textOf = bytes => (bytes.length === 0 ? '-' : hexOf(bytes))
 
 // A script ends here: what is printed last.
@@ -20,7 +20,7 @@ export class World {
     Object.assign(this, { modules, onAction, device: null, host: null, number: 0, actions: 0, printed: [] })
     const functional = { attributes: 7, detach_ms: 255, transfer: 8 }
     this.config = { device: 0x0100, product: 1, vendor: 0x1209, ...functional, least: 1, busy_ms: 5, manifest_ms: 10 }
-    Object.assign(this, { capacity: 64, image: new Uint8Array(1), unit: 1, limits: { actions: 1000000, restarts: 0 } })
+    Object.assign(this, { capacity: 64, image: new Uint8Array(1), unit: 1, sector: 0, limits: { actions: 1000000, restarts: 0 } })
   }
 
   print(line) {
@@ -31,6 +31,7 @@ export class World {
   start() {
     if (this.device !== null) return
     if (this.unit !== 1) throw new ScriptEnd(`not played here: the device of this page is written in bytes, not in units of ${this.unit}`)
+    if (this.sector !== 0) throw new ScriptEnd('not played here: the device of this page has no sectors')
     try {
       this.device = new Device(this.modules.device, this.config, this.capacity, this.image)
     } catch (error) {

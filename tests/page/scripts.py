@@ -31,12 +31,12 @@ def rows():
 
 
 def play(browser):
-    """A device that is written in units other than bytes isn't played."""
+    """A device that is written in units other than bytes, or erased in sectors, isn't played."""
     played = 0
     for name, script, wanted in examples() + rows():
         found = browser.run('return runs.scripts([arguments[0]])[0]', script) + '\n'
         if NOT_HERE in found:
-            check(name, re.search('^unit 0*(16|64|256)', script, re.M) is not None, True)
+            check(name, re.search('^(unit 0*(16|64|256)|erase 0*[1-9])', script, re.M) is not None, True)
             continue
         check(name, found, wanted)
         played += name.endswith('.script')

@@ -15,6 +15,8 @@ pub(crate) enum Field {
     Short,
     /// The unit of the medium.
     Unit,
+    /// The sector of the medium.
+    Sector,
     /// The bytes of an image at most.
     Capacity,
     /// How often an action goes.
@@ -43,6 +45,14 @@ fn is_number(word: &str, least: u32, most: u32) -> bool {
     }
 }
 
+/// A number that a sector may have.
+fn is_sector(word: &str) -> bool {
+    match number_of(word) {
+        Some(number) => number <= 131_072 && number % 256 == 0,
+        None => false,
+    }
+}
+
 fn are_digits(word: &[u8]) -> bool {
     word.iter().all(|digit| digit.is_ascii_hexdigit())
 }
@@ -57,6 +67,7 @@ impl Field {
             Field::Number => is_number(word, 0, u32::MAX),
             Field::Short => is_number(word, 0, 65_535),
             Field::Unit => matches!(number_of(word), Some(1 | 16 | 64 | 256)),
+            Field::Sector => is_sector(word),
             Field::Capacity => is_number(word, 1, 1_048_576),
             Field::Times => is_number(word, 1, 1_000_000),
             Field::Hex => word == "-" || (bytes.len() % 2 == 0 && are_digits(bytes)),
@@ -71,6 +82,7 @@ impl Field {
             Field::Number => "a number of 1 to 10 digits, at most 4,294,967,295",
             Field::Short => "a number, at most 65,535",
             Field::Unit => "1, 16, 64 or 256",
+            Field::Sector => "0 or a multiple of 256 up to 131,072",
             Field::Capacity => "a number from 1 to 1,048,576",
             Field::Times => "a number from 1 to 1,000,000",
             Field::Hex => "an even count of hexadecimal digits, or - for no bytes",

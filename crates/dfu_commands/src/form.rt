@@ -17,6 +17,8 @@ static NUMBER: [Field; 1] = [Field::Number];
 
 static UNIT: [Field; 1] = [Field::Unit];
 
+static ERASE: [Field; 1] = [Field::Sector];
+
 static CAPACITY: [Field; 1] = [Field::Capacity];
 
 static TIMES: [Field; 1] = [Field::Times];
@@ -42,6 +44,7 @@ fn fields_of(keyword: &str) -> Option<&'static [Field]> {
         "ids" => Some(&IDS),
         "device" => Some(&DEVICE),
         "unit" => Some(&UNIT),
+        "erase" => Some(&ERASE),
         "capacity" => Some(&CAPACITY),
         "limits" => Some(&LIMITS),
         "image" | "offer" | "verify" => Some(&HEX),

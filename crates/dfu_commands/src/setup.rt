@@ -20,6 +20,7 @@ pub(crate) struct SetUp {
     manifest_ms: u32,
     device_line: u32,
     unit: Set,
+    sector: Set,
     capacity: Set,
     image: Set,
 }
@@ -60,6 +61,7 @@ impl SetUp {
             manifest_ms: 10,
             device_line: 0,
             unit: Set { number: 1, line: 0 },
+            sector: Set { number: 0, line: 0 },
             capacity: Set {
                 number: 64,
                 line: 0,
@@ -82,6 +84,7 @@ impl SetUp {
         match words.first().copied() {
             Some("device") => self.set_device(words, line),
             Some("unit") => self.unit = Set { number, line },
+            Some("erase") => self.sector = Set { number, line },
             Some("capacity") => self.capacity = Set { number, line },
             Some("image") => {
                 let number = length_in(words.get(1).copied());
@@ -121,16 +124,26 @@ impl SetUp {
         None
     }
 
+    /// Where the capacity is no multiple of what is set, the line that says it. Each is one of 0.
+    fn cut_by(&self, set: Set) -> Option<u32> {
+        if set.number > 0 && self.capacity.number % set.number != 0 {
+            Some(self.capacity.line.max(set.line))
+        } else {
+            None
+        }
+    }
+
     /// Why the device can't be set up so, in the order of docs/SCRIPT.md, and the line that says it; of
     /// two lines the later one.
     pub(crate) fn cause(&self) -> Option<(u32, &'static str)> {
         if let Some(why) = self.device_cause() {
             return Some((self.device_line, why));
         }
-        let unit = self.unit.number;
-        if unit > 0 && self.capacity.number % unit != 0 {
-            let line = self.capacity.line.max(self.unit.line);
+        if let Some(line) = self.cut_by(self.unit) {
             return Some((line, "the capacity is no multiple of the unit"));
+        }
+        if let Some(line) = self.cut_by(self.sector) {
+            return Some((line, "the capacity is no multiple of the sector"));
         }
         if self.image.number > self.capacity.number {
             let line = self.capacity.line.max(self.image.line);

@@ -24,8 +24,8 @@ use Rattle.dfu_link.proofs.Beside.{Beside, all_gone, cur_shown, LinesGone, lines
 starts_beside : {settings : Settings} {first : Shown} → Starts settings first
     → Beside settings.image first.config [] (at_rest first) (begun_with settings.image)
 starts_beside {settings = settings} {first = first} starts = record {
-  steady = rest_is_steady first (all_whole (blank settings.unit settings.capacity) first.slots.medium
-      (format_series (blank settings.unit settings.capacity) settings.image) refl starts.formatted);
+  steady = rest_is_steady first (all_whole (blank settings.grain settings.capacity) first.slots.medium
+      (format_series (blank settings.grain settings.capacity) settings.image) refl starts.formatted);
   vouches = record {
     agrees = record {
       active = starts.active;

@@ -1,5 +1,5 @@
 -- How a script ends with a fault, and what is out then.
-use Rattle.std.specs.Prelude.{◌≡◌, ℕ, ◌+◌, ◌<◌, List, [], ◌∷◌, ◌++◌, length, Option, Some, None}
+use Rattle.std.specs.Prelude.{◌≡◌, ◌≢◌, ℕ, ◌+◌, ◌%◌, ◌<◌, List, [], ◌∷◌, ◌++◌, length, Option, Some, None}
 use Rattle.std.specs.Io.KnownBytes.{Appends}
 use Rattle.dfu_slots.specs.Units.{IsMultiple}
 use Rattle.dfu_device.specs.declared.fault.ConfigFault.{ConfigFault}
@@ -89,10 +89,11 @@ pub record SettingFalls (text : List ℕ) (fault : ScriptFault) : Type 0 where
   pub falls : GivesNone (1 + length done) rest fault
   pub stops : StopsAfter text done fault
 
--- No device can be set up like this, or the room has no whole units, or the image has more bytes than there is room for.
+-- No device can be set up like this, or the room has no whole units or no whole sectors, or the image has more bytes than there is room for.
 pub data CannotStart (s : Settings) : Type 0 where
   refused : (fault : ConfigFault) → FirstFault fault s.device → CannotStart s
-  not_whole : ¬ IsMultiple s.unit s.capacity → CannotStart s
+  not_whole : ¬ IsMultiple s.grain.unit s.capacity → CannotStart s
+  cuts_sector : 0 < s.grain.sector → s.capacity % s.grain.sector ≢ 0 → CannotStart s
   too_large : s.capacity < length s.image → CannotStart s
 
 -- Why a device does not start: BadConfig where it cannot, or there is no memory.

@@ -12,6 +12,7 @@ keyword_of w =
     if bytes_eq w (codes "ids") then Some key.Ids
     else if bytes_eq w (codes "device") then Some key.Device
     else if bytes_eq w (codes "unit") then Some key.Unit
+    else if bytes_eq w (codes "erase") then Some key.Erase
     else if bytes_eq w (codes "capacity") then Some key.Capacity
     else if bytes_eq w (codes "image") then Some key.Image
     else if bytes_eq w (codes "limits") then Some key.Limits

@@ -1,5 +1,5 @@
 -- The grammar of a line: its fields, its forms, and what each form says.
-use Rattle.std.specs.Prelude.{ℕ, Bool, false, length, ◌==◌, List, [], ◌∷◌, Option, Some, None, nat_le, if◌then◌else◌}
+use Rattle.std.specs.Prelude.{ℕ, ◌%◌, Bool, false, length, ◌==◌, List, [], ◌∷◌, Option, Some, None, nat_le, if◌then◌else◌}
 use Rattle.dfu_wire.specs.Functional.{functional_of}
 use Rattle.dfu_slots.specs.declared.unit.Unit.{Unit as WriteUnit}
 use Rattle.dfu_slots.specs.declared.unit.Unit.TheVariants.{Byte, U16, U64, U256}
@@ -8,7 +8,7 @@ use Rattle.dfu_link.specs.declared.aim.Aim.{Aim}
 use Rattle.dfu_link.specs.declared.aim.Aim.TheVariants.{Install, Verify}
 use Rattle.dfu_link.specs.Words.{◌>>=◌, guard, bytes_of, number_of, pair_of, first, ends, words_of}
 use Rattle.dfu_link.specs.Happening.{Fate, Pass, LostOut, LostBack, Twice, TwiceLostBack, Slip, CutIn, Fail, Lie, unharmed, harmed}
-use Rattle.dfu_link.specs.Said.{Said, Blank, Sets, LimitsTo, Does, Show, TheIds, TheDevice, TheUnit, TheCapacity, TheImage, Offer, Upload, Abort, Go, Time, Reset, Cut}
+use Rattle.dfu_link.specs.Said.{Said, Blank, Sets, LimitsTo, Does, Show, TheIds, TheDevice, TheUnit, TheSector, TheCapacity, TheImage, Offer, Upload, Abort, Go, Time, Reset, Cut}
 use Rattle.dfu_link.specs.Keywords.{keyword_of, fate_keyword_of}
 use Rattle.dfu_link.specs.declared.scripting.keywords.Keyword.{Keyword}
 use Rattle.dfu_link.specs.declared.scripting.keywords.Keyword.TheVariants as key
@@ -77,6 +77,12 @@ unit_of words = do
   n ← number_at words
   unit ← unit_named n.0
   ends (Sets (TheUnit unit)) n.1
+
+-- After `erase`: how many bytes the medium erases at a time, 0 or a multiple of 256 up to 131,072.
+unfoldable pub erase_of : List (List ℕ) → Option Said
+erase_of words = do
+  n ← small_at 131072 words
+  if n.0 % 256 == 0 then ends (Sets (TheSector n.0)) n.1 else None
 
 -- After `capacity`: a number from 1 to 1,048,576.
 unfoldable pub capacity_of : List (List ℕ) → Option Said
@@ -152,6 +158,7 @@ abbrev pub by_keyword : Keyword → List (List ℕ) → Option Said
 by_keyword key.Ids words = ids_of words
 by_keyword key.Device words = device_of words
 by_keyword key.Unit words = unit_of words
+by_keyword key.Erase words = erase_of words
 by_keyword key.Capacity words = capacity_of words
 by_keyword key.Image words = image_of words
 by_keyword key.Limits words = limits_of words

@@ -20,11 +20,13 @@ use Rattle.dfu_link.specs.declared.scripting.line.EventLine.TheVariants as event
 abbrev pub hex_bytes : HexText → List ℕ
 hex_bytes text = unwrap_or (bytes_of text.text.now) []
 
--- What a configuration line sets: who the device is, what it is like, how many bytes an image may have, or the image that it has at first.
+-- What a configuration line sets: who the device is, what it is like, how its medium is written and erased, how many bytes an image may have,
+-- or the image that it has at first.
 pub data ConfigLine : Type 0 where
   TheIds : Ids → ConfigLine
   TheDevice : Functional → (least busy manifest : ℕ) → ConfigLine
   TheUnit : WriteUnit → ConfigLine
+  TheSector : ℕ → ConfigLine
   TheCapacity : ℕ → ConfigLine
   TheImage : List ℕ → ConfigLine
 
@@ -59,6 +61,7 @@ abbrev pub config_line_of : config_lines.ConfigLine → ConfigLine
 config_line_of (config.Ids ids) = TheIds ids
 config_line_of (config.Device functional least busy manifest) = TheDevice functional least busy manifest
 config_line_of (config.Unit unit) = TheUnit unit
+config_line_of (config.Erase sector) = TheSector sector.bytes
 config_line_of (config.Capacity room) = TheCapacity room.bytes
 config_line_of (config.Image text) = TheImage (hex_bytes text)
 

@@ -3,11 +3,9 @@ use Rattle.std.specs.Prelude.{◌≡◌, ℕ, ◌+◌, ◌*◌, ◌≤◌, List,
 use Rattle.std.specs.Io.KnownBytes.{Appends}
 use Rattle.dfu_wire.specs.Functional.{functional_of}
 use Rattle.dfu_host.specs.declared.limits.Limits.{Limits}
-use Rattle.dfu_slots.specs.declared.unit.Unit.{Unit as WriteUnit}
 use Rattle.dfu_slots.specs.declared.unit.Unit.TheVariants.{Byte}
-use Rattle.dfu_slots.specs.Units.{in_place, gate_size, IsMultiple}
-use Rattle.dfu_slots.specs.Medium.{MediumState, AllWrites}
-use Rattle.dfu_slots.specs.Medium.Fuse.{Whole}
+use Rattle.dfu_slots.specs.Units.{Grain, in_place, gate_room, IsWhole}
+use Rattle.dfu_slots.specs.Medium.{MediumState, AllWrites, blank_medium}
 use Rattle.dfu_slots.specs.Image.{Active}
 use Rattle.dfu_slots.specs.Seen.{image_of, format_series}
 use Rattle.dfu_device.specs.Stage.{InAppIdle}
@@ -20,14 +18,14 @@ use Rattle.dfu_link.specs.Comes.{Comes}
 use Rattle.dfu_link.specs.declared.fault.LinkFault.{LinkFault}
 use Rattle.dfu_link.specs.Texts.{answer_line, image_line, show_line}
 use Rattle.dfu_link.specs.Words.{lines_of}
-use Rattle.dfu_link.specs.Said.{ConfigLine, TheIds, TheDevice, TheUnit, TheCapacity, TheImage, EventLine, Offer, Upload, Abort, Go, Time, Reset, Cut, Said, Blank, Sets, LimitsTo, Does, Show}
+use Rattle.dfu_link.specs.Said.{ConfigLine, TheIds, TheDevice, TheUnit, TheSector, TheCapacity, TheImage, EventLine, Offer, Upload, Abort, Go, Time, Reset, Cut, Said, Blank, Sets, LimitsTo, Does, Show}
 use Rattle.dfu_link.specs.Lines.{line_of}
 
--- What is set before the first event line or `show`: the device, the unit in which its medium is written, how many bytes an image may have,
--- the image at first, and the limits of sessions.
+-- What is set before the first event line or `show`: the device, how its medium is written and erased, how many bytes an image may have, the
+-- image at first, and the limits of sessions.
 pub record Settings : Type 0 where
   pub device : Setting
-  pub unit : WriteUnit
+  pub grain : Grain
   pub capacity : ℕ
   pub image : List ℕ
   pub limits : Limits
@@ -42,7 +40,7 @@ beginning = record {
     busy_ms = 5;
     manifest_ms = 10;
   };
-  unit = Byte;
+  grain = in_place Byte;
   capacity = 64;
   image = 0 ∷ [];
   limits = record { actions = 1000000; restarts = 0 };
@@ -53,7 +51,8 @@ abbrev pub set : Settings → ConfigLine → Settings
 set s (TheIds ids) = record s { device = record s.device { ids = ids } }
 set s (TheDevice functional least busy manifest) =
     record s { device = record s.device { functional = functional; least = least; busy_ms = busy; manifest_ms = manifest } }
-set s (TheUnit unit) = record s { unit = unit }
+set s (TheUnit unit) = record s { grain = record s.grain { unit = unit } }
+set s (TheSector n) = record s { grain = record s.grain { sector = n } }
 set s (TheCapacity n) = record s { capacity = n }
 set s (TheImage bytes) = record s { image = bytes }
 
@@ -81,24 +80,18 @@ abbrev pub IsReady : List (List ℕ) → Type 0
 IsReady [] = Unit {0}
 IsReady (line ∷ lines) = HasToAct (line_of line)
 
--- A blank medium of two slots that is written in this unit, with room for images of so many bytes. It is not armed.
-abbrev pub blank : WriteUnit → ℕ → MediumState
-blank unit capacity = record {
-  bytes = replicate (2 * (2 * gate_size unit + capacity)) 255;
-  failures = 0;
-  fuse = Whole;
-  grain = in_place unit;
-  tag = [];
-}
+-- A blank medium of two slots that is written and erased like this, with room for images of so many bytes. It is not armed.
+abbrev pub blank : Grain → ℕ → MediumState
+blank grain capacity = blank_medium grain (2 * (2 * gate_room grain + capacity))
 
--- The device starts: it is allowed, the room has whole units, the image fits, and it stands in appIDLE on a blank medium that was formatted
--- with the image, which is the active one of its bytes.
+-- The device starts: it is allowed, the room has whole units and sectors, the image fits, and it stands in appIDLE on a blank medium that was
+-- formatted with the image, which is the active one of its bytes.
 pub record Starts (s : Settings) (d : Shown) : Type 0 where
   pub config : d.config ≡ record s.device { functional = of_this_version s.device.functional }
   pub allowed : IsAllowed d.config
-  pub whole : IsMultiple s.unit s.capacity
+  pub whole : IsWhole s.grain s.capacity
   pub fits : length s.image ≤ s.capacity
-  pub formatted : AllWrites (blank s.unit s.capacity) (format_series (blank s.unit s.capacity) s.image) d.slots.medium
+  pub formatted : AllWrites (blank s.grain s.capacity) (format_series (blank s.grain s.capacity) s.image) d.slots.medium
   pub active : Active d.slots.medium s.image
   pub image : image_of d.slots ≡ s.image
   pub stage : d.stage ≡ InAppIdle

@@ -1,6 +1,5 @@
 -- What an action of the host came to, as a trace tells it.
 use Rattle.std.specs.Prelude.{◌≡◌, ℕ, List, Option, Some, Result}
-use Rattle.dfu_wire.specs.declared.states.State.{State}
 use Rattle.dfu_device.specs.Stage.{state_of}
 use Rattle.dfu_device.specs.Shown.{Shown}
 use Rattle.dfu_device.specs.Rows.{Elapses}

@@ -1,7 +1,6 @@
 -- A medium formatted with an image.
-use Rattle.std.specs.Prelude.{◌≡◌, ◌⊎◌, ℕ, ◌≤◌, ◌<◌, List, length}
-use Rattle.dfu_slots.specs.declared.unit.Unit.{Unit as WriteUnit}
-use Rattle.dfu_slots.specs.Units.{IsMultiple}
+use Rattle.std.specs.Prelude.{◌≡◌, ◌≢◌, ℕ, ◌%◌, ◌≤◌, ◌<◌, List, length}
+use Rattle.dfu_slots.specs.Units.{Grain, IsMultiple, IsWhole}
 use Rattle.dfu_slots.specs.Medium.{AllWrites}
 use Rattle.dfu_slots.specs.Medium.Fuse.{Whole}
 use Rattle.dfu_slots.specs.Image.{Active}
@@ -10,17 +9,23 @@ use Rattle.dfu_link.specs.ScriptRun.{blank}
 use Rattle.dfu_link.specs.declared.scripting.fault.ScriptFault.{ScriptFault}
 use Rattle.dfu_link.specs.declared.scripting.fault.ScriptFault.TheVariants.{BadConfig, NoMemory}
 
--- A blank medium in this unit, with room for so many bytes, was formatted with the image, which is active, and isn't armed.
-pub record Formed (unit : WriteUnit) (capacity : ℕ) (image : List ℕ) (s : SlotsState) : Type 0 where
-  pub whole : IsMultiple unit capacity
+-- A blank medium of this grain, with room for so many bytes, was formatted with the image, which is active, and isn't armed.
+pub record Formed (grain : Grain) (capacity : ℕ) (image : List ℕ) (s : SlotsState) : Type 0 where
+  pub whole : IsWhole grain capacity
   pub fits : length image ≤ capacity
-  pub formatted : AllWrites (blank unit capacity) (format_series (blank unit capacity) image) s.medium
+  pub formatted : AllWrites (blank grain capacity) (format_series (blank grain capacity) image) s.medium
   pub active : Active s.medium image
   pub image_is : image_of s ≡ image
   pub unarmed : s.medium.fuse ≡ Whole
 
--- Why there is none: the room has no whole units, or the image is too large, or there is no memory.
-abbrev pub FormFalls : WriteUnit → ℕ → List ℕ → ScriptFault → Type 0
-FormFalls unit capacity image BadConfig = (¬ IsMultiple unit capacity) ⊎ (capacity < length image)
-FormFalls unit capacity image NoMemory = Unit {0}
-FormFalls unit capacity image fault = ⊥
+-- There is none: the room has no whole units or no whole sectors, or the image is too large.
+pub data CannotForm (grain : Grain) (capacity : ℕ) (image : List ℕ) : Type 0 where
+  cuts_unit : ¬ IsMultiple grain.unit capacity → CannotForm grain capacity image
+  cuts_sector : 0 < grain.sector → capacity % grain.sector ≢ 0 → CannotForm grain capacity image
+  too_long : capacity < length image → CannotForm grain capacity image
+
+-- Why there is none: that, or there is no memory.
+abbrev pub FormFalls : Grain → ℕ → List ℕ → ScriptFault → Type 0
+FormFalls grain capacity image BadConfig = CannotForm grain capacity image
+FormFalls grain capacity image NoMemory = Unit {0}
+FormFalls grain capacity image fault = ⊥

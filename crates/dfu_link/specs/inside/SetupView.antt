@@ -2,6 +2,9 @@
 use Rattle.std.specs.Prelude.{ℕ, List, [], ◌∷◌, Option, Some, None, Vec}
 use Rattle.std.specs.declared.alloc.Global.{Global}
 use Rattle.dfu_link.specs.ScriptRun.{Settings}
+use Rattle.dfu_slots.specs.declared.unit.Unit.{Unit as WriteUnit}
+use Rattle.dfu_slots.specs.Units.{Grain}
+use Rattle.dfu_link.specs.declared.scripting.line.Sector.{Sector}
 use Rattle.dfu_link.specs.declared.scripting.setup.Setup.{Setup}
 
 -- The image at first; where none is set it is the byte 00.
@@ -9,11 +12,15 @@ abbrev pub image_bytes : Option (Vec ℕ Global) → List ℕ
 image_bytes None = 0 ∷ []
 image_bytes (Some image) = image.items
 
+-- A medium is written in this unit and erased in these sectors.
+abbrev pub grain_of : WriteUnit → Sector → Grain
+grain_of unit sector = record { unit = unit; sector = sector.bytes }
+
 -- What is set.
 abbrev pub settings_of : Setup → Settings
 settings_of s = record {
   device = record { ids = s.ids; functional = s.functional; least = s.least; busy_ms = s.busy_ms; manifest_ms = s.manifest_ms };
-  unit = s.unit;
+  grain = grain_of s.unit s.sector;
   capacity = s.room.bytes;
   image = image_bytes s.image;
   limits = s.limits;

@@ -14,8 +14,8 @@ pub enum ScriptFault {
     #[error("line {0} sets up a device that has begun")]
     LateConfig(u32),
     /// The device can't be set up like this (`ConfigFault`), or the capacity is no multiple of the
-    /// unit, or the image has more bytes than the capacity. Looked for at the first event line or
-    /// `show`, or at the end.
+    /// unit or of the sector, or the image has more bytes than the capacity. Looked for at the first
+    /// event line or `show`, or at the end.
     #[error("no device can be set up like this")]
     BadConfig,
     /// The text has over 16,777,216 bytes.

@@ -9,6 +9,7 @@ pub(crate) enum Keyword {
     Ids,
     Device,
     Unit,
+    Erase,
     Capacity,
     Image,
     Limits,
@@ -47,6 +48,8 @@ pub(crate) fn read_keyword(word: &[u8]) -> Option<Keyword>
         Some(Keyword::Device)
     } else if word == b"unit".as_slice() {
         Some(Keyword::Unit)
+    } else if word == b"erase".as_slice() {
+        Some(Keyword::Erase)
     } else if word == b"capacity".as_slice() {
         Some(Keyword::Capacity)
     } else if word == b"image".as_slice() {

@@ -1,6 +1,6 @@
 //! What a line says.
 
-ghost use Rattle.std.specs.Prelude.{◌≤◌};
+ghost use Rattle.std.specs.Prelude.{◌≡◌, ◌%◌, ◌≤◌};
 
 use crate::aim::Aim;
 use crate::fate::Fate;
@@ -14,6 +14,14 @@ pub(crate) struct Room {
     pub bytes: u32,
     ghost some: { 1 ≤ bytes },
     ghost most: { bytes ≤ 1048576 },
+}
+
+/// How many bytes the medium erases at a time; at 0 it is written over in place.
+#[derive(Clone, Copy)]
+pub(crate) struct Sector {
+    pub bytes: u32,
+    ghost pages: { bytes % 256 ≡ 0 },
+    ghost most: { bytes ≤ 131072 },
 }
 
 /// What a configuration line sets.
@@ -30,6 +38,8 @@ pub(crate) enum ConfigLine<'l> {
     },
     /// The unit in which the medium is written.
     Unit(Unit),
+    /// The sectors in which it is erased.
+    Erase(Sector),
     /// How many bytes an image may have.
     Capacity(Room),
     /// The image that the device has at first.

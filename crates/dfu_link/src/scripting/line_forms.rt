@@ -4,7 +4,7 @@ ghost use Rattle.std.specs.Prelude.{◌≡◌, None};
 ghost use Rattle.dfu_link.specs.Words.{Reads, words_of, ends};
 ghost use Rattle.dfu_link.specs.Happening.{fate_of, harm_in};
 ghost use Rattle.dfu_link.specs.Said.{said_of, Go, Does, harm_fate};
-ghost use Rattle.dfu_link.specs.Lines.{small_at, ids_of, device_of, unit_named, unit_of, capacity_of, image_of, limits_of, offer_of, time_of, pass_of, slip_of, harmed_of, by_fate, go_of};
+ghost use Rattle.dfu_link.specs.Lines.{small_at, ids_of, device_of, unit_named, unit_of, erase_of, capacity_of, image_of, limits_of, offer_of, time_of, pass_of, slip_of, harmed_of, by_fate, go_of};
 
 use crate::aim::Aim;
 use crate::fate::Fate;
@@ -12,7 +12,7 @@ use crate::scripting::fields::{
     attributes_at, ended, hex_at, identifier_at, number_at, short_at, small_at,
 };
 use crate::scripting::keywords::{FateKeyword, read_fate};
-use crate::scripting::line::{ConfigLine, EventLine, HarmKind, Line, Room};
+use crate::scripting::line::{ConfigLine, EventLine, HarmKind, Line, Room, Sector};
 use crate::scripting::words::word_at;
 use dfu_slots::Unit;
 use dfu_wire::{Functional, Ids};
@@ -75,6 +75,19 @@ pub(crate) fn unit(line: &[u8]) -> Option<Line<'_>>
     let (n, rest) = number_at(line)?;
     let unit = unit_named(n)?;
     ended(Line::Set(ConfigLine::Unit(unit)), rest)
+}
+
+/// `erase N`.
+#[tactic(auto, unfolding(crate::specs::Lines::erase_of), using(std::proofs::lemmas::Bool::Decides::nat_tests))]
+pub(crate) fn erase(line: &[u8]) -> Option<Line<'_>>
+    ensures { Reads said_of result (erase_of (words_of line.now)) }
+{
+    let (n, rest) = small_at(line, 131_072)?;
+    if n % 256 == 0 {
+        ended(Line::Set(ConfigLine::Erase(Sector { bytes: n })), rest)
+    } else {
+        None
+    }
 }
 
 /// `capacity N`.

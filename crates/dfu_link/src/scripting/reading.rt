@@ -9,7 +9,9 @@ use crate::aim::Aim;
 use crate::scripting::fields::ended;
 use crate::scripting::keywords::{Keyword, read_keyword};
 use crate::scripting::line::{EventLine, Line};
-use crate::scripting::line_forms::{capacity, device, go, ids, image, limits, offer, time, unit};
+use crate::scripting::line_forms::{
+    capacity, device, erase, go, ids, image, limits, offer, time, unit,
+};
 use crate::scripting::words::word_at;
 
 /// The most bytes of a line, without its 0Ah.
@@ -22,6 +24,7 @@ fn by_keyword(keyword: Keyword, rest: &[u8]) -> Option<Line<'_>>
         Keyword::Ids => ids(rest),
         Keyword::Device => device(rest),
         Keyword::Unit => unit(rest),
+        Keyword::Erase => erase(rest),
         Keyword::Capacity => capacity(rest),
         Keyword::Image => image(rest),
         Keyword::Limits => limits(rest),

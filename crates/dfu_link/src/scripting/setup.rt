@@ -6,15 +6,16 @@ ghost use Rattle.dfu_link.specs.ScriptRun.{set, beginning};
 ghost use Rattle.dfu_link.specs.inside.SetupView.{settings_of};
 
 use crate::scripting::fault::ScriptFault;
-use crate::scripting::line::{ConfigLine, Room};
+use crate::scripting::line::{ConfigLine, Room, Sector};
 use crate::scripting::starting::bytes_of;
 use dfu_host::Limits;
 use dfu_slots::Unit;
 use dfu_wire::{Functional, Ids};
 use std::alloc::Global;
 
-/// What is set: what `Config::new` takes, the unit in which the medium is written, how many bytes an
-/// image may have, the image at first (the byte 00 where there is none), and the limits of sessions.
+/// What is set: what `Config::new` takes, the unit in which the medium is written and the sectors in
+/// which it is erased, how many bytes an image may have, the image at first (the byte 00 where there
+/// is none), and the limits of sessions.
 #[derive(Drop)]
 pub(crate) struct Setup {
     pub ids: Ids,
@@ -23,6 +24,7 @@ pub(crate) struct Setup {
     pub busy_ms: u32,
     pub manifest_ms: u32,
     pub unit: Unit,
+    pub sector: Sector,
     pub room: Room,
     pub image: Option<Vec<u8>>,
     pub limits: Limits,
@@ -51,6 +53,7 @@ pub(crate) fn beginning() -> Setup
         busy_ms: 5,
         manifest_ms: 10,
         unit: Unit::Byte,
+        sector: Sector { bytes: 0 },
         room: Room { bytes: 64 },
         image: None,
         limits: Limits {
@@ -83,6 +86,7 @@ pub(crate) fn set(
             setup.manifest_ms = manifest_ms;
         }
         ConfigLine::Unit(unit) => setup.unit = unit,
+        ConfigLine::Erase(sector) => setup.sector = sector,
         ConfigLine::Capacity(room) => setup.room = room,
         ConfigLine::Image(text) => setup.image = Some(bytes_of(alloc, text)?),
     }

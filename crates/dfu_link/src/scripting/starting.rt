@@ -1,17 +1,17 @@
 //! The start of the device.
 
-ghost use Rattle.std.specs.Prelude.{◌≡◌, ◌<◌, ◌+◌, ◌*◌, IfOk, IfErr};
-ghost use Rattle.dfu_slots.specs.Units.{gate_size, IsMultiple};
+ghost use Rattle.std.specs.Prelude.{◌≡◌, ◌≢◌, ◌<◌, ◌+◌, ◌*◌, ◌%◌, IfOk, IfErr, true, false};
+ghost use Rattle.dfu_slots.specs.Units.{gate_room, IsMultiple};
 ghost use Rattle.dfu_link.specs.Said.{hex_bytes};
 ghost use Rattle.dfu_link.specs.ScriptRun.{Starts};
 ghost use Rattle.dfu_link.specs.Falls.{StartFalls};
 ghost use Rattle.dfu_link.specs.inside.Moving.{IsUnarmed};
-ghost use Rattle.dfu_link.specs.inside.SetupView.{settings_of, image_bytes};
+ghost use Rattle.dfu_link.specs.inside.SetupView.{settings_of, grain_of, image_bytes};
 ghost use Rattle.dfu_link.specs.inside.Forming.{Formed, FormFalls};
 
 use crate::scripting::fault::ScriptFault;
 use crate::scripting::hex_text::HexText;
-use crate::scripting::line::Room;
+use crate::scripting::line::{Room, Sector};
 use crate::scripting::setup::Setup;
 use crate::tracing::noting::Noting;
 use dfu_device::{Config, Device};
@@ -42,28 +42,42 @@ fn first_image(setup: &Setup) -> &[u8]
     }
 }
 
-/// How many bytes a medium of two slots has that is written in this unit, with so much room.
-fn medium_len(unit: Unit, room: Room) -> u32
-    ensures value { result ≡ 2 * (2 * gate_size unit + room.bytes) }
+/// How many bytes a medium of two slots has that is written in this unit and erased in these sectors,
+/// with so much room.
+fn medium_len(unit: Unit, sector: Sector, room: Room) -> u32
+    ensures value { result ≡ 2 * (2 * gate_room (grain_of unit sector) + room.bytes) }
     ensures whole { IsMultiple unit room.bytes → IsMultiple unit result }
 {
-    2 * (2 * unit.size().max(16) + room.bytes)
+    2 * (2 * unit.size().max(16).max(sector.bytes) + room.bytes)
+}
+
+/// Whether so much room has no whole sectors.
+fn cuts_sector(sector: Sector, room: Room) -> bool
+    ensures cuts { result ≡ true → (0 < sector.bytes) × (room.bytes % sector.bytes ≢ 0) }
+    ensures whole { result ≡ false → 0 < sector.bytes → room.bytes % sector.bytes ≡ 0 }
+{
+    sector.bytes > 0 && room.bytes % sector.bytes != 0
 }
 
 /// A medium in memory, formatted with the image.
 fn form(
     alloc: Global,
     unit: Unit,
+    sector: Sector,
     room: Room,
     image: &[u8],
 ) -> Result<Slots<Noting<SimMedium>>, ScriptFault>
-    ensures ok { IfOk result (λ slots. Formed unit room.bytes image.now slots) }
-    ensures fault { IfErr result (λ f. FormFalls unit room.bytes image.now f) }
+    ensures ok { IfOk result (λ slots. Formed (grain_of unit sector) room.bytes image.now slots) }
+    ensures fault { IfErr result (λ f. FormFalls (grain_of unit sector) room.bytes image.now f) }
 {
     if room.bytes % unit.size() != 0 {
         return Err(ScriptFault::BadConfig);
     }
-    let Ok(medium) = Noting::with_unit(alloc, medium_len(unit, room), unit) else {
+    if cuts_sector(sector, room) {
+        return Err(ScriptFault::BadConfig);
+    }
+    let len = medium_len(unit, sector, room);
+    let Ok(medium) = Noting::with_sectors(alloc, len, unit, sector.bytes) else {
         return Err(ScriptFault::NoMemory);
     };
     match Slots::format(medium, image) {
@@ -92,6 +106,12 @@ pub(crate) fn start(alloc: Global, setup: &Setup) -> Result<Device<Noting<SimMed
     let Ok(config) = config else {
         return Err(ScriptFault::BadConfig);
     };
-    let slots = form(alloc, setup.unit, setup.room, first_image(setup))?;
+    let slots = form(
+        alloc,
+        setup.unit,
+        setup.sector,
+        setup.room,
+        first_image(setup),
+    )?;
     Ok(Device::start(config, slots))
 }

@@ -1,7 +1,7 @@
 //! A medium that notes its last writes.
 
 ghost use Rattle.std.specs.Prelude.{◌≡◌, IfOk};
-ghost use Rattle.dfu_slots.specs.Units.{in_place, IsMultiple};
+ghost use Rattle.dfu_slots.specs.Units.{IsMultiple};
 ghost use Rattle.dfu_slots.specs.Medium.{blank_medium};
 
 use dfu_slots::{Failed, Faulty, Medium, NoMemory, SimMedium, Unit};
@@ -19,9 +19,10 @@ pub(crate) enum WriteEnd {
     Lied,
 }
 
-/// A write: how many bytes, where, and how it ended.
+/// A write: whether it erased, how many bytes, where, and how it ended.
 #[derive(Clone, Copy, Debug, PartialEq, Eq)]
 pub(crate) struct WriteNote {
+    pub erases: bool,
     pub at: u32,
     pub len: u32,
     pub end: WriteEnd,
@@ -40,12 +41,22 @@ pub(crate) struct Noting<M: Medium> {
     before_lie: Option<u32>,
 }
 
+/// How a write ended that was to lie or not.
+fn ended(lies: bool, answer: Result<(), Failed>) -> WriteEnd {
+    match answer {
+        Ok(()) if lies => WriteEnd::Lied,
+        Ok(()) => WriteEnd::Worked,
+        Err(Failed) => WriteEnd::Failed,
+    }
+}
+
 impl<M: Medium> Noting<M> {
     /// A medium of which no write was noted.
     pub(crate) fn new(medium: M) -> Noting<M>
         ensures { result.medium ≡ medium }
     {
         let none = WriteNote {
+            erases: false,
             at: 0,
             len: 0,
             end: WriteEnd::Worked,
@@ -93,35 +104,31 @@ impl<M: Medium> Noting<M> {
         }
     }
 
-    /// Notes a write that ended so, and was to lie or not.
-    fn add_ended(&mut self, at: u32, len: u32, lies: bool, answer: Result<(), Failed>)
+    /// Notes a write.
+    fn add(&mut self, note: WriteNote)
         ensures { self.new.medium ≡ self.old.medium }
     {
-        let end = match answer {
-            Ok(()) if lies => WriteEnd::Lied,
-            Ok(()) => WriteEnd::Worked,
-            Err(Failed) => WriteEnd::Failed,
-        };
-        self.notes[(self.count % 16) as usize] = WriteNote { at, len, end };
+        self.notes[(self.count % 16) as usize] = note;
         self.count = self.count.wrapping_add(1);
     }
 }
 
 impl Noting<SimMedium> {
-    /// A medium in memory as `SimMedium::with_unit` makes it, of which no write was noted.
+    /// A medium in memory as `SimMedium::with_sectors` makes it, of which no write was noted.
     ///
     /// # Errors
     ///
-    /// `NoMemory` where there is no memory for the bytes.
-    pub(crate) fn with_unit(
+    /// `NoMemory` where there is no memory for the bytes and a sector.
+    pub(crate) fn with_sectors(
         alloc: Global,
         len: u32,
         unit: Unit,
+        sector: u32,
     ) -> Result<Noting<SimMedium>, NoMemory>
         requires { IsMultiple unit len }
-        ensures { IfOk result (λ noting. noting.medium ≡ blank_medium (in_place unit) len) }
+        ensures { IfOk result (λ noting. noting.medium ≡ blank_medium (record { unit = unit; sector = sector }) len) }
     {
-        let medium = SimMedium::with_unit(alloc, len, unit)?;
+        let medium = SimMedium::with_sectors(alloc, len, unit, sector)?;
         Ok(Noting::new(medium))
     }
 }
@@ -153,7 +160,12 @@ impl<M: Medium> Medium for Noting<M> {
         let lies = self.lies();
         let answer = self.medium.write(at, bytes);
         let len = u32::try_from(bytes.len()).unwrap_or(u32::MAX);
-        self.add_ended(at, len, lies, answer);
+        self.add(WriteNote {
+            erases: false,
+            at,
+            len,
+            end: ended(lies, answer),
+        });
         answer
     }
 
@@ -162,7 +174,12 @@ impl<M: Medium> Medium for Noting<M> {
         let lies = self.lies();
         let answer = self.medium.erase(at);
         let len = self.medium.sector();
-        self.add_ended(at, len, lies, answer);
+        self.add(WriteNote {
+            erases: true,
+            at,
+            len,
+            end: ended(lies, answer),
+        });
         answer
     }
 }

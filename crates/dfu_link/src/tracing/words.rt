@@ -2,7 +2,7 @@
 
 use crate::back::Back;
 use crate::fate::Fate;
-use crate::tracing::noting::{Noting, WriteEnd};
+use crate::tracing::noting::{Noting, WriteEnd, WriteNote};
 use dfu_device::Answer;
 use dfu_host::{Action, Phase};
 use dfu_slots::SimMedium;
@@ -178,6 +178,20 @@ pub(crate) fn push_answer(
     }
 }
 
+/// Adds a write: whether it erased, its bytes and place, and how it ended.
+fn push_write(line: &mut String, alloc: Global, note: WriteNote) -> Result<(), AllocError> {
+    if note.erases {
+        line.push_str("erased ")?;
+    }
+    let (len, at) = (note.len, note.at);
+    line.push_str(&format!(in alloc; "{len} at {at}")?)?;
+    match note.end {
+        WriteEnd::Worked => Ok(()),
+        WriteEnd::Failed => line.push_str(" failed"),
+        WriteEnd::Lied => line.push_str(" lied"),
+    }
+}
+
 /// Adds the writes of the medium from this one on, at most the last 16.
 pub(crate) fn push_writes(
     line: &mut String,
@@ -194,14 +208,7 @@ pub(crate) fn push_writes(
         if number > from {
             line.push_str(", ")?;
         }
-        let note = medium.note(number);
-        let (len, at) = (note.len, note.at);
-        line.push_str(&format!(in alloc; "{len} at {at}")?)?;
-        match note.end {
-            WriteEnd::Worked => {}
-            WriteEnd::Failed => line.push_str(" failed")?,
-            WriteEnd::Lied => line.push_str(" lied")?,
-        }
+        push_write(line, alloc, medium.note(number))?;
     }
     Ok(())
 }

@@ -1,23 +1,29 @@
 use Rattle.std.proofs.Common.{◌≡◌, ◌∙◌, ◌%◌, ℕ, ap, subst, sym, arith, refl}
 use Rattle.dfu_slots.specs.Medium.{MediumState, AllWrites}
 use Rattle.dfu_slots.specs.Medium.Fuse.{Whole}
-use Rattle.dfu_slots.specs.Units.{IsMultiple}
+use Rattle.dfu_slots.specs.Units.{IsWhole}
 use Rattle.dfu_slots.specs.Seen.{format_series}
 use Rattle.dfu_slots.specs.Image.{IsSized}
 use Rattle.dfu_slots.specs.Changes.{CanFormat, IsFormatFault}
 use Rattle.dfu_slots.specs.Unarmed.{broken_whole, all_whole}
 use Rattle.dfu_link.specs.ScriptRun.{blank}
+use Rattle.dfu_link.specs.inside.SetupView.{grain_of}
 use Rattle.dfu_link.proofs.Blank.{made_blank, room_blank, blank_sized}
 use Rattle.dfu_link.proofs.scripting.starting.form.Goals as goal
 
 pub unreachable-requires : goal.unreachable-requires
 unreachable-requires c =
+    let w = grain_of c.args.unit c.args.sector in
     let n = c.args.room.bytes in
-    let whole : IsMultiple c.args.unit n = subst (λ (k : ℕ). n % k ≡ 0) c.size.ensures.value c.if-room-size-ne0.false in
-    let same : c.in-Ok.medium.medium ≡ blank c.args.unit n = c.in-Ok.ensures
-    ∙ made_blank c.args.unit n c.medium_len.result c.medium_len.ensures.value in
+    let whole : IsWhole w n = record {
+      units = subst (λ (k : ℕ). n % k ≡ 0) c.size.ensures.value c.if-room-size-ne0.false;
+      sectors = c.cuts_sector.ensures.whole c.if-cuts_sector.false;
+      pages = c.args.sector.pages;
+      bound = c.args.sector.most;
+    } in
+    let same : c.in-Ok.medium.medium ≡ blank w n = c.in-Ok.ensures ∙ made_blank w n c.medium_len-len.result c.medium_len-len.ensures.value in
     (subst (λ f. IsFormatFault f c.in-Ok.medium.medium c.args.image.now) c.in-WrongSize.is c.in-Err.ensures.fault)
-    (subst IsSized (sym same) (blank_sized c.args.unit n c.args.room.some c.args.room.most whole))
+    (subst IsSized (sym same) (blank_sized w n c.args.room.some c.args.room.most whole))
 
 pub unreachable-requires-in-Failed : goal.unreachable-requires-in-Failed
 unreachable-requires-in-Failed c =
@@ -28,17 +34,18 @@ unreachable-requires-in-Failed c =
 
 pub returns-in-Ok-format-clause-ok : goal.returns-in-Ok-format-clause-ok
 returns-in-Ok-format-clause-ok c =
+    let w = grain_of c.args.unit c.args.sector in
     let n = c.args.room.bytes in
-    let b = blank c.args.unit n in
+    let b = blank w n in
     let image = c.args.image.now in
     let s = c.in-Ok-format.slots in
-    let same : c.in-Ok.medium.medium ≡ b = c.in-Ok.ensures ∙ made_blank c.args.unit n c.medium_len.result c.medium_len.ensures.value in
+    let same : c.in-Ok.medium.medium ≡ b = c.in-Ok.ensures ∙ made_blank w n c.medium_len-len.result c.medium_len-len.ensures.value in
     let writes : AllWrites b (format_series b image) s.medium = subst (λ (x : MediumState). AllWrites x (format_series x image) s.medium)
     same c.in-Ok-format.ensures.writes in
     let can : CanFormat b image = subst (λ (x : MediumState). CanFormat x image) same c.in-Ok-format.ensures.formats in
     record {
-      whole = subst (λ (k : ℕ). n % k ≡ 0) c.size.ensures.value c.if-room-size-ne0.false;
-      fits = omega (arith, can.fits, room_blank c.args.unit n);
+      whole = subst (λ (k : ℕ). IsWhole w k) (room_blank w n) can.sized.whole;
+      fits = omega (arith, can.fits, room_blank w n);
       formatted = writes;
       active = c.in-Ok-format.ensures.active;
       image_is = c.in-Ok-format.ensures.image;

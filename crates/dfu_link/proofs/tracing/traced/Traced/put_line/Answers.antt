@@ -1,6 +1,4 @@
-use Rattle.std.proofs.Common.{◌≡◌, ◌∙◌, sym, true, false, Bool, subst}
-use Rattle.std.specs.Io.KnownBytes.{Keeps}
-use Rattle.dfu_link.specs.KeptLines.{seen_at}
+use Rattle.std.proofs.Common.{◌≡◌, true}
 use Rattle.dfu_link.proofs.KeptLaws.{drops_whole, drops_part, breaks_more}
 use Rattle.dfu_link.proofs.tracing.traced.Traced.put_line.Goals as goal
 
