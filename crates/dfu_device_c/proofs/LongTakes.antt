@@ -1,6 +1,6 @@
 -- So it is for the device that a record is.
-use Rattle.std.proofs.Common.{◌≡◌, ◌≢◌, ◌⊎◌, ◌<◌, ◌==◌, Bool, true, false, ℕ, List, [], length, inl, inr, ⊎_elim, refl, sym, ap, ◌∙◌, subst, arith, if◌then◌else◌}
-use Rattle.std.proofs.lemmas.Bool.{eq-eqb, le-leb}
+use Rattle.std.proofs.Common.{◌≡◌, ◌≢◌, ◌⊎◌, ◌<◌, ◌==◌, nat_lt, Bool, true, false, ℕ, List, [], length, inl, inr, ⊎_elim, refl, sym, ap, ◌∙◌, subst, arith, if◌then◌else◌}
+use Rattle.std.proofs.lemmas.Bool.{eq-eqb, le-leb, leb-true}
 use Rattle.std.proofs.lemmas.Bool.Decides.{eqb_tells}
 use Rattle.dfu_wire.specs.declared.setups.Setup.{Setup}
 use Rattle.dfu_wire.specs.declared.requests.Request.{Request as Asked}
@@ -21,7 +21,7 @@ use Rattle.dfu_device_c.specs.declared.record.DfuDevice.{DfuDevice}
 use Rattle.dfu_device_c.specs.Config.{setting_of, transfer_of}
 use Rattle.dfu_device_c.specs.Record.{HasMode, block_in, store_in}
 use Rattle.dfu_device_c.specs.Device.{IsDevice, Takes}
-use Rattle.dfu_device_c.specs.Long.{after_long, TakesLong}
+use Rattle.dfu_device_c.specs.Long.{after_long, IsLong, TakesLong}
 use Rattle.dfu_device_c.proofs.LongPlans.{plan_other, plan_long}
 use Rattle.dfu_device_c.proofs.Standing.{moved_device}
 
@@ -60,6 +60,13 @@ sends p some = by_kind (eqb_tells p.kind 0x21)
     by_kind : (((p.kind == 0x21) ≡ true) × (p.kind ≡ 0x21)) ⊎ (((p.kind == 0x21) ≡ false) × (p.kind ≢ 0x21)) → (p.kind ≡ 0x21) × (0 < p.length)
     by_kind (inl (is, out)) = (out, subst (λ (b : Bool). 0 < (if b then p.length else 0)) is some)
     by_kind (inr (is, other)) = absurd (omega (arith, subst (λ (b : Bool). 0 < (if b then p.length else 0)) is some))
+
+-- With a setup that was found to be long the host sends more bytes than a block has.
+pub found_long : (c : DfuConfig) (setup : List ℕ) (p : Setup) (b : Bool) → ((x : Setup) → IsSetup x setup → p ≡ x)
+    → b ≡ nat_lt (transfer_of c) (body_length p) → b ≡ true → (transfer_of c < body_length p) × IsLong c setup
+found_long c setup p b only is found =
+    let long : transfer_of c < body_length p = omega (arith, leb-true _ (body_length p) (sym is ∙ found)) in
+    (long, λ x also. subst (λ (y : Setup). transfer_of c < body_length y) (only x also) long)
 
 module _ (c : DfuConfig) (r r' : DfuDevice) (setup : List ℕ) (p : Setup) (m : Mode) (is : IsSetup p setup)
     (long : transfer_of c < body_length p) (the_mode : (x : Mode) → HasMode r x → m ≡ x) where

@@ -36,11 +36,7 @@ pub extern "C" fn dfu_device_would_stall(
         least: config.least,
         room: (size as u64 / 2).saturating_sub(32),
     };
-    if will_stall(&limits, mode, Setup::decode(setup).request()) {
-        1
-    } else {
-        0
-    }
+    i32::from(will_stall(&limits, mode, Setup::decode(setup).request()))
 }
 
 // How many milliseconds are left, at least 1.

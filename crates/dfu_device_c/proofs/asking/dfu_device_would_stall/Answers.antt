@@ -1,32 +1,22 @@
-use Rattle.std.proofs.Common.{pos, sym, ◌∙◌, inl, inr, refl}
-use Rattle.std.proofs.lemmas.Bool.{true≢false}
+use Rattle.std.proofs.Common.{◌≡◌, ap, ◌∙◌, Bool, pos, inl, inr, ⊎_elim, w32, arith}
+use Rattle.std.proofs.lemmas.Bool.{cases_Bool}
+use Rattle.std.proofs.lemmas.Int.{to_z-of_z}
+use Rattle.std.specs.Int.{from_bool, cast_signed, cast_unsigned}
 use Rattle.dfu_device_c.proofs.Asked.{found_one, same_limits, told_stall}
 use Rattle.dfu_device_c.proofs.asking.dfu_device_would_stall.Goals as goal
 
-pub returns-then-will_stall : goal.returns-then-will_stall
-returns-then-will_stall c =
+pub returns : goal.returns
+returns c =
+    let number : (b : Bool) → c.will_stall.result ≡ b → cast_signed w32 (cast_unsigned w32 c.from.result) ≡ pos (from_bool b) =
+    λ b is. to_z-of_z w32 c.from.result (omega (arith, c.from.type_inv)) ∙ c.from.ensures ∙ ap (λ (x : Bool). pos (from_bool x)) is in
     record {
       outcome = inl (
-        inr refl,
+        ⊎_elim (λ is. inr (number _ is)) (λ is. inl (number _ is)) (cases_Bool c.will_stall.result),
         told_stall c.args.config.now c.args.device.now c.args.size c.args.setup.now c.decode.result c.request.result c.in-Some.mode
             c.will_stall.result c.decode.ensures.only c.request.ensures.only
             (λ m has. found_one c.mode_of.result c.in-Some.mode m c.in-Some.is (c.mode_of.ensures.only m has))
             (λ p image spare unwritten body limits holds fits. c.will_stall.ensures p image spare unwritten body
             (same_limits p c.functional_of.result _ _ _ _ c.functional_of.ensures c.saturating_sub.ensures limits) holds fits)
-            (pos 1) (λ is. refl) (λ is. absurd (true≢false (sym c.if-will_stall.true ∙ is))),
-      );
-    }
-
-pub returns-else-will_stall : goal.returns-else-will_stall
-returns-else-will_stall c =
-    record {
-      outcome = inl (
-        inl refl,
-        told_stall c.args.config.now c.args.device.now c.args.size c.args.setup.now c.decode.result c.request.result c.in-Some.mode
-            c.will_stall.result c.decode.ensures.only c.request.ensures.only
-            (λ m has. found_one c.mode_of.result c.in-Some.mode m c.in-Some.is (c.mode_of.ensures.only m has))
-            (λ p image spare unwritten body limits holds fits. c.will_stall.ensures p image spare unwritten body
-            (same_limits p c.functional_of.result _ _ _ _ c.functional_of.ensures c.saturating_sub.ensures limits) holds fits)
-            (pos 0) (λ is. absurd (true≢false (sym is ∙ c.if-will_stall.false))) (λ is. refl),
+            _ (λ is. number _ is) (λ is. number _ is),
       );
     }
