@@ -145,7 +145,7 @@ unfolding follow closes
 all_follow = refl
 
 -- What all elements of a list pass each passes.
-passes : {X : Type 0} (p : X → Bool) (xs : List X) (x : X) → Contains xs x → list_all p xs ≡ true → p x ≡ true
+pub passes : {X : Type 0} (p : X → Bool) (xs : List X) (x : X) → Contains xs x → list_all p xs ≡ true → p x ≡ true
 passes p xs x (k, in', is) all = true_from_ne_false (p x) (λ fails.
     both_ways (list_all p xs) (list_all_at p xs k x in' (ap p is ∙ fails)) all)
 

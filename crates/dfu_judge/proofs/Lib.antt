@@ -4,6 +4,7 @@ mod Fields
 pub mod ForCallers
 mod Joined
 mod Least
+mod Requests
 mod Places
 mod Somewhere
 mod Verdicts

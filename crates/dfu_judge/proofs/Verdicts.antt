@@ -5,6 +5,7 @@ use Rattle.std.proofs.lemmas.Bool.{both_ways}
 use Rattle.dfu_judge.specs.declared.place.Place.{Place}
 use Rattle.dfu_judge.specs.declared.event.Event.{Event}
 use Rattle.dfu_judge.specs.declared.verdict.Verdict.TheVariants.{Kept, KeptBy, NotKept}
+use Rattle.dfu_judge.specs.declared.verdict.Departure.{Departure}
 use Rattle.dfu_judge.specs.Fits.{place_number}
 use Rattle.dfu_judge.specs.Held.{stands}
 use Rattle.dfu_judge.specs.MayAnswer.{CanAnswer, IsHeld, IsHeldPlain}
@@ -83,14 +84,17 @@ are_places before at events so places = λ p.
     places (place_number p) (number_below p) in
     (λ here. is.0 (sym same ∙ here), λ x. same ∙ is.1 x)
 
+-- What a departure says that is handed out: what came, that no device without habits is left, and where one might be before it.
+abbrev pub Told : (before after : List (List ℕ)) → Event → Departure → Type 0
+Told before after e d = (d.event ≡ e) × (anywhere after 0 ≡ false)
+    × ((n : ℕ) → n < 12 → slice_index_or d.before n false ≡ some_held (slice_index_or before n []) 0)
+
 -- Where none is left, the event is a departure.
-pub departs : (before after anew : List (List ℕ)) (events : List Event) (e : Event) (at : List Bool) → IsStep before e after
-    → IsHeldPlain before events → anywhere after 0 ≡ false → IsHeldPlain anew []
-    → ((n : ℕ) → n < 12 → slice_index_or at n false ≡ some_held (slice_index_or before n []) 0)
-    → Departs events (record { before = at; event = e }) anew
-departs before after anew events e at says so none_left first places = record {
-  before = are_places before at events so places;
+pub departs : (before after anew : List (List ℕ)) (events : List Event) (e : Event) (d : Departure) → IsStep before e after
+    → IsHeldPlain before events → IsHeldPlain anew [] → Told before after e d → Departs events d anew
+departs before after anew events e d says so first (is, none_left, places) = record {
+  before = are_places before d.before events so places;
   none = λ may. both_ways (anywhere after 0) none_left ((held_can after (events ++ e ∷ []) 0
-      (held_next_plain before after events e says so)).1 may);
+      (held_next_plain before after events e says so)).1 (subst (λ (x : Event). CanAnswer 0 (events ++ x ∷ [])) is may));
   anew = first;
 }

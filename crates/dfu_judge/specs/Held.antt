@@ -1,5 +1,5 @@
 -- Which devices are held.
-use Rattle.std.specs.Prelude.{ℕ, ◌==◌, Bool, true, List, [], slice_index, slice_index_or}
+use Rattle.std.specs.Prelude.{ℕ, ◌==◌, Bool, true, false, List, [], slice_index, slice_index_or}
 use Rattle.std.specs.Int.{bit_at}
 use Rattle.dfu_judge.specs.declared.place.Place.{Place}
 use Rattle.dfu_judge.specs.Fits.{place_number}
@@ -39,3 +39,8 @@ stands held p a r = holds (slice_index_or held (place_number p) []) a r
 pub record Judged : Type 0 where
   pub since : List (List ℕ)
   pub whole : List (List ℕ)
+
+-- The devices since the last departure: up to the first one they are those since the start.
+abbrev pub since_of : (has_departed : Bool) → (since whole : List (List ℕ)) → List (List ℕ)
+since_of true since whole = since
+since_of false since whole = whole

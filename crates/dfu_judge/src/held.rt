@@ -1,11 +1,12 @@
 //! Which devices are held at each place.
 
-ghost use Rattle.std.specs.Prelude.{◌≡◌, ◌<◌, ◌≤◌, ℕ, ◌||◌, ◌&&◌, slice_index, length, ◌==◌, List, [], false, slice_index_or};
+ghost use Rattle.std.specs.Prelude.{◌≡◌, ◌<◌, ◌≤◌, ℕ, ◌||◌, ◌&&◌, slice_index, length, ◌==◌, List, [], false, true, slice_index_or};
 ghost use Rattle.std.specs.Int.{bit_at};
 ghost use Rattle.std.specs.List.{list_any};
 ghost use Rattle.dfu_judge.specs.Held.{meets, holds, reading_bit, stands};
 ghost use Rattle.dfu_judge.specs.inside.Stepped.{leads, drifts, stepped, some_held, anywhere, better_of, least_below};
 ghost use Rattle.dfu_judge.specs.Fits.{place_number, stays};
+ghost use Rattle.dfu_judge.specs.declared.marks.TheConstants.{MARKS};
 
 use crate::drifts::DRIFTS;
 use crate::event::{may_stay, speaks_of};
@@ -65,6 +66,18 @@ fn join(to: &Devices, from: &Devices, when: When) -> Devices
     after
 }
 
+/// Whether there is no device.
+fn is_empty(devices: &Devices) -> bool
+    ensures { result ≡ true → (a r : ℕ) → a < 16 → r < 64 → holds devices.now a r ≡ false }
+{
+    for a in 0..16 {
+        if devices[a] != 0 {
+            return false;
+        }
+    }
+    true
+}
+
 /// For each place the devices that may stand there.
 pub(crate) type Places = [Devices; 12];
 
@@ -74,6 +87,9 @@ fn lead(before: &Places, from: Place, when: When, after: &mut Places, to: Place)
         → stands after.new n a r
         ≡ (stands after.old n a r || ((place_number to == place_number n) && (stands before.now from a r && meets when a r))) }
 {
+    if is_empty(&before[from.number()]) {
+        return;
+    }
     let to = to.number();
     after[to] = join(&after[to], &before[from.number()], when);
 }
@@ -87,6 +103,17 @@ fn pass(rows: &[Row], before: &Places, event: &Event, after: &mut Places)
         if speaks_of(row, event) {
             lead(before, row.from, row.when, after, row.next);
         }
+    }
+}
+
+/// The devices are added that go by a row of a reset or of power: no such row speaks of a request.
+#[tactic(auto, using(crate::proofs::Requests::none_lead))]
+fn pass_marks(before: &Places, event: &Event, after: &mut Places)
+    ensures { (n : Place) (a r : ℕ) → a < 16 → r < 64
+        → stands after.new n a r ≡ (stands after.old n a r || list_any (leads before.now event.now n a r) MARKS) }
+{
+    if event.asked.number() > 8 {
+        pass(&MARKS, before, event, after);
     }
 }
 
@@ -119,7 +146,7 @@ pub(crate) fn step(before: &Places, event: &Event) -> Places
 {
     let mut after = rest(before, event);
     pass(&STANDARD, before, event, &mut after);
-    pass(&MARKS, before, event, &mut after);
+    pass_marks(before, event, &mut after);
     pass(&HABITS, before, event, &mut after);
     drift(&DRIFTS, &after)
 }

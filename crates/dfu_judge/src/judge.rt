@@ -1,6 +1,7 @@
 //! The judge.
 
-ghost use Rattle.std.specs.Prelude.{◌≡◌, ◌<◌, ℕ, List, IsNone, IfSome, [], ◌∷◌, ◌++◌};
+ghost use Rattle.std.specs.Prelude.{◌≡◌, ◌<◌, ℕ, List, IsNone, IfSome, [], ◌∷◌, ◌++◌, slice_index_or, true, false};
+ghost use Rattle.dfu_judge.specs.inside.Stepped.{anywhere, some_held};
 
 use crate::held::{Places, is_any_held, least_held, places_of, step};
 use crate::{Departure, Event, Verdict};
@@ -10,20 +11,37 @@ use std::marker::Model;
 const EVERY: Places = [[u64::MAX; 16]; 12];
 
 /// A judge of one device, of which nothing is known at first: it follows every device of the standard at once, with each set of habits.
-/// It takes no memory beyond its own 3,072 bytes.
+/// It takes no memory beyond its own 3,080 bytes.
 #[derive(Drop)]
 pub struct Judge {
+    // Up to the first departure the devices since the start are those since the last departure, and these are not kept apart.
+    has_departed: bool,
     since: Places,
     whole: Places,
 }
 
 // a clause sees the devices that are held, since the last departure and since the start
 impl Model for Judge {
-    ghost use Rattle.dfu_judge.specs.Held.{Judged};
+    ghost use Rattle.dfu_judge.specs.Held.{Judged, since_of};
 
     ghost Value = { Judged };
 
-    ghost view = { λ s. record { since = s.since; whole = s.whole } };
+    ghost view = { λ s. record { since = since_of s.has_departed s.since s.whole; whole = s.whole } };
+}
+
+/// The departure at an event, where no device without habits is left after it.
+fn departure(before: &Places, after: &Places, event: &Event) -> Option<Departure>
+    ensures none { IsNone result → anywhere after.now 0 ≡ true }
+    ensures some { IfSome result (λ d. (d.event ≡ event.now) × (anywhere after.now 0 ≡ false)
+        × ((n : ℕ) → n < 12 → slice_index_or d.before n false ≡ some_held (slice_index_or before.now n []) 0)) }
+{
+    if is_any_held(after, 0) {
+        return None;
+    }
+    Some(Departure {
+        before: places_of(before, 0),
+        event: *event,
+    })
 }
 
 impl Judge {
@@ -37,6 +55,7 @@ impl Judge {
         ensures since { IsHeldPlain result.since [] }
     {
         Judge {
+            has_departed: false,
             since: EVERY,
             whole: EVERY,
         }
@@ -51,17 +70,35 @@ impl Judge {
         ensures departs { IfSome result (λ d. (d.event ≡ event.now) × ((es : List Event) → IsHeldPlain self.old.since es
             → Departs es d self.new.since)) }
     {
-        self.whole = step(&self.whole, event);
-        let before = self.since;
-        self.since = step(&before, event);
-        if is_any_held(&self.since, 0) {
-            return None;
+        let whole = step(&self.whole, event);
+        if self.has_departed {
+            let since = step(&self.since, event);
+            match departure(&self.since, &since, event) {
+                Some(departure) => {
+                    self.whole = whole;
+                    self.since = EVERY;
+                    Some(departure)
+                }
+                None => {
+                    self.whole = whole;
+                    self.since = since;
+                    None
+                }
+            }
+        } else {
+            match departure(&self.whole, &whole, event) {
+                Some(departure) => {
+                    self.has_departed = true;
+                    self.whole = whole;
+                    self.since = EVERY;
+                    Some(departure)
+                }
+                None => {
+                    self.whole = whole;
+                    None
+                }
+            }
         }
-        self.since = EVERY;
-        Some(Departure {
-            before: places_of(&before, 0),
-            event: *event,
-        })
     }
 
     /// The verdict on all events that came.
@@ -90,6 +127,10 @@ impl Judge {
     pub fn standing(&self) -> [bool; 12]
         ensures { (es : List Event) → IsHeldPlain self.now.since es → ArePlaces 0 es result }
     {
-        places_of(&self.since, 0)
+        if self.has_departed {
+            places_of(&self.since, 0)
+        } else {
+            places_of(&self.whole, 0)
+        }
     }
 }

@@ -1,207 +1,163 @@
-//! Verdicts on short lists of events, by hand.
+//! Logs with the verdict on each: short ones that were worked out by hand, and those of `captures`.
 
-use super::{ACK, GET_STATUS, POWER, REQUESTS, RESET, asked, state, status};
-use dfu_judge::{Answer, Event, Judge, Place, Row, STANDARD, Verdict};
+use super::captures::{
+    DFU_FLASH, DFU_UTIL, DFU_UTIL_RESET, DFU_UTIL_UPLOAD, UBOOT_DFU_FLASH, UBOOT_DFU_UTIL,
+};
+use super::{ACK, asked};
+use dfu_judge::{Departure, Judge, Line, Place, STANDARD, Verdict, read_line};
 use std::process::Abort;
 
-/// A judge that took these events, and how many departures it told.
-fn judged(rt: &impl Abort, events: &[Option<Event>]) -> (Judge, u32) {
+/// A log: its name, its lines, how many departures are told, and the verdict.
+type Log = (&'static str, &'static [&'static [u8]], u32, Verdict);
+
+/// Logs, and what is told of each.
+#[rattlefmt::skip]
+static LOGS: [Log; 11] = [
+    ("nothing", &[], 0, Verdict::Kept),
+    ("a bootloader", &[b"power", b"a103000000000600 - 000000000200", b"reset", b"a103000000000600 - 000000000200"],
+        1, Verdict::KeptBy { readings: 1 }),
+    ("a mute application", &[b"power", b"a103000000000600 - stall", b"21000a0000000000 - ack", b"reset",
+        b"a103000000000600 - 000000000200"], 1, Verdict::KeptBy { readings: 2 }),
+    ("a device that leaves of itself", &[b"power", b"a103000000000600 - 000000000000", b"21000a0000000000 - ack", b"reset",
+        b"a103000000000600 - 000000000200", b"2101000000000400 a5a5a5a5 ack", b"a103000000000600 - 000000000500",
+        b"2101010000000000 - ack", b"a103000000000600 - 000000000700", b"a103000000000600 - 000000000000"],
+        1, Verdict::KeptBy { readings: 4 }),
+    ("one that detaches at once, by bitWillDetach", &[b"power", b"a103000000000600 - 000000000000", b"21000a0000000000 - ack",
+        b"2101000000000400 a5a5a5a5 ack", b"a103000000000600 - 000000000500", b"2101010000000000 - ack",
+        b"a103000000000600 - 000000000700", b"a103000000000600 - 000000000700", b"2104000000000000 - stall"], 0, Verdict::Kept),
+    ("an error without a code", &[b"power", b"a103000000000600 - 000000000a00"], 1, Verdict::KeptBy { readings: 32 }),
+    ("two habits", &[b"power", b"a103000000000600 - 000000000200", b"21000a0000000000 - ack", b"a103000000000600 - 000000000000"],
+        1, Verdict::KeptBy { readings: 17 }),
+    ("what no habit explains", &[b"power", b"a103000000000600 - 000000000000", b"a103000000000600 - 000000000500"],
+        1, Verdict::NotKept),
+    ("two departures, behind each of which anything may be", &[b"power", b"a103000000000600 - 000000000000",
+        b"a103000000000600 - 000000000500", b"a102000000000800 - stall", b"a103000000000600 - 0f0000000a00",
+        b"a103000000000600 - 000000000200"], 2, Verdict::NotKept),
+    ("a request that is not as section 3 has it, stalled with no change", &[b"power", b"a103000000000600 - 000000000000",
+        b"21000a0000000000 - ack", b"reset", b"a103000000000600 - 000000000200", b"a103000000000700 - stall",
+        b"a103000000000600 - 000000000200"], 0, Verdict::Kept),
+    ("requests that are no events", &[b"a103000001000600 - ack", b"8006000100001200 - ack"], 0, Verdict::Kept),
+];
+
+/// A judge that took these lines, how many departures it told, and the last of them.
+fn judged(rt: &impl Abort, lines: &[&[u8]]) -> (Judge, u32, Option<Departure>) {
     let mut judge = Judge::new();
     let mut count = 0u32;
-    for event in events {
-        assert!(rt; event.is_some(), "no event");
-        if let Some(event) = event
-            && judge.take(event).is_some()
+    let mut last = None;
+    for line in lines {
+        let read = read_line(0, line);
+        assert!(rt; read.is_some(), "a line that can't be read");
+        if let Some(Line::Came(event)) = read
+            && let Some(departure) = judge.take(&event)
         {
             count = count.saturating_add(1);
+            last = Some(departure);
         }
     }
-    (judge, count)
+    (judge, count, last)
 }
 
-/// The verdict on these events.
-fn verdict(rt: &impl Abort, events: &[Option<Event>]) -> (Verdict, u32) {
-    let (judge, count) = judged(rt, events);
-    (judge.verdict(), count)
-}
-
-#[test]
-fn nothing_is_kept(rt: HostRuntime) {
-    assert_eq!(rt; verdict(&rt, &[]), (Verdict::Kept, 0));
+/// This log has so many departures, and this verdict.
+fn expect(rt: &impl Abort, name: &str, lines: &[&[u8]], departures: u32, verdict: Verdict) {
+    let (judge, count, _) = judged(rt, lines);
+    assert_eq!(rt; (count, judge.verdict()), (departures, verdict), "{name}");
 }
 
 #[test]
-fn a_bootloader_is_kept_by_that_reading(rt: HostRuntime) {
-    let events = [
-        Some(POWER),
-        asked(&GET_STATUS, status(0, 2)),
-        Some(RESET),
-        asked(&GET_STATUS, status(0, 2)),
-    ];
-    assert_eq!(rt; verdict(&rt, &events), (Verdict::KeptBy { readings: 1 }, 1));
+fn logs_have_their_verdicts(rt: HostRuntime) {
+    for (name, lines, departures, verdict) in &LOGS {
+        expect(&rt, name, lines, *departures, *verdict);
+    }
 }
 
 #[test]
-fn a_mute_application_is_kept_by_that_reading(rt: HostRuntime) {
-    let events = [
-        Some(POWER),
-        asked(&GET_STATUS, Answer::Stall),
-        asked(&REQUESTS[0], ACK),
-        Some(RESET),
-        asked(&GET_STATUS, status(0, 2)),
-    ];
-    assert_eq!(rt; verdict(&rt, &events), (Verdict::KeptBy { readings: 2 }, 1));
-}
-
-#[test]
-fn a_device_that_leaves_of_itself_is_kept_by_that_reading(rt: HostRuntime) {
-    let events = [
-        Some(POWER),
-        asked(&GET_STATUS, status(0, 0)),
-        asked(&REQUESTS[0], ACK),
-        Some(RESET),
-        asked(&GET_STATUS, status(0, 2)),
-        asked(&REQUESTS[1], ACK),
-        asked(&GET_STATUS, status(0, 5)),
-        asked(&REQUESTS[2], ACK),
-        asked(&GET_STATUS, status(0, 7)),
-        asked(&GET_STATUS, status(0, 0)),
-    ];
-    assert_eq!(rt; verdict(&rt, &events), (Verdict::KeptBy { readings: 4 }, 1));
-}
-
-#[test]
-fn detaching_at_once_is_a_reading(rt: HostRuntime) {
-    let events = [
-        Some(POWER),
-        asked(&GET_STATUS, status(0, 0)),
-        asked(&REQUESTS[0], ACK),
-        asked(&REQUESTS[1], ACK),
-        asked(&GET_STATUS, status(0, 5)),
-        asked(&REQUESTS[2], ACK),
-        asked(&GET_STATUS, status(0, 7)),
-        asked(&GET_STATUS, status(0, 7)),
-        asked(&REQUESTS[5], Answer::Stall),
-    ];
-    let (kept, count) = verdict(&rt, &events);
-    assert_eq!(rt; (kept, count), (Verdict::Kept, 0), "bitWillDetach");
-}
-
-#[test]
-fn an_error_without_a_code_is_a_reading(rt: HostRuntime) {
-    let events = [Some(POWER), asked(&GET_STATUS, status(0, 10))];
-    assert_eq!(rt;
-        verdict(&rt, &events),
-        (Verdict::KeptBy { readings: 32 }, 1)
+fn captures_have_their_verdicts(rt: HostRuntime) {
+    expect(&rt, "dfu-flash", &DFU_FLASH, 0, Verdict::Kept);
+    expect(&rt, "dfu-util", &DFU_UTIL, 0, Verdict::Kept);
+    expect(&rt, "dfu-util -R", &DFU_UTIL_RESET, 0, Verdict::Kept);
+    expect(&rt, "dfu-util -U", &DFU_UTIL_UPLOAD, 0, Verdict::Kept);
+    expect(
+        &rt,
+        "dfu-flash, to a device by U-Boot's rules",
+        &UBOOT_DFU_FLASH,
+        1,
+        Verdict::KeptBy { readings: 1 },
+    );
+    expect(
+        &rt,
+        "dfu-util, to a device by U-Boot's rules",
+        &UBOOT_DFU_UTIL,
+        0,
+        Verdict::Kept,
     );
 }
 
-#[test]
-fn two_habits_are_told_together(rt: HostRuntime) {
-    let events = [
-        Some(POWER),
-        asked(&GET_STATUS, status(0, 2)),
-        asked(&REQUESTS[0], ACK),
-        asked(&GET_STATUS, status(0, 0)),
-    ];
-    assert_eq!(rt;
-        verdict(&rt, &events),
-        (Verdict::KeptBy { readings: 17 }, 1)
-    );
-}
-
-#[test]
-fn what_no_habit_explains_is_not_kept(rt: HostRuntime) {
-    let events = [
-        Some(POWER),
-        asked(&GET_STATUS, status(0, 0)),
-        asked(&GET_STATUS, status(0, 5)),
-    ];
-    assert_eq!(rt; verdict(&rt, &events), (Verdict::NotKept, 1));
+/// By place, where a device may be that is at one of these.
+fn at(places: &[Place]) -> [bool; 12] {
+    let mut at = [false; 12];
+    for place in places {
+        if let Some(slot) = at.get_mut(place.number()) {
+            *slot = true;
+        }
+    }
+    at
 }
 
 #[test]
 fn a_departure_says_where_the_device_was_and_what_was_allowed(rt: HostRuntime) {
-    let mut judge = Judge::new();
-    let _ = judge.take(&POWER);
-    if let Some(event) = asked(&GET_STATUS, status(0, 0)) {
-        assert!(rt; judge.take(&event).is_none());
-    }
-    let Some(event) = asked(&GET_STATUS, Answer::Stall) else {
-        return;
-    };
-    match judge.take(&event) {
-        Some(departure) => {
-            let idle = [
-                true, false, false, false, false, false, false, false, false, false, false, false,
-            ];
-            assert_eq!(rt; departure.before, idle);
-            let allowed: Option<&Row> = STANDARD.iter().find(|row| departure.allows(row));
-            match allowed {
-                Some(row) => assert_eq!(rt; (row.from, row.next), (Place::AppIdle, Place::AppIdle)),
-                None => assert!(rt; false, "nothing was allowed"),
+    let (judge, _, last) = judged(
+        &rt,
+        &[
+            b"power",
+            b"a103000000000600 - 000000000000",
+            b"a103000000000600 - stall",
+        ],
+    );
+    let mut allowed = 0u32;
+    if let Some(departure) = last {
+        assert_eq!(rt; departure.before, at(&[Place::AppIdle]));
+        for row in &STANDARD {
+            if departure.allows(row) {
+                assert_eq!(rt; (row.from, row.next), (Place::AppIdle, Place::AppIdle));
+                allowed = allowed.saturating_add(1);
             }
         }
-        None => assert!(rt; false, "no departure"),
     }
+    assert_eq!(rt; allowed, 1, "GETSTATUS is answered in appIDLE");
     assert_eq!(rt;
         judge.places(0),
-        [false; 12],
+        at(&[]),
         "no device without habits is left"
     );
-    assert_eq!(rt; judge.places(2)[0], true, "one that is mute is in appIDLE");
-}
-
-#[test]
-fn from_a_departure_on_anything_may_be(rt: HostRuntime) {
-    let events = [
-        Some(POWER),
-        asked(&GET_STATUS, status(0, 0)),
-        asked(&GET_STATUS, status(0, 5)),
-        asked(&REQUESTS[3], Answer::Stall),
-        asked(&GET_STATUS, status(15, 10)),
-        asked(&GET_STATUS, status(0, 2)),
-    ];
-    assert_eq!(rt; verdict(&rt, &events), (Verdict::NotKept, 2));
+    assert_eq!(rt;
+        judge.places(2),
+        at(&[Place::AppIdle]),
+        "one that is mute is in appIDLE"
+    );
 }
 
 #[test]
 fn a_lost_answer_leaves_both_ways_open(rt: HostRuntime) {
-    let (judge, count) = judged(
+    let (judge, _, _) = judged(
         &rt,
         &[
-            Some(POWER),
-            asked(&GET_STATUS, status(0, 0)),
-            asked(&REQUESTS[0], ACK),
-            Some(RESET),
-            asked(&GET_STATUS, status(0, 2)),
-            asked(&REQUESTS[1], Answer::Nothing),
+            b"power",
+            b"a103000000000600 - 000000000000",
+            b"21000a0000000000 - ack",
+            b"reset",
+            b"a103000000000600 - 000000000200",
+            b"2101000000000400 a5a5a5a5 nothing",
         ],
     );
-    let places = judge.places(0);
-    let wanted = [
-        false, false, true, true, false, false, false, false, false, false, true, false,
-    ];
-    assert_eq!(rt; (places, count), (wanted, 0));
-    let _ = state(0);
+    assert_eq!(rt;
+        judge.places(0),
+        at(&[Place::DfuIdle, Place::DownloadSync, Place::Error])
+    );
 }
 
 #[test]
 fn a_request_to_another_interface_is_no_event(rt: HostRuntime) {
-    assert!(rt; asked(&[0xa1, 3, 0, 0, 1, 0, 6, 0], ACK).is_none());
-    assert!(rt; asked(&[0x80, 6, 0, 1, 0, 0, 18, 0], ACK).is_none());
-}
-
-#[test]
-fn a_request_that_is_not_as_told_may_be_stalled_and_change_nothing(rt: HostRuntime) {
-    let events = [
-        Some(POWER),
-        asked(&GET_STATUS, status(0, 0)),
-        asked(&REQUESTS[0], ACK),
-        Some(RESET),
-        asked(&GET_STATUS, status(0, 2)),
-        asked(&[0xa1, 3, 0, 0, 0, 0, 7, 0], Answer::Stall),
-        asked(&GET_STATUS, status(0, 2)),
-    ];
-    assert_eq!(rt; verdict(&rt, &events), (Verdict::Kept, 0));
+    for setup in &[[0xa1u8, 3, 0, 0, 1, 0, 6, 0], [0x80, 6, 0, 1, 0, 0, 18, 0]] {
+        assert!(rt; asked(setup, ACK).is_none(), "{setup:?}");
+    }
 }

@@ -66,35 +66,30 @@ fn judge_at(rt: &impl Abort, place: u8) -> Judge {
     judge
 }
 
-/// Whether a judge keeps this answer to a request of a device in this state.
-fn keeps(rt: &impl Abort, place: u8, request: usize, answer: Answer) -> bool {
+/// A judge keeps this answer to a request of a device in this state, or not, as is wanted.
+fn expect(rt: &impl Abort, place: u8, request: usize, answer: Answer, wanted: bool) {
     let mut judge = judge_at(rt, place);
-    match ask(request, answer) {
+    let kept = match ask(request, answer) {
         Some(event) => judge.take(&event).is_none(),
         None => false,
-    }
+    };
+    assert_eq!(rt;
+        kept,
+        wanted,
+        "state {place}, request {request}, {answer:?}"
+    );
 }
 
 #[test]
 fn each_cell_is_kept_as_it_says(rt: HostRuntime) {
     for place in 0u8..11 {
         for request in 0usize..9 {
-            let kept = keeps(&rt, place, request, ACK);
-            let wanted = may_anyhow(place, request, b'A')
-                || request == 3 && may_anyhow(place, request, b'P');
-            assert_eq!(rt;
-                kept,
-                wanted,
-                "acknowledged: state {place}, request {request}"
-            );
-            let kept = keeps(&rt, place, request, Answer::Stall);
-            assert_eq!(rt;
-                kept,
-                may_anyhow(place, request, b'S'),
-                "stalled: state {place}, request {request}"
-            );
-            let kept = keeps(&rt, place, request, Answer::Nothing);
-            assert!(rt; kept, "nothing: state {place}, request {request}");
+            let empty = request == 3 && may_anyhow(place, request, b'P');
+            let acknowledged = may_anyhow(place, request, b'A') || empty;
+            expect(&rt, place, request, ACK, acknowledged);
+            let stalled = may_anyhow(place, request, b'S');
+            expect(&rt, place, request, Answer::Stall, stalled);
+            expect(&rt, place, request, Answer::Nothing, true);
         }
     }
 }
@@ -104,26 +99,11 @@ fn each_status_is_kept_as_its_cell_says(rt: HostRuntime) {
     for place in 0u8..11 {
         for told in 0u8..11 {
             let code = if told == 10 { 15 } else { 0 };
-            let kept = keeps(&rt, place, 4, status(code, told));
-            assert_eq!(rt;
-                kept,
-                may(place, 4, b'T', told),
-                "state {place}, told {told}"
-            );
-            assert!(rt;
-                !keeps(&rt, place, 4, status(15 - code, told)),
-                "another code: state {place}, told {told}"
-            );
-            assert!(rt;
-                !keeps(&rt, place, 4, status(16, told)),
-                "no code: state {place}, told {told}"
-            );
-            let kept = keeps(&rt, place, 6, state(told));
-            assert_eq!(rt;
-                kept,
-                may(place, 6, b'Q', told),
-                "GETSTATE: state {place}, told {told}"
-            );
+            expect(&rt, place, 4, status(code, told), may(place, 4, b'T', told));
+            // Another code, and one that is none.
+            expect(&rt, place, 4, status(15 - code, told), false);
+            expect(&rt, place, 4, status(16, told), false);
+            expect(&rt, place, 6, state(told), may(place, 6, b'Q', told));
         }
     }
 }
@@ -131,19 +111,8 @@ fn each_status_is_kept_as_its_cell_says(rt: HostRuntime) {
 #[test]
 fn each_part_is_kept_as_its_cell_says(rt: HostRuntime) {
     for place in 0u8..11 {
-        assert_eq!(rt;
-            keeps(&rt, place, 3, bytes(&[7; 8])),
-            may_anyhow(place, 3, b'F'),
-            "full: state {place}"
-        );
-        assert_eq!(rt;
-            keeps(&rt, place, 3, bytes(&[7; 3])),
-            may_anyhow(place, 3, b'P'),
-            "short: state {place}"
-        );
-        assert!(rt;
-            !keeps(&rt, place, 3, bytes(&[7; 9])),
-            "too long: state {place}"
-        );
+        expect(&rt, place, 3, bytes(&[7; 8]), may_anyhow(place, 3, b'F'));
+        expect(&rt, place, 3, bytes(&[7; 3]), may_anyhow(place, 3, b'P'));
+        expect(&rt, place, 3, bytes(&[7; 9]), false);
     }
 }

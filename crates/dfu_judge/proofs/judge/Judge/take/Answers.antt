@@ -1,31 +1,73 @@
-use Rattle.std.proofs.Common.{refl, sym, subst, ◌∙◌}
+use Rattle.std.specs.Prelude.{Bool, List, [], ◌∷◌, ◌++◌}
+use Rattle.std.proofs.Common.{sym, subst}
 use Rattle.dfu_judge.specs.declared.judge.TheConstants.{EVERY}
-use Rattle.dfu_judge.specs.Held.{Judged}
-use Rattle.dfu_judge.specs.MayAnswer.{IsHeld, IsHeldPlain}
+use Rattle.dfu_judge.specs.declared.event.Event.{Event}
+use Rattle.dfu_judge.specs.Held.{Judged, since_of}
+use Rattle.dfu_judge.specs.MayAnswer.{CanAnswer, IsHeld, IsHeldPlain}
+use Rattle.dfu_judge.specs.Verdict.{Departs}
 use Rattle.dfu_judge.proofs.Everywhere.{held_first_plain}
 use Rattle.dfu_judge.proofs.Verdicts.{held_next, goes_on, departs}
 use Rattle.dfu_judge.proofs.judge.Judge.take.Goals as goal
 
-pub returns-then-is_any_held-clause-whole : goal.returns-then-is_any_held-clause-whole
-returns-then-is_any_held-clause-whole c events so =
-    held_next c.self.inside.whole c.step-self-inside.result events c.args.event.now c.step-self-inside.ensures
+pub returns-in-Some-clause-whole : goal.returns-in-Some-clause-whole
+returns-in-Some-clause-whole c events so =
+    held_next c.self.inside.whole c.step-whole.result events c.args.event.now c.step-whole.ensures
     (subst (λ (w : Judged). IsHeld w.whole events) (sym c.self.view_is) so)
 
-pub returns-then-is_any_held-clause-kept : goal.returns-then-is_any_held-clause-kept
-returns-then-is_any_held-clause-kept c is_none events so =
-    goes_on c.self.inside.since c.step-self-inside-2.result events c.args.event.now c.step-self-inside-2.ensures
-    (subst (λ (w : Judged). IsHeldPlain w.since events) (sym c.self.view_is) so) (sym c.is_any_held.ensures ∙ c.if-is_any_held.true)
-
-pub returns-clause-whole : goal.returns-clause-whole
-returns-clause-whole c events so =
-    held_next c.self.inside.whole c.step-self-inside.result events c.args.event.now c.step-self-inside.ensures
-    (subst (λ (w : Judged). IsHeld w.whole events) (sym c.self.view_is) so)
-
-pub returns-clause-departs : goal.returns-clause-departs
-returns-clause-departs c = (
-  refl,
+pub returns-in-Some-clause-departs : goal.returns-in-Some-clause-departs
+returns-in-Some-clause-departs c = (
+  c.in-Some.ensures.some.0,
   λ events so.
-      departs c.self.inside.since c.step-self-inside-2.result EVERY events c.args.event.now c.places_of.result c.step-self-inside-2.ensures
-      (subst (λ (w : Judged). IsHeldPlain w.since events) (sym c.self.view_is) so) (sym c.is_any_held.ensures ∙ c.if-is_any_held.false)
-      held_first_plain c.places_of.ensures,
+      let held = subst (λ (b : Bool). IsHeldPlain (since_of b c.self.inside.since c.self.inside.whole) events) c.if-self.true
+      (subst (λ (w : Judged). IsHeldPlain w.since events) (sym c.self.view_is) so) in
+      subst (λ (b : Bool). Departs events c.in-Some.departure (since_of b EVERY c.step-whole.result)) (sym c.if-self.true)
+      (departs c.self.inside.since c.step-since.result EVERY events c.args.event.now c.in-Some.departure c.step-since.ensures held
+      held_first_plain c.in-Some.ensures.some),
 )
+
+pub returns-in-None-clause-whole : goal.returns-in-None-clause-whole
+returns-in-None-clause-whole c events so =
+    held_next c.self.inside.whole c.step-whole.result events c.args.event.now c.step-whole.ensures
+    (subst (λ (w : Judged). IsHeld w.whole events) (sym c.self.view_is) so)
+
+pub returns-in-None-clause-kept : goal.returns-in-None-clause-kept
+returns-in-None-clause-kept c is_none events so =
+    let held = subst (λ (b : Bool). IsHeldPlain (since_of b c.self.inside.since c.self.inside.whole) events) c.if-self.true
+    (subst (λ (w : Judged). IsHeldPlain w.since events) (sym c.self.view_is) so) in
+    let next = goes_on c.self.inside.since c.step-since.result events c.args.event.now c.step-since.ensures held
+    (c.in-None.ensures.none is_none) in (
+      next.0,
+      subst (λ (b : Bool). IsHeldPlain (since_of b c.step-since.result c.step-whole.result) (events ++ c.args.event.now ∷ []))
+      (sym c.if-self.true) next.1,
+    )
+
+pub returns-in-Some-departure-clause-whole : goal.returns-in-Some-departure-clause-whole
+returns-in-Some-departure-clause-whole c events so =
+    held_next c.self.inside.whole c.step-whole.result events c.args.event.now c.step-whole.ensures
+    (subst (λ (w : Judged). IsHeld w.whole events) (sym c.self.view_is) so)
+
+pub returns-in-Some-departure-clause-departs : goal.returns-in-Some-departure-clause-departs
+returns-in-Some-departure-clause-departs c = (
+  c.in-Some-departure.ensures.some.0,
+  λ events so.
+      let held = subst (λ (b : Bool). IsHeldPlain (since_of b c.self.inside.since c.self.inside.whole) events) c.if-self.false
+      (subst (λ (w : Judged). IsHeldPlain w.since events) (sym c.self.view_is) so) in
+      departs c.self.inside.whole c.step-whole.result EVERY events c.args.event.now c.in-Some-departure.departure c.step-whole.ensures
+      held held_first_plain c.in-Some-departure.ensures.some,
+)
+
+pub returns-in-None-departure-clause-whole : goal.returns-in-None-departure-clause-whole
+returns-in-None-departure-clause-whole c events so =
+    held_next c.self.inside.whole c.step-whole.result events c.args.event.now c.step-whole.ensures
+    (subst (λ (w : Judged). IsHeld w.whole events) (sym c.self.view_is) so)
+
+pub returns-in-None-departure-clause-kept : goal.returns-in-None-departure-clause-kept
+returns-in-None-departure-clause-kept c is_none events so =
+    let held = subst (λ (b : Bool). IsHeldPlain (since_of b c.self.inside.since c.self.inside.whole) events) c.if-self.false
+    (subst (λ (w : Judged). IsHeldPlain w.since events) (sym c.self.view_is) so) in
+    let next = goes_on c.self.inside.whole c.step-whole.result events c.args.event.now c.step-whole.ensures held
+    (c.in-None-departure.ensures.none is_none) in (
+      next.0,
+      subst (λ (b : Bool). IsHeldPlain (since_of b c.self.inside.since c.step-whole.result) (events ++ c.args.event.now ∷ []))
+      (sym c.if-self.false) next.1,
+    )
