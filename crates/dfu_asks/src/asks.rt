@@ -1,5 +1,5 @@
 //! The writes that are asked for: the next one, and how it went.
-ghost use Rattle.std.specs.Prelude.{◌≡◌, ◌≢◌, ◌+◌, ◌≤◌, ◌<◌, ◌^◌, ◌↔◌, ℕ, List, length, take, slice_range, Some, IfOk, IfSome, OnErr, IsTrue};
+ghost use Rattle.std.specs.Prelude.{◌≡◌, ◌≢◌, ◌+◌, ◌≤◌, ◌<◌, ◌^◌, ◌↔◌, ℕ, List, length, take, slice_range, Some, IfOk, IfErr, IfSome, OnOk, OnErr, IsTrue};
 ghost use Rattle.dfu_slots.specs.Medium.{Write, Torn};
 ghost use Rattle.dfu_slots.specs.Image.{Active};
 ghost use Rattle.dfu_slots.specs.Seen.{SlotsState};
@@ -8,6 +8,7 @@ ghost use Rattle.dfu_asks.specs.Carried.{IsPiece};
 ghost use Rattle.dfu_asks.specs.Jobs.{asked};
 ghost use Rattle.dfu_asks.specs.Asks.{writes_in, device_of};
 ghost use Rattle.dfu_asks.specs.Calls.{Asks, Took};
+ghost use Rattle.dfu_asks.specs.Refused.{IsLeft, IsNotTaken, IsTaken};
 ghost use Rattle.dfu_asks.specs.declared.work.Work.{Work};
 
 use crate::piece::next_piece;
@@ -88,7 +89,8 @@ impl Asking<'_> {
         ensures outcome { IfOk result (λ r. (len : ℕ) (s : SlotsState) (was before : List ℕ) (asks : Asks self.old len s was before) (p : Write) →
             IsPiece (writes_in self.old asks.work) asks.work.done p → Torn before p.at p.bytes flash.now →
             Took (device_of self.old s) len s was p failed flash.now out.old self.new out.new r) }
-        ensures refused { OnErr result ((len : ℕ) (s : SlotsState) (was before : List ℕ) → Asks self.old len s was before → length out.old < 6) }
+        ensures refused { IfErr result (λ e. IsNotTaken e self.old (length out.old)) }
+        ensures taken { OnOk result (IsTaken self.old (length out.old)) }
         ensures unchanged { OnErr result ((self.new ≡ self.old) × (out.new ≡ out.old)) }
     {
         if out.len() < 6 {

@@ -1,4 +1,4 @@
-use Rattle.std.proofs.Common.{◌≡◌, ◌∷◌, [], None, refl, sym, ◌∙◌, ap, subst}
+use Rattle.std.proofs.Common.{◌≡◌, ◌∷◌, [], None, refl, sym, ◌∙◌, ap, subst, arith}
 use Rattle.dfu_slots.specs.Seen.{spare_of}
 use Rattle.dfu_slots.specs.Store.{IsStore}
 use Rattle.dfu_device.specs.declared.answer.Answer.TheVariants as answer
@@ -47,3 +47,17 @@ returns-clause-outcome c =
           answer.Ack 0 (0 ∷ 0 ∷ 0 ∷ 0 ∷ 0 ∷ 0 ∷ []) (0 ∷ 0 ∷ 0 ∷ 0 ∷ 0 ∷ 0 ∷ []) []
           (λ y sent w'. (y ≡ answer.Ack) × (sent ≡ []) × Elapses c.args.ms (device_in a0 flash) w') refl refl (refl, refl, row)),
     )
+
+pub returns-then-passes_now-clause-served : goal.returns-then-passes_now-clause-served
+returns-then-passes_now-clause-served c = record {
+  work = no_work c.args.self.now.work (sym c.is_some.ensures ∙ c.if-is_some.false);
+  fits = omega arith;
+  kept = c.in_ok-device.ensures.kept;
+}
+
+pub returns-clause-served : goal.returns-clause-served
+returns-clause-served c = record {
+  work = no_work c.args.self.now.work (sym c.is_some.ensures ∙ c.if-is_some.false);
+  fits = omega arith;
+  kept = c.in_ok-device.ensures.kept;
+}

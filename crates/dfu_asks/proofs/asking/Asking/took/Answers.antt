@@ -9,7 +9,7 @@ use Rattle.dfu_asks.specs.Jobs.{asked, writes_for, job_writes}
 use Rattle.dfu_asks.specs.Asks.{writes_in, IsWorking}
 use Rattle.dfu_asks.specs.Calls.{took_well, took_failed, took_lied}
 use Rattle.dfu_asks.proofs.Pieces.{piece_one}
-use Rattle.dfu_asks.proofs.Calling.{same_work, is_true, is_false, piece_failed, piece_stands}
+use Rattle.dfu_asks.proofs.Calling.{same_work, is_true, is_false, taken_from, piece_failed, piece_stands}
 use Rattle.dfu_asks.proofs.asking.Asking.took.Goals as goal
 
 pub returns-then-failed-clause-outcome : goal.returns-then-failed-clause-outcome
@@ -70,3 +70,19 @@ returns-clause-outcome c = λ len s was before asks p piece torn.
     (c.advance.ensures len s was flash
     (record { medium = k.medium; store = k.store; sound = k.sound; due = k.due })
     (stood ∙ ap (λ (m : ℕ). carried was (writes_in a w) (w.done + m)) size))
+
+pub returns-then-failed-clause-taken : goal.returns-then-failed-clause-taken
+returns-then-failed-clause-taken c =
+    let w = c.in-Some.work in
+    let e = c.stock.ensures in
+    taken_from c.args.self.now w (writes_for w.job c.stock.result) (asked c.in-Some-next_piece.piece) (length c.args.out.now)
+    (omega (arith, c.if-out-lt6.false)) c.in-Some.is
+    (λ i. job_writes w.job (in_place (e.unit i)) (e.end i) (e.held i) (e.block i)) c.in-Some-next_piece.ensures.some
+
+pub returns-then-not-stands-clause-taken : goal.returns-then-not-stands-clause-taken
+returns-then-not-stands-clause-taken c =
+    let w = c.in-Some.work in
+    let e = c.stock.ensures in
+    taken_from c.args.self.now w (writes_for w.job c.stock.result) (asked c.in-Some-next_piece.piece) (length c.args.out.now)
+    (omega (arith, c.if-out-lt6.false)) c.in-Some.is
+    (λ i. job_writes w.job (in_place (e.unit i)) (e.end i) (e.held i) (e.block i)) c.in-Some-next_piece.ensures.some
