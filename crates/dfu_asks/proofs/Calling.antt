@@ -24,7 +24,7 @@ use Rattle.dfu_asks.specs.Due.{IsDueRow, Fails}
 use Rattle.dfu_asks.specs.Asks.{block_in, store_in, device_in, device_of, IsDevice, IsDue, IsJobOf, IsDueStage, IsWorking, writes_in, IsBrokenOff, Gives, IsRest}
 use Rattle.dfu_asks.specs.Calls.{HasEnded, Asks, Comes, comes_asks, comes_ended, Called, called_ended, called_asks}
 use Rattle.dfu_asks.specs.Refused.{IsTaken}
-use Rattle.dfu_asks.proofs.Pieces.{piece_end, piece_some}
+use Rattle.dfu_asks.proofs.Pieces.{piece_one, piece_end, piece_some}
 use Rattle.dfu_asks.proofs.Carrying.{step_carried, broken_carried}
 use Rattle.dfu_asks.proofs.Inside.{working_within}
 use Rattle.dfu_asks.proofs.Ended.{broken_ended}
@@ -127,6 +127,12 @@ module _ (a mid now : Asking) (flash : List ℕ) (d : Shown) (first : IsRest a m
   }
 
 -- How a piece went.
+
+-- The piece that was asked for is the one that was taken.
+pub one_piece : (a : Asking) (w : Work) (x : Work) (ws : List Write) (p q : Write) → x ≡ w → ws ≡ writes_in a w → IsPiece (writes_in a x) x.done p
+    → IsPiece ws w.done q → p ≡ q
+one_piece a w x ws p q same is first second = piece_one (writes_in a w) w.done p q
+    (subst (λ (y : Work). IsPiece (writes_in a y) y.done p) same first) (subst (λ (l : List Write). IsPiece l w.done q) is second)
 
 -- A device with a next piece is one that a piece can be taken of.
 pub taken_from : (a : Asking) (w : Work) (ws : List Write) (p : Write) (room : ℕ) → 6 ≤ room → a.work ≡ Some w → ws ≡ writes_in a w

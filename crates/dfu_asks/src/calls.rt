@@ -1,5 +1,5 @@
 //! The calls for a device that asks.
-ghost use Rattle.std.specs.Prelude.{◌≡◌, ◌≢◌, ◌⊎◌, ◌≤◌, ◌^◌, ℕ, List, [], length, replicate, IfOk, IfErr, OnOk, OnErr, IsErrOf, IfSome, IfNone, IsSome, IsTrue};
+ghost use Rattle.std.specs.Prelude.{◌≡◌, ◌≢◌, ◌⊎◌, ◌≤◌, ◌^◌, ℕ, List, [], length, replicate, IfOk, IfErr, OnOk, OnErr, IsErrOf, IfSome, IfNone, IsSome, Some, IsTrue};
 ghost use Rattle.dfu_slots.specs.Image.{HasImage};
 ghost use Rattle.dfu_slots.specs.Store.{IsStore};
 ghost use Rattle.dfu_device.specs.Rows.{Handles, Elapses};
@@ -7,6 +7,7 @@ ghost use Rattle.dfu_device.specs.Table.{reset_stage};
 ghost use Rattle.dfu_device.specs.Parts.{shows, stage_of, is_sound};
 ghost use Rattle.dfu_device.specs.Stage.{state_of, code_of};
 ghost use Rattle.dfu_device.specs.Shown.{powered_on};
+ghost use Rattle.dfu_asks.specs.declared.work.Work.{Work};
 ghost use Rattle.dfu_asks.specs.Mapped.{mapped};
 ghost use Rattle.dfu_asks.specs.Asks.{store_in, device_in, block_in, IsDevice, IsRest, IsDueStage};
 ghost use Rattle.dfu_asks.specs.Calls.{Called, Comes};
@@ -161,6 +162,7 @@ impl<'b> Asking<'b> {
     ) -> Result<Reply, Refusal>
         ensures outcome { IfOk result (λ r. Called self.old flash.now out.old
             (λ a sent d'. Handles setup.now body.now (device_in self.old flash.now) a sent d') self.new out.new r) }
+        ensures first { IfOk result (λ r. r ≡ Reply.Asks → (w : Work) × (self.new.work ≡ Some w) × (w.done ≡ 0)) }
         ensures is { OnOk result (IsDevice self.old flash.now) }
         ensures served { OnOk result (IsServed self.old flash.now (answer_room self.old.config) (length out.old)) }
         ensures refused { IfErr result (λ e. IsRefused e self.old flash.now (answer_room self.old.config) (length out.old)) }
@@ -195,6 +197,7 @@ impl<'b> Asking<'b> {
     pub fn elapse(&mut self, flash: &[u8], ms: u32) -> Result<Reply, Refusal>
         ensures outcome { IfOk result (λ r. (out : List ℕ) × Called self.old flash.now (replicate 6 0)
             (λ a sent d'. (a ≡ Answer.Ack) × (sent ≡ []) × Elapses ms (device_in self.old flash.now) d') self.new out r) }
+        ensures first { IfOk result (λ r. r ≡ Reply.Asks → (w : Work) × (self.new.work ≡ Some w) × (w.done ≡ 0)) }
         ensures is { OnOk result (IsDevice self.old flash.now) }
         ensures served { OnOk result (IsServed self.old flash.now 0 0) }
         ensures refused { IfErr result (λ e. IsRefused e self.old flash.now 0 0) }
@@ -248,8 +251,9 @@ impl<'b> Asking<'b> {
         requires room { 6 ≤ length out.old }
         requires held { device.device.slots.held ≡ self.old.held.items }
         requires end { device.device.slots.put_end ≡ self.old.put_end }
-        ensures { let d = device.entry.device in (len : ℕ) (flash : List ℕ) → d.slots ≡ store_in self.old flash → IsStore d.slots →
+        ensures outcome { let d = device.entry.device in (len : ℕ) (flash : List ℕ) → d.slots ≡ store_in self.old flash → IsStore d.slots →
             d.config ≡ self.old.config → IsDueStage d.stage asked len → Comes d len d.slots flash flash out.old self.new out.new result }
+        ensures first { result ≡ Reply.Asks → (w : Work) × (self.new.work ≡ Some w) × (w.done ≡ 0) }
     {
         let (slots, mode, block) = device.into_parts();
         self.mode = mode;

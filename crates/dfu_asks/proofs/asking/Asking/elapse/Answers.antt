@@ -24,7 +24,7 @@ returns-then-passes_now-clause-outcome c =
       called_from a0 flash (0 ∷ 0 ∷ 0 ∷ 0 ∷ 0 ∷ 0 ∷ [])
           (λ y sent w'. (y ≡ answer.Ack) × (sent ≡ []) × Elapses c.args.ms (device_in a0 flash) w') c.start.new.self
           c.start.new.out c.start.result d 0 ok
-          (c.start.ensures 0 flash (slots ∙ sym (rest_store a0 a1 flash rest))
+          (c.start.ensures.outcome 0 flash (slots ∙ sym (rest_store a0 a1 flash rest))
           (subst IsStore (sym slots) c.in_ok-device.ensures.is.store)
           (ap (λ (w : Shown). w.config) ok ∙ sym rest.config)
           (subst (λ (st : Stage). IsDueStage st None 0) (sym (ap (λ (w : Shown). w.stage) ok))

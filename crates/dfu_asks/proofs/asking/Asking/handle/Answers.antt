@@ -39,7 +39,7 @@ returns-in-Some-clause-outcome c =
     let slots : d.slots ≡ store_in a0 flash = ap (λ (w : Shown). w.slots) ok in
     called_from a0 flash c.args.out.now (λ y sent w'. Handles c.args.setup.now c.args.body.now (device_in a0 flash) y sent w') c.start.new.self
     c.start.new.out c.start.result d len ok
-    (c.start.ensures len flash (slots ∙ sym (rest_store a0 a1 flash rest))
+    (c.start.ensures.outcome len flash (slots ∙ sym (rest_store a0 a1 flash rest))
     (subst IsStore (sym slots) c.in_ok-device.ensures.is.store)
     (ap (λ (w : Shown). w.config) ok ∙ sym rest.config)
     (subst (λ (st : Stage). IsDueStage st (Some len) len) (sym (ap (λ (w : Shown). w.stage) ok))
