@@ -57,8 +57,8 @@
  *   payload. A session is over after as many calls of dfu_host_take as it had actions.
  * - DFU_INSTALLED, DFU_VERIFIED and DFU_UPLOADED come only as the laws of dfu_host say.
  * - An upload ends as DFU_NO_MEMORY exactly where dfu_host_take says. No byte of the buffer changes but where a part is stored.
- * What is proved also where the record, the payload or the buffer are others: a call answers or refuses, it ends, and it
- * touches nothing but what its pointers say. */
+ * Proved also of any other record, payload or buffer: a call answers or refuses, it ends, and it touches nothing but what
+ * its pointers say. */
 #ifndef DFU_HOST_H
 #define DFU_HOST_H
 
@@ -93,7 +93,7 @@ struct dfu_file {
 };
 
 /* The record: a session between two calls. A program reads kept, and writes nothing in it. The calls that begin a session
- * write the version, and a record of another one is none of a session. A number that a phase does not have is 0. */
+ * write the version, and a record of another one is no session's. A number that a phase does not have is 0. */
 struct dfu_session {
     uint32_t version, goal;                 /* DFU_VERSION of the archive; goal 1 to 4 */
     uint64_t number;                        /* the block, the part or the report of the phase */
@@ -148,7 +148,7 @@ enum {
     DFU_UNCONFIRMED = 2,     /* a device that can't tell took all of it, and was reset or left of itself */
     DFU_ABORTED = 3,         /* the program gave up */
     DFU_GAVE_UP = 4,         /* the actions are spent */
-    DFU_REFUSED = 5,         /* the device stood in dfuERROR with a code */
+    DFU_REFUSED = 5,         /* the device was in dfuERROR with a code */
     DFU_RESTARTS_SPENT = 6,  /* the device was restarted too often */
     DFU_UPLOADED = 7,        /* the whole image came: the first kept bytes of the buffer */
     DFU_TOO_MANY_BLOCKS = 8, /* 65,535 full parts came */
@@ -174,7 +174,7 @@ enum {
     DFU_LONG = -32,             /* the descriptor has more bytes than its first says */
     DFU_WRONG_LENGTH = -33,     /* the descriptor has neither 7 nor 9 as its first byte */
     DFU_WRONG_TYPE = -34,       /* the descriptor has not 21h as its second byte */
-    DFU_NO_SESSION = -41,       /* the record is none of a session over that payload and buffer, or of another version */
+    DFU_NO_SESSION = -41,       /* the record is no session's over that payload and buffer, or of another version */
     DFU_NO_SEEN = -42           /* seen is over 7 */
 };
 
@@ -184,8 +184,8 @@ int32_t dfu_host_file(const uint8_t *file, size_t length, struct dfu_file *out);
 
 /* Begins a session that installs a file: 0; or the file's refusal; or the descriptor's; or the first that holds of
  * DFU_EMPTY_PAYLOAD, DFU_WRONG_TARGET, DFU_CANNOT_DOWNLOAD, DFU_BAD_DESCRIPTOR. The descriptor is the functional one, of
- * 9 bytes, or 7 in DFU 1.0. The session takes so many actions, calls of dfu_host_take (0 counts as 1), and so many restarts
- * of the device. The file is read once. */
+ * 9 bytes, or 7 in DFU 1.0. actions is how many calls of dfu_host_take the session may take (0 counts as 1), restarts how
+ * many restarts of the device. The file is read once. */
 int32_t dfu_host_download(struct dfu_session *session, const uint8_t *file, size_t length,
                           const uint8_t *descriptor, size_t size, const struct dfu_ids *device,
                           uint32_t actions, uint16_t restarts);

@@ -1,5 +1,5 @@
 -- Bytes that are erased, piece by piece, and after an erase.
-use Rattle.std.proofs.Common.{◌≡◌, ℕ, ◌+◌, ◌-◌, ◌≤◌, List, ◌++◌, length, take, drop, replicate, slice_range, sym, ◌∙◌, ap, subst, arith}
+use Rattle.std.proofs.Common.{◌≡◌, ℕ, ◌+◌, ◌≤◌, List, ◌++◌, length, take, replicate, slice_range, sym, ◌∙◌, ap, subst, arith}
 use Rattle.std.proofs.lemmas.List.{length-replicate, take-replicate, replicate-append-replicate}
 use Rattle.dfu_slots.specs.Medium.{MediumState, Wrote, WroteOrLied, FailedWrite}
 use Rattle.dfu_slots.specs.declared.fault.WriteFault.TheVariants.{NotVerified}
@@ -16,10 +16,6 @@ blank_stand m at n blank = ap (λ (k : ℕ). slice_range m at (at + k)) (blanks 
 
 pub stand_blank : (m : List ℕ) (at n : ℕ) → Stand m at (replicate n 255) → IsBlank m at n
 stand_blank m at n stands = sym (ap (λ (k : ℕ). slice_range m at (at + k)) (blanks n)) ∙ stands
-
--- No bytes are blank.
-pub blank_none : (m : List ℕ) (at : ℕ) → IsBlank m at 0
-blank_none m at = let z : at + 0 - at ≡ 0 = omega arith in ap (λ (k : ℕ). take k (drop at m)) z
 
 module _ (m : List ℕ) (at a b : ℕ) (room : at + a + b ≤ length m) where
   fits : at + length (replicate {A = ℕ} a 255) + length (replicate {A = ℕ} b 255) ≤ length m

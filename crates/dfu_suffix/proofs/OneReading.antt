@@ -31,7 +31,7 @@ after_bits-fits (bit ∷ bits) r h = after_bits-fits bits (after_bit r bit) (aft
 
 -- So the register over bytes fits 32 bits.
 pub register-fits : (bytes : List ℕ) → register bytes < 2 ^ 32
-unfolding register
+unfolding register after_bits bits_of
 register-fits bytes = after_bits-fits (bits_of bytes) 0xFFFF_FFFF (omega arith)
 
 -- A number of two bytes is had back from them.

@@ -133,7 +133,7 @@ after_more r bytes i h =
 
 -- The register over two lists is that over the first, with the bits of the second.
 pub register-append : (xs ys : List ℕ) → register (xs ++ ys) ≡ after_bits (register xs) (bits_of ys)
-unfolding register
+unfolding register after_bits bits_of
 register-append xs ys = after-append 0xFFFF_FFFF xs ys
 
 -- ---- eight bytes at once

@@ -22,7 +22,7 @@ bits_of bytes = flat_map (low_bits 8) bytes
 
 -- The register over bytes begins as FFFFFFFFh, and all their bits go into it.
 unfoldable pub register : List ℕ → ℕ
-register bytes = after_bits 0xFFFF_FFFF (bits_of bytes)
+register bytes = fold after_bit 0xFFFF_FFFF (flat_map (low_bits 8) bytes)
 
 -- A number is shifted by one bit 0, as if it were the register.
 abbrev pub shift : ℕ → ℕ
