@@ -101,6 +101,7 @@ impl Asking<'_> {
             IsPiece (writes_in self.old w) w.done p → self.new.work ≡ Some (record w { done = w.done + length p.bytes })) }
         ensures refused { IfErr result (λ e. IsNotTaken e self.old (length out.old)) }
         ensures taken { OnOk result (IsTaken self.old (length out.old)) }
+        ensures memory { self.new.block.memory.ghost_name ≡ self.old.block.memory.ghost_name }
         ensures unchanged { OnErr result ((self.new ≡ self.old) × (out.new ≡ out.old)) }
     {
         if out.len() < 6 {

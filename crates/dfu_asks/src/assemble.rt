@@ -66,6 +66,7 @@ impl<'b> Asking<'b> {
         ensures mode { OnOk result (self.new.mode ≡ self.old.mode) }
         ensures kept { OnOk result (IsKept self.old flash.now) }
         ensures unfit { IfErr result (λ e. IsUnfit e self.old flash.now) }
+        ensures memory { IfOk result (λ d. d.memory.name ≡ self.old.block.memory.ghost_name) }
         ensures back { OnErr result (self.new ≡ self.old) }
     {
         let slots = self.open(flash)?;
@@ -84,6 +85,7 @@ impl<'b> Asking<'b> {
         ensures device { let d = device.entry.device in shows d.config d.slots self.new.mode (block_in self.new) ≡ d }
         ensures sound { IsTrue (is_sound self.new.mode (length (block_in self.new)) device.entry.device.slots) }
         ensures rest { IsRest self.old self.new }
+        ensures memory { self.new.block.memory.ghost_name ≡ device.entry.memory.name }
     {
         let (_, mode, block) = device.into_parts();
         self.mode = mode;

@@ -36,6 +36,7 @@ impl<'b> Asking<'b> {
         ensures device { IfSome result (λ a. device_in a flash.now ≡ powered_on config (mapped unit flash.now)) }
         ensures is { IfSome result (λ a. IsDevice a flash.now) }
         ensures work { IfSome result (λ a. (a.work ≡ None) × (a.unit ≡ unit)) }
+        ensures memory { IfSome result (λ a. a.block ≡ block.entry) }
         ensures none { IfNone result (¬ HasImage (mapped unit flash.now)) }
     {
         let medium = Mapped::new(flash, unit)?;
@@ -89,6 +90,7 @@ impl<'b> Asking<'b> {
         ensures served { OnOk result (IsServed self.old flash.now (answer_room self.old.config) (length out.old)) }
         ensures refused { IfErr result (λ e. IsRefused e self.old flash.now (answer_room self.old.config) (length out.old)) }
         ensures asked { IsSome self.old.work → IsErrOf result Refusal.Asked }
+        ensures memory { self.new.block.memory.ghost_name ≡ self.old.block.memory.ghost_name }
         ensures unchanged { OnErr result ((self.new ≡ self.old) × (out.new ≡ out.old)) }
     {
         if self.work.is_some() {
@@ -124,6 +126,7 @@ impl<'b> Asking<'b> {
         ensures served { OnOk result (IsServed self.old flash.now 0 0) }
         ensures refused { IfErr result (λ e. IsRefused e self.old flash.now 0 0) }
         ensures asked { IsSome self.old.work → IsErrOf result Refusal.Asked }
+        ensures memory { self.new.block.memory.ghost_name ≡ self.old.block.memory.ghost_name }
         ensures unchanged { OnErr result (self.new ≡ self.old) }
     {
         if self.work.is_some() {
@@ -152,6 +155,7 @@ impl<'b> Asking<'b> {
         ensures served { OnOk result (IsServed self.old flash.now 0 0) }
         ensures refused { IfErr result (λ e. IsRefused e self.old flash.now 0 0) }
         ensures asked { IsSome self.old.work → IsErrOf result Refusal.Asked }
+        ensures memory { self.new.block.memory.ghost_name ≡ self.old.block.memory.ghost_name }
         ensures unchanged { OnErr result (self.new ≡ self.old) }
     {
         if self.work.is_some() {
@@ -176,6 +180,7 @@ impl<'b> Asking<'b> {
         ensures outcome { let d = device.entry.device in (len : ℕ) (flash : List ℕ) → d.slots ≡ store_in self.old flash → IsStore d.slots →
             d.config ≡ self.old.config → IsDueStage d.stage asked len → Comes d len d.slots flash flash out.old self.new out.new result }
         ensures first { result ≡ Reply.Asks → (w : Work) × (self.new.work ≡ Some w) × (w.done ≡ 0) }
+        ensures memory { self.new.block.memory.ghost_name ≡ device.entry.memory.name }
     {
         let (slots, mode, block) = device.into_parts();
         self.mode = mode;
