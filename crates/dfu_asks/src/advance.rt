@@ -59,6 +59,7 @@ impl<'b> Asking<'b> {
             Comes (device_of self.old s) len s was flash out.old self.new out.new result }
         ensures more { (result ≡ Reply.Asks) ↔ (work.done < total (writes_in self.old work)) }
         ensures kept { result ≡ Reply.Asks → self.new.work ≡ Some work }
+        ensures memory { self.new.block.memory.ghost_name ≡ self.old.block.memory.ghost_name }
     {
         match next_piece(work.job, &self.stock(), work.done as usize) {
             Some(_) => {
@@ -83,6 +84,7 @@ impl<'b> Asking<'b> {
         requires { 6 ≤ length out.old }
         ensures broken { IsBrokenOff fault self.old self.new }
         ensures gives { Gives self.new.mode asked result.0 result.1 out.old out.new }
+        ensures memory { self.new.block.memory.ghost_name ≡ self.old.block.memory.ghost_name }
     {
         self.break_off(fault);
         self.answer(asked, out)

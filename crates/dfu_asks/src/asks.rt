@@ -63,8 +63,8 @@ impl Asking<'_> {
     /// The next write that is asked for, at most 256 bytes. Whatever is kept, it lies within the spare slot of the flash as it
     /// stands, where that has an active image.
     ///
-    /// None exactly where no write is due, its range does not lie so, or the flash has no active image and the gate of the slot
-    /// stands open. So it is Some wherever a call answered `Asks`, on flash on which all pieces before this one were taken.
+    /// None where no write is due, where its range does not lie so, or where the slot's gate is open and no image is active.
+    /// It is Some where a call answered `Asks` and the pieces before this one stand on the flash.
     pub fn next(&self, flash: &[u8]) -> Option<Piece>
         ensures piece { IfSome result (λ p. (w : Work) → self.now.work ≡ Some w → IsPiece (writes_in self.now w) w.done (asked p)) }
         ensures most { IfSome result (λ p. (0 < p.len) × (p.len ≤ 256)) }
@@ -101,6 +101,7 @@ impl Asking<'_> {
             IsPiece (writes_in self.old w) w.done p → self.new.work ≡ Some (record w { done = w.done + length p.bytes })) }
         ensures refused { IfErr result (λ e. IsNotTaken e self.old (length out.old)) }
         ensures taken { OnOk result (IsTaken self.old (length out.old)) }
+        ensures memory { self.new.block.memory.ghost_name ≡ self.old.block.memory.ghost_name }
         ensures unchanged { OnErr result ((self.new ≡ self.old) × (out.new ≡ out.old)) }
     {
         if out.len() < 6 {

@@ -22,85 +22,6 @@ use dfu_device::{Answer, Config, LentBlock, LentDevice, Mode};
 use dfu_slots::{Slots, Unit};
 use dfu_wire::{Code, State};
 
-// Takes a block out of its place, and leaves none there.
-fn take<'b>(place: &mut LentBlock<'b>) -> LentBlock<'b>
-    ensures { result ≡ place.old }
-{
-    std::mem::replace(
-        place,
-        LentBlock {
-            memory: &mut [],
-            len: 0,
-        },
-    )
-}
-
-// A copy of the bytes held.
-fn copy_of(held: &ArrayVec<u8, 256>) -> ArrayVec<u8, 256>
-    ensures { result.items ≡ held.now.items }
-{
-    let mut copy = ArrayVec::new();
-    let _ = copy.try_extend_from_slice(held.as_slice());
-    copy
-}
-
-impl<'b> Asking<'b> {
-    // The slot store on these bytes of flash.
-    fn open<'f>(&self, flash: &'f [u8]) -> Result<Slots<Mapped<'f>>, Refusal>
-        ensures ok { IfOk result (λ s. s ≡ store_in self.now flash.now) }
-        ensures store { OnOk result (IsStore (store_in self.now flash.now)) }
-        ensures no_store { OnErr result (¬ IsStore (store_in self.now flash.now)) }
-        ensures no_medium { IfErr result (λ e. e ≡ Refusal.NoMedium → ¬ HasImage (mapped self.now.unit flash.now)) }
-        ensures no_device { IfErr result (λ e. e ≢ Refusal.NoMedium → (e ≡ Refusal.NoDevice) × HasImage (mapped self.now.unit flash.now)) }
-    {
-        let Some(medium) = Mapped::new(flash, self.unit) else {
-            return Err(Refusal::NoMedium);
-        };
-        match Slots::from_parts(medium, copy_of(&self.held), self.put_end) {
-            Ok(slots) => Ok(slots),
-            Err(medium) => match Slots::open(medium) {
-                Ok(_) => Err(Refusal::NoDevice),
-                Err(_) => Err(Refusal::NoMedium),
-            },
-        }
-    }
-
-    // The device on these bytes of flash, which takes the block.
-    fn assemble<'f>(
-        &mut self,
-        flash: &'f [u8],
-    ) -> Result<LentDevice<Mapped<'f>, LentBlock<'b>>, Refusal>
-        ensures ok { IfOk result (λ d. d.device ≡ device_in self.old flash.now) }
-        ensures is { OnOk result (IsDevice self.old flash.now) }
-        ensures rest { OnOk result (IsRest self.old self.new) }
-        ensures mode { OnOk result (self.new.mode ≡ self.old.mode) }
-        ensures kept { OnOk result (IsKept self.old flash.now) }
-        ensures unfit { IfErr result (λ e. IsUnfit e self.old flash.now) }
-        ensures back { OnErr result (self.new ≡ self.old) }
-    {
-        let slots = self.open(flash)?;
-        match LentDevice::from_parts(self.config, slots, self.mode, take(&mut self.block)) {
-            Ok(device) => Ok(device),
-            Err(refused) => {
-                let (_, block) = refused;
-                self.block = block;
-                Err(Refusal::NoDevice)
-            }
-        }
-    }
-
-    // Keeps a device that wrote nothing.
-    fn keep(&mut self, device: LentDevice<Mapped<'_>, LentBlock<'b>>)
-        ensures device { let d = device.entry.device in shows d.config d.slots self.new.mode (block_in self.new) ≡ d }
-        ensures sound { IsTrue (is_sound self.new.mode (length (block_in self.new)) device.entry.device.slots) }
-        ensures rest { IsRest self.old self.new }
-    {
-        let (_, mode, block) = device.into_parts();
-        self.mode = mode;
-        self.block = block;
-    }
-}
-
 impl<'b> Asking<'b> {
     /// A device that gets power: in appIDLE, on flash that it reads and that is written in this unit. The memory of the block
     /// is to have room for the transfer size, or each call but this one is refused with `NoDevice`.
@@ -115,6 +36,7 @@ impl<'b> Asking<'b> {
         ensures device { IfSome result (λ a. device_in a flash.now ≡ powered_on config (mapped unit flash.now)) }
         ensures is { IfSome result (λ a. IsDevice a flash.now) }
         ensures work { IfSome result (λ a. (a.work ≡ None) × (a.unit ≡ unit)) }
+        ensures memory { IfSome result (λ a. a.block ≡ block.entry) }
         ensures none { IfNone result (¬ HasImage (mapped unit flash.now)) }
     {
         let medium = Mapped::new(flash, unit)?;
@@ -152,7 +74,8 @@ impl<'b> Asking<'b> {
     ///
     /// `Asked` where writes are due; `NoRoom` where the buffer has less room than an answer may need, which is 6 bytes or the
     /// transfer size, whichever is more; `NoMedium` where the flash has no active image, or 2^32 bytes or more; `NoDevice` where
-    /// what is kept is none of a device on it. They are looked for in this order, and nothing changed then.
+    /// what is kept is none of a device on it, or its block has less room than the transfer size. They are looked for in this
+    /// order, and nothing changed then.
     pub fn handle(
         &mut self,
         flash: &[u8],
@@ -167,6 +90,7 @@ impl<'b> Asking<'b> {
         ensures served { OnOk result (IsServed self.old flash.now (answer_room self.old.config) (length out.old)) }
         ensures refused { IfErr result (λ e. IsRefused e self.old flash.now (answer_room self.old.config) (length out.old)) }
         ensures asked { IsSome self.old.work → IsErrOf result Refusal.Asked }
+        ensures memory { self.new.block.memory.ghost_name ≡ self.old.block.memory.ghost_name }
         ensures unchanged { OnErr result ((self.new ≡ self.old) × (out.new ≡ out.old)) }
     {
         if self.work.is_some() {
@@ -193,7 +117,7 @@ impl<'b> Asking<'b> {
     ///
     /// # Errors
     ///
-    /// As `handle`, with a buffer of 6 bytes.
+    /// As `handle`, but for `NoRoom`.
     pub fn elapse(&mut self, flash: &[u8], ms: u32) -> Result<Reply, Refusal>
         ensures outcome { IfOk result (λ r. (out : List ℕ) × Called self.old flash.now (replicate 6 0)
             (λ a sent d'. (a ≡ Answer.Ack) × (sent ≡ []) × Elapses ms (device_in self.old flash.now) d') self.new out r) }
@@ -202,6 +126,7 @@ impl<'b> Asking<'b> {
         ensures served { OnOk result (IsServed self.old flash.now 0 0) }
         ensures refused { IfErr result (λ e. IsRefused e self.old flash.now 0 0) }
         ensures asked { IsSome self.old.work → IsErrOf result Refusal.Asked }
+        ensures memory { self.new.block.memory.ghost_name ≡ self.old.block.memory.ghost_name }
         ensures unchanged { OnErr result (self.new ≡ self.old) }
     {
         if self.work.is_some() {
@@ -230,6 +155,7 @@ impl<'b> Asking<'b> {
         ensures served { OnOk result (IsServed self.old flash.now 0 0) }
         ensures refused { IfErr result (λ e. IsRefused e self.old flash.now 0 0) }
         ensures asked { IsSome self.old.work → IsErrOf result Refusal.Asked }
+        ensures memory { self.new.block.memory.ghost_name ≡ self.old.block.memory.ghost_name }
         ensures unchanged { OnErr result (self.new ≡ self.old) }
     {
         if self.work.is_some() {
@@ -254,6 +180,7 @@ impl<'b> Asking<'b> {
         ensures outcome { let d = device.entry.device in (len : ℕ) (flash : List ℕ) → d.slots ≡ store_in self.old flash → IsStore d.slots →
             d.config ≡ self.old.config → IsDueStage d.stage asked len → Comes d len d.slots flash flash out.old self.new out.new result }
         ensures first { result ≡ Reply.Asks → (w : Work) × (self.new.work ≡ Some w) × (w.done ≡ 0) }
+        ensures memory { self.new.block.memory.ghost_name ≡ device.entry.memory.name }
     {
         let (slots, mode, block) = device.into_parts();
         self.mode = mode;

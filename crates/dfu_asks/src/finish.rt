@@ -125,7 +125,8 @@ fn rest_of_put(unit: Unit, held: &[u8], block: &[u8]) -> ArrayVec<u8, 256>
 impl Asking<'_> {
     /// All is written.
     pub(crate) fn finish(&mut self)
-        ensures { IsFinished self.old self.new }
+        ensures finished { IsFinished self.old self.new }
+        ensures memory { self.new.block.memory.ghost_name ≡ self.old.block.memory.ghost_name }
     {
         let len = self.block.len;
         if is_block(self.mode) {
@@ -141,7 +142,8 @@ impl Asking<'_> {
 
     /// A write had this fault.
     pub(crate) fn break_off(&mut self, fault: WriteFault)
-        ensures { IsBrokenOff fault self.old self.new }
+        ensures broken { IsBrokenOff fault self.old self.new }
+        ensures memory { self.new.block.memory.ghost_name ≡ self.old.block.memory.ghost_name }
     {
         self.held.clear();
         self.put_end = 0;

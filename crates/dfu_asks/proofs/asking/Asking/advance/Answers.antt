@@ -39,7 +39,7 @@ returns-in-None-clause-outcome c = λ len s was flash working is reached.
     subst (λ (ws : List Write). total ws ≤ c.args.work.done) stock c.in-None.ensures.none in
     comes_ended c.answer-answer.result.0 c.answer-answer.result.1
     (carried_ended c.args.self.now c.finish.new.self c.args.work len s was flash working c.answer-answer.result.0 c.answer-answer.result.1
-    c.args.out.now c.answer-answer.new.out is le c.finish.ensures c.answer-answer.ensures)
+    c.args.out.now c.answer-answer.new.out is le c.finish.ensures.finished c.answer-answer.ensures)
 
 pub returns-in-Some-clause-more : goal.returns-in-Some-clause-more
 returns-in-Some-clause-more c =
