@@ -46,7 +46,6 @@ fn covered<'m>(memory: &mut Memory<'m>, cover: Cover) -> Memory<'m>
 }
 
 // The slot store by what a record notes, where that stands on the medium. No image is read.
-#[inline(never)]
 fn open_noted<'m>(kept: &DfuDevice, memory: &mut Memory<'m>) -> Option<Slots<Memory<'m>>>
     requires plain { is_on memory.old.cover ≡ false }
     ensures some { IfSome result (λ slots. IsOpened kept.now memory.old.bytes slots) }
