@@ -16,7 +16,6 @@ use arrayvec::ArrayVec;
 use dfu_slots::Slots;
 
 // Why this memory, of which no store was made, is none of a device.
-#[inline(never)]
 fn refusal_of(memory: &mut Memory<'_>) -> Refusal
     ensures medium { result ≡ Refusal.NoMedium → ¬ HasImage (memory_at memory.old.bytes memory.old.cover) }
     ensures device { result ≡ Refusal.NoDevice → HasImage (memory_at memory.old.bytes memory.old.cover) }
@@ -46,7 +45,6 @@ fn covered<'m>(memory: &mut Memory<'m>, cover: Cover) -> Memory<'m>
 }
 
 // The slot store by what a record notes, where that stands on the medium. No image is read.
-#[inline(never)]
 fn open_noted<'m>(kept: &DfuDevice, memory: &mut Memory<'m>) -> Option<Slots<Memory<'m>>>
     requires plain { is_on memory.old.cover ≡ false }
     ensures some { IfSome result (λ slots. IsOpened kept.now memory.old.bytes slots) }
@@ -72,6 +70,7 @@ fn open_noted<'m>(kept: &DfuDevice, memory: &mut Memory<'m>) -> Option<Slots<Mem
 }
 
 // The slot store over the medium as it stands. It reads the active image, for its register.
+#[inline(never)]
 fn open_plain<'m>(kept: &DfuDevice, memory: &mut Memory<'m>) -> Result<Slots<Memory<'m>>, Refusal>
     requires plain { is_on memory.old.cover ≡ false }
     requires unnoted { ¬ IsNoted kept.now memory.old.bytes.now }
