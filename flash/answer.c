@@ -1,51 +1,52 @@
-/* Which answer of libusb is told the host as what. The proof of what Installed and Verified mean stands on this file:
-   a transfer that is told as acknowledged or answered was really made, and a restart is told where the device lost its
+/* As what each answer of libusb is reported to the host. The proof of what Installed and Verified mean rests on this file:
+   a transfer that is reported as acknowledged or answered was really made, and a restart is reported where the device lost its
    state, before anything that it answers later.
 
    Of a transfer:
      as many bytes out as the body has  Ack         it was made, and acknowledged
      bytes in, also fewer or none       Bytes       what came, as it came
      LIBUSB_ERROR_PIPE                  Stall       the device refused the request
-     LIBUSB_ERROR_NO_DEVICE             Left        the device left behind the end of a download, as below
-                                        Restarted   else: told once it is back and open again
+     LIBUSB_ERROR_NO_DEVICE             Left        the device left after the end of a download, as below
+                                        Restarted   else: reported once it is back and open again
      any other                          Nothing     as TIMEOUT, IO, OVERFLOW: it may have been handled or not, and the host asks
 
    Of a reset:
      0                                  WasReset    once its interface is in its setting again, where that is another than 0
      LIBUSB_ERROR_NOT_FOUND             WasReset    at once: libusb says this where the device has other descriptors after the
                                                     reset, and comes as a new one, whose enumeration is a reset
-     LIBUSB_ERROR_NO_DEVICE             Left        it left before, behind the end of a download, as below
-                                        Restarted   else: told once it is back
+     LIBUSB_ERROR_NO_DEVICE             Left        it left before, after the end of a download, as below
+                                        Restarted   else: reported once it is back
      any other                          Nothing     the host asks for it again
-   NOT_FOUND is also what Linux says of a device that left before the reset. It comes back reset then too; and behind a reset
-   the host is done, or begins anew with asking for the device's state, as it does behind a restart. A device that is to be
+   NOT_FOUND is also what Linux says of a device that left before the reset. It comes back reset then too; and after a reset
+   the host is done, or begins anew with asking for the device's state, as it does after a restart. A device that is to be
    asked again is waited for before that request; one whose session is over need not come back, as where its application has
    no USB.
 
    Of a wait: Waited, once the time has passed; Nothing, where a stop ended it (stop.h).
 
-   Left is told where the device acknowledged the DNLOAD of no bytes, a GETSTATUS behind it was answered with dfuMANIFEST-SYNC or
+   Left is reported where the device acknowledged the DNLOAD of no bytes, a GETSTATUS after it was answered with dfuMANIFEST-SYNC or
    dfuMANIFEST, nothing but GETSTATUS was sent since, and the device is gone then: it may have started its image by itself, as
-   many bootloaders do, or have lost its power. It is told at once, and only once: the device is waited for before the next request.
-   The host takes it as the last reset, and never reports Installed for it. Where a reset is answered with NOT_FOUND it isn't told:
+   many bootloaders do, or have lost its power. It is reported at once, and only once: the device is waited for before the next request.
+   The host takes it as the last reset, and never reports Installed for it. Where a reset is answered with NOT_FOUND it isn't reported:
    there Installed is reported only where the device itself said that it is done, by dfuIDLE.
 
-   A device that leaves behind an acknowledged DETACH does what it was asked to, up to the next request: that is no restart.
+   A device that leaves after an acknowledged DETACH does what it was asked to, up to the next request: that is no restart.
    Until it is found again, nothing is sent. A reset that another program makes in between isn't seen here: the interface is
    claimed, so that no other program has it for transfers.
 
-   One DETACH is this program's own, and no host hears of it (stalls.c). Behind it comes a reset that the host asked for, which is
-   told as above; where the device left behind that DETACH by itself it is told as WasReset, and where it left without an answer
-   as Restarted. The host asks for the device's state behind either. */
+   One DETACH is this program's own, and no host hears of it (stalls.c). After it comes a reset that the host asked for, which is
+   reported as above; where the device left after that DETACH by itself it is reported as WasReset, and where it left without an answer
+   as Restarted. The host asks for the device's state after either. */
 #include "answer.h"
 #include "clock.h"
+#include "standard.h"
 
 #include <string.h>
 
 #define TRANSFER_MS 5000 /* until a transfer counts as lost; what other programs for DFU take */
-#define STOPPED_MS 1000  /* the same of what is sent behind a stop */
+#define STOPPED_MS 1000  /* the same of what is sent after a stop */
 
-static struct answer told(struct wire *wire, uint32_t seen)
+static struct answer reported(struct wire *wire, uint32_t seen)
 {
     return (struct answer){seen, wire->bytes, 0, false, 0};
 }
@@ -55,10 +56,10 @@ static void forget_end(struct wire *wire)
     wire->is_closed = wire->is_manifesting = false;
 }
 
-/* The device left: its restart is told once it can be asked again. */
+/* The device left: its restart is reported once it can be asked again. */
 static struct answer restarted(struct wire *wire)
 {
-    struct answer answer = told(wire, DFU_SEEN_RESTART);
+    struct answer answer = reported(wire, DFU_SEEN_RESTART);
     forget_end(wire);
     answer.is_gone = !device_reopen(wire->device);
     return answer;
@@ -71,13 +72,13 @@ static struct answer left(struct wire *wire)
         return restarted(wire);
     forget_end(wire);
     device_close(wire->device);
-    return told(wire, DFU_SEEN_LEFT);
+    return reported(wire, DFU_SEEN_LEFT);
 }
 
 /* The host's setups have wIndex 0 (bytes 4 and 5); USB wants the number of the interface there. Nothing else is changed. */
 static int transfer(struct wire *wire, const uint8_t setup[8], uint16_t length)
 {
-    uint16_t value = (uint16_t)(setup[2] | setup[3] << 8);
+    uint16_t value = setup_value(setup);
     wire->transfers++;
     return libusb_control_transfer(wire->device->handle, setup[0], setup[1], value, wire->device->is.interface, wire->bytes,
                                    length, *wire->device->is_stop ? STOPPED_MS : TRANSFER_MS);
@@ -85,7 +86,7 @@ static int transfer(struct wire *wire, const uint8_t setup[8], uint16_t length)
 
 static struct answer answer_of(struct wire *wire, bool is_in, uint16_t length, int result)
 {
-    struct answer answer = told(wire, DFU_SEEN_NOTHING);
+    struct answer answer = reported(wire, DFU_SEEN_NOTHING);
     answer.error = result < 0 ? result : 0;
     if (result == LIBUSB_ERROR_NO_DEVICE)
         return left(wire);
@@ -99,25 +100,26 @@ static struct answer answer_of(struct wire *wire, bool is_in, uint16_t length, i
     return answer;
 }
 
-/* How a download ends: its last request, and what the device says of itself behind it. */
+/* How a download ends: its last request, and what the device says of itself after it. */
 static void note_end(struct wire *wire, const struct dfu_action *action, const struct answer *answer)
 {
-    bool is_status = action->setup[0] == 0xa1 && action->setup[1] == 3;
-    bool is_end = action->setup[0] == 0x21 && action->setup[1] == 1 && action->length == 0;
+    bool is_status = is_request(action->setup, KIND_IN, REQUEST_GETSTATUS);
+    bool is_end = is_request(action->setup, KIND_OUT, REQUEST_DNLOAD) && action->length == 0;
     if (!is_status) {
         wire->is_closed = is_end && answer->seen == DFU_SEEN_ACK;
         wire->is_manifesting = false;
-    } else if (answer->seen == DFU_SEEN_BYTES && answer->count == 6 && (answer->bytes[4] == 6 || answer->bytes[4] == 7))
+    } else if (answer->seen == DFU_SEEN_BYTES && answer->count == GETSTATUS_BYTES
+               && (answer->bytes[GETSTATUS_STATE] == STATE_MANIFEST_SYNC || answer->bytes[GETSTATUS_STATE] == STATE_MANIFEST))
         wire->is_manifesting = wire->is_closed;
 }
 
 static struct answer send_to(struct wire *wire, const struct dfu_action *action, const uint8_t *body)
 {
-    bool is_in = (action->setup[0] & 0x80) != 0;
-    uint16_t length = (uint16_t)(action->setup[6] | action->setup[7] << 8);
+    bool is_in = (action->setup[0] & KIND_IS_IN) != 0;
+    uint16_t length = setup_length(action->setup);
     struct answer answer;
     if (wire->device->handle == NULL && !device_reopen(wire->device)) {
-        answer = told(wire, DFU_SEEN_NOTHING);
+        answer = reported(wire, DFU_SEEN_NOTHING);
         answer.is_gone = true;
         return answer;
     }
@@ -125,7 +127,7 @@ static struct answer send_to(struct wire *wire, const struct dfu_action *action,
         memcpy(wire->bytes, body, length);
     wire->is_leaving = false;
     answer = answer_of(wire, is_in, length, transfer(wire, action->setup, length));
-    wire->is_leaving = answer.seen == DFU_SEEN_ACK && action->setup[0] == 0x21 && action->setup[1] == 0;
+    wire->is_leaving = answer.seen == DFU_SEEN_ACK && is_request(action->setup, KIND_OUT, REQUEST_DETACH);
     note_end(wire, action, &answer);
     return answer;
 }
@@ -156,7 +158,7 @@ static bool is_there(const struct wire *wire)
 struct answer answer_wait(struct wire *wire, uint32_t ms)
 {
     int64_t began_ms = clock_ms();
-    struct answer answer = told(wire, clock_wait(ms) ? DFU_SEEN_WAIT : DFU_SEEN_NOTHING);
+    struct answer answer = reported(wire, clock_wait(ms) ? DFU_SEEN_WAIT : DFU_SEEN_NOTHING);
     trace_wait(&wire->trace, ms, &answer, clock_ms() - began_ms);
     /* With bitWillDetach it leaves by itself, and is opened again before the next request. */
     if (wire->is_leaving && !is_there(wire))
@@ -164,7 +166,7 @@ struct answer answer_wait(struct wire *wire, uint32_t ms)
     return answer;
 }
 
-/* A reset puts an interface into setting 0. libusb says that the system tries to put it back; that it stands there isn't left to
+/* A reset puts an interface into setting 0. libusb says that the system tries to put it back; that it is there isn't left to
    that, since a block that goes to another setting is harm. */
 static int reset(struct device *device)
 {
@@ -172,9 +174,9 @@ static int reset(struct device *device)
     return error == 0 && device->is.alternate != 0 ? device_set(device) : error;
 }
 
-static struct answer reset_told(struct wire *wire)
+static struct answer reset_reported(struct wire *wire)
 {
-    struct answer answer = told(wire, DFU_SEEN_RESET);
+    struct answer answer = reported(wire, DFU_SEEN_RESET);
     int error;
     if (wire->device->handle == NULL) /* it left before this reset */
         return wire->is_leaving ? answer : restarted(wire);
@@ -194,7 +196,7 @@ static struct answer reset_told(struct wire *wire)
 struct answer answer_reset(struct wire *wire)
 {
     int64_t began_ms = clock_ms();
-    struct answer answer = reset_told(wire);
+    struct answer answer = reset_reported(wire);
     trace_reset(&wire->trace, &answer, clock_ms() - began_ms);
     return answer;
 }

@@ -1,4 +1,4 @@
-/* What the host is told of an action: libusb's answers, as the host's words. */
+/* What is reported to the host of an action: libusb's answers, in the host's words. */
 #ifndef DFU_FLASH_ANSWER_H
 #define DFU_FLASH_ANSWER_H
 
@@ -15,7 +15,7 @@ struct answer {
     const uint8_t *bytes; /* of DFU_SEEN_BYTES, as many as `count`; never NULL */
     size_t count;
     bool is_gone;         /* it left and did not come back: there is nothing to tell */
-    int error;            /* what libusb said to a transfer or a reset that failed, else 0; the host isn't told */
+    int error;            /* what libusb said to a transfer or a reset that failed, else 0; the host doesn't get it */
 };
 
 /* What comes between two actions. */

@@ -1,5 +1,6 @@
 /* How a session begins: with the device's functional descriptor, and with limits. */
 #include "session.h"
+#include "standard.h"
 
 #include <string.h>
 
@@ -11,10 +12,10 @@
 static void cut(uint8_t descriptor[9], size_t size, uint16_t asked)
 {
     uint16_t bytes = asked != 0 ? asked : MOST_BYTES;
-    if (size < 7 || (asked == 0 && (descriptor[5] | descriptor[6] << 8) <= MOST_BYTES))
+    if (size < FUNCTIONAL_BYTES_1_0 || (asked == 0 && two_bytes(descriptor + AT_TRANSFER) <= MOST_BYTES))
         return;
-    descriptor[5] = (uint8_t)(bytes & 0xff);
-    descriptor[6] = (uint8_t)(bytes >> 8);
+    descriptor[AT_TRANSFER] = (uint8_t)(bytes & 0xff);
+    descriptor[AT_TRANSFER + 1] = (uint8_t)(bytes >> 8);
 }
 
 const char *goal_name(enum goal goal)
@@ -25,10 +26,10 @@ const char *goal_name(enum goal goal)
 
 /* A clean session takes up to 4 actions a block, one more where it is compared, and some 20 around them. Twice that for losses
    and for a device that asks to be polled often, the same again for each restart that is taken, and 300 for a device that was
-   left in the midst of something. An upload ends by itself behind 65,535 parts. */
+   left in the midst of something. An upload ends by itself after 65,535 parts. */
 static void take_limits(struct session *session, const uint8_t descriptor[9])
 {
-    uint64_t transfer = (uint64_t)(descriptor[5] | descriptor[6] << 8);
+    uint64_t transfer = two_bytes(descriptor + AT_TRANSFER);
     uint64_t blocks = session->goal == GOAL_UPLOAD || transfer == 0 ? 65536 : session->payload_length / transfer + 1;
     uint64_t actions;
     if (session->has_limits)
@@ -38,17 +39,17 @@ static void take_limits(struct session *session, const uint8_t descriptor[9])
     session->actions = actions > UINT32_MAX ? UINT32_MAX : (uint32_t)actions;
 }
 
-/* A device of DfuSe would take the blocks for commands. Its functional descriptor has version 011Ah. */
+/* A device of DfuSe would take the blocks for commands. */
 static bool is_dfuse(const struct found *is)
 {
-    return is->descriptor_size == 9 && is->descriptor[7] == 0x1a && is->descriptor[8] == 0x01;
+    return is->descriptor_size == FUNCTIONAL_BYTES && two_bytes(is->descriptor + AT_VERSION) == VERSION_DFUSE;
 }
 
-/* A download is verified where that is asked for and the device can upload: that is bit 1 of bmAttributes. */
+/* A download is verified where that is asked for and the device can upload. */
 static enum goal goal_of(const struct session *session)
 {
     const struct found *is = &session->wire.device->is;
-    bool can_upload = is->descriptor_size >= 7 && (is->descriptor[2] & 2) != 0;
+    bool can_upload = has_attribute(is->descriptor, is->descriptor_size, CAN_UPLOAD);
     return session->is_upload ? GOAL_UPLOAD : session->wants_verified && can_upload ? GOAL_VERIFIED : GOAL_DOWNLOAD;
 }
 
@@ -72,11 +73,13 @@ static bool is_odd(int32_t refusal)
 }
 
 /* In run-time mode the functional descriptor says no more than how the device is brought to DFU mode, and there it has one that
-   counts (USB DFU 1.1, section 4.2.4, has them alike). So where that of an interface of run-time mode is odd another one stands in
-   for it; session.c sees to it that no block is sent by that. */
+   counts (USB DFU 1.1, section 4.2.4, has them alike). So where that of an interface of run-time mode is odd another one is taken
+   in its place; session.c sees to it that no block is sent by that. */
 static int32_t begin_by_another(struct session *session, int32_t refusal)
 {
-    static const uint8_t another[9] = {9, 0x21, 3, 1000 & 0xff, 1000 >> 8, 64, 0, 0x10, 0x01};
+    static const uint8_t another[FUNCTIONAL_BYTES] = {
+        FUNCTIONAL_BYTES, FUNCTIONAL_TYPE, CAN_DOWNLOAD | CAN_UPLOAD, 1000 & 0xff, 1000 >> 8, 64, 0, VERSION_1_1 & 0xff, VERSION_1_1 >> 8,
+    };
     const struct found *is = &session->wire.device->is;
     if (!is->says_runtime || !is_odd(refusal))
         return refusal;
@@ -84,7 +87,7 @@ static int32_t begin_by_another(struct session *session, int32_t refusal)
     /* With wTransferSize 0 the rest counts: bmAttributes and wDetachTimeOut. */
     memcpy(session->another, another, sizeof another);
     if (refusal == DFU_BAD_DESCRIPTOR)
-        memcpy(session->another + 2, is->descriptor + 2, 3);
+        memcpy(session->another + AT_ATTRIBUTES, is->descriptor + AT_ATTRIBUTES, AT_TRANSFER - AT_ATTRIBUTES);
     return begin(session, session->another, sizeof session->another);
 }
 

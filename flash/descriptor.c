@@ -1,19 +1,18 @@
 /* What is read of a device beside its transfers: the functional descriptor (USB DFU 1.1, section 4.1.3) and strings.
    These are requests of USB itself, and are made before a session and where a device has come back. */
 #include "find.h"
+#include "standard.h"
 #include "text.h"
 
 #include <string.h>
 
-#define DFU_FUNCTIONAL 0x21
-
-/* Descriptors stand one behind the other, each with its length first. False where none of the type is there, whole. */
+/* Descriptors come one after the other, each with its length first. False where none of the type is there, whole. */
 static bool is_in(const unsigned char *bytes, int length, struct found *found)
 {
     int at = 0;
     while (at + 2 <= length && bytes[at] >= 2) {
         int size = bytes[at];
-        if (bytes[at + 1] == DFU_FUNCTIONAL && at + size <= length && (size == 7 || size == 9)) {
+        if (bytes[at + 1] == FUNCTIONAL_TYPE && at + size <= length && (size == FUNCTIONAL_BYTES || size == FUNCTIONAL_BYTES_1_0)) {
             memcpy(found->descriptor, bytes + at, (size_t)size);
             found->descriptor_size = (size_t)size;
             return true;
@@ -27,7 +26,7 @@ void descriptor_find(struct found *found, libusb_device_handle *handle, const st
                      const struct libusb_interface *interface, int at)
 {
     const struct libusb_interface_descriptor *settings = interface->altsetting;
-    unsigned char bytes[9];
+    unsigned char bytes[FUNCTIONAL_BYTES];
     if (is_in(settings[at].extra, settings[at].extra_length, found))
         return;
     for (int other = 0; other < interface->num_altsetting; other++)
@@ -36,7 +35,7 @@ void descriptor_find(struct found *found, libusb_device_handle *handle, const st
     if (is_in(configuration->extra, configuration->extra_length, found))
         return;
     if (handle != NULL) {
-        int length = libusb_get_descriptor(handle, DFU_FUNCTIONAL, 0, bytes, (int)sizeof bytes);
+        int length = libusb_get_descriptor(handle, FUNCTIONAL_TYPE, 0, bytes, (int)sizeof bytes);
         is_in(bytes, length, found);
     }
 }
@@ -52,7 +51,7 @@ void string_find(libusb_device_handle *handle, uint8_t index, char text[TEXT_ROO
     length = libusb_get_string_descriptor(handle, 0, 0, bytes, (int)sizeof bytes);
     if (length < 4)
         return;
-    length = libusb_get_string_descriptor(handle, index, (uint16_t)(bytes[2] | bytes[3] << 8), bytes, (int)sizeof bytes);
+    length = libusb_get_string_descriptor(handle, index, two_bytes(bytes + 2), bytes, (int)sizeof bytes);
     if (length > bytes[0])
         length = bytes[0];
     if (length > 2)

@@ -1,29 +1,30 @@
 /* The one request of DFU that is this program's own: DETACH (USB DFU 1.1, section 5.1). The host asks for the state first, and
-   sends DETACH once it was told appIDLE; but many a device stalls GETSTATUS in run-time mode, and knows nothing but DETACH there. */
+   sends DETACH once appIDLE was reported to it; but many a device stalls GETSTATUS in run-time mode, and knows nothing but DETACH there. */
 #include "detach.h"
 #include "clock.h"
+#include "standard.h"
 
 #define NO_DESCRIPTOR_MS 1000 /* wDetachTimeOut where there is no functional descriptor to tell it */
-#define ARRIVAL_MS 5000       /* a device may stand in run-time mode still, and leave a while after the reset */
+#define ARRIVAL_MS 5000       /* a device may be in run-time mode still, and leave a while after the reset */
 #define LOOK_MS 200
 
 /* wDetachTimeOut, as the device wants it. */
 static uint16_t time_of(const struct found *is)
 {
-    return is->descriptor_size < 7 ? NO_DESCRIPTOR_MS : (uint16_t)(is->descriptor[3] | is->descriptor[4] << 8);
+    return is->descriptor_size < FUNCTIONAL_BYTES_1_0 ? NO_DESCRIPTOR_MS : two_bytes(is->descriptor + AT_DETACH_MS);
 }
 
-/* bitWillDetach, bit 3 of bmAttributes: it leaves and comes back by itself, within that time. */
+/* It leaves and comes back by itself, within that time. */
 static bool leaves_by_itself(const struct found *is)
 {
-    return is->descriptor_size >= 7 && (is->descriptor[2] & 8) != 0;
+    return has_attribute(is->descriptor, is->descriptor_size, WILL_DETACH);
 }
 
 struct answer detach_send(struct wire *wire)
 {
     uint16_t ms = time_of(&wire->device->is);
     bool leaves = leaves_by_itself(&wire->device->is);
-    const struct dfu_action action = {.what = DFU_SEND, .setup = {0x21, 0, (uint8_t)ms, (uint8_t)(ms >> 8), 0, 0, 0, 0}};
+    const struct dfu_action action = {.what = DFU_SEND, .setup = {KIND_OUT, REQUEST_DETACH, (uint8_t)ms, (uint8_t)(ms >> 8)}};
     struct answer answer;
     wire->trace.is_own = true;
     answer = answer_send(wire, &action, wire->bytes);

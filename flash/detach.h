@@ -6,7 +6,7 @@
 
 #include <stdbool.h>
 
-/* Sends one DETACH to a device in run-time mode, waits where it detaches by itself, and tells what came of the request. */
+/* Sends one DETACH to a device in run-time mode, waits where it detaches by itself, and returns what came of the request. */
 struct answer detach_send(struct wire *wire);
 
 /* Behind DETACH and the reset: waits for 5 seconds until the device is in DFU mode, and opens it. Whether it is. */

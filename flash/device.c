@@ -16,7 +16,7 @@
 int device_set(struct device *device)
 {
     int error = libusb_set_interface_alt_setting(device->handle, device->is.interface, device->is.alternate);
-    /* Where there is one setting a device may stall the request, and stands in it all the same. */
+    /* Where there is one setting a device may stall the request, and is in it all the same. */
     return error == LIBUSB_ERROR_PIPE && device->is.alternate == 0 ? 0 : error;
 }
 

@@ -43,7 +43,7 @@ void device_close(struct device *device);
 /* Gives back what device_choose took. */
 void device_drop(struct device *device);
 
-/* Waits until any device stands at its path, or one with its serial number is there; for `ms` at most, and until `is_stop` is
+/* Waits until any device is at its path, or one with its serial number is there; for `ms` at most, and until `is_stop` is
    set. */
 void device_await(struct device *device, uint32_t ms);
 

@@ -5,7 +5,7 @@
 #include "say.h"
 #include "session.h"
 
-/* Brings the device that is open to DFU mode, unless it stands there. What came of it. */
+/* Brings the device that is open to DFU mode, unless it is in it. Returns what came of it. */
 struct verdict dfu_mode(struct session *session);
 
 #endif

@@ -1,6 +1,7 @@
 /* Looks for devices with DFU: an interface of class FEh, subclass 01h (USB DFU 1.1, sections 4.1.2 and 4.2.3), in the configuration
-   that the device stands in. Protocol 02h is DFU mode, any other one is taken as run-time mode. */
+   that the device is in. Protocol 02h is DFU mode, any other one is taken as run-time mode. */
 #include "find.h"
+#include "standard.h"
 
 #include <stdio.h>
 #include <string.h>
@@ -37,7 +38,7 @@ bool is_at(libusb_context *usb, const char *path)
 
 static bool has_ids(const struct found *found, uint16_t vendor, uint16_t product)
 {
-    return (vendor == 0xffff || vendor == found->vendor) && (product == 0xffff || product == found->product);
+    return (vendor == ANY_ID || vendor == found->vendor) && (product == ANY_ID || product == found->product);
 }
 
 /* What is known of a device before it is opened. Another one isn't touched: somebody may be at work with it. */
@@ -87,12 +88,12 @@ static void add_setting(struct look *look, const struct found *base, libusb_devi
 {
     const struct libusb_interface_descriptor *setting = &interface->altsetting[at];
     struct found found = *base;
-    if (setting->bInterfaceClass != 0xfe || setting->bInterfaceSubClass != 1)
+    if (setting->bInterfaceClass != INTERFACE_CLASS || setting->bInterfaceSubClass != INTERFACE_SUBCLASS)
         return;
     found.interface = setting->bInterfaceNumber;
     found.alternate = setting->bAlternateSetting;
-    found.is_upgrade = setting->bInterfaceProtocol == 2;
-    found.says_runtime = setting->bInterfaceProtocol == 1;
+    found.is_upgrade = setting->bInterfaceProtocol == PROTOCOL_DFU_MODE;
+    found.says_runtime = setting->bInterfaceProtocol == PROTOCOL_RUNTIME;
     if (handle != NULL)
         string_find(handle, setting->iInterface, found.name);
     if (look->count == look->room || !is_wanted(look->wanted, &found))
@@ -106,8 +107,8 @@ static bool has_dfu(const struct libusb_config_descriptor *configuration)
 {
     for (int at = 0; at < configuration->bNumInterfaces; at++) {
         const struct libusb_interface *interface = &configuration->interface[at];
-        if (interface->num_altsetting > 0 && interface->altsetting[0].bInterfaceClass == 0xfe
-            && interface->altsetting[0].bInterfaceSubClass == 1)
+        if (interface->num_altsetting > 0 && interface->altsetting[0].bInterfaceClass == INTERFACE_CLASS
+            && interface->altsetting[0].bInterfaceSubClass == INTERFACE_SUBCLASS)
             return true;
     }
     return false;

@@ -26,7 +26,7 @@ struct found {
     size_t descriptor_size;            /* 9, or 7 of DFU 1.0; 0 where there is none */
 };
 
-/* Which interface and which alternate setting of it. They count in DFU mode alone: in run-time mode there is one of each (USB DFU
+/* Which interface and which alternate setting of it. They count only in DFU mode: in run-time mode there is one of each (USB DFU
    1.1, section 4.1.2), and its number and its name may be others. */
 struct place {
     int interface, alternate;          /* -1 is any */
@@ -45,7 +45,7 @@ struct wanted {
     uint16_t dfu_vendor, dfu_product;
 };
 
-/* Whether a setting stands where that is asked for: in run-time mode each does. */
+/* Whether a setting is what is asked for: in run-time mode each does. */
 bool is_placed(const struct place *place, const struct found *found);
 
 /* Whether two looks at a device in one mode saw the same: its identifiers, interface and setting, and, where both looks could read
@@ -61,14 +61,14 @@ void found_drop(struct found *list, int count);
 /* The path of a device, as 1-2.3. */
 void path_of(libusb_device *device, char path[PATH_ROOM]);
 
-/* Where the system tells no ports, a path is the number of a bus, and says of no device which it is. */
+/* Where the system has no ports, a path is the number of a bus, and names no device. */
 bool has_ports(const char *path);
 
-/* Whether any device stands at the path, with DFU or without. */
+/* Whether any device is at the path, with DFU or without. */
 bool is_at(libusb_context *usb, const char *path);
 
 /* The functional descriptor of the setting number `at` of an interface: from its extra bytes, from those of the other settings,
-   behind the last of which it often stands once for all, from those of the configuration, or asked for. */
+   after the last of which it often is once for all, from those of the configuration, or asked for. */
 void descriptor_find(struct found *found, libusb_device_handle *handle, const struct libusb_config_descriptor *configuration,
                      const struct libusb_interface *interface, int at);
 

@@ -3,6 +3,7 @@
 #include "json.h"
 #include "record.h"
 #include "say.h"
+#include "standard.h"
 #include "status.h"
 
 #include <stdio.h>
@@ -21,16 +22,16 @@ static void print_descriptor(const struct found *found)
 {
     const uint8_t *bytes = found->descriptor;
     char digits[2 * sizeof found->descriptor + 1];
-    if (found->descriptor_size < 7)
+    if (found->descriptor_size < FUNCTIONAL_BYTES_1_0)
         return;
     for (size_t at = 0; at < found->descriptor_size; at++)
         snprintf(digits + 2 * at, 3, "%02x", bytes[at]);
     json_text("descriptor", digits);
-    json_number("transfer", (uint64_t)(bytes[5] | bytes[6] << 8));
-    json_truth("download", (bytes[2] & 1) != 0);
-    json_truth("upload", (bytes[2] & 2) != 0);
-    json_truth("tolerant", (bytes[2] & 4) != 0);
-    json_truth("will_detach", (bytes[2] & 8) != 0);
+    json_number("transfer", two_bytes(bytes + AT_TRANSFER));
+    json_truth("download", (bytes[AT_ATTRIBUTES] & CAN_DOWNLOAD) != 0);
+    json_truth("upload", (bytes[AT_ATTRIBUTES] & CAN_UPLOAD) != 0);
+    json_truth("tolerant", (bytes[AT_ATTRIBUTES] & IS_TOLERANT) != 0);
+    json_truth("will_detach", (bytes[AT_ATTRIBUTES] & WILL_DETACH) != 0);
 }
 
 static void print_record(const struct found *found)

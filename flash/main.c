@@ -1,5 +1,5 @@
 /* dfu-flash: brings a DFU file to a device over USB, or fetches the image that it has. What comes next, and what a session comes to,
-   is decided by the proved host (dfu_host.h); this program finds the device, carries out what the host asks for and tells it what
+   is decided by the proved host (dfu_host.h); this program finds the device, carries out what the host asks for and reports to it what
    came of it. docs/dfu-flash.1 says how it is used, and flash/README.md what is this program's own. */
 #define _POSIX_C_SOURCE 200809L
 #include "clock.h"
@@ -10,6 +10,7 @@
 #include "record.h"
 #include "say.h"
 #include "session.h"
+#include "standard.h"
 #include "status.h"
 #include "stop.h"
 #include "words.h"
@@ -58,9 +59,9 @@ static int take_file(const struct words *words, struct wanted *wanted)
 static struct dfu_ids target(const struct words *words)
 {
     struct dfu_ids ids = {device.is.release, device.is.product, device.is.vendor};
-    if (words->has_dfu_ids && words->vendor != 0xffff)
+    if (words->has_dfu_ids && words->vendor != ANY_ID)
         ids.vendor = words->vendor;
-    if (words->has_dfu_ids && words->product != 0xffff)
+    if (words->has_dfu_ids && words->product != ANY_ID)
         ids.product = words->product;
     return ids;
 }

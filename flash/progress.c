@@ -1,5 +1,5 @@
 /* How far a session is, on standard error: on a terminal a bar with bytes and rate, elsewhere a line each ten percent. An upload
-   has no length before it ends, so it has bytes alone, and elsewhere a line for each 65,536 of them. */
+   has no length before it ends, so it has bytes only, and elsewhere a line for each 65,536 of them. */
 #define _POSIX_C_SOURCE 200809L
 #include "progress.h"
 #include "clock.h"
@@ -68,7 +68,7 @@ void progress_at(struct progress *progress, enum progress_part part, uint64_t by
         progress->began_ms = clock_ms();
         progress->told = 0;
     }
-    /* After a restart it begins anew, and may be told again. */
+    /* After a restart it begins anew, and may be printed again. */
     if (progress->total > 0 && bytes > progress->total)
         bytes = progress->total;
     if (progress->is_terminal)

@@ -12,12 +12,12 @@ struct progress {
     uint64_t total;             /* bytes of the payload; of an upload nobody knows them, and this is 0 */
     enum progress_part part;    /* what goes on, and since when */
     int64_t began_ms, shown_ms;
-    uint64_t told;              /* tenths that were told; of an upload the bytes after which the next line comes */
-    bool is_open;               /* a bar stands on the terminal's line */
+    uint64_t told;              /* tenths that were printed; of an upload the bytes after which the next line comes */
+    bool is_open;               /* a bar is on the terminal's line */
     uint32_t said_ms;           /* the longest wait that was said */
 };
 
-/* With `is_lines` there is no bar, as where other lines stand on the terminal. */
+/* With `is_lines` there is no bar, as where other lines are on the terminal. */
 void progress_begin(struct progress *progress, bool is_quiet, bool is_lines, uint64_t total);
 
 /* So many bytes of this part are done. */

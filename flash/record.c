@@ -2,6 +2,7 @@
 #include "record.h"
 #include "clock.h"
 #include "json.h"
+#include "standard.h"
 #include "status.h"
 
 #include <stdio.h>

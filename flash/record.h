@@ -16,7 +16,7 @@ bool record_print(const struct session *session, const struct verdict *verdict, 
 /* The same of a session that the host refused. */
 bool record_refused(int32_t refusal, bool is_json);
 
-/* With `is_json`, the same where there was no session: a file failed, there is no device, or no access to it. Why stands on
+/* With `is_json`, the same where there was no session: a file failed, there is no device, or no access to it. Why is on
    standard error. */
 bool record_none(int status, bool is_json);
 

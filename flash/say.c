@@ -1,5 +1,6 @@
 /* Lines about devices. */
 #include "say.h"
+#include "standard.h"
 #include "status.h"
 #include "text.h"
 
@@ -12,8 +13,8 @@ static void say_descriptor(FILE *out, const struct found *found)
         fputs(", no functional descriptor", out);
         return;
     }
-    fprintf(out, ", blocks of %u%s%s%s", (unsigned)(bytes[5] | bytes[6] << 8), bytes[2] & 1 ? ", download" : "",
-            bytes[2] & 2 ? ", upload" : "", bytes[2] & 4 ? ", tolerant" : "");
+    fprintf(out, ", blocks of %u%s%s%s", (unsigned)two_bytes(bytes + AT_TRANSFER), bytes[AT_ATTRIBUTES] & CAN_DOWNLOAD ? ", download" : "",
+            bytes[AT_ATTRIBUTES] & CAN_UPLOAD ? ", upload" : "", bytes[AT_ATTRIBUTES] & IS_TOLERANT ? ", tolerant" : "");
 }
 
 static const char *access_words(int access)

@@ -32,7 +32,4 @@ struct verdict {
 
 struct verdict verdict_of(const struct session *session);
 
-/* The name of a bStatus (USB DFU 1.1, section 6.1.2). */
-const char *code_name(uint32_t code);
-
 #endif

@@ -1,6 +1,7 @@
-/* The loop: what the host asks for is carried out, and it is told what came of that. Nothing else is sent, but for the DETACH of
+/* The loop: what the host asks for is carried out, and what came of that is reported to it. Nothing else is sent, but for the DETACH of
    stalls.c. */
 #include "session.h"
+#include "standard.h"
 #include "stop.h"
 
 #include <stdlib.h>
@@ -26,19 +27,18 @@ static void grow(struct session *session)
 
 static bool is_download(const struct dfu_action *action)
 {
-    return action->what == DFU_SEND && action->setup[0] == 0x21 && action->setup[1] == 1;
+    return action->what == DFU_SEND && is_request(action->setup, KIND_OUT, REQUEST_DNLOAD);
 }
 
 static bool is_upload(const struct dfu_action *action)
 {
-    return action->what == DFU_SEND && action->setup[0] == 0xa1 && action->setup[1] == 2;
+    return action->what == DFU_SEND && is_request(action->setup, KIND_IN, REQUEST_UPLOAD);
 }
 
 /* How far it is, by what was sent or came. */
 static void show(struct session *session, const struct dfu_action *action, const struct answer *answer)
 {
-    uint64_t number = (uint64_t)(action->setup[2] | action->setup[3] << 8);
-    uint64_t length = (uint64_t)(action->setup[6] | action->setup[7] << 8);
+    uint64_t number = setup_value(action->setup), length = setup_length(action->setup);
     if (answer->seen == DFU_SEEN_ACK && is_download(action) && action->length > 0)
         progress_at(&session->progress, PROGRESS_SENDING, action->from + action->length);
     if (answer->seen == DFU_SEEN_BYTES && is_upload(action))

@@ -44,14 +44,14 @@ struct session {
     uint8_t known[9];             /* the device's functional descriptor when it was begun */
     size_t known_size;
     int32_t odd;                  /* why the host refuses the functional descriptor of the run-time mode, or 0; */
-    uint8_t another[9];           /* then another one stands in */
+    uint8_t another[9];           /* then another one in its place */
     bool has_sent, has_begun_anew, is_aborted;
     bool is_whole;                /* the device acknowledged the image's last block and its end, and no block was sent since */
     uint32_t silent;              /* transfers in a row of which nothing was heard */
     struct stalls stalls;
     struct wire wire;
     struct progress progress;
-    uint64_t taken, restarted;    /* actions done, and restarts told */
+    uint64_t taken, restarted;    /* actions done, and restarts reported */
     int64_t began_ms;
     enum end end;
     struct dfu_action done;       /* the report, where `end` is END_REPORT */

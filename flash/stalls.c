@@ -19,7 +19,7 @@ bool stalls_is_stuck(const struct stalls *stalls)
     return stalls->is_last && stalls->resets >= MOST_RESETS;
 }
 
-/* Where the device left behind that DETACH it is reset already. */
+/* Where the device left after that DETACH it is reset already. */
 struct answer stalls_reset(struct stalls *stalls, struct wire *wire)
 {
     bool is_first = stalls->is_last && stalls->resets == 0 && wire->device->is.says_runtime;

@@ -9,7 +9,7 @@
 
 struct stalls {
     bool is_last;    /* what was sent last, in run-time mode, was stalled; */
-    unsigned resets; /* and so many resets in a row are behind nothing but that */
+    unsigned resets; /* and so many resets in a row came after nothing but that */
 };
 
 /* What came of a request. */

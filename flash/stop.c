@@ -23,7 +23,7 @@ int stop_descriptor(void)
     return wake[0];
 }
 
-/* A second signal of a kind ends the program; but timeout(1) sends each twice, to its child and to the group that this stands in. */
+/* A second signal of a kind ends the program; but timeout(1) sends each twice, to its child and to the group that this is in. */
 static void end_at_second(int number)
 {
     int64_t now_ms = clock_ms() + 1;

@@ -1,22 +1,15 @@
 /* The trace of --verbose. An action has seven words with one space between: its number, the request (or WAIT, or RESET), wValue (or
-   the milliseconds), wLength, what the host is told, the state that the device reported in that, and the milliseconds that it took.
-   What begins and ends a session has a line that begins with a word. Other programs read this: what stands stays. */
+   the milliseconds), wLength, what is reported to the host, the state that the device reported in that, and the milliseconds that it took.
+   What begins and ends a session has a line that begins with a word. Other programs read this: what is here stays. */
 #include "trace.h"
 #include "answer.h"
+#include "standard.h"
 
 #include <inttypes.h>
 #include <stdio.h>
 #include <string.h>
 
 #define SHORT_BYTES 8 /* an answer of up to so many is shown byte by byte */
-
-static const char *const requests[] = {"DETACH", "DNLOAD", "UPLOAD", "GETSTATUS", "CLRSTATUS", "GETSTATE", "ABORT"};
-static const char *const states[] = {"appIDLE",          "appDETACH",   "dfuIDLE",
-                                     "dfuDNLOAD-SYNC",   "dfuDNBUSY",   "dfuDNLOAD-IDLE",
-                                     "dfuMANIFEST-SYNC", "dfuMANIFEST", "dfuMANIFEST-WAIT-RESET",
-                                     "dfuUPLOAD-IDLE",   "dfuERROR"};
-
-#define NAME(table, number) ((number) < sizeof(table) / sizeof *(table) ? (table)[number] : "?")
 
 static void print_hex(const uint8_t *bytes, size_t count)
 {
@@ -32,10 +25,13 @@ static void print_bytes(const struct answer *answer)
         print_hex(answer->bytes, answer->count);
 }
 
-/* What was told, and of nothing the error of libusb. */
+/* What was reported to the host, and of nothing the error of libusb. */
 static void print_answer(const struct answer *answer)
 {
-    static const char *const told[] = {"ack", "", "stall", "nothing", "waited", "reset", "restarted", "left"};
+    static const char *const seen[] = {
+        [DFU_SEEN_ACK] = "ack",     [DFU_SEEN_BYTES] = "",     [DFU_SEEN_STALL] = "stall",       [DFU_SEEN_NOTHING] = "nothing",
+        [DFU_SEEN_WAIT] = "waited", [DFU_SEEN_RESET] = "reset", [DFU_SEEN_RESTART] = "restarted", [DFU_SEEN_LEFT] = "left",
+    };
     static const char prefix[] = "LIBUSB_ERROR_";
     const char *error = answer->error < 0 ? libusb_error_name(answer->error) : "";
     if (answer->is_gone)
@@ -43,7 +39,7 @@ static void print_answer(const struct answer *answer)
     else if (answer->seen == DFU_SEEN_BYTES)
         print_bytes(answer);
     else
-        fputs(NAME(told, answer->seen), stderr);
+        fputs(answer->seen < sizeof seen / sizeof *seen ? seen[answer->seen] : "?", stderr);
     if (answer->seen == DFU_SEEN_NOTHING && !answer->is_gone && *error != '\0')
         fprintf(stderr, ":%s", strncmp(error, prefix, sizeof prefix - 1) == 0 ? error + sizeof prefix - 1 : error);
 }
@@ -51,10 +47,10 @@ static void print_answer(const struct answer *answer)
 /* The state that an answer to GETSTATUS or GETSTATE has in it (USB DFU 1.1, sections 6.1.2 and 6.1.5). */
 static const char *state_in(uint8_t request, const struct answer *answer)
 {
-    if (answer->seen == DFU_SEEN_BYTES && request == 3 && answer->count == 6)
-        return NAME(states, answer->bytes[4]);
-    if (answer->seen == DFU_SEEN_BYTES && request == 5 && answer->count == 1)
-        return NAME(states, answer->bytes[0]);
+    if (answer->seen == DFU_SEEN_BYTES && request == REQUEST_GETSTATUS && answer->count == GETSTATUS_BYTES)
+        return state_name(answer->bytes[GETSTATUS_STATE]);
+    if (answer->seen == DFU_SEEN_BYTES && request == REQUEST_GETSTATE && answer->count == GETSTATE_BYTES)
+        return state_name(answer->bytes[0]);
     return "-";
 }
 
@@ -72,7 +68,7 @@ void trace_request(struct trace *trace, const uint8_t setup[8], const struct ans
 {
     if (!trace->is_on)
         return;
-    print_front(trace, NAME(requests, setup[1]), (uint32_t)(setup[2] | setup[3] << 8), (unsigned)(setup[6] | setup[7] << 8));
+    print_front(trace, request_name(setup[1]), setup_value(setup), setup_length(setup));
     print_answer(answer);
     fprintf(stderr, " %s %" PRId64 "\n", state_in(setup[1], answer), ms);
 }

@@ -49,16 +49,6 @@ static const struct meaning uncompared[] = {
         {STATUS_STALLED, "the device took the whole image, and stalls GETSTATUS in run-time mode: it was not compared; see --no-verify"},
 };
 
-static const char *const codes[] = {
-    "OK",         "errTARGET",  "errFILE",     "errWRITE",  "errERASE", "errCHECK_ERASED", "errPROG",    "errVERIFY",
-    "errADDRESS", "errNOTDONE", "errFIRMWARE", "errVENDOR", "errUSBR",  "errPOR",          "errUNKNOWN", "errSTALLEDPKT",
-};
-
-const char *code_name(uint32_t code)
-{
-    return code < sizeof codes / sizeof codes[0] ? codes[code] : "?";
-}
-
 /* What a device may have is said only where a block was sent. */
 static void take_words(struct verdict *verdict, const struct session *session, const struct meaning *meaning)
 {

@@ -87,7 +87,7 @@ static bool is_interface(const char *text, struct words *words)
     return true;
 }
 
-/* The number of an alternate setting, or its name: digits alone are a number. */
+/* The number of an alternate setting, or its name: only digits are a number. */
 static bool is_setting(const char *text, struct words *words)
 {
     unsigned long number;

@@ -21,7 +21,7 @@ static bool fail(const char *name, const char *why)
     return false;
 }
 
-/* What stands there: 0 nothing, 1 a file that may be replaced, -1 what is to stay, which is said. */
+/* What is there: 0 nothing, 1 a file that may be replaced, -1 what is to stay, which is said. */
 static int look(const char *name, bool is_forced, struct stat *there)
 {
     bool is_there = lstat(name, there) == 0;

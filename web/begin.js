@@ -1,4 +1,6 @@
 // How a session begins: what it is for, with which functional descriptor, and within which limits. As flash/begin.c.
+import { REFUSAL } from './host.js'
+import { ATTRIBUTE, FUNCTIONAL, hasAttribute, transferOf, versionOf } from './names.js'
 import { willDetach } from './stalls.js'
 import { canReset } from './system.js'
 
@@ -8,16 +10,15 @@ const MOST_BYTES = 4096
 const RESTARTS = 3
 const MOST_ACTIONS = 0xffffffff
 
-export const transferOf = descriptor => descriptor[5] | (descriptor[6] << 8)
-export const canUpload = ({ descriptor }) => descriptor.length >= 7 && (descriptor[2] & 2) !== 0
+export const canUpload = ({ descriptor }) => hasAttribute(descriptor, ATTRIBUTE.CAN_UPLOAD)
 
-// A device of DfuSe would take the blocks for commands. Its functional descriptor has version 011Ah.
-export const isDfuse = ({ descriptor }) => descriptor.length === 9 && descriptor[7] === 0x1a && descriptor[8] === 0x01
+// A device of DfuSe would take the blocks for commands.
+export const isDfuse = ({ descriptor }) => descriptor.length === FUNCTIONAL.BYTES && versionOf(descriptor) === FUNCTIONAL.VERSION_DFUSE
 
 // A device that is to be reset, and neither leaves by itself nor can be reset here, doesn't come to DFU mode.
 export const cannotDetach = is => !is.isUpgrade && !canReset() && !willDetach(is)
 
-// To compare, a device is brought to DFU mode again behind its last reset.
+// To compare, a device is brought to DFU mode again after its last reset.
 export const canCompare = is => canUpload(is) && (canReset() || willDetach(is))
 
 export const goalOf = (is, wantsVerified) => (wantsVerified && canCompare(is) ? 'verified' : 'download')
@@ -25,7 +26,7 @@ export const goalOf = (is, wantsVerified) => (wantsVerified && canCompare(is) ? 
 // A descriptor with no more bytes of a block than are carried.
 export function cut(descriptor) {
   const bytes = descriptor.slice()
-  if (bytes.length < 7 || transferOf(bytes) <= MOST_BYTES) return bytes
+  if (bytes.length < FUNCTIONAL.BYTES_1_0 || transferOf(bytes) <= MOST_BYTES) return bytes
   bytes[5] = MOST_BYTES & 0xff
   bytes[6] = MOST_BYTES >> 8
   return bytes
@@ -41,16 +42,16 @@ export function limitsOf(payload, descriptor) {
 }
 
 // The host's refusals of a functional descriptor that is missing, or is none that a session can go by.
-const BAD_DESCRIPTOR = -25
-const isOdd = refusal => refusal === BAD_DESCRIPTOR || (refusal <= -31 && refusal >= -34)
+const isOdd = refusal => Object.values(REFUSAL).includes(refusal)
 
 // In run-time mode the functional descriptor says no more than how the device is brought to DFU mode, and there it has one that counts
-// (USB DFU 1.1, section 4.2.4, has them alike). So where that of an interface of run-time mode is odd another one stands in for it.
+// (USB DFU 1.1, section 4.2.4, has them alike). So where that of an interface of run-time mode is odd another one is taken in its place.
 // session.js sees to it that no block is sent by that. Null where none does.
 export function standIn(is, refusal) {
   if (!is.saysRuntime || !isOdd(refusal)) return null
-  const another = new Uint8Array([9, 0x21, 3, 1000 & 0xff, 1000 >> 8, 64, 0, 0x10, 0x01])
+  const another = new Uint8Array([FUNCTIONAL.BYTES, FUNCTIONAL.TYPE, ATTRIBUTE.CAN_DOWNLOAD | ATTRIBUTE.CAN_UPLOAD,
+    1000 & 0xff, 1000 >> 8, 64, 0, FUNCTIONAL.VERSION_1_1 & 0xff, FUNCTIONAL.VERSION_1_1 >> 8])
   // With wTransferSize 0 the rest counts: bmAttributes and wDetachTimeOut.
-  if (refusal === BAD_DESCRIPTOR) another.set(is.descriptor.slice(2, 5), 2)
+  if (refusal === REFUSAL.BAD_DESCRIPTOR) another.set(is.descriptor.slice(2, 5), 2)
   return another
 }

@@ -4,9 +4,10 @@
 // same mode.
 import { LATE } from './clock.js'
 import { functionalOf, releaseOf, settingsOf } from './descriptors.js'
+import { INTERFACE } from './names.js'
 import { closesUnheard } from './system.js'
 
-export const FILTERS = [{ classCode: 0xfe, subclassCode: 1 }]
+export const FILTERS = [{ classCode: INTERFACE.CLASS, subclassCode: INTERFACE.SUBCLASS }]
 const OPEN_MS = 5000
 const LOOK_MS = 50
 const ASK_MS = 3000 // a device that a page may see is back by then; else a person is asked

@@ -1,9 +1,9 @@
 // What a device says of its DFU interface (USB DFU 1.1, sections 4.1.2, 4.1.3 and 4.2.3).
 import { LATE } from './clock.js'
+import { FUNCTIONAL, INTERFACE as DFU } from './names.js'
 
 const CONFIGURATION = 2
 const INTERFACE = 4
-const FUNCTIONAL = 0x21
 const GET_DESCRIPTOR = 6
 const DESCRIPTOR_MS = 5000
 
@@ -13,13 +13,13 @@ export function settingsOf(device) {
   const { interfaces = [] } = device.configuration ?? device.configurations?.[0] ?? {}
   for (const { interfaceNumber, alternates } of interfaces)
     for (const one of alternates)
-      if (one.interfaceClass === 0xfe && one.interfaceSubclass === 1)
+      if (one.interfaceClass === DFU.CLASS && one.interfaceSubclass === DFU.SUBCLASS)
         found.push({
           interface: interfaceNumber,
           alternate: one.alternateSetting,
           name: one.interfaceName ?? '',
-          isUpgrade: one.interfaceProtocol === 2,
-          saysRuntime: one.interfaceProtocol === 1,
+          isUpgrade: one.interfaceProtocol === DFU.DFU_MODE,
+          saysRuntime: one.interfaceProtocol === DFU.RUNTIME,
         })
   return found
 }
@@ -37,7 +37,7 @@ export function functionalIn(bytes, number, alternate) {
     const size = bytes[at]
     if (bytes[at + 1] === INTERFACE && at + 4 <= bytes.length)
       place = bytes[at + 2] !== number ? 'elsewhere' : bytes[at + 3] === alternate ? 'own' : 'other'
-    if (bytes[at + 1] === FUNCTIONAL && (size === 7 || size === 9) && at + size <= bytes.length)
+    if (bytes[at + 1] === FUNCTIONAL.TYPE && (size === FUNCTIONAL.BYTES_1_0 || size === FUNCTIONAL.BYTES) && at + size <= bytes.length)
       found[place] ??= bytes.slice(at, at + size)
   }
   return found.own ?? found.other ?? found.before ?? new Uint8Array(0)
@@ -51,7 +51,7 @@ async function descriptor(device, clock, kind, index, length) {
   return new Uint8Array(result.data.buffer, result.data.byteOffset, result.data.byteLength)
 }
 
-// The bytes of the configuration that the device stands in, of which WebUSB shows a part alone.
+// The bytes of the configuration that the device is in, of which WebUSB shows only a part.
 async function configurationBytes(device, clock) {
   for (let index = 0; index < device.configurations.length; index++) {
     const head = await descriptor(device, clock, CONFIGURATION, index, 9)

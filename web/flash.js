@@ -1,12 +1,12 @@
 // The view that flashes a board: the file, the device, the session, and its report.
 import { Asking } from './asking.js'
-import { canCompare, canUpload, cannotDetach, transferOf } from './begin.js'
+import { canCompare, canUpload, cannotDetach } from './begin.js'
 import { Board, FILTERS } from './board.js'
 import { Clock } from './clock.js'
 import { settingsOf } from './descriptors.js'
 import { by, download, make, plain, say, showFields } from './elements.js'
 import { Host } from './host.js'
-import { digits } from './names.js'
+import { FUNCTIONAL, digits, transferOf } from './names.js'
 import { Progress } from './progress.js'
 import { refusalOf } from './refusals.js'
 import { lineOf, verdictOf } from './reports.js'
@@ -146,7 +146,7 @@ export class FlashView {
     const serial = is.serial === '' ? '' : `serial number ${is.serial}`
     const words = [is.title, idsOf(is), serial, is.isUpgrade ? 'in DFU mode' : 'in run-time mode']
     by('device').textContent = words.filter(word => word !== '').map(plain).join(', ')
-    const transfer = is.descriptor.length >= 7 ? `, in blocks of ${transferOf(is.descriptor)} bytes` : ''
+    const transfer = is.descriptor.length >= FUNCTIONAL.BYTES_1_0 ? `, in blocks of ${transferOf(is.descriptor)} bytes` : ''
     by('device').title = `interface ${is.interface}, setting ${is.alternate}${transfer}`
     say('no-verify', canCompare(is) ? '' : canUpload(is)
       ? 'On this system the image of this device can\'t be read back: that takes a reset of the bus.'

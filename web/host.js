@@ -6,6 +6,7 @@ import { LAYOUT } from './records.js'
 export const WHAT = { SEND: 0, WAIT: 1, RESET: 2, DONE: 3 }
 export const SEEN = { ACK: 0, BYTES: 1, STALL: 2, NOTHING: 3, WAIT: 4, RESET: 5, RESTART: 6, LEFT: 7 }
 export const REPORT = { INSTALLED: 1, UNCONFIRMED: 2, ABORTED: 3, REFUSED: 5, UPLOADED: 7, VERIFIED: 10, DIFFERENT: 11 }
+export const REFUSAL = { BAD_DESCRIPTOR: -25, SHORT: -31, LONG: -32, WRONG_LENGTH: -33, WRONG_TYPE: -34 }
 
 const MOST_ANSWER = 65536
 const NAME_ROOM = 16

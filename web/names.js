@@ -1,4 +1,7 @@
-// The standard's names by their numbers (USB DFU 1.1, section 3 and section 6.1.2).
+// The standard's numbers and names (USB DFU 1.1), each once, as flash/standard.h has them: of requests (section 3), states and codes
+// (section 6.1.2), a functional descriptor (section 4.1.3) and interfaces (sections 4.1.2 and 4.2.3).
+export const KIND = { OUT: 0x21, IN: 0xa1, IS_IN: 0x80 }
+export const REQUEST = { DETACH: 0, DNLOAD: 1, UPLOAD: 2, GETSTATUS: 3, GETSTATE: 5 }
 export const REQUESTS = ['DETACH', 'DNLOAD', 'UPLOAD', 'GETSTATUS', 'CLRSTATUS', 'GETSTATE', 'ABORT']
 
 export const STATES = ['appIDLE', 'appDETACH', 'dfuIDLE', 'dfuDNLOAD-SYNC', 'dfuDNBUSY', 'dfuDNLOAD-IDLE', 'dfuMANIFEST-SYNC',
@@ -12,10 +15,30 @@ export function partsOf(setup) {
   return { kind: setup[0], request: setup[1], value: setup[2] | (setup[3] << 8), length: setup[6] | (setup[7] << 8) }
 }
 
-export const isDownload = setup => setup[0] === 0x21 && setup[1] === 1
-export const isUpload = setup => setup[0] === 0xa1 && setup[1] === 2
-export const isStatus = setup => setup[0] === 0xa1 && setup[1] === 3
-export const isDetach = setup => setup[0] === 0x21 && setup[1] === 0
+const isRequest = (setup, kind, request) => setup[0] === kind && setup[1] === request
+export const isDownload = setup => isRequest(setup, KIND.OUT, REQUEST.DNLOAD)
+export const isUpload = setup => isRequest(setup, KIND.IN, REQUEST.UPLOAD)
+export const isStatus = setup => isRequest(setup, KIND.IN, REQUEST.GETSTATUS)
+export const isDetach = setup => isRequest(setup, KIND.OUT, REQUEST.DETACH)
+
+// The state in an answer to GETSTATUS or GETSTATE, or none.
+export function stateOf(request, bytes) {
+  if (request === REQUEST.GETSTATUS && bytes.length === 6) return bytes[4]
+  return request === REQUEST.GETSTATE && bytes.length === 1 ? bytes[0] : undefined
+}
+
+export const STATE = { MANIFEST_SYNC: 6, MANIFEST: 7 }
+
+// A functional descriptor: its type, its lengths in DFU 1.1 and 1.0, the bits of bmAttributes, and versions.
+export const FUNCTIONAL = { TYPE: 0x21, BYTES: 9, BYTES_1_0: 7, VERSION_1_1: 0x0110, VERSION_DFUSE: 0x011a }
+export const ATTRIBUTE = { CAN_DOWNLOAD: 1, CAN_UPLOAD: 2, IS_TOLERANT: 4, WILL_DETACH: 8 }
+export const hasAttribute = (descriptor, bit) => descriptor.length >= FUNCTIONAL.BYTES_1_0 && (descriptor[2] & bit) !== 0
+export const detachTimeOf = descriptor => descriptor[3] | (descriptor[4] << 8)
+export const transferOf = descriptor => descriptor[5] | (descriptor[6] << 8)
+export const versionOf = descriptor => descriptor[7] | (descriptor[8] << 8)
+
+// Interfaces with DFU: class and subclass, and the protocol by mode.
+export const INTERFACE = { CLASS: 0xfe, SUBCLASS: 1, RUNTIME: 1, DFU_MODE: 2 }
 
 export const hexOf = bytes => Array.from(bytes, byte => byte.toString(16).padStart(2, '0')).join('')
 export const digits = (number, count) => number.toString(16).padStart(count, '0')

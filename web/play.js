@@ -2,7 +2,7 @@
 // each action. Whatever is done is a line of a script, so that `dfu run` does the same.
 import { Diagram } from './diagram.js'
 import { by, make, say } from './elements.js'
-import { SEEN } from './host.js'
+import { SEEN, WHAT } from './host.js'
 import { showMedium } from './medium.js'
 import { CODES, REQUESTS, STATES, hexOf, partsOf } from './names.js'
 import { fileOf } from './sample.js'
@@ -26,7 +26,7 @@ function fateOf({ fate, ms, writes, tear }) {
 }
 
 function actionOf({ what, value, setup }) {
-  if (what !== 0) return what === 1 ? `wait ${value} ms` : 'reset the bus'
+  if (what !== WHAT.SEND) return what === WHAT.WAIT ? `wait ${value} ms` : 'reset the bus'
   const parts = partsOf(setup)
   return `${REQUESTS[parts.request]} ${parts.value}, ${parts.length} bytes`
 }

@@ -4,18 +4,19 @@
 // which makes it the reset that leads to DFU mode; and it makes three of them at most, since what is reset is a running application.
 // As flash/stalls.c and flash/detach.c.
 import { SEEN } from './host.js'
+import { ATTRIBUTE, FUNCTIONAL, KIND, REQUEST, detachTimeOf, hasAttribute } from './names.js'
 
 const MOST_RESETS = 3
 const NO_DESCRIPTOR_MS = 1000 // wDetachTimeOut where there is no functional descriptor to tell it
-const ARRIVAL_MS = 5000       // a device may stand in run-time mode still, and leave a while after the reset
+const ARRIVAL_MS = 5000       // a device may be in run-time mode still, and leave a while after the reset
 const LOOK_MS = 200
 const NONE = new Uint8Array(0)
 
 // wDetachTimeOut, as the device wants it.
-const detachTime = ({ descriptor }) => (descriptor.length < 7 ? NO_DESCRIPTOR_MS : descriptor[3] | (descriptor[4] << 8))
+const detachTime = ({ descriptor }) => (descriptor.length < FUNCTIONAL.BYTES_1_0 ? NO_DESCRIPTOR_MS : detachTimeOf(descriptor))
 
-// bitWillDetach: it leaves and comes back by itself, within that time.
-export const willDetach = ({ descriptor }) => descriptor.length >= 7 && (descriptor[2] & 8) !== 0
+// It leaves and comes back by itself, within that time.
+export const willDetach = ({ descriptor }) => hasAttribute(descriptor, ATTRIBUTE.WILL_DETACH)
 
 export class Stalls {
   constructor(wire) {
@@ -37,7 +38,7 @@ export class Stalls {
     const { wire } = this
     const ms = detachTime(wire.board.is)
     wire.trace.isOwn = true
-    const answer = await wire.send(new Uint8Array([0x21, 0, ms & 0xff, ms >> 8, 0, 0, 0, 0]), NONE)
+    const answer = await wire.send(new Uint8Array([KIND.OUT, REQUEST.DETACH, ms & 0xff, ms >> 8, 0, 0, 0, 0]), NONE)
     if (answer.seen === SEEN.ACK && willDetach(wire.board.is)) await wire.wait(Math.max(ms, 1))
     wire.trace.isOwn = false
     return answer
@@ -53,7 +54,7 @@ export class Stalls {
     }
   }
 
-  // Resets the bus, as the host asks for it. Where the device left behind that DETACH it is reset already.
+  // Resets the bus, as the host asks for it. Where the device left after that DETACH it is reset already.
   async reset() {
     const { wire } = this
     const isFirst = this.isLast && this.resets === 0 && wire.board.is.saysRuntime

@@ -1,7 +1,7 @@
 // The trace of a session, in the lines of `dfu-flash --verbose` (docs/dfu-flash.1, TRACE). WebUSB tells no path: it is 0, a bus without
 // ports.
 import { SEEN } from './host.js'
-import { REQUESTS, STATES, digits, hexOf, partsOf } from './names.js'
+import { REQUESTS, STATES, digits, hexOf, partsOf, stateOf } from './names.js'
 
 const SHORT_BYTES = 8 // an answer of up to so many is shown byte by byte
 const TOLD = ['ack', '', 'stall', 'nothing', 'waited', 'reset', 'restarted', 'left']
@@ -14,9 +14,8 @@ function answerWord({ seen, bytes, isGone, error }) {
 
 // The state that an answer to GETSTATUS or GETSTATE has in it (USB DFU 1.1, sections 6.1.2 and 6.1.5), or '-'.
 export function stateIn(request, { seen, bytes }) {
-  if (seen !== SEEN.BYTES) return '-'
-  if (request === 3 && bytes.length === 6) return STATES[bytes[4]] ?? '?'
-  return request === 5 && bytes.length === 1 ? STATES[bytes[0]] ?? '?' : '-'
+  const state = seen === SEEN.BYTES ? stateOf(request, bytes) : undefined
+  return state === undefined ? '-' : STATES[state] ?? '?'
 }
 
 export class Trace {

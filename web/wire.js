@@ -32,7 +32,7 @@
 // A device that leaves behind an acknowledged DETACH does what it was asked to, up to the next request: that is no restart.
 import { LATE } from './clock.js'
 import { SEEN } from './host.js'
-import { isDetach, isDownload, isStatus, partsOf } from './names.js'
+import { KIND, REQUEST, STATE, isDetach, isDownload, isStatus, partsOf, stateOf } from './names.js'
 
 const TRANSFER_MS = 5000
 const STOPPED_MS = 1000 // the same of what is sent behind a stop
@@ -78,7 +78,7 @@ export class Wire {
     if (!isStatus(setup)) {
       this.isClosed = isDownload(setup) && length === 0 && answer.seen === SEEN.ACK
       this.isManifesting = false
-    } else if (answer.seen === SEEN.BYTES && answer.bytes.length === 6 && (answer.bytes[4] === 6 || answer.bytes[4] === 7))
+    } else if (answer.seen === SEEN.BYTES && [STATE.MANIFEST_SYNC, STATE.MANIFEST].includes(stateOf(REQUEST.GETSTATUS, answer.bytes)))
       this.isManifesting = this.isClosed
   }
 
@@ -109,7 +109,7 @@ export class Wire {
     const { handle, is } = this.board
     const fields = { requestType: 'class', recipient: 'interface', request, value, index: is.interface }
     this.transfers++
-    return (kind & 0x80) !== 0 ? handle.controlTransferIn(fields, length) : handle.controlTransferOut(fields, body)
+    return (kind & KIND.IS_IN) !== 0 ? handle.controlTransferIn(fields, length) : handle.controlTransferOut(fields, body)
   }
 
   async answered(setup, body) {
@@ -128,7 +128,7 @@ export class Wire {
     const { kind, length } = partsOf(setup)
     if (status === 'stall') return told(SEEN.STALL)
     if (status !== 'ok') return told(SEEN.NOTHING, { error: 'OVERFLOW' })
-    if ((kind & 0x80) === 0) return told(bytesWritten === body.length ? SEEN.ACK : SEEN.NOTHING)
+    if ((kind & KIND.IS_IN) === 0) return told(bytesWritten === body.length ? SEEN.ACK : SEEN.NOTHING)
     const bytes = data === undefined ? NONE : new Uint8Array(data.buffer, data.byteOffset, data.byteLength)
     return bytes.length <= length ? told(SEEN.BYTES, { bytes: bytes.slice() }) : told(SEEN.NOTHING, { error: 'OVERFLOW' })
   }

@@ -3,7 +3,7 @@
 import { Device, Refused } from './device.js'
 import { Host, REPORT, SEEN, WHAT } from './host.js'
 import { harm } from './harm.js'
-import { CODES, REQUESTS, STATES, hexOf, partsOf } from './names.js'
+import { CODES, KIND, REQUESTS, STATES, hexOf, partsOf } from './names.js'
 import { refusalOf } from './refusals.js'
 import { lineOf } from './script.js'
 
@@ -145,7 +145,7 @@ export class World {
     if (line.fate === 'slip') device.elapse(line.ms)
     if (line.fate === 'lostback' || line.fate === 'twicelostback') return { seen: SEEN.NOTHING }
     if (bytes === null) return { seen: SEEN.STALL }
-    return setup[0] === 0x21 ? { seen: SEEN.ACK } : { seen: SEEN.BYTES, bytes }
+    return setup[0] === KIND.OUT ? { seen: SEEN.ACK } : { seen: SEEN.BYTES, bytes }
   }
 
   // What the host wants next, in words; null where there is none.

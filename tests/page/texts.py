@@ -1,4 +1,5 @@
-"""What the page has from elsewhere in the repository: the records of the headers, and the words of dfu-flash. And how large it is."""
+"""What the page has from elsewhere in the repository: records and numbers of the headers, and numbers and words of dfu-flash. And how
+large it is."""
 import pathlib
 import re
 
@@ -36,7 +37,30 @@ def words():
     return reports, ends, refusals
 
 
+def numbers():
+    """Each number and name that host.js and names.js write again, as they have it, and as the header or flash/standard has it."""
+    headers = (TOP / 'include/dfu_host.h').read_text() + (TOP / 'flash/standard.h').read_text()
+    theirs = {name: int(number, 0) for name, number in re.findall(r'^    (\w+) = (-?(?:0x[0-9a-f]+|\d+))\b', headers, re.M)}
+    lists = re.findall(r'const char \*const (\w+)\[\] = \{(.*?)\};', (TOP / 'flash/standard.c').read_text(), re.S)
+    pages = (TOP / 'web/host.js').read_text() + (TOP / 'web/names.js').read_text()
+    fronts = {'WHAT': 'DFU_', 'SEEN': 'DFU_SEEN_', 'REPORT': 'DFU_', 'REFUSAL': 'DFU_', 'ATTRIBUTE': ''}
+    fronts.update({name: name + '_' for name in ('KIND', 'REQUEST', 'STATE', 'FUNCTIONAL', 'INTERFACE')})
+    others = {'FUNCTIONAL_VERSION_1_1': 'VERSION_1_1', 'FUNCTIONAL_VERSION_DFUSE': 'VERSION_DFUSE', 'INTERFACE_RUNTIME': 'PROTOCOL_RUNTIME',
+              'INTERFACE_DFU_MODE': 'PROTOCOL_DFU_MODE'}
+    for table, body in re.findall(r'^export const ([A-Z]+) = \{(.*?)\}', pages, re.M | re.S):
+        for name, number in re.findall(r'(\w+): (-?\w+)', body):
+            name = fronts[table] + name
+            yield name, int(number, 0), theirs.get(others.get(name, name))
+    for name, body in lists:
+        ours = re.search(rf'^export const {name.upper()} = \[(.*?)\]', pages, re.M | re.S)
+        yield name, re.findall(r"'([\w-]+)'", ours[1]), re.findall(r'"([\w-]+)"', body)
+
+
 def run(browser, page):
+    again = list(numbers())
+    check_that('the numbers that the page writes again are found', len(again) >= 49, again)
+    for name, ours, wanted in again:
+        check(f'the number {name}', ours, wanted)
     check('records.js has the records of the headers', browser.run('return runs.RECORDS'), records())
     reports, ends, refusals = words()
     check_that('the words of dfu-flash are found', len(reports) == 11 and len(ends) == 7 and len(refusals) == 15, (reports, ends, refusals))

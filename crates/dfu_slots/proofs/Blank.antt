@@ -46,6 +46,7 @@ front_blank n most le = take-replicate n most 255 le
 pub piece_blank : (m : List ℕ) (at n : ℕ) (piece : List ℕ) → piece ≡ replicate n 255 → Stand m at piece → IsBlank m at n
 piece_blank m at n piece is stands = stand_blank m at n (subst (λ (l : List ℕ). Stand m at l) is stands)
 
+-- And the other way round.
 pub blank_piece : (m : List ℕ) (at n : ℕ) (piece : List ℕ) → piece ≡ replicate n 255 → IsBlank m at n → Stand m at piece
 blank_piece m at n piece is blank = subst (λ (l : List ℕ). Stand m at l) (sym is) (blank_stand m at n blank)
 

@@ -157,9 +157,11 @@ module _ (m : MediumState) (v : WriteUnit) (unit : v ≡ m.grain.unit) (at : ℕ
     grain_is : mid.grain ≡ m.grain
     grain_is = all_grain (write_some m.grain.sector at x) m mid came
 
+    -- After the full unit the medium is still two slots.
     pub full_sized : IsSized mid
     full_sized = some_sized m mid at x sized first_fits came
 
+    -- What comes after the full unit may be written, where the unit might.
     pub full_ahead : IsAhead m at → IsAhead mid (at + size)
     full_ahead ahead =
         let e : length x ≡ size = omega (
@@ -173,15 +175,18 @@ module _ (m : MediumState) (v : WriteUnit) (unit : v ≡ m.grain.unit) (at : ℕ
         ) in
         subst (λ (j : ℕ). IsAhead mid (at + j)) e (some_ahead m mid at x sized first_fits came ahead)
 
+    -- The other bytes lie within the medium.
     pub full_within : at + size + (count - size) ≤ length mid.bytes
     full_within = omega (arith, within, n_is, full, some_size m mid at x sized first_fits came)
 
+    -- The place after the full unit is whole.
     pub full_place : IsMultiple m.grain.unit at → IsMultiple mid.grain.unit (at + size)
     full_place place =
         subst (λ (w : Grain). IsMultiple w.unit (at + size)) (sym grain_is)
         (subst (λ (j : ℕ). IsMultiple m.grain.unit (at + j)) (sym of_unit)
         (multiple_add m.grain.unit at (unit_size m.grain.unit) place (multiple_self m.grain.unit)))
 
+    -- The other bytes that are written make whole units.
     pub full_whole : IsMultiple mid.grain.unit (count - size)
     full_whole =
         subst (λ (w : Grain). IsMultiple w.unit (count - size)) (sym grain_is)

@@ -53,9 +53,11 @@ module _ (m mid : MediumState) (at size room gen len crc : ℕ) (head : List ℕ
     header_fits : at + room + length (head ++ replicate (size - length head) 0) ≤ length m.bytes
     header_fits = omega (arith, header_length, room_is, slot_fits, sized.room)
 
+    -- After the header's write the medium is still two slots.
     pub header_sized : IsSized mid
     header_sized = anew_sized m mid (at + room) (head ++ replicate (size - length head) 0) sized header_fits came
 
+    -- The gate lies within the medium.
     pub header_within : at + size ≤ length mid.bytes
     header_within = omega (
       arith,
@@ -68,6 +70,7 @@ module _ (m mid : MediumState) (at size room gen len crc : ℕ) (head : List ℕ
     grain_is : mid.grain ≡ m.grain
     grain_is = anew_grain m mid (at + room) (head ++ replicate (size - length head) 0) sized header_fits came
 
+    -- The gate's place is whole still.
     pub gate_place : IsMultiple m.grain.unit at → IsMultiple mid.grain.unit at
     gate_place place = subst (λ (w : Grain). IsMultiple w.unit at) (sym grain_is) place
 
@@ -75,6 +78,7 @@ module _ (m mid : MediumState) (at size room gen len crc : ℕ) (head : List ℕ
     pub gate_ahead : IsEdge m.grain.sector at → IsAhead mid at
     gate_ahead edge = edge_ahead mid at (subst (λ (w : Grain). IsEdge w.sector at) (sym grain_is) edge)
 
+    -- The gate has whole units.
     pub gate_whole : IsMultiple mid.grain.unit size
     gate_whole =
         subst (λ (w : Grain). IsMultiple w.unit size) (sym grain_is)

@@ -1,0 +1,100 @@
+/* The numbers and names of USB DFU 1.1 that dfu_host.h doesn't have, each once: of setups (section 3), of a functional descriptor
+   (section 4.1.3), of interfaces (sections 4.1.2 and 4.2.3) and of states and codes (section 6.1.2). web/names.js is the same. */
+#ifndef DFU_FLASH_STANDARD_H
+#define DFU_FLASH_STANDARD_H
+
+#include <stdbool.h>
+#include <stddef.h>
+#include <stdint.h>
+
+/* bmRequestType of the class: for an interface, from the host or from the device. */
+enum {
+    KIND_OUT = 0x21,
+    KIND_IN = 0xa1,
+    KIND_IS_IN = 0x80 /* the bit that says that the device answers */
+};
+
+enum {
+    REQUEST_DETACH = 0,
+    REQUEST_DNLOAD = 1,
+    REQUEST_UPLOAD = 2,
+    REQUEST_GETSTATUS = 3,
+    REQUEST_GETSTATE = 5
+};
+
+/* Of the answers: how many bytes, and where bState is in a status. */
+enum {
+    GETSTATUS_BYTES = 6,
+    GETSTATUS_STATE = 4,
+    GETSTATE_BYTES = 1
+};
+
+enum {
+    STATE_MANIFEST_SYNC = 6,
+    STATE_MANIFEST = 7
+};
+
+/* A functional descriptor: its type, where its fields begin, and the bits of bmAttributes. */
+enum {
+    FUNCTIONAL_TYPE = 0x21,
+    FUNCTIONAL_BYTES = 9,
+    FUNCTIONAL_BYTES_1_0 = 7, /* in DFU 1.0, without bcdDFUVersion */
+    AT_ATTRIBUTES = 2,
+    AT_DETACH_MS = 3,
+    AT_TRANSFER = 5,
+    AT_VERSION = 7,
+    CAN_DOWNLOAD = 1,
+    CAN_UPLOAD = 2,
+    IS_TOLERANT = 4,
+    WILL_DETACH = 8,
+    VERSION_1_1 = 0x0110,
+    VERSION_DFUSE = 0x011a /* STM32's own, which DFU 1.1 doesn't have */
+};
+
+/* Interfaces with DFU: class, subclass, and the protocol by mode. */
+enum {
+    INTERFACE_CLASS = 0xfe,
+    INTERFACE_SUBCLASS = 1,
+    PROTOCOL_RUNTIME = 1,
+    PROTOCOL_DFU_MODE = 2
+};
+
+/* A vendor or a product of a file that is for any (appendix B). */
+enum {
+    ANY_ID = 0xffff
+};
+
+/* The names by number, or "?". */
+const char *request_name(uint8_t request);
+const char *state_name(uint8_t state);
+const char *code_name(uint32_t code);
+
+/* The number of two bytes, low byte first. */
+static inline uint16_t two_bytes(const uint8_t *bytes)
+{
+    return (uint16_t)(bytes[0] | bytes[1] << 8);
+}
+
+/* Of a setup: whether it is this request, which block it is for, and how many bytes go or are asked for. */
+static inline bool is_request(const uint8_t setup[8], uint8_t kind, uint8_t request)
+{
+    return setup[0] == kind && setup[1] == request;
+}
+
+static inline uint16_t setup_value(const uint8_t setup[8])
+{
+    return two_bytes(setup + 2);
+}
+
+static inline uint16_t setup_length(const uint8_t setup[8])
+{
+    return two_bytes(setup + 6);
+}
+
+/* Whether a functional descriptor of so many bytes has this bit of bmAttributes. */
+static inline bool has_attribute(const uint8_t *descriptor, size_t size, uint8_t bit)
+{
+    return size >= FUNCTIONAL_BYTES_1_0 && (descriptor[AT_ATTRIBUTES] & bit) != 0;
+}
+
+#endif
