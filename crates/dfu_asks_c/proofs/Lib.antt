@@ -1,0 +1,5 @@
+pub mod Kept
+pub mod Whole
+pub mod Idle
+pub mod Found
+pub mod Formatted
