@@ -2,7 +2,6 @@
  * changes the flash, and no write is asked for outside the spare slot of flash that has an image. */
 #include "asking_driver.h"
 
-static const struct fate well = {WELL, 0, 0, 0};
 static const uint32_t units[] = {1, 16, 64, 256};
 static struct board board, kept;
 static long answers, asks, pieces, refusals[16];
@@ -59,6 +58,20 @@ static int32_t one_call(const uint8_t setup[8], const uint8_t *body, uint32_t wh
     }
 }
 
+/* Carries out what is asked for, where it lies in the flash. */
+static void carry_on(int32_t answer) {
+    struct dfu_ask ask;
+    struct board *b = &board;
+    for (int i = 0; answer == DFU_ASKS && i < 100; i++) {
+        if (dfu_asking_next(&config, &b->device, b->pending, sizeof b->pending, b->flash, b->size, &ask) != 0)
+            return;
+        uint32_t failed = ask.at + (size_t)ask.length > b->size;
+        if (!failed)
+            memcpy(b->flash + ask.at, ask.bytes, ask.length);
+        answer = dfu_asking_took(&config, &b->device, b->pending, sizeof b->pending, b->flash, b->size, failed, b->out, sizeof b->out);
+    }
+}
+
 int main(int count, char **words) {
     static uint8_t body[MOST_BLOCK];
     long all = count > 1 ? atol(words[1]) : 1000;
@@ -104,7 +117,7 @@ int main(int count, char **words) {
             }
         }
         if (call % 16 > 12)
-            settle(&board, result, &well);
+            carry_on(result);
         if (where == 6)
             config = (struct dfu_config){DFU_VERSION, 0x0100, 1, 0x1209, 20, 20, 7, 0, 0, 1};
     }
