@@ -108,6 +108,13 @@ int32_t dfu_asking_next(const struct dfu_config *config, const struct dfu_asking
 int32_t dfu_asking_took(const struct dfu_config *config, struct dfu_asking *device, uint8_t *block, size_t most,
                         const uint8_t *flash, size_t size, uint32_t failed, uint8_t *out, size_t room);
 
+/* Whether dfu_asking_handle will stall this setup, as dfu_device_would_stall: 1 or 0; or the first that holds of DFU_NO_CONFIG,
+ * DFU_NO_DEVICE where the record is none whatever the flash, DFU_ASKED. The flash has size bytes. Nothing changes. */
+int32_t dfu_asking_would_stall(const struct dfu_config *config, const struct dfu_asking *device, size_t size, const uint8_t setup[8]);
+
+/* As dfu_device_too_long: DFU_STALL; or the first that holds of DFU_NO_CONFIG, DFU_NO_DEVICE as above, DFU_ASKED, DFU_NOT_LONG. */
+int32_t dfu_asking_too_long(const struct dfu_config *config, struct dfu_asking *device, const uint8_t setup[8]);
+
 /* Where the active image stands: 0; or the first that holds of DFU_WRONG_UNIT, DFU_NO_MEDIUM, and place is as it was. */
 int32_t dfu_asking_image(uint32_t unit, uint32_t sector, const uint8_t *flash, size_t size, struct dfu_place *place);
 

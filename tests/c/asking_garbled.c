@@ -51,6 +51,8 @@ static int32_t one_call(const uint8_t setup[8], const uint8_t *body, uint32_t wh
     case 1: return dfu_asking_usb_reset(&config, &b->device, b->pending, most, b->flash, b->size);
     case 2: return dfu_asking_next(&config, &b->device, b->pending, most, b->flash, b->size, ask);
     case 3: return dfu_asking_took(&config, &b->device, b->pending, most, b->flash, b->size, roll(4) == 0, b->out, room);
+    case 5: return dfu_asking_would_stall(&config, &b->device, b->size, setup);
+    case 6: return dfu_asking_too_long(&config, &b->device, setup);
     case 4: return dfu_asking_power_on(&config, &b->device, b->unit, 0, b->flash, b->size);
     default:
         return dfu_asking_handle(&config, &b->device, b->pending, most, b->flash, b->size, setup, body,
@@ -91,7 +93,7 @@ int main(int count, char **words) {
         else if (where == 6)
             garble(&config, sizeof config);
         choose(&board.device.device, MOST_BLOCK, setup);
-        uint32_t what = roll(8);
+        uint32_t what = roll(10);
         kept = board;
         int32_t result = one_call(setup, body, what, &ask);
         if (memcmp(kept.flash, board.flash, board.size) != 0)

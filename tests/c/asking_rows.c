@@ -48,10 +48,15 @@ static void a_download(void) {
     expect("nothing is due", next(&ask) == DFU_NO_DEVICE && took(0) == DFU_NO_DEVICE);
     expect("DNLOAD", handle(0x21, 1, 0, 20, "abcdefghijklmnopqrst") == 0);
     expect("GETSTATUS", handle(0xa1, 3, 0, 6, "") == 6 && board.out[1] == 5 && board.out[4] == 4);
+    uint8_t setup[8] = {0xa1, 3, 0, 0, 0, 0, 6, 0}, long_one[8] = {0x21, 1, 0, 0, 0, 0, 21, 0};
+    expect("would stall", dfu_asking_would_stall(&config, &board.device, board.size, setup) == 1);
+    expect("not long", dfu_asking_too_long(&config, &board.device, setup) == DFU_NOT_LONG);
     expect("too early", pass(&board, 4, &well) == 0 && dfu_device_state(&board.device.device) == 4);
     expect("the end of busy asks", dfu_asking_elapse(&config, &board.device, board.pending, sizeof board.pending, board.flash, board.size,
                                                      1) == DFU_ASKS);
-    expect("asked", handle(0xa1, 3, 0, 6, "") == DFU_ASKED && reset(&board) == DFU_ASKED && pass(&board, 1, &well) == DFU_ASKED);
+    expect("asked", handle(0xa1, 3, 0, 6, "") == DFU_ASKED && reset(&board) == DFU_ASKED && pass(&board, 1, &well) == DFU_ASKED
+                        && dfu_asking_would_stall(&config, &board.device, board.size, setup) == DFU_ASKED
+                        && dfu_asking_too_long(&config, &board.device, long_one) == DFU_ASKED);
     expect("it closes the gate only where it is open", board.flash[96] != 0xa5);
     write_is("the whole unit", 128, 16, 'a', 0);
     expect("written", dfu_device_state(&board.device.device) == 3 && board.device.held_length == 4);

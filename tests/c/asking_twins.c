@@ -1,5 +1,6 @@
 /* Sessions by dice, each call made twice: of a device over plain memory, and of one that asks, whose driver writes. Both answer the
- * same, with the same bytes, and leave the same record and the same image; in bytes also the same medium. */
+ * same, with the same bytes, and leave the same record and the same image; in bytes also the same medium. What each says of a setup
+ * before its body is there is the same too, and is so. */
 #include "asking_driver.h"
 
 static const struct fate well = {WELL, 0, 0, 0};
@@ -24,8 +25,16 @@ static int32_t make(struct board *board, uint32_t what, uint32_t ms, const uint8
         *other = dfu_device_power_on(&config, &plain, medium, size);
         return power_on(board);
     }
+    if (length > config.transfer) {
+        *other = dfu_device_too_long(&config, &plain, setup);
+        return dfu_asking_too_long(&config, &board->device, setup);
+    }
+    int32_t will = dfu_asking_would_stall(&config, &board->device, board->size, setup);
+    if (will < 0 || will > 1 || will != dfu_device_would_stall(&config, &plain, size, setup))
+        return -100;
     *other = dfu_device_handle(&config, &plain, pending, sizeof pending, medium, size, setup, body, length, out, sizeof out);
-    return transfer(board, setup, body, &well);
+    int32_t answer = transfer(board, setup, body, &well);
+    return will == (answer == DFU_STALL) ? answer : -101;
 }
 
 /* Whether both left the same. */
@@ -73,10 +82,12 @@ int main(int count, char **words) {
             config.manifest_ms = roll(2) * 4;
         }
         choose(&plain, config.transfer, setup);
+        if (roll(60) == 0)
+            setup[6] = (uint8_t)roll(256), setup[7] = (uint8_t)roll(2);
         uint32_t dies = roll(20), state = (uint32_t)dfu_device_state(&plain), before = plain.slot;
         uint32_t what = dies == 0 || state == 1 || state == 4 || state == 7 ? (roll(2) ? 0 : state == 1) : dies == 1 && roll(4) == 0 ? 1 + roll(2) : 3;
         uint32_t ms = roll(6);
-        int32_t other, result = make(&board, what, ms, setup, body, &other);
+        int32_t other = 0, result = make(&board, what, ms, setup, body, &other);
         if (result != other || !is_same(&board))
             return printf("asking_twins: call %ld, unit %u: %d, and %d of the device over memory\n", call, (unsigned)unit, (int)result,
                           (int)other), 1;

@@ -6,3 +6,6 @@ pub mod Calls
 pub mod Writes
 pub mod Power
 pub mod Memory
+pub mod Stalls
+pub mod Long
+pub mod Setups

@@ -14,6 +14,8 @@ mod numbers;
 mod place;
 mod power;
 mod refusal;
+mod setups;
+mod stalls;
 mod version;
 mod work;
 mod writes;
