@@ -1,4 +1,5 @@
 /* Each name and each number that a program in C may have been built with: none is to change. The program compiles where all hold. */
+#include "dfu_asking.h"
 #include "dfu_device.h"
 #include "dfu_host.h"
 
@@ -16,6 +17,12 @@ IS(DFU_WRONG_SIZE, -6);
 IS(DFU_TOO_LARGE, -7);
 IS(DFU_NOT_LONG, -9);
 IS(DFU_NO_BLOCK, -10);
+
+IS(DFU_ERASE, 1);
+IS(DFU_PROGRAM, 2);
+IS(DFU_ASKS, -11);
+IS(DFU_ASKED, -12);
+IS(DFU_WRONG_UNIT, -13);
 
 IS(DFU_SEND, 0);
 IS(DFU_WAIT, 1);

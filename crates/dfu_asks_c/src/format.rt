@@ -1,0 +1,67 @@
+//! What flash is to hold at first, made in memory.
+ghost use Rattle.std.specs.Prelude.{◌≡◌, ◌≢◌, ◌⊎◌, ◌^◌, ◌<◌, ◌≤◌, IfErr, OnOk, OnErr, length};
+ghost use Rattle.dfu_slots.specs.declared.fault.FormatFault.{FormatFault};
+ghost use Rattle.dfu_slots.specs.Changes.{IsFormatFault};
+ghost use Rattle.dfu_asks_c.specs.Numbers.{format_number};
+ghost use Rattle.dfu_asks_c.specs.Memory.{memory_of, IsFormatted, Formats, IsNoFormat};
+
+use crate::memory::{Memory, take};
+use crate::power::grain_of;
+use dfu_slots::{FormatFault, Slots};
+
+// The number of a fault of `Slots::format`.
+fn number_of(fault: FormatFault) -> i32
+    ensures { result ≡ format_number fault }
+{
+    match fault {
+        FormatFault::WrongSize => -6,
+        FormatFault::TooLarge => -7,
+        FormatFault::Failed => -8,
+    }
+}
+
+// `Slots::format`.
+fn format(memory: &mut Memory<'_>, image: &[u8]) -> Result<(), FormatFault>
+    ensures ok { OnOk result (IsFormatted memory.old.unit memory.old.bytes.now image.now memory.new.bytes.now) }
+    ensures err { IfErr result (λ f. (f ≢ FormatFault.Failed)
+        × IsFormatFault f (memory_of memory.old.unit memory.old.bytes.now) image.now) }
+    ensures unchanged { OnErr result (memory.new.bytes.now ≡ memory.old.bytes.now) }
+    ensures name { memory.new.bytes.ghost_name ≡ memory.old.bytes.ghost_name }
+{
+    match Slots::format(take(memory), image) {
+        Ok(slots) => {
+            *memory = slots.into_medium();
+            Ok(())
+        }
+        Err(refused) => {
+            let (fault, taken) = refused;
+            *memory = taken;
+            Err(fault)
+        }
+    }
+}
+
+/// Makes what flash of this unit is to hold at first, with an image in the first slot that is the active one, as `Slots::format`: 0.
+///
+/// Refused with -13 where `unit` is none of 1, 16, 64 and 256, or `sector` is not 0; -3 where there are 2^32 bytes or more; -6 where
+/// they are not as many as two slots can have; -7 where the image is too long.
+#[unsafe(no_mangle)]
+pub extern "C" fn dfu_asking_format(unit: u32, sector: u32, memory: &mut [u8], image: &[u8]) -> i32
+    ensures outcome { Formats unit sector memory.old image.now result memory.new
+        ⊎ (IsNoFormat unit sector memory.old image.now result × (memory.new ≡ memory.old)) }
+{
+    let Some(grain) = grain_of(unit, sector) else {
+        return -13;
+    };
+    if memory.len() > 0xffff_ffff {
+        return -3;
+    }
+    let mut medium = Memory {
+        bytes: memory,
+        unit: grain,
+    };
+    match format(&mut medium, image) {
+        Ok(_) => 0,
+        Err(fault) => number_of(fault),
+    }
+}

@@ -1,0 +1,158 @@
+//! A device that asks gets power, and where the image stands that it is to run.
+ghost use Rattle.std.specs.Prelude.{◌≡◌, ◌⊎◌, ◌≤◌, ◌^◌, [], length, IfSome, IfNone, Some, None, if◌then◌else◌, ◌==◌};
+ghost use Rattle.dfu_slots.specs.declared.unit.Unit.{Unit as WriteUnit};
+ghost use Rattle.dfu_slots.specs.Units.{unit_size};
+ghost use Rattle.dfu_slots.specs.Image.{HasImage};
+ghost use Rattle.dfu_device.specs.Shown.{powered_on};
+ghost use Rattle.dfu_asks.specs.Mapped.{mapped};
+ghost use Rattle.dfu_asks.specs.Asks.{block_in, device_in, IsDevice};
+ghost use Rattle.dfu_asks_c.specs.Power.{IsGrain, IsThere, IsNoMedium, Powers, RefusesPower, Stands, RefusesPlace};
+
+use crate::asking::DfuAsking;
+use crate::config::{DfuConfig, config_of};
+use crate::device::DfuDevice;
+use crate::keeping::keep;
+use crate::place::DfuPlace;
+use crate::version::VERSION;
+use crate::work::unit_of;
+use arrayvec::ArrayVec;
+use dfu_asks::{Asking, Mapped};
+use dfu_device::{Config, LentBlock, Mode};
+use dfu_slots::{Slots, Unit};
+
+/// The unit of flash that is written in so many bytes, and erased in so many, if it can be so.
+pub(crate) fn grain_of(size: u32, sector: u32) -> Option<Unit>
+    ensures some { IfSome result (λ u. IsGrain size sector u) }
+    ensures none { IfNone result ((u : WriteUnit) → ¬ IsGrain size sector u) }
+{
+    if sector != 0 {
+        return None;
+    }
+    unit_of(size)
+}
+
+// A device that gets power on flash with an active image, and has no block.
+fn powered<'b>(config: Config, unit: Unit, flash: &[u8]) -> Option<Asking<'b>>
+    ensures device { IfSome result (λ a. device_in a flash.now ≡ powered_on config (mapped unit flash.now)) }
+    ensures is { IfSome result (λ a. IsDevice a flash.now) }
+    ensures parts { IfSome result (λ a. (a.work ≡ None) × (a.unit ≡ unit) × (a.config ≡ config)) }
+    ensures block { IfSome result (λ a. (a.block.len ≡ 0) × (block_in a ≡ [])) }
+    ensures none { IfNone result (IsNoMedium unit flash.now) }
+{
+    let medium = Mapped::new(flash, unit)?;
+    match Slots::open(medium) {
+        Ok(_) => Some(Asking {
+            config,
+            unit,
+            mode: Mode::AppIdle,
+            block: LentBlock {
+                memory: &mut [],
+                len: 0,
+            },
+            held: ArrayVec::new(),
+            put_end: 0,
+            work: None,
+        }),
+        Err(_) => None,
+    }
+}
+
+// A record in which all is 0 but its version.
+fn blank() -> DfuAsking {
+    DfuAsking {
+        device: DfuDevice {
+            version: VERSION,
+            mode: 0,
+            first: 0,
+            second: 0,
+            put_end: 0,
+            slot: 0,
+            number: 0,
+            length: 0,
+            header: [0; 16],
+        },
+        unit: 0,
+        sector: 0,
+        work: 0,
+        spare: 0,
+        sum: 0,
+        done: 0,
+        asked: 0,
+        held_length: 0,
+        generation: 0,
+        close: 0,
+        held: [0; 256],
+    }
+}
+
+/// A device gets power, as `Asking::power_on`: 0, and `device` is in appIDLE. It may hold anything before.
+///
+/// Refused with -2 where the configuration is not allowed; -13 where `unit` is none of 1, 16, 64 and 256, or `sector` is not 0; -3
+/// where the flash has no active image, or 2^32 bytes or more.
+#[unsafe(no_mangle)]
+pub extern "C" fn dfu_asking_power_on(
+    config: &DfuConfig,
+    device: &mut DfuAsking,
+    unit: u32,
+    sector: u32,
+    flash: &[u8],
+) -> i32
+    ensures outcome { Powers config.now unit sector flash.now result device.new
+        ⊎ (RefusesPower config.now unit sector flash.now result × (device.new ≡ device.old)) }
+{
+    let Some(setting) = config_of(config) else {
+        return -2;
+    };
+    let Some(grain) = grain_of(unit, sector) else {
+        return -13;
+    };
+    match powered(setting, grain, flash) {
+        Some(asking) => {
+            *device = blank();
+            keep(&asking, device);
+            0
+        }
+        None => -3,
+    }
+}
+
+// Where the active image stands in this flash, if there is one.
+fn find(unit: Unit, flash: &[u8]) -> Option<DfuPlace>
+    ensures some { IfSome result (λ place. IsThere unit flash.now place) }
+    ensures none { IfNone result (IsNoMedium unit flash.now) }
+{
+    let medium = Mapped::new(flash, unit)?;
+    match Slots::open(medium) {
+        Ok(slots) => Some(DfuPlace {
+            at: slots.image_at(),
+            length: slots.active_len(),
+        }),
+        Err(_) => None,
+    }
+}
+
+/// Where the active image stands in its flash: 0, and `place` has it.
+///
+/// Refused with -13 where `unit` is none of 1, 16, 64 and 256, or `sector` is not 0; -3 where the flash has no active image, or 2^32
+/// bytes or more.
+#[unsafe(no_mangle)]
+pub extern "C" fn dfu_asking_image(
+    unit: u32,
+    sector: u32,
+    flash: &[u8],
+    place: &mut DfuPlace,
+) -> i32
+    ensures outcome { Stands unit sector flash.now result place.new
+        ⊎ (RefusesPlace unit sector flash.now result × (place.new ≡ place.old)) }
+{
+    let Some(grain) = grain_of(unit, sector) else {
+        return -13;
+    };
+    match find(grain, flash) {
+        Some(found) => {
+            *place = found;
+            0
+        }
+        None => -3,
+    }
+}

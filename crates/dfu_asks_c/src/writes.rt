@@ -1,0 +1,102 @@
+//! The writes that are due: the next one, and how it went.
+ghost use Rattle.std.specs.Prelude.{◌≡◌, ◌⊎◌, IsSome, not, ◌==◌};
+ghost use Rattle.dfu_asks_c.specs.Calls.{Goes, Went, WasLent, HasNoRoom};
+ghost use Rattle.dfu_asks_c.specs.Writes.{HandsOut, RefusesPiece, IsAtWork};
+
+use crate::ask::DfuAsk;
+use crate::asking::DfuAsking;
+use crate::config::DfuConfig;
+use crate::keeping::{found, keep};
+use crate::numbers;
+use crate::refusal::Refusal;
+use dfu_asks::Reply;
+use dfu_device::LentBlock;
+
+// DFU_PROGRAM.
+const PROGRAM: u32 = 2;
+
+/// The next write, as `Asking::next`: 0, and `ask` has it. Nothing else changes.
+///
+/// Refused with -4 where no write is due, or its range is not in the spare slot; before that as every call.
+#[unsafe(no_mangle)]
+pub extern "C" fn dfu_asking_next(
+    config: &DfuConfig,
+    device: &DfuAsking,
+    block: &mut [u8],
+    flash: &[u8],
+    ask: &mut DfuAsk,
+) -> i32
+    ensures outcome { HandsOut config.now device.now block.old flash.now result ask.new
+        ⊎ (RefusesPiece config.now device.now block.old (λ a. Unit {0}) result × (ask.new ≡ ask.old)) }
+{
+    let mut asking = match found(config, device, block.len()) {
+        Ok(asking) => asking,
+        Err(refusal) => return refusal.number(),
+    };
+    if !asking.work.is_some() {
+        return Refusal::NoDevice.number();
+    }
+    asking.block = LentBlock {
+        memory: block,
+        len: usize::from(device.device.length),
+    };
+    let Some(piece) = asking.next(flash) else {
+        return Refusal::NoDevice.number();
+    };
+    if piece.at > 0xffff_ffff {
+        return Refusal::NoDevice.number();
+    }
+    ask.kind = PROGRAM;
+    ask.at = piece.at as u32;
+    ask.length = piece.len as u32;
+    let bytes = piece.bytes;
+    ask.bytes = bytes;
+    0
+}
+
+/// The write that `dfu_asking_next` gave was carried out, or failed where `failed` is not 0; as `Asking::took`: -11, and the next
+/// one is due; or the answer of the call that asked.
+///
+/// Refused with -5 where `out` has less room than 6 bytes; then as every call, and with -4 where no write is due.
+#[unsafe(no_mangle)]
+pub extern "C" fn dfu_asking_took(
+    config: &DfuConfig,
+    device: &mut DfuAsking,
+    block: &mut [u8],
+    flash: &[u8],
+    failed: u32,
+    out: &mut [u8],
+) -> i32
+    ensures outcome { Goes config.now device.old block.old device.new
+        (λ a a'. Went a flash.now (not (failed == 0)) out.old result a' out.new)
+        ⊎ (RefusesPiece config.now device.old block.old (λ a. ¬ IsAtWork a) result
+        × (device.new ≡ device.old) × ((block.new ≡ block.old) ⊎ WasLent config.now device.old block.old (λ a. IsSome a.work))
+        × (out.new ≡ out.old))
+        ⊎ HasNoRoom 6 device.old block.old out.old result device.new block.new out.new }
+{
+    if out.len() < 6 {
+        return numbers::NO_ROOM;
+    }
+    let mut asking = match found(config, device, block.len()) {
+        Ok(asking) => asking,
+        Err(refusal) => return refusal.number(),
+    };
+    if !asking.work.is_some() {
+        return Refusal::NoDevice.number();
+    }
+    asking.block = LentBlock {
+        memory: block,
+        len: usize::from(device.device.length),
+    };
+    match asking.took(flash, failed != 0, &mut out[..6]) {
+        Ok(Reply::Asks) => {
+            keep(&asking, device);
+            numbers::ASKS
+        }
+        Ok(Reply::Answered(answer, count)) => {
+            keep(&asking, device);
+            numbers::number_of(answer, count.min(6))
+        }
+        Err(_) => Refusal::NoDevice.number(),
+    }
+}

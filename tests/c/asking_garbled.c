@@ -1,0 +1,131 @@
+/* Calls with garbled records, mediums and blocks: each answers or refuses as its header says, a refusal changes nothing, no call
+ * changes the flash, and no write is asked for outside the spare slot of flash that has an image. */
+#include "asking_driver.h"
+
+static const uint32_t units[] = {1, 16, 64, 256};
+static struct board board, kept;
+static long answers, asks, pieces, refusals[16];
+
+static void stop(const char *what, long call) {
+    printf("asking_garbled: call %ld: %s\n", call, what);
+    exit(1);
+}
+
+/* A device on the way through a download, at a step by dice. */
+static void prepare(void) {
+    static uint8_t body[MOST_BLOCK];
+    uint32_t unit = units[roll(4)];
+    config.transfer = (uint16_t)(1 + roll(MOST_BLOCK));
+    config.busy_ms = roll(2) * 3;
+    config.manifest_ms = roll(2) * 4;
+    if (ship(&board, unit, 256u << roll(3), (const uint8_t *)"0123456789", roll(11)) != 0)
+        stop("nothing is made", -1);
+    for (uint32_t step = roll(12), i = 0; i < step; i++) {
+        uint8_t setup[8];
+        choose(&board.device.device, config.transfer, setup);
+        int32_t state = dfu_device_state(&board.device.device);
+        struct fate cut = {roll(4) ? WELL : CUT, 0, writes + roll(3), 0};
+        if (state == 1)
+            reset(&board);
+        else if (state == 4 || state == 7)
+            pass(&board, 5, &cut);
+        else
+            transfer(&board, setup, body, &cut);
+        if (is_off)
+            break; /* writes are due */
+    }
+    is_off = 0;
+}
+
+/* A few bytes of something by dice. */
+static void garble(void *bytes, size_t size) {
+    for (uint32_t i = 0, all = roll(4); i < all; i++)
+        ((uint8_t *)bytes)[roll((uint32_t)size)] = (uint8_t)(roll(3) ? roll(4) : roll(256));
+}
+
+static int32_t one_call(const uint8_t setup[8], const uint8_t *body, uint32_t what, struct dfu_ask *ask) {
+    struct board *b = &board;
+    size_t most = roll(20) ? sizeof b->pending : roll(sizeof b->pending), room = roll(20) ? sizeof b->out : roll(sizeof b->out);
+    switch (what) {
+    case 0: return dfu_asking_elapse(&config, &b->device, b->pending, most, b->flash, b->size, roll(8));
+    case 1: return dfu_asking_usb_reset(&config, &b->device, b->pending, most, b->flash, b->size);
+    case 2: return dfu_asking_next(&config, &b->device, b->pending, most, b->flash, b->size, ask);
+    case 3: return dfu_asking_took(&config, &b->device, b->pending, most, b->flash, b->size, roll(4) == 0, b->out, room);
+    case 5: return dfu_asking_would_stall(&config, &b->device, b->size, setup);
+    case 6: return dfu_asking_too_long(&config, &b->device, setup);
+    case 4: return dfu_asking_power_on(&config, &b->device, b->unit, 0, b->flash, b->size);
+    default:
+        return dfu_asking_handle(&config, &b->device, b->pending, most, b->flash, b->size, setup, body,
+                                 setup[0] == 0x21 ? (size_t)(setup[6] | setup[7] << 8) : 0, b->out, room);
+    }
+}
+
+/* Carries out what is asked for, where it lies in the flash. */
+static void carry_on(int32_t answer) {
+    struct dfu_ask ask;
+    struct board *b = &board;
+    for (int i = 0; answer == DFU_ASKS && i < 100; i++) {
+        if (dfu_asking_next(&config, &b->device, b->pending, sizeof b->pending, b->flash, b->size, &ask) != 0)
+            return;
+        uint32_t failed = ask.at + (size_t)ask.length > b->size;
+        if (!failed)
+            memcpy(b->flash + ask.at, ask.bytes, ask.length);
+        answer = dfu_asking_took(&config, &b->device, b->pending, sizeof b->pending, b->flash, b->size, failed, b->out, sizeof b->out);
+    }
+}
+
+int main(int count, char **words) {
+    static uint8_t body[MOST_BLOCK];
+    long all = count > 1 ? atol(words[1]) : 1000;
+    for (long call = 0; call < all; call++) {
+        uint8_t setup[8];
+        struct dfu_ask ask = {7, 7, 7, {7}};
+        struct dfu_place place;
+        if (call % 16 == 0)
+            prepare();
+        uint32_t where = roll(8);
+        if (where < 4)
+            garble(&board.device, sizeof board.device);
+        else if (where == 4)
+            garble(board.flash, board.size);
+        else if (where == 5)
+            garble(board.flash + roll(2) * board.size / 2, 32);
+        else if (where == 6)
+            garble(&config, sizeof config);
+        choose(&board.device.device, MOST_BLOCK, setup);
+        uint32_t what = roll(10);
+        kept = board;
+        int32_t result = one_call(setup, body, what, &ask);
+        if (memcmp(kept.flash, board.flash, board.size) != 0)
+            stop("it wrote", call);
+        if (result >= -1)
+            answers++;
+        else if (result == DFU_ASKS)
+            asks++;
+        else if (result < -13 || memcmp(&kept, &board, sizeof kept) != 0 || ask.kind != 7)
+            stop("a refusal that is none", call);
+        else
+            refusals[-result]++;
+        if ((what == 4 || what == 2 || what == 1) && result > 0)
+            stop("an answer that is none", call);
+        if (what == 2 && result == 0) {
+            pieces++;
+            if (ask.kind != DFU_PROGRAM || ask.length < 1 || ask.length > 256 || memcmp(&kept, &board, sizeof kept) != 0)
+                stop("an ask that is none", call);
+            if (dfu_asking_image(board.device.unit, 0, board.flash, board.size, &place) == 0) {
+                size_t spare = place.at < board.size / 2 ? board.size / 2 : 0;
+                if (ask.at < spare || ask.at + (size_t)ask.length > spare + board.size / 2)
+                    stop("a write outside the spare slot", call);
+            }
+        }
+        if (call % 16 > 12)
+            carry_on(result);
+        if (where == 6)
+            config = (struct dfu_config){DFU_VERSION, 0x0100, 1, 0x1209, 20, 20, 7, 0, 0, 1};
+    }
+    printf("asking_garbled: %ld calls, %ld answers, %ld asks, %ld pieces; refused:", all, answers, asks, pieces);
+    for (int i = 2; i < 14; i++)
+        printf(" %ld", refusals[i]);
+    printf("\n");
+    return 0;
+}

@@ -1,0 +1,143 @@
+/* Rows of the device that asks: what each call answers, which writes are asked for, and each refusal in its order. */
+#include "asking_driver.h"
+
+static const struct fate well = {WELL, 0, 0, 0};
+static struct board board;
+static int wrong;
+
+static void expect(const char *what, int is) {
+    if (!is) {
+        printf("asking_rows: %s\n", what);
+        wrong = 1;
+    }
+}
+
+static int32_t handle(uint8_t kind, uint8_t what, uint16_t value, uint16_t length, const char *body) {
+    uint8_t setup[8] = {kind, what, (uint8_t)value, (uint8_t)(value >> 8), 0, 0, (uint8_t)length, (uint8_t)(length >> 8)};
+    return dfu_asking_handle(&config, &board.device, board.pending, sizeof board.pending, board.flash, board.size, setup,
+                             (const uint8_t *)body, kind == 0x21 ? length : 0, board.out, sizeof board.out);
+}
+
+static int32_t next(struct dfu_ask *ask) {
+    return dfu_asking_next(&config, &board.device, board.pending, sizeof board.pending, board.flash, board.size, ask);
+}
+
+static int32_t took(uint32_t failed) {
+    return dfu_asking_took(&config, &board.device, board.pending, sizeof board.pending, board.flash, board.size, failed, board.out,
+                           sizeof board.out);
+}
+
+/* The next write is so many bytes at this place, of which the first is this; it is carried out, and this comes of it. */
+static void write_is(const char *what, uint32_t at, uint32_t length, uint8_t first, int32_t then) {
+    struct dfu_ask ask;
+    expect(what, next(&ask) == 0 && ask.kind == DFU_PROGRAM && ask.at == at && ask.length == length && ask.bytes[0] == first);
+    memcpy(board.flash + at, ask.bytes, length);
+    expect(what, took(0) == then);
+}
+
+/* A download of 20 bytes in units of 16, on flash whose second slot is the spare: slot 32 + 64. */
+static void a_download(void) {
+    struct dfu_ask ask;
+    config.transfer = 20;
+    config.busy_ms = 5;
+    config.manifest_ms = 0;
+    expect("ship", ship(&board, 16, 64, (const uint8_t *)"\x11\x22", 2) == 0 && board.size == 192);
+    expect("state", dfu_device_state(&board.device.device) == 0);
+    expect("DETACH", handle(0x21, 0, 1000, 0, "") == 0 && dfu_device_due(&config, &board.device.device) == 20);
+    expect("reset", reset(&board) == 0 && dfu_device_state(&board.device.device) == 2);
+    expect("nothing is due", next(&ask) == DFU_NO_DEVICE && took(0) == DFU_NO_DEVICE);
+    expect("DNLOAD", handle(0x21, 1, 0, 20, "abcdefghijklmnopqrst") == 0);
+    expect("GETSTATUS", handle(0xa1, 3, 0, 6, "") == 6 && board.out[1] == 5 && board.out[4] == 4);
+    uint8_t setup[8] = {0xa1, 3, 0, 0, 0, 0, 6, 0}, long_one[8] = {0x21, 1, 0, 0, 0, 0, 21, 0};
+    expect("would stall", dfu_asking_would_stall(&config, &board.device, board.size, setup) == 1);
+    expect("not long", dfu_asking_too_long(&config, &board.device, setup) == DFU_NOT_LONG);
+    expect("too early", pass(&board, 4, &well) == 0 && dfu_device_state(&board.device.device) == 4);
+    expect("the end of busy asks", dfu_asking_elapse(&config, &board.device, board.pending, sizeof board.pending, board.flash, board.size,
+                                                     1) == DFU_ASKS);
+    expect("asked", handle(0xa1, 3, 0, 6, "") == DFU_ASKED && reset(&board) == DFU_ASKED && pass(&board, 1, &well) == DFU_ASKED
+                        && dfu_asking_would_stall(&config, &board.device, board.size, setup) == DFU_ASKED
+                        && dfu_asking_too_long(&config, &board.device, long_one) == DFU_ASKED);
+    expect("it closes the gate only where it is open", board.flash[96] != 0xa5);
+    write_is("the whole unit", 128, 16, 'a', 0);
+    expect("written", dfu_device_state(&board.device.device) == 3 && board.device.held_length == 4);
+    expect("GETSTATUS", handle(0xa1, 3, 0, 6, "") == 6 && board.out[4] == 5);
+    expect("no more", handle(0x21, 1, 1, 0, "") == 0 && dfu_device_state(&board.device.device) == 6);
+    expect("GETSTATUS asks", handle(0xa1, 3, 0, 6, "") == DFU_ASKS);
+    write_is("what was held back", 144, 16, 'q', DFU_ASKS);
+    write_is("the header", 112, 16, 1, DFU_ASKS);
+    expect("asked once more", next(&ask) == 0 && ask.at == 96 && next(&ask) == 0 && ask.at == 96);
+    write_is("the gate", 96, 16, 0xa5, 6);
+    expect("installed", board.out[0] == 0 && board.out[4] == 2 && board.device.work == 0);
+    struct dfu_place place;
+    expect("image", dfu_asking_image(16, 0, board.flash, board.size, &place) == 0 && place.at == 128 && place.length == 20);
+    expect("UPLOAD", handle(0xa1, 2, 0, 20, "") == 20 && memcmp(board.out, "abcdefghijklmnopqrst", 20) == 0);
+    expect("the end", handle(0xa1, 2, 1, 20, "") == 0 && dfu_device_state(&board.device.device) == 2);
+}
+
+/* Refusals, in their order. */
+static void refusals(void) {
+    struct dfu_config other = config;
+    struct dfu_asking device = board.device;
+    struct dfu_place place;
+    uint8_t setup[8] = {0xa1, 3, 0, 0, 0, 0, 6, 0}, out[20], none[192] = {0};
+    other.version++;
+    expect("format", dfu_asking_format(2, 0, none, sizeof none, none, 0) == DFU_WRONG_UNIT
+                         && dfu_asking_format(16, 256, none, sizeof none, none, 0) == DFU_WRONG_UNIT
+                         && dfu_asking_format(16, 0, none, 66, none, 0) == DFU_WRONG_SIZE
+                         && dfu_asking_format(16, 0, none, sizeof none, none, 65) == DFU_TOO_LARGE && none[0] == 0);
+    expect("power on", dfu_asking_power_on(&other, &device, 3, 0, none, 192) == DFU_NO_CONFIG
+                           && dfu_asking_power_on(&config, &device, 3, 0, none, 192) == DFU_WRONG_UNIT
+                           && dfu_asking_power_on(&config, &device, 16, 4096, none, 192) == DFU_WRONG_UNIT
+                           && dfu_asking_power_on(&config, &device, 16, 0, none, 192) == DFU_NO_MEDIUM);
+    expect("image", dfu_asking_image(3, 0, none, 192, &place) == DFU_WRONG_UNIT && dfu_asking_image(64, 0, none, 192, &place) == DFU_NO_MEDIUM);
+#define HANDLE(config, device, most, flash, room) \
+    dfu_asking_handle(config, device, board.pending, most, flash, 192, setup, (const uint8_t *)"", 0, out, room)
+    expect("no room", HANDLE(&other, &device, 0, none, 19) == DFU_NO_ROOM);
+    expect("no config", HANDLE(&other, &device, 0, none, 20) == DFU_NO_CONFIG);
+    expect("no block", HANDLE(&config, &device, 19, none, 20) == DFU_NO_BLOCK);
+    expect("no medium", HANDLE(&config, &device, 20, none, 20) == DFU_NO_MEDIUM);
+    device.unit = 64;
+    expect("another unit", HANDLE(&config, &device, 20, board.flash, 20) == DFU_NO_MEDIUM);
+    device.unit = 3;
+    expect("no unit", HANDLE(&config, &device, 20, none, 20) == DFU_NO_DEVICE);
+    device = board.device, device.sector = 256;
+    expect("sectors", HANDLE(&config, &device, 20, none, 20) == DFU_NO_DEVICE);
+    device = board.device, device.held_length = 257;
+    expect("held", HANDLE(&config, &device, 20, none, 20) == DFU_NO_DEVICE);
+    device = board.device, device.device.length = 21;
+    expect("length", HANDLE(&config, &device, 20, none, 20) == DFU_NO_DEVICE);
+    device = board.device, device.work = 3;
+    expect("work", HANDLE(&config, &device, 20, none, 20) == DFU_NO_DEVICE);
+    device = board.device, device.work = 1, device.close = 2;
+    expect("close", HANDLE(&config, &device, 20, none, 20) == DFU_NO_DEVICE);
+    device = board.device, device.work = 2, device.asked = 65537;
+    expect("asked", HANDLE(&config, &device, 20, none, 20) == DFU_NO_DEVICE);
+    device.asked = 65536;
+    expect("work is due", HANDLE(&config, &device, 20, none, 20) == DFU_ASKED);
+    device = board.device, device.device.version++;
+    expect("version", HANDLE(&config, &device, 20, none, 20) == DFU_NO_DEVICE);
+    device = board.device, device.device.mode = 6, device.device.first = 4;
+    expect("no device of this flash", HANDLE(&config, &device, 20, board.flash, 20) == DFU_NO_DEVICE);
+    expect("took", dfu_asking_took(&other, &device, board.pending, 0, none, 192, 0, out, 5) == DFU_NO_ROOM
+                       && dfu_asking_took(&other, &device, board.pending, 0, none, 192, 0, out, 6) == DFU_NO_CONFIG
+                       && dfu_asking_took(&config, &device, board.pending, 0, none, 192, 0, out, 6) == DFU_NO_BLOCK);
+}
+
+/* A record that was garbled asks for no write in the active slot. */
+static void no_write_outside(void) {
+    struct dfu_ask ask;
+    struct dfu_asking device = board.device;
+    board.device.work = 2, board.device.done = 0;
+    board.device.spare = 96;
+    expect("the active slot", next(&ask) == DFU_NO_DEVICE);
+    board.device.spare = 0;
+    expect("the spare slot", next(&ask) == 0 && ask.at < 96);
+    board.device = device;
+}
+
+int main(void) {
+    a_download();
+    refusals();
+    no_write_outside();
+    return wrong;
+}
