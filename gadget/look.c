@@ -36,6 +36,7 @@ static void look_at_kernel(void)
     line("kernel", is_read ? version : "?", is_new ? "" : "FunctionFS takes the descriptors of DFU from Linux 6.11 on");
 }
 
+/* It comes with the first gadget that has a function of it. */
 static void look_at_module(void)
 {
     char path[MOST_PATH], name[128] = "";
@@ -45,7 +46,7 @@ static void look_at_module(void)
         is_there = is_there || strstr(name, "\tfunctionfs\n") != NULL;
     if (file != NULL)
         fclose(file);
-    line("file system", "functionfs", is_there ? "" : "the module usb_f_fs isn't loaded: `modprobe libcomposite usb_f_fs`");
+    line("file system", "functionfs", is_there ? "" : "gadget/set-up makes it come, where the modules libcomposite and usb_f_fs are there");
 }
 
 /* Which gadget has the controller; "" where none has it. */
