@@ -113,6 +113,7 @@ static void take_event(struct function *function, const struct usb_functionfs_ev
         events->is_reset = events->is_reset || (function->is_enabled && may_be_reset);
         function->is_enabled = true;
         break;
+    case FUNCTIONFS_UNBIND: events->is_gone = true; break;
     default: break;
     }
 }

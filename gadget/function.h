@@ -15,9 +15,9 @@ struct function {
     bool is_enabled;     /* a configuration is set */
 };
 
-/* What was read at once. The reset, where there is one, came first. */
+/* What was read at once. The reset, where there is one, came first. Gone: somebody else has taken the gadget off the bus. */
 struct events {
-    bool is_reset, has_setup;
+    bool is_reset, has_setup, is_gone;
     uint8_t setup[8];
 };
 

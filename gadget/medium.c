@@ -35,7 +35,7 @@ size_t medium_most(size_t size)
 }
 
 /* A link is followed to a block device alone, as those of /dev/disk are: a link to a file may be someone else's. What would block,
-   as a pipe, is opened all the same, and refused. */
+   as a pipe, is opened all the same, and refused. Of a block device, O_EXCL asks that nothing else has it, as a file system. */
 static int open_there(const char *name, int flags)
 {
     int file = open(name, flags | O_CLOEXEC | O_NOFOLLOW | O_NONBLOCK);
@@ -65,21 +65,10 @@ static bool take_size(struct medium *medium, const struct stat *is)
     return true;
 }
 
-/* Of a block device, O_EXCL asks that nothing of the kernel's has it, as a file system. */
 static bool take_alone(const struct medium *medium, enum medium_use use)
 {
-    int again;
-    if (use == MEDIUM_READ)
-        return true;
-    if (flock(medium->file, LOCK_EX | LOCK_NB) != 0)
-        return say_failed(medium->name, "is in use by another dfu-gadget");
-    if (!medium->is_device)
-        return true;
-    again = open(medium->name, O_RDONLY | O_EXCL | O_CLOEXEC | O_NONBLOCK);
-    if (again < 0)
-        return say_failed(medium->name, "is in use, as a file system that is mounted");
-    close(again);
-    return true;
+    return use == MEDIUM_READ || flock(medium->file, LOCK_EX | LOCK_NB) == 0
+        || say_failed(medium->name, "is in use by another dfu-gadget");
 }
 
 static bool look(struct medium *medium, enum medium_use use)
@@ -96,7 +85,9 @@ static bool look(struct medium *medium, enum medium_use use)
 
 bool medium_open(struct medium *medium, const char *name, enum medium_use use)
 {
-    *medium = (struct medium){.name = name, .file = open_there(name, use == MEDIUM_WRITE ? O_RDWR : O_RDONLY)};
+    *medium = (struct medium){.name = name, .file = open_there(name, use == MEDIUM_WRITE ? O_RDWR | O_EXCL : O_RDONLY)};
+    if (medium->file < 0 && errno == EBUSY)
+        return say_wrong(name, "it is in use, by a file system that is mounted or by another program");
     if (medium->file < 0)
         return errno == ELOOP ? say_wrong(name, "it is a link, and not to a block device") : say_failed(name, "can't be opened");
     if (look(medium, use))

@@ -53,6 +53,10 @@ static int take_events(struct bus *bus)
         say_failed(function->gadget, "gives no events");
         return STATUS_BUS;
     }
+    if (events.is_gone) {
+        say_wrong(function->gadget, "somebody else has taken it off the bus");
+        return STATUS_BUS;
+    }
     if (events.is_reset)
         bus_reset(bus);
     if (!bus_settle(bus))

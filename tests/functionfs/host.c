@@ -1,6 +1,6 @@
 /* The host's script, which GADGET_HOST names, and its log GADGET_SAID. A line has one step, or several with `;` between that come before
-   the program gets to see any: setup HEX [HEX | xN | none], reset, enable, alt, disable, suspend, resume, wait MS. A line `image` has
-   nothing come until the program's child has ended. */
+   the program gets to see any: setup HEX [HEX | xN | none], reset, enable, alt, disable, suspend, resume, unbind, wait MS, signal N, sh COMMAND.
+   A line `image` has nothing come until the program's child has ended. */
 #include "kernel.h"
 
 #include <linux/usb/functionfs.h>
@@ -90,6 +90,12 @@ static void play_step(char *step)
         left_ms = atoll(step + 5);
     else if (strcmp(step, "image") == 0)
         left_ms = -1;
+    else if (strncmp(step, "signal ", 7) == 0)
+        raise(atoi(step + 7));
+    else if (strncmp(step, "sh ", 3) == 0 && system(step + 3) != 0)
+        _exit(97);
+    else if (strncmp(step, "sh ", 3) == 0)
+        return;
     else if (endpoint == NULL)
         host_note("nobody is on the bus");
     else if (strncmp(step, "setup ", 6) == 0)
@@ -100,6 +106,8 @@ static void play_step(char *step)
         play_configured(endpoint, false);
     else if (strcmp(step, "alt") == 0)
         event_add(endpoint, FUNCTIONFS_ENABLE);
+    else if (strcmp(step, "unbind") == 0)
+        event_add(endpoint, FUNCTIONFS_UNBIND);
     else if (strcmp(step, "suspend") == 0)
         event_add(endpoint, FUNCTIONFS_SUSPEND);
     else if (strcmp(step, "resume") == 0)

@@ -69,11 +69,12 @@ equal 'the largest medium' 33554432 "$(stat -c %s largest)"
 rm largest
 
 # One program has it, and the others are told.
-(
-    flock -n 9 || exit 1
-    ./gadget format medium --force --most 5000 old > out 2> err || echo "$?" > code
-) 9< medium
-equal 'a medium in use' 1 "$(cat code)"
+exec 9< medium
+flock -n 9
+code=0
+./gadget format medium --force --most 5000 old > out 2> err || code=$?
+exec 9<&-
+equal 'a medium in use' 1 "$code"
 is 'a medium in use' grep -q 'is in use by another dfu-gadget' err
 chmod 666 medium
 refused 1 'warning: others than its owner may write it' format medium --most 5000 old

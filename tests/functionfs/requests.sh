@@ -1,5 +1,5 @@
 # What the host sends, and what comes back: requests, time, resets, and writes that fail.
-# shellcheck shell=sh disable=SC2154
+# shellcheck shell=sh disable=SC2034,SC2154
 
 # A download in DFU mode, and the image uploaded.
 download="setup 2101000000001a00 $(hex new) => 2101 ok
@@ -206,7 +206,7 @@ for failure in GADGET_FAILS_WRITE GADGET_FAILS_SYNC; do
 done
 
 # The command of --on-installed: what it is given, and where it ends badly or can't be run.
-cat > command << 'END'
+cat > ./command << 'END'
 #!/bin/sh
 echo "$# $1 $2 $3" > given
 dd if="$1" bs=1 skip="$2" count="$3" 2> /dev/null > placed
@@ -256,3 +256,21 @@ play '' < /dev/null
 unset GADGET_OLD_KERNEL
 equal 'an old kernel' 4 "$code"
 is 'an old kernel' grep -q 'Linux takes them from 6.11 on' err
+# ends STATUS TEXT STEP: after the step the program ends so, by itself.
+ends() {
+    fresh
+    printf '%s\n' 'setup a105000000000100' "$3" 'setup a102000000000500' 'wait 100' > rows
+    play --dfu-mode < rows
+    equal "$3" "$1" "$code"
+    is "$3" grep -q -e "$2" err
+}
+ends 6 'upgrade: somebody else has taken it off the bus' unbind
+ends 5 "the medium can't be read any more" 'sh : > medium'
+ends 0 'ended: by signal 2' 'signal 2'
+ends 0 'ended: by signal 1' 'signal 1'
+ends 0 'ended: by signal 15' 'signal 15'
+fresh
+printf '%s\n' 'signal 1' 'setup a105000000000100' > rows
+program='env --ignore-signal=HUP ./gadget' play --dfu-mode < rows
+is 'a terminal that is closed, which it was told not to mind' grep -q '^1 GETSTATE' err
+program=./gadget

@@ -1,5 +1,5 @@
 # The folder that stands for Linux, and how a host's script is played over it.
-# shellcheck shell=sh disable=SC2154
+# shellcheck shell=sh disable=SC2034,SC2154
 udc=dummy_udc.0
 # folder NAME: configfs with both gadgets, their FunctionFS, and the controller.
 folder() {

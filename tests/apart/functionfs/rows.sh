@@ -105,27 +105,6 @@ row 0 old '1209:0001 path 1-1 serial F1 interface 0 alt 0 ' --dfu-mode ./dfu-fla
 cat out
 row 0 new 'verified: ' --dfu-mode ./dfu-flash new.dfu
 row 0 new 'Done!' --dfu-mode dfu-util -D new.dfu
-row 0 new 'verified: ' --verbose ./dfu-flash new.dfu
-row 0 large 'verified: ' --dfu-mode ./dfu-flash large.dfu
-row 0 new 'installed: ' --dfu-mode ./dfu-flash --no-verify new.dfu
-row 0 new 'installed: ' '--dfu-mode --attributes download,tolerant' ./dfu-flash new.dfu
-row 0 new 'verified: ' '--dfu-mode --attributes download,upload' ./dfu-flash new.dfu
-row 8 new 'unconfirmed: ' '--dfu-mode --attributes download' ./dfu-flash new.dfu
-row 0 large 'verified: ' '--dfu-mode --transfer-size 1024 --busy 1' ./dfu-flash large.dfu
-row 0 new 'verified: ' '--attributes download,upload,tolerant,detach' ./dfu-flash new.dfu
-row 0 new 'verified: ' '--dfu-mode --busy 0 --manifest 0' ./dfu-flash new.dfu
-row 0 old 'uploaded: ' --dfu-mode ./dfu-flash --upload up
-expect 'an upload' cmp old up
-row 0 large 'Done!' --dfu-mode dfu-util -D large.dfu
-row 74 new '' '--dfu-mode --attributes download,upload' dfu-util -D new.dfu
-row 0 new 'Done!' --verbose dfu-util -D new.dfu
-row 0 new 'Done!' '--attributes download,upload,tolerant,detach' dfu-util -D new.dfu
-row 0 old 'Received a total of 13 bytes' --dfu-mode dfu-util -U up-util
-expect 'an upload by dfu-util' cmp old up-util
-row 251 new '' --dfu-mode dfu-util -R -D new.dfu
-row 0 new 'verified: ' '--dfu-mode --on-installed ./installed' ./dfu-flash new.dfu
-sleep 1
-expect 'the command got the image' cmp placed new
 
 # Single transfers: what is stalled and where the device stands then.
 ./dfu-gadget format --force $medium --most 64K old
@@ -179,6 +158,29 @@ asked 00 a105000000000100
 stop
 expect 'single transfers' test "$ended" -eq 0
 tail -n 12 log
+
+# Modes, attributes, sizes; dfu-flash, and dfu-util by its statuses of docs/INTEROP.md.
+row 0 new 'verified: ' --verbose ./dfu-flash new.dfu
+row 0 large 'verified: ' --dfu-mode ./dfu-flash large.dfu
+row 0 new 'installed: ' --dfu-mode ./dfu-flash --no-verify new.dfu
+row 0 new 'installed: ' '--dfu-mode --attributes download,tolerant' ./dfu-flash new.dfu
+row 0 new 'verified: ' '--dfu-mode --attributes download,upload' ./dfu-flash new.dfu
+row 8 new 'unconfirmed: ' '--dfu-mode --attributes download' ./dfu-flash new.dfu
+row 0 large 'verified: ' '--dfu-mode --transfer-size 1024 --busy 1' ./dfu-flash large.dfu
+row 0 new 'verified: ' '--attributes download,upload,tolerant,detach' ./dfu-flash new.dfu
+row 0 new 'verified: ' '--dfu-mode --busy 0 --manifest 0' ./dfu-flash new.dfu
+row 0 old 'uploaded: ' --dfu-mode ./dfu-flash --upload up
+expect 'an upload' cmp old up
+row 0 large 'Done!' --dfu-mode dfu-util -D large.dfu
+row 74 new '' '--dfu-mode --attributes download,upload' dfu-util -D new.dfu
+row 0 new 'Done!' --verbose dfu-util -D new.dfu
+row 0 new 'Done!' '--attributes download,upload,tolerant,detach' dfu-util -D new.dfu
+row 0 old 'Received a total of 13 bytes' --dfu-mode dfu-util -U up-util
+expect 'an upload by dfu-util' cmp old up-util
+row 251 new '' --dfu-mode dfu-util -R -D new.dfu
+row 0 new 'verified: ' '--dfu-mode --on-installed ./installed' ./dfu-flash new.dfu
+sleep 1
+expect 'the command got the image' cmp placed new
 
 # The daemon is killed in the middle of a download: the old image or the new one, and it serves again.
 names=
