@@ -1,7 +1,6 @@
 # gadget/build, what it honours and how it fails; and the example of --on-installed.
 # shellcheck shell=sh disable=SC2154
 unset CC CFLAGS CPPFLAGS LDFLAGS DESTDIR
-export DFU_ASKS_C="${library%/out/*}"
 
 # builds STATUS WHAT COMMAND..
 builds() {
