@@ -23,8 +23,11 @@ static int print_text(const struct words *words)
 
 int main(int count, char **texts)
 {
+    static char lines[BUFSIZ]; /* a line is written at once: others write there too, as the program of --on-installed */
     struct words words;
-    int status = words_read(&words, count, texts);
+    int status;
+    setvbuf(stderr, lines, _IOLBF, sizeof lines);
+    status = words_read(&words, count, texts);
     if (status != STATUS_DONE)
         return status;
     paths_root = words.root;

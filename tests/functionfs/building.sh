@@ -14,7 +14,8 @@ builds() {
 }
 builds 0 'with no warning' env CFLAGS='-Werror -Wconversion -Wno-sign-conversion -Wshadow' "$top/gadget/build" "$work/a b"
 equal 'it runs' "$(./gadget --version)" "$('a b/dfu-gadget' --version)"
-builds 0 'CC with words, LDFLAGS, DESTDIR' env CC='gcc -DNOTHING' LDFLAGS=-Wl,--build-id=0x1234 DESTDIR="$work/stage" "$top/gadget/build" /usr
+builds 0 'CC with words, LDFLAGS, DESTDIR' env CC='gcc -DNOTHING' LDFLAGS=-Wl,--build-id=0x1234 DESTDIR="$work/stage" \
+    "$top/gadget/build" /usr
 is 'LDFLAGS count' grep -q "$(printf '\022\064')" stage/usr/dfu-gadget
 builds 0 'a static one' env CFLAGS=-O0 LDFLAGS=-static "$top/gadget/build" static
 builds 2 'DESTDIR and no whole path' env DESTDIR="$work/stage" "$top/gadget/build" usr

@@ -1,5 +1,6 @@
 /* The host's script, which GADGET_HOST names, and its log GADGET_SAID. A line has one step, or several with `;` between that come before
-   the program gets to see any: setup HEX [HEX | xN | none], reset, enable, alt, disable, suspend, resume, unbind, wait MS, signal N, sh COMMAND.
+   the program gets to see any: setup HEX [HEX | xN | none], reset, enable, alt, disable, suspend, resume, unbind, wait MS, signal N,
+   sh COMMAND.
    A line `image` has nothing come until the program's child has ended. */
 #include "kernel.h"
 

@@ -5,8 +5,6 @@
 #include <errno.h>
 #include <fcntl.h>
 #include <linux/usb/functionfs.h>
-#include <poll.h>
-#include <signal.h>
 #include <stdarg.h>
 #include <stdio.h>
 #include <stdlib.h>
@@ -16,7 +14,8 @@
 
 int64_t now_ms = 1000000;
 bool is_state_written;
-static int state_file = -1, controller_files[2] = {-1, -1};
+int state_file = -1;
+static int controller_files[2] = {-1, -1};
 static unsigned writes, syncs;
 
 int __real_open(const char *path, int flags, ...);
@@ -26,7 +25,6 @@ ssize_t __real_write(int file, const void *bytes, size_t length);
 ssize_t __real_pread(int file, void *bytes, size_t length, off_t at);
 ssize_t __real_pwrite(int file, const void *bytes, size_t length, off_t at);
 int __real_fdatasync(int file);
-int __real_poll(struct pollfd *waits, nfds_t count, int timeout);
 
 static bool ends(const char *path, const char *end)
 {
@@ -211,49 +209,4 @@ int __wrap_clock_gettime(clockid_t clock, struct timespec *now)
     now->tv_sec = now_ms / 1000;
     now->tv_nsec = now_ms % 1000 * 1000000;
     return 0;
-}
-
-static int look(struct pollfd *waits, nfds_t count, int timeout)
-{
-    int ready = 0;
-    for (nfds_t at = 0; at < count; at++) {
-        const struct endpoint *endpoint = endpoint_of(waits[at].fd);
-        waits[at].revents = 0;
-        if (endpoint != NULL && (endpoint->count > 0 || endpoint->is_pending || endpoint->is_cancelled))
-            waits[at].revents = POLLIN;
-        else if (waits[at].fd >= 0 && waits[at].fd == state_file && is_state_written)
-            waits[at].revents = POLLPRI | POLLERR;
-        else if (endpoint == NULL && waits[at].fd >= 0 && waits[at].fd != state_file)
-            __real_poll(&waits[at], 1, timeout);
-        ready += waits[at].revents != 0;
-    }
-    return ready;
-}
-
-/* Time passes only here, and while nothing else does. */
-int __wrap_poll(struct pollfd *waits, nfds_t count, int timeout)
-{
-    static int64_t rest_ms;
-    int ready = look(waits, count, 0);
-    while (ready == 0 && timeout != 0) {
-        int64_t step;
-        if (rest_ms == 0 && host_play(&rest_ms)) {
-            ready = look(waits, count, 0);
-            continue;
-        }
-        if (rest_ms < 0) { /* the child has its real time */
-            rest_ms = 0;
-            ready = look(waits, count, 1);
-            for (int turn = 0; ready == 0 && turn < 5000; turn++)
-                ready = look(waits, count, 1);
-            continue;
-        }
-        step = timeout > 0 && timeout < rest_ms ? timeout : rest_ms;
-        now_ms += step;
-        rest_ms -= step;
-        if (timeout > 0 && step == timeout)
-            return 0;
-        timeout -= timeout > 0 ? (int)step : 0;
-    }
-    return ready;
 }

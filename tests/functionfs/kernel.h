@@ -23,6 +23,7 @@ struct endpoint {
 extern struct endpoint endpoints[2];
 extern int64_t now_ms;
 extern bool is_state_written;
+extern int state_file; /* of the controller, as the program has it open; -1 */
 
 /* The endpoint of a file, NULL where it is none; the one that is on the bus, or NULL. */
 struct endpoint *endpoint_of(int file);
