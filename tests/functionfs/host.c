@@ -1,6 +1,6 @@
 /* The host's script, which GADGET_HOST names, and its log GADGET_SAID. A line has one step, or several with `;` between that come before
-   the program gets to see any: setup HEX [HEX | xN | none], reset, enable, alt, disable, suspend, resume, unbind, wait MS, signal N,
-   sh COMMAND.
+   the program gets to see any: setup HEX [HEX | xN | none], reset, enable, alt, disable, suspend, resume, unbind, state (the
+   controller's is written), wait MS, signal N, sh COMMAND.
    A line `image` has nothing come until the program's child has ended. */
 #include "kernel.h"
 
@@ -107,6 +107,8 @@ static void play_step(char *step)
         play_configured(endpoint, false);
     else if (strcmp(step, "alt") == 0)
         event_add(endpoint, FUNCTIONFS_ENABLE);
+    else if (strcmp(step, "state") == 0)
+        is_state_written = true;
     else if (strcmp(step, "unbind") == 0)
         event_add(endpoint, FUNCTIONFS_UNBIND);
     else if (strcmp(step, "suspend") == 0)

@@ -189,6 +189,10 @@ ssize_t __wrap_pwrite(int file, const void *bytes, size_t length, off_t at)
         errno = EIO;
         return -1;
     }
+    if (is_nth("GADGET_CUT", writes)) { /* the power goes in the middle of it */
+        __real_pwrite(file, bytes, length / 2, at);
+        _exit(96);
+    }
     if (getenv("GADGET_SAID") != NULL)
         host_note("write %lld %zu", (long long)at, length);
     return __real_pwrite(file, bytes, length, at);

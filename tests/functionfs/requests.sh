@@ -111,6 +111,8 @@ setup a105000000000100 => a105 02
 alt; setup a105000000000100 => a105 02
 suspend; resume; alt; setup a105000000000100 => a105 02'
 two='alt; alt; setup a105000000000100 => a105 02
+state =>
+alt; alt; setup a105000000000100 => a105 02
 setup a105000000000100; alt =>
 setup a105000000000100 => a105 02'
 late='reset; enable; suspend => upgrade leaves / application joins'
@@ -205,6 +207,23 @@ for failure in GADGET_FAILS_WRITE GADGET_FAILS_SYNC; do
     is "$failure: some were tried" test "$number" -gt 1
 done
 
+# The power goes within each write of a download in turn: one of the two images stands, whole, and the next download succeeds.
+number=0
+while :; do
+    number=$((number + 1))
+    fresh
+    export "GADGET_CUT=$number"
+    printf '%s\n' "$download" > rows
+    play '--dfu-mode --busy 20' < rows
+    unset GADGET_CUT
+    [ "$code" -eq 96 ] || break
+    ./gadget image medium > saved || : > saved
+    is "a cut within write $number: an image stands" eval 'cmp -s saved old || cmp -s saved new'
+    play '--dfu-mode --busy 20' < rows
+    holds "a cut within write $number, and once more" new
+done
+is 'some cuts were tried' test "$number" -gt 1
+
 # The command of --on-installed: what it is given, and where it ends badly or can't be run.
 cat > ./command << 'END'
 #!/bin/sh
@@ -242,6 +261,22 @@ image =>
 setup a105000000000100 => a105 02
 END
 is 'a command that is not there' grep -q '^dfu-gadget: ./nowhere can.t be run: No such file or directory$' err
+printf '#!/bin/sh\nwhile [ -e hold ]; do sleep 0.02; done\necho "$2 $3" >> both\nkill -KILL $$\n' > slow
+chmod +x slow
+: > hold
+fresh
+row 'an image that comes while a command runs' '--dfu-mode --busy 20 --on-installed ./slow' << END
+setup a105000000000100 => upgrade joins / a105 02
+$download
+setup 2104000000000000 => 2104 stall
+setup 2104000000000000 => 2104 ok
+$download
+sh rm hold =>
+image =>
+image =>
+END
+equal 'an image that comes while a command runs' '8224 26 32 26' "$(tr '\n' ' ' < both | sed 's/ $//')"
+is 'a command that is killed: its end' grep -q '^ended: process [0-9]* by signal 9$' err
 row 'a download that changes nothing runs no command' '--dfu-mode --on-installed ./nowhere' << END
 setup a102000000002000 => upgrade joins / a102 $(hex new)
 reset => upgrade leaves / application joins

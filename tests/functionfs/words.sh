@@ -84,6 +84,12 @@ for part in class/udc kernel/config/usb_gadget/upgrade; do
     folder root
 done
 
+refused 4 'it is no name of a controller' run medium --controller ../udc --root root
+refused 4 'it is no name of a gadget' run medium --controller "$udc" --root root --upgrade ../upgrade
+echo 0x12345 > root/sys/kernel/config/usb_gadget/upgrade/idVendor
+refused 4 'it has no number of 16 bits' run medium --controller "$udc" --root root
+folder root
+
 # set-up, over a plain folder.
 export GADGET_ROOT="$work/board"
 mkdir -p board/sys/kernel/config/usb_gadget board/dev
