@@ -159,6 +159,42 @@ stop
 expect 'single transfers' test "$ended" -eq 0
 tail -n 12 log
 
+# A board whose own gadget has a serial port, so that the interface of DFU is its third; and nobody runs dfu-gadget.
+./set-up --remove
+board=/sys/kernel/config/usb_gadget/board
+mkdir $board
+mkdir $board/strings/0x409 $board/configs/c.1 $board/functions/acm.usb0
+echo 0x1209 > $board/idVendor
+echo 0x0001 > $board/idProduct
+echo 0x0100 > $board/bcdDevice
+echo F1 > $board/strings/0x409/serialnumber
+ln -s $board/functions/acm.usb0 $board/configs/c.1/
+./set-up --application board --owner nobody 0x1209 0x0001 0x0100 F1
+expect "set-up beside the board's own function" test $? -eq 0
+mkdir own
+chown nobody own
+su -s /bin/sh nobody -c './dfu-gadget format own/medium --most 64K old'
+expect 'nobody makes a medium' test $? -eq 0
+su -s /bin/sh nobody -c "exec ./dfu-gadget run own/medium --controller $udc --application board --verbose" 2> log &
+device=$!
+is_there
+./dfu-flash --list > out 2> err
+cat out
+expect 'the third interface' grep -q ' interface 2 alt 0 .*run-time mode' out
+asked 00 a105000002000100
+./dfu-flash new.dfu > out 2> err
+expect 'nobody is flashed' test $? -eq 0
+tail -n 1 out
+kill "$device"
+wait "$device"
+expect 'nobody ends it' test $? -eq 0
+./dfu-gadget image own/medium > saved
+expect "nobody's medium" cmp saved new
+./set-up --remove --application board
+expect "the board's own function stays" test -d $board/functions/acm.usb0
+expect 'ours is gone' test ! -e $board/functions/ffs.dfu-board
+./set-up 0x1209 0x0001 0x0100 F1
+
 # Modes, attributes, sizes; dfu-flash, and dfu-util by its statuses of docs/INTEROP.md.
 row 0 new 'verified: ' --verbose ./dfu-flash new.dfu
 row 0 large 'verified: ' --dfu-mode ./dfu-flash large.dfu
@@ -207,38 +243,4 @@ echo "row killed:$names"
 case $names in *torn*) failed=$((failed + 1)) ;; *) passed=$((passed + 1)) ;; esac
 ./set-up --remove
 expect 'set-up --remove' test ! -e /sys/kernel/config/usb_gadget/upgrade
-
-# A board whose own gadget has a serial port, so that the interface of DFU is its third; and nobody runs dfu-gadget.
-board=/sys/kernel/config/usb_gadget/board
-mkdir $board
-mkdir $board/strings/0x409 $board/configs/c.1 $board/functions/acm.usb0
-echo 0x1209 > $board/idVendor
-echo 0x0001 > $board/idProduct
-echo 0x0100 > $board/bcdDevice
-echo F1 > $board/strings/0x409/serialnumber
-ln -s $board/functions/acm.usb0 $board/configs/c.1/
-./set-up --application board --owner nobody 0x1209 0x0001 0x0100 F1
-expect "set-up beside the board's own function" test $? -eq 0
-mkdir own
-chown nobody own
-su -s /bin/sh nobody -c './dfu-gadget format own/medium --most 64K old'
-expect 'nobody makes a medium' test $? -eq 0
-su -s /bin/sh nobody -c "exec ./dfu-gadget run own/medium --controller $udc --application board --verbose" 2> log &
-device=$!
-is_there
-./dfu-flash --list > out 2> err
-cat out
-expect 'the third interface' grep -q ' interface 2 alt 0 .*run-time mode' out
-asked 00 a105000002000100
-./dfu-flash new.dfu > out 2> err
-expect 'nobody is flashed' test $? -eq 0
-tail -n 1 out
-kill "$device"
-wait "$device"
-expect 'nobody ends it' test $? -eq 0
-./dfu-gadget image own/medium > saved
-expect "nobody's medium" cmp saved new
-./set-up --remove --application board
-expect "the board's own function stays" test -d $board/functions/acm.usb0
-expect 'ours is gone' test ! -e $board/functions/ffs.dfu-board
 echo "$passed passed, $failed failed"
