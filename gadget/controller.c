@@ -33,8 +33,8 @@ void controller_close(struct controller *controller)
     controller->state = -1;
 }
 
-/* To read it from its beginning is what makes poll wait for the next time. */
-bool controller_is_new_state(const struct controller *controller)
+/* To read it from its beginning is what makes poll wait for the next time. Where the controller is gone, so is the file. */
+bool controller_is_new_state(struct controller *controller)
 {
     char line[MOST_LINE];
     struct pollfd wait = {.fd = controller->state, .events = POLLPRI};
@@ -42,7 +42,9 @@ bool controller_is_new_state(const struct controller *controller)
         return true;
     if (poll(&wait, 1, 0) <= 0)
         return false;
-    return pread(controller->state, line, sizeof line, 0) < 0 || (wait.revents & (POLLPRI | POLLERR)) != 0;
+    if (pread(controller->state, line, sizeof line, 0) < 0)
+        controller_close(controller);
+    return true;
 }
 
 static bool set_controller(const char *gadget, const char *name)

@@ -15,7 +15,7 @@ bool controller_open(struct controller *controller, const char *name);
 void controller_close(struct controller *controller);
 
 /* Whether its state was written since the last call. True where that can't be known. */
-bool controller_is_new_state(const struct controller *controller);
+bool controller_is_new_state(struct controller *controller);
 
 /* A gadget comes to the bus, and leaves it. False, which is said. */
 bool controller_join(const struct controller *controller, const char *gadget);

@@ -25,7 +25,7 @@ is 'a download: the line of a block' grep -q '^2 DNLOAD 0 26 ack dfuDNLOAD-SYNC 
 is 'a download: the line of an upload' grep -q '^9 UPLOAD 0 32 26-bytes dfuIDLE 0$' err
 is 'a download: the line of time' grep -q '^time: 20 ms, dfuDNLOAD-SYNC$' err
 is 'a download: the place of the image' grep -q '^installed: 26 bytes at 8224$' err
-is 'a download: each write is on the disk by itself' test "$(grep -c '^write ' said)" -ge 2
+is 'a download: the block, the header, the gate' test "$(sed -n 's/^write //p' said | tr '\n' /)" = 8224\ 26/8208\ 16/8192\ 16/
 row 'what was loaded stands' '--dfu-mode' << END
 setup a102000000002000 => upgrade joins / a102 $(hex new)
 END
