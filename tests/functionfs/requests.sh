@@ -261,7 +261,12 @@ image =>
 setup a105000000000100 => a105 02
 END
 is 'a command that is not there' grep -q '^dfu-gadget: ./nowhere can.t be run: No such file or directory$' err
-printf '#!/bin/sh\nwhile [ -e hold ]; do sleep 0.02; done\necho "$2 $3" >> both\nkill -KILL $$\n' > slow
+cat > slow << 'END'
+#!/bin/sh
+while [ -e hold ]; do sleep 0.02; done
+echo "$2 $3" >> both
+kill -KILL $$
+END
 chmod +x slow
 : > hold
 fresh
