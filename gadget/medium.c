@@ -71,6 +71,12 @@ static bool take_alone(const struct medium *medium, enum medium_use use)
         || say_failed(medium->name, "is in use by another dfu-gadget");
 }
 
+/* Who may write it can also make it shorter, which ends a program that has it mapped. */
+static bool is_shared(const struct stat *is)
+{
+    return S_ISREG(is->st_mode) && ((is->st_mode & 022) != 0 || (is->st_uid != geteuid() && is->st_uid != 0));
+}
+
 static bool look(struct medium *medium, enum medium_use use)
 {
     struct stat is;
@@ -78,8 +84,8 @@ static bool look(struct medium *medium, enum medium_use use)
         return say_failed(medium->name, "can't be looked at");
     if (!S_ISREG(is.st_mode) && !S_ISBLK(is.st_mode))
         return say_wrong(medium->name, "it is neither a regular file nor a block device");
-    if (S_ISREG(is.st_mode) && (is.st_mode & 022) != 0)
-        say_wrong(medium->name, "warning: others than its owner may write it");
+    if (use == MEDIUM_WRITE && is_shared(&is))
+        say_wrong(medium->name, "warning: other users may write it");
     return take_size(medium, &is) && take_alone(medium, use);
 }
 

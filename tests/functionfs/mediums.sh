@@ -77,8 +77,10 @@ exec 9<&-
 equal 'a medium in use' 1 "$code"
 is 'a medium in use' grep -q 'is in use by another dfu-gadget' err
 chmod 666 medium
-refused 1 'warning: others than its owner may write it' format medium --most 5000 old
+refused 1 'warning: other users may write it' format medium --most 5000 old
 chmod 600 medium
+refused 1 'something stands there already' format medium --most 5000 old
+is 'no warning' test "$(grep -c warning err)" -eq 0
 
 # As nobody, where the tests run as root.
 if [ "$(id -u)" -eq 0 ]; then
@@ -92,6 +94,7 @@ if [ "$(id -u)" -eq 0 ]; then
     nobody format own/medium --most 5000 old
     equal 'nobody makes a medium' 0 "$code"
     equal 'nobody has it' 65534 "$(stat -c %u own/medium)"
+    refused 1 'warning: other users may write it' format own/medium --most 5000 old
     nobody format medium --force --most 5000 old
     equal 'nobody overwrites none of root' 1 "$code"
     is 'nobody is told' grep -q 'can.t be opened: Permission denied' err
