@@ -14,6 +14,10 @@ builds() {
 }
 builds 0 'with no warning' env CFLAGS='-Werror -Wconversion -Wno-sign-conversion -Wshadow' "$top/gadget/build" "$work/a b"
 equal 'it runs' "$(./gadget --version)" "$('a b/dfu-gadget' --version)"
+readelf -h -d -l -s -W 'a b/dfu-gadget' > parts
+for part in 'Type: *DYN' 'BIND_NOW' 'GNU_RELRO' '__stack_chk_fail' '__read_chk\|__fprintf_chk'; do
+    is "it is hardened: $part" grep -q -e "$part" parts
+done
 builds 0 'CC with words, LDFLAGS, DESTDIR' env CC='gcc -DNOTHING' LDFLAGS=-Wl,--build-id=0x1234 DESTDIR="$work/stage" \
     "$top/gadget/build" /usr
 is 'LDFLAGS count' grep -q "$(printf '\022\064')" stage/usr/dfu-gadget
