@@ -83,10 +83,10 @@ enum plan machine_plan(struct machine *machine, const uint8_t setup[8])
     if ((setup[0] & 0x80) != 0 || length == 0)
         return PLAN_ANSWER;
     if (length > machine->config.transfer) {
-        note(machine, dfu_device_too_long(&machine->config, &machine->asking.device, setup));
+        note(machine, dfu_asking_too_long(&machine->config, &machine->asking, setup));
         return PLAN_STALL;
     }
-    if (note(machine, dfu_device_would_stall(&machine->config, &machine->asking.device, machine->medium->size, setup)) == 0)
+    if (note(machine, dfu_asking_would_stall(&machine->config, &machine->asking, machine->medium->size, setup)) == 0)
         return PLAN_TAKE;
     if (machine->refusal == 0) {
         uint8_t out[MOST_TRANSFER], body[MOST_TRANSFER] = {0};
