@@ -1,0 +1,134 @@
+/* Requests, time and resets, as they come from the bus, and what is sent back. */
+#define _POSIX_C_SOURCE 200809L
+#include "bus.h"
+#include "say.h"
+
+#include <limits.h>
+#include <string.h>
+#include <time.h>
+
+#define LONGEST_PAUSE 3600000 /* ms */
+
+static int64_t clock_ms(void)
+{
+    struct timespec now;
+    clock_gettime(CLOCK_MONOTONIC, &now);
+    return (int64_t)now.tv_sec * 1000 + now.tv_nsec / 1000000;
+}
+
+/* What follows each change of the machine. */
+static void look(struct bus *bus)
+{
+    if (!bus->machine.is_installed || bus->machine.refusal != 0)
+        return;
+    bus->machine.is_installed = false;
+    installed_run(&bus->installed, bus->machine.place.at, bus->machine.place.length);
+}
+
+/* The time is counted from before the writes that it leads to: they take none of the next state's. */
+void bus_pass(struct bus *bus)
+{
+    int64_t now = clock_ms(), passed = now - bus->told;
+    int32_t before = machine_state(&bus->machine);
+    bus->told = now;
+    if (passed <= 0 || machine_due(&bus->machine) == 0)
+        return;
+    machine_pass(&bus->machine, passed);
+    if (machine_state(&bus->machine) != before)
+        say_change("time", passed, machine_state(&bus->machine));
+    look(bus);
+}
+
+void bus_reset(struct bus *bus)
+{
+    bus_pass(bus);
+    machine_reset(&bus->machine);
+    say_change("reset", 0, machine_state(&bus->machine));
+    look(bus);
+}
+
+void bus_leave(struct bus *bus)
+{
+    if (bus->mode != NOWHERE)
+        controller_leave(bus->functions[bus->mode].gadget);
+    bus->mode = NOWHERE;
+}
+
+/* To leave with the one gadget and come with the other is no reset of the machine's. */
+bool bus_settle(struct bus *bus)
+{
+    int wanted = machine_is_upgrade(&bus->machine) ? UPGRADE : APPLICATION;
+    struct function *function = &bus->functions[wanted];
+    if (wanted == bus->mode)
+        return true;
+    bus_leave(bus);
+    function_begin(function);
+    controller_is_new_state(&bus->controller);
+    if (!controller_join(&bus->controller, function->gadget))
+        return false;
+    bus->mode = wanted;
+    say_event("joins: %s, %s", function->gadget, state_name(machine_state(&bus->machine)));
+    return true;
+}
+
+/* An answer, or an acknowledgement. A data stage that was taken is acknowledged already. */
+static void send(struct function *function, const uint8_t setup[8], int32_t answer, const uint8_t *out)
+{
+    if (answer < 0)
+        function_stall(function, setup);
+    else if ((setup[0] & 0x80) != 0)
+        function_answer(function, out, (size_t)answer);
+    else if (setup[6] == 0 && setup[7] == 0)
+        function_acknowledge(function);
+}
+
+/* The data stage is taken, unless the library stalls the setup before it: DFU_STALL, or its answer; and false where the host gave up. */
+static bool decide(struct bus *bus, const uint8_t setup[8], uint8_t out[MOST_TRANSFER], int32_t *answer)
+{
+    uint8_t body[MOST_TRANSFER];
+    size_t length = (size_t)(setup[6] | setup[7] << 8);
+    switch (machine_plan(&bus->machine, setup)) {
+    case PLAN_STALL: *answer = DFU_STALL; return true;
+    case PLAN_ANSWER: length = 0; break;
+    case PLAN_TAKE:
+        if (function_take(&bus->functions[bus->mode], body, length) != (int)length)
+            return false;
+        break;
+    }
+    *answer = machine_handle(&bus->machine, setup, body, length, out);
+    return true;
+}
+
+/* FunctionFS has put this function's own number of the interface into wIndex, which is 0. Other requests than those of the class are
+   nobody's. */
+void bus_serve(struct bus *bus, const uint8_t setup[8])
+{
+    struct function *function = &bus->functions[bus->mode];
+    uint8_t out[MOST_TRANSFER], request[8];
+    int32_t answer = DFU_STALL;
+    int64_t began = clock_ms();
+    memcpy(request, setup, 8);
+    request[4] = request[5] = 0;
+    bus_pass(bus);
+    if ((request[0] & 0x7f) == 0x21 && !decide(bus, request, out, &answer)) {
+        say_event("gave-up: the host sent no data stage");
+        return;
+    }
+    if (bus->machine.refusal == 0)
+        send(function, setup, answer, out);
+    say_request(request, answer, out, machine_state(&bus->machine), clock_ms() - began);
+    look(bus);
+}
+
+int bus_pause(struct bus *bus)
+{
+    int64_t due = machine_due(&bus->machine), left = bus->told + due - clock_ms();
+    if (due == 0)
+        return -1;
+    return left < 0 ? 0 : left > LONGEST_PAUSE ? LONGEST_PAUSE : (int)left;
+}
+
+bool bus_is_sound(const struct bus *bus)
+{
+    return bus->machine.refusal == 0;
+}

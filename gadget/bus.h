@@ -1,0 +1,40 @@
+/* The device on the bus: which of its two gadgets is there, and the time and the resets that the machine is told of. */
+#ifndef DFU_GADGET_BUS_H
+#define DFU_GADGET_BUS_H
+
+#include "controller.h"
+#include "function.h"
+#include "installed.h"
+#include "machine.h"
+
+enum { APPLICATION, UPGRADE, MODES, NOWHERE = -1 };
+
+struct bus {
+    struct machine machine;
+    struct controller controller;
+    struct function functions[MODES];
+    struct installed installed;
+    int mode;      /* whose gadget is on the bus, or NOWHERE */
+    int64_t told;  /* up to when the machine was told the time, ms */
+};
+
+/* The time that the machine counts is told up to now. */
+void bus_pass(struct bus *bus);
+
+/* The bus was reset. */
+void bus_reset(struct bus *bus);
+
+/* The gadget that the state asks for comes to the bus. False where it can't. */
+bool bus_settle(struct bus *bus);
+void bus_leave(struct bus *bus);
+
+/* A setup that stands there is answered. */
+void bus_serve(struct bus *bus, const uint8_t setup[8]);
+
+/* How long poll may wait, in ms: -1 where no time is counted. */
+int bus_pause(struct bus *bus);
+
+/* Whether the machine goes on; false where the library refused its own record. */
+bool bus_is_sound(const struct bus *bus);
+
+#endif

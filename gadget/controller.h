@@ -1,0 +1,27 @@
+/* The USB device controller, and which gadget is on its bus. */
+#ifndef DFU_GADGET_CONTROLLER_H
+#define DFU_GADGET_CONTROLLER_H
+
+#include <stdbool.h>
+#include <stdint.h>
+
+struct controller {
+    const char *name;  /* as in /sys/class/udc */
+    int state;         /* its file `state`, which poll reports once it was written; -1 where there is none */
+};
+
+/* False where there is no such controller, which is said. */
+bool controller_open(struct controller *controller, const char *name);
+void controller_close(struct controller *controller);
+
+/* Whether its state was written since the last call. True where that can't be known. */
+bool controller_is_new_state(struct controller *controller);
+
+/* A gadget comes to the bus, and leaves it. False, which is said. */
+bool controller_join(const struct controller *controller, const char *gadget);
+bool controller_leave(const char *gadget);
+
+/* A number of a gadget's device descriptor, as idVendor. False, which is said. */
+bool controller_number(const char *gadget, const char *attribute, uint16_t *number);
+
+#endif

@@ -1,0 +1,53 @@
+/* The descriptors of the interface, for each speed, and its name. */
+#define _DEFAULT_SOURCE
+#include "descriptors.h"
+
+#include <endian.h>
+#include <errno.h>
+#include <linux/usb/ch9.h>
+#include <linux/usb/functionfs.h>
+#include <string.h>
+#include <unistd.h>
+
+#define INTERFACE_NAME "Firmware"
+
+struct interface {
+    struct usb_interface_descriptor interface;
+    uint8_t functional[9];
+} __attribute__((packed));
+
+struct descriptors {
+    struct usb_functionfs_descs_head_v2 head;
+    uint32_t signals, full_count, high_count, super_count;
+    struct interface full, high, super;
+} __attribute__((packed));
+
+struct named {
+    struct usb_functionfs_strings_head head;
+    uint16_t language;
+    char name[sizeof INTERFACE_NAME];
+} __attribute__((packed));
+
+static bool write_all(int ep0, const void *bytes, size_t length)
+{
+    ssize_t count = write(ep0, bytes, length);
+    if (count >= 0 && count != (ssize_t)length)
+        errno = EIO;
+    return count == (ssize_t)length;
+}
+
+bool descriptors_write(int ep0, int signals, uint8_t protocol, const uint8_t functional[9])
+{
+    struct interface is = {.interface = {.bLength = sizeof is.interface, .bDescriptorType = USB_DT_INTERFACE,
+                                         .bInterfaceClass = USB_CLASS_APP_SPEC, .bInterfaceSubClass = 1,
+                                         .bInterfaceProtocol = protocol, .iInterface = 1}};
+    struct named named = {.head = {htole32(FUNCTIONFS_STRINGS_MAGIC), htole32(sizeof named), htole32(1), htole32(1)},
+                          .language = htole16(0x0409), .name = INTERFACE_NAME};
+    struct descriptors all = {
+        .head = {htole32(FUNCTIONFS_DESCRIPTORS_MAGIC_V2), htole32(sizeof all),
+                 htole32(FUNCTIONFS_HAS_FS_DESC | FUNCTIONFS_HAS_HS_DESC | FUNCTIONFS_HAS_SS_DESC | FUNCTIONFS_EVENTFD)},
+        .signals = htole32((uint32_t)signals), .full_count = htole32(2), .high_count = htole32(2), .super_count = htole32(2)};
+    memcpy(is.functional, functional, sizeof is.functional);
+    all.full = all.high = all.super = is;
+    return write_all(ep0, &all, sizeof all) && write_all(ep0, &named, sizeof named);
+}

@@ -1,0 +1,163 @@
+/* FunctionFS reports no reset of the bus as such. Where a configuration was set, it reports DISABLE once the bus is reset, the cable
+   is pulled or another configuration is set; and after a reset ENABLE, once the host has set one again. Either drops those that were
+   not read yet: a program that is late finds ENABLE alone, as after a SET_INTERFACE, which dfu-util sends each time. Two things tell
+   these apart, and a reset needs both: the eventfd counts events that were dropped too, and a reset writes the controller's state. */
+#define _GNU_SOURCE
+#include "function.h"
+#include "descriptors.h"
+#include "paths.h"
+#include "say.h"
+
+#include <errno.h>
+#include <fcntl.h>
+#include <linux/usb/functionfs.h>
+#include <poll.h>
+#include <string.h>
+#include <sys/eventfd.h>
+#include <unistd.h>
+
+#define MOST_EVENTS 4 /* as many as FunctionFS keeps */
+
+static int open_signals(void)
+{
+    return eventfd(0, EFD_CLOEXEC | EFD_NONBLOCK);
+}
+
+bool function_open(struct function *function, const char *gadget, uint8_t protocol, const uint8_t functional[9])
+{
+    char path[MOST_PATH];
+    *function = (struct function){.gadget = gadget, .ep0 = -1, .signals = -1};
+    if (!path_of_function(path, gadget))
+        return say_wrong(gadget, "its path is too long");
+    function->signals = open_signals();
+    function->ep0 = open(path, O_RDWR | O_CLOEXEC);
+    if (function->ep0 < 0 || function->signals < 0)
+        return say_failed(path, "can't be opened");
+    if (descriptors_write(function->ep0, function->signals, protocol, functional))
+        return true;
+    say_failed(path, "takes no descriptors of DFU");
+    return errno == EINVAL ? say_wrong(path, "Linux takes them from 6.11 on") : false;
+}
+
+/* Where this was the last one, the kernel takes the gadget off the bus. */
+void function_close(struct function *function)
+{
+    if (function->ep0 >= 0)
+        close(function->ep0);
+    if (function->signals > 0)
+        close(function->signals);
+    function->ep0 = function->signals = -1;
+}
+
+static void count(struct function *function)
+{
+    uint64_t more = 0;
+    if (read(function->signals, &more, sizeof more) == (ssize_t)sizeof more)
+        function->unread += (int64_t)more;
+}
+
+static bool has_event(const struct function *function)
+{
+    struct pollfd wait = {.fd = function->ep0, .events = POLLIN};
+    return poll(&wait, 1, 0) > 0 && (wait.revents & POLLIN) != 0;
+}
+
+/* How many were read, or -1. */
+static int read_events(struct function *function, struct usb_functionfs_event events[MOST_EVENTS])
+{
+    ssize_t length = read(function->ep0, events, MOST_EVENTS * sizeof *events);
+    int found = length < 0 ? -1 : (int)(length / (ssize_t)sizeof *events);
+    if (found > 0)
+        function->unread -= found;
+    return found;
+}
+
+/* They are counted before it is looked whether one stands there: one that comes between is in neither or in both. */
+void function_rest(struct function *function)
+{
+    count(function);
+    if (!has_event(function))
+        function->dropped = function->unread;
+}
+
+void function_begin(struct function *function)
+{
+    struct usb_functionfs_event events[MOST_EVENTS];
+    for (int turn = 0; turn < MOST_EVENTS && has_event(function); turn++)
+        if (read_events(function, events) < 0)
+            break;
+    function_rest(function);
+    function->is_enabled = false;
+}
+
+/* Whether events were dropped that nobody heard of, behind those that were read. While a setup waits, poll reports it, and no event;
+   else what it reports came since. */
+static bool is_more_dropped(struct function *function, bool has_setup)
+{
+    count(function);
+    return function->unread - function->dropped - (!has_setup && has_event(function) ? 1 : 0) > 0;
+}
+
+static void take_event(struct function *function, const struct usb_functionfs_event *event, bool may_be_reset, struct events *events)
+{
+    switch (event->type) {
+    case FUNCTIONFS_SETUP:
+        events->has_setup = true;
+        memcpy(events->setup, &event->u.setup, 8);
+        break;
+    case FUNCTIONFS_DISABLE:
+        events->is_reset = events->is_reset || function->is_enabled;
+        function->is_enabled = false;
+        break;
+    case FUNCTIONFS_ENABLE:
+        events->is_reset = events->is_reset || (function->is_enabled && may_be_reset);
+        function->is_enabled = true;
+        break;
+    case FUNCTIONFS_UNBIND: events->is_gone = true; break;
+    default: break;
+    }
+}
+
+/* EIDRM: the host gave the setup up that stood there. */
+bool function_read(struct function *function, bool is_new_state, struct events *events)
+{
+    struct usb_functionfs_event found[MOST_EVENTS];
+    int many = read_events(function, found);
+    bool may_be_reset, has_setup = false;
+    *events = (struct events){0};
+    if (many < 0)
+        return errno == EIDRM || errno == EINTR || errno == EAGAIN;
+    for (int at = 0; at < many; at++)
+        has_setup = has_setup || found[at].type == FUNCTIONFS_SETUP;
+    may_be_reset = is_more_dropped(function, has_setup) && is_new_state;
+    for (int at = 0; at < many; at++)
+        take_event(function, &found[at], may_be_reset, events);
+    return true;
+}
+
+int function_take(struct function *function, uint8_t *body, size_t length)
+{
+    return (int)read(function->ep0, body, length);
+}
+
+/* Where the host gave up meanwhile, none of these is sent, and the next event is that of what it did. */
+void function_answer(struct function *function, const uint8_t *bytes, size_t length)
+{
+    ssize_t count = write(function->ep0, bytes, length);
+    (void)count;
+}
+
+void function_acknowledge(struct function *function)
+{
+    char none[1];
+    ssize_t count = read(function->ep0, none, 0);
+    (void)count;
+}
+
+/* A transfer in the other direction than the setup's is a stall. */
+void function_stall(struct function *function, const uint8_t setup[8])
+{
+    char none[1] = "";
+    ssize_t count = (setup[0] & 0x80) != 0 ? read(function->ep0, none, 0) : write(function->ep0, none, 0);
+    (void)count;
+}

@@ -1,0 +1,48 @@
+/* The texts of --help and --version. The man page says the same of each option; tests/gadget compares them. */
+#include "words.h"
+
+#include <stdio.h>
+
+void words_help(void)
+{
+    fputs("Makes a Linux board with a USB device controller a device of DFU 1.1\n"
+          "\n"
+          "Usage: dfu-gadget format MEDIUM --most BYTES IMAGE\n"
+          "       dfu-gadget image MEDIUM\n"
+          "       dfu-gadget run MEDIUM --controller UDC [OPTIONS]\n"
+          "\n"
+          "format makes a medium, a file or a block device, with IMAGE active; image writes the\n"
+          "active image to standard output; run is the device, until a signal ends it.\n"
+          "\n"
+          "Options of format:\n"
+          "  --most <BYTES>          Make room for images of up to so many bytes, as 8M\n"
+          "  --force                 Overwrite what stands there\n"
+          "\n"
+          "Options of run:\n"
+          "  --controller <UDC>      Use this controller, a name in /sys/class/udc\n"
+          "  --config <FILE>         Read options from FILE, a line for each; words win\n"
+          "  --application <NAME>    The gadget of run-time mode, else application\n"
+          "  --upgrade <NAME>        The gadget of DFU mode, else upgrade\n"
+          "  --on-installed <PROGRAM>\n"
+          "                          Run PROGRAM MEDIUM AT LENGTH once an image is in place\n"
+          "  --dfu-mode              Begin in DFU mode\n"
+          "  --detach-timeout <MS>   Wait so long for the reset after a DETACH, else 1000\n"
+          "  --transfer-size <BYTES> Take blocks of up to so many bytes, else 4096\n"
+          "  --attributes <LIST>     Of download,upload,tolerant,detach; else the first three\n"
+          "  --busy <MS>             What a block takes, as the host is told, else 5\n"
+          "  --manifest <MS>         What an image takes to be put in place, else 20\n"
+          "  --least <BYTES>         Take no image of fewer bytes, else 1\n"
+          "  --dry-run               Say what is there and what is missing, and do nothing\n"
+          "  --verbose               Print a line for each request\n"
+          "  --root <FOLDER>         Look for /sys, /dev/usb-ffs and /proc in FOLDER, for tests\n"
+          "\n"
+          "  -h, --help              Print help\n"
+          "  -V, --version           Print the version\n",
+          stdout);
+}
+
+/* The version of all of Fustrelan. */
+void words_version(void)
+{
+    puts("dfu-gadget 0.1.0");
+}

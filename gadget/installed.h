@@ -1,0 +1,24 @@
+/* The command of --on-installed. */
+#ifndef DFU_GADGET_INSTALLED_H
+#define DFU_GADGET_INSTALLED_H
+
+#include <stdbool.h>
+#include <stdint.h>
+
+struct installed {
+    const char *command;   /* NULL where there is none */
+    const char *medium;
+    int child;             /* a descriptor that poll reports once the command ended; -1 where none runs */
+    int process;
+    bool is_due;           /* another image came meanwhile, and is at: */
+    uint32_t at, length;
+};
+
+/* An image is in place: the command is run with MEDIUM, AT and LENGTH. Where it still runs for the one before, it is run again behind
+   that. Nothing waits for it. */
+void installed_run(struct installed *installed, uint32_t at, uint32_t length);
+
+/* To be called once poll reports `child`. */
+void installed_end(struct installed *installed);
+
+#endif

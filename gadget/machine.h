@@ -1,0 +1,56 @@
+/* The device, as the proved library decides it. All calls of that library are in machine.c; what it asks to be written is written
+   there before anything else is asked of it. */
+#ifndef DFU_GADGET_MACHINE_H
+#define DFU_GADGET_MACHINE_H
+
+#include "dfu_asking.h"
+#include "medium.h"
+
+#include <stdbool.h>
+
+#define MOST_TRANSFER 4096 /* bytes of a block */
+
+enum { STATE_APP_IDLE = 0, STATE_DFU_IDLE = 2, STATE_MANIFEST = 7, STATE_ERROR = 10 };
+
+struct machine {
+    struct dfu_config config;
+    struct dfu_asking asking;
+    uint8_t block[MOST_TRANSFER];
+    const struct medium *medium;
+    struct dfu_place place;  /* of the active image */
+    bool is_installed;       /* another image was put in place, and nobody has looked at this yet */
+    int32_t refusal;         /* of the library; 0 where there was none. What follows one has no meaning */
+};
+
+/* The device gets power, and begins as the application or in DFU mode: 0, or the library's refusal. */
+int32_t machine_power_on(struct machine *machine, const struct medium *medium, bool is_upgrade);
+
+/* What is to be done with a setup before its data stage. */
+enum plan { PLAN_ANSWER, PLAN_STALL, PLAN_TAKE };
+enum plan machine_plan(struct machine *machine, const uint8_t setup[8]);
+
+/* The answer: how many bytes of `out`, or negative for a stall. */
+int32_t machine_handle(struct machine *machine, const uint8_t setup[8], const uint8_t *body, size_t length, uint8_t out[MOST_TRANSFER]);
+
+/* So many milliseconds passed; the bus was reset. */
+void machine_pass(struct machine *machine, int64_t ms);
+void machine_reset(struct machine *machine);
+
+/* In how many milliseconds time changes the state; 0 where it doesn't. */
+int64_t machine_due(struct machine *machine);
+int32_t machine_state(struct machine *machine);
+
+/* Whether the device is to be on the bus in DFU mode. */
+bool machine_is_upgrade(struct machine *machine);
+
+/* The functional descriptor. */
+int32_t machine_functional(const struct machine *machine, uint8_t out[9]);
+
+/* Of a medium that is mapped, where its image stands; and a new medium in memory: 0, or the library's refusal. */
+int32_t machine_image(const struct medium *medium, struct dfu_place *place);
+int32_t machine_format(uint8_t *memory, size_t size, const uint8_t *image, size_t length);
+
+/* What a refusal of the library means. */
+const char *machine_words(int32_t refusal);
+
+#endif

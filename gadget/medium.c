@@ -1,0 +1,149 @@
+/* The medium: what may be one, its size, and how it is written. */
+#define _GNU_SOURCE
+#include "medium.h"
+#include "say.h"
+
+#include <errno.h>
+#include <fcntl.h>
+#include <linux/fs.h>
+#include <sys/file.h>
+#include <sys/ioctl.h>
+#include <sys/mman.h>
+#include <sys/stat.h>
+#include <unistd.h>
+
+#define SECTOR 4096         /* bytes, the largest sector of common disks and cards */
+#define HEADER 32           /* bytes of a slot that are not its image's */
+#define MOST_IMAGE 16777216 /* bytes, the library's limit */
+
+/* The largest slot is a whole number of sectors too. */
+size_t medium_slots(size_t size, size_t sector)
+{
+    size_t slot = size / 2 / sector * sector, largest = (HEADER + MOST_IMAGE) / sector * sector;
+    return 2 * (slot < largest ? slot : largest);
+}
+
+size_t medium_wanted(size_t most, size_t sector)
+{
+    size_t slot = most > MOST_IMAGE ? 0 : (HEADER + most + sector - 1) / sector * sector;
+    return slot == 0 || slot > HEADER + MOST_IMAGE ? 0 : 2 * slot;
+}
+
+size_t medium_most(size_t size)
+{
+    return size / 2 < HEADER ? 0 : size / 2 - HEADER;
+}
+
+/* A link is followed to a block device alone, as those of /dev/disk are: a link to a file may be someone else's. What would block,
+   as a pipe, is opened all the same, and refused. Of a block device, O_EXCL asks that nothing else has it, as a file system. */
+static int open_there(const char *name, int flags)
+{
+    int file = open(name, flags | O_CLOEXEC | O_NOFOLLOW | O_NONBLOCK);
+    struct stat is;
+    if (file >= 0 || errno != ELOOP)
+        return file;
+    file = open(name, flags | O_CLOEXEC | O_NONBLOCK);
+    if (file >= 0 && (fstat(file, &is) != 0 || !S_ISBLK(is.st_mode))) {
+        close(file);
+        errno = ELOOP;
+        return -1;
+    }
+    return file;
+}
+
+static bool take_size(struct medium *medium, const struct stat *is)
+{
+    unsigned physical = 0;
+    off_t end = lseek(medium->file, 0, SEEK_END);
+    medium->is_device = S_ISBLK(is->st_mode);
+    medium->sector = SECTOR;
+    if (medium->is_device && ioctl(medium->file, BLKPBSZGET, &physical) == 0 && physical > SECTOR && physical <= 65536)
+        medium->sector = physical;
+    if (end < 0)
+        return say_failed(medium->name, "has no size");
+    medium->size = medium_slots((size_t)end, medium->sector);
+    return true;
+}
+
+static bool take_alone(const struct medium *medium, enum medium_use use)
+{
+    return use == MEDIUM_READ || flock(medium->file, LOCK_EX | LOCK_NB) == 0
+        || say_failed(medium->name, "is in use by another dfu-gadget");
+}
+
+/* Who may write it can also make it shorter, which ends a program that has it mapped. */
+static bool is_shared(const struct stat *is)
+{
+    return S_ISREG(is->st_mode) && ((is->st_mode & 022) != 0 || (is->st_uid != geteuid() && is->st_uid != 0));
+}
+
+static bool look(struct medium *medium, enum medium_use use)
+{
+    struct stat is;
+    if (fstat(medium->file, &is) != 0)
+        return say_failed(medium->name, "can't be looked at");
+    if (!S_ISREG(is.st_mode) && !S_ISBLK(is.st_mode))
+        return say_wrong(medium->name, "it is neither a regular file nor a block device");
+    if (use == MEDIUM_WRITE && is_shared(&is))
+        say_wrong(medium->name, "warning: other users may write it");
+    return take_size(medium, &is) && take_alone(medium, use);
+}
+
+bool medium_open(struct medium *medium, const char *name, enum medium_use use)
+{
+    *medium = (struct medium){.name = name, .file = open_there(name, use == MEDIUM_WRITE ? O_RDWR | O_EXCL : O_RDONLY)};
+    if (medium->file < 0 && errno == EBUSY)
+        return say_wrong(name, "it is in use, by a file system that is mounted or by another program");
+    if (medium->file < 0)
+        return errno == ELOOP ? say_wrong(name, "it is a link, and not to a block device") : say_failed(name, "can't be opened");
+    if (look(medium, use))
+        return true;
+    medium_close(medium);
+    return false;
+}
+
+bool medium_map(struct medium *medium, const char *name, enum medium_use use)
+{
+    void *bytes;
+    if (!medium_open(medium, name, use))
+        return false;
+    if (medium->size == 0) {
+        medium_close(medium);
+        return say_wrong(name, "it is too small for a medium: `dfu-gadget format` makes one");
+    }
+    bytes = mmap(NULL, medium->size, PROT_READ, MAP_SHARED, medium->file, 0);
+    if (bytes == MAP_FAILED) {
+        say_failed(name, "can't be mapped");
+        medium_close(medium);
+        return false;
+    }
+    medium->bytes = bytes;
+    return true;
+}
+
+void medium_close(struct medium *medium)
+{
+    if (medium->bytes != NULL)
+        munmap((void *)(uintptr_t)medium->bytes, medium->size);
+    medium->bytes = NULL;
+    if (medium->file >= 0)
+        close(medium->file);
+    medium->file = -1;
+}
+
+bool medium_write(const struct medium *medium, size_t at, const uint8_t *bytes, size_t length)
+{
+    while (length > 0) {
+        ssize_t count = pwrite(medium->file, bytes, length, (off_t)at);
+        if (count < 0 && errno == EINTR)
+            continue;
+        if (count == 0)
+            errno = ENOSPC;
+        if (count <= 0)
+            return false;
+        bytes += count;
+        at += (size_t)count;
+        length -= (size_t)count;
+    }
+    return fdatasync(medium->file) == 0;
+}

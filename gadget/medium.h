@@ -1,0 +1,41 @@
+/* The medium: a file or a block device with the two slots of an image each. It is read through a mapping that can't be written, and
+   written by calls that say whether the bytes are on the disk. */
+#ifndef DFU_GADGET_MEDIUM_H
+#define DFU_GADGET_MEDIUM_H
+
+#include <stdbool.h>
+#include <stddef.h>
+#include <stdint.h>
+
+struct medium {
+    const char *name;
+    int file;
+    bool is_device;        /* a block device */
+    const uint8_t *bytes;  /* NULL before it is mapped */
+    size_t size;           /* of both slots */
+    size_t sector;         /* no sector of so many bytes has bytes of both */
+};
+
+enum medium_use { MEDIUM_READ, MEDIUM_WRITE };
+
+/* Opens what is there: a regular file that is no link, or a block device. For writing, nobody else may have it: no other
+   dfu-gadget, and of a device no file system that is mounted. False, which is said. */
+bool medium_open(struct medium *medium, const char *name, enum medium_use use);
+
+/* The same, and maps it. */
+bool medium_map(struct medium *medium, const char *name, enum medium_use use);
+void medium_close(struct medium *medium);
+
+/* How many bytes the two slots take of `size`, 0 where there is too little: the most that no sector holds bytes of both. */
+size_t medium_slots(size_t size, size_t sector);
+
+/* How many bytes a medium for images of up to `most` bytes has, 0 where none can. */
+size_t medium_wanted(size_t most, size_t sector);
+
+/* The most bytes of an image of a medium with `size` bytes. */
+size_t medium_most(size_t size);
+
+/* Puts bytes at their place, and on the disk. False where that failed, with errno. */
+bool medium_write(const struct medium *medium, size_t at, const uint8_t *bytes, size_t length);
+
+#endif

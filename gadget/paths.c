@@ -1,0 +1,55 @@
+/* Where Linux keeps what a gadget is made of, and the files of one line there. */
+#define _POSIX_C_SOURCE 200809L
+#include "paths.h"
+
+#include <errno.h>
+#include <fcntl.h>
+#include <stdio.h>
+#include <string.h>
+#include <unistd.h>
+
+const char *paths_root = "";
+
+static bool make(char path[MOST_PATH], const char *folder, const char *name, const char *file)
+{
+    int length = snprintf(path, MOST_PATH, "%s%s/%s%s%s", paths_root, folder, name, *file == '\0' ? "" : "/", file);
+    return length > 0 && length < MOST_PATH;
+}
+
+bool path_of_gadget(char path[MOST_PATH], const char *gadget, const char *attribute)
+{
+    return make(path, "/sys/kernel/config/usb_gadget", gadget, attribute);
+}
+
+bool path_of_function(char path[MOST_PATH], const char *gadget)
+{
+    return make(path, "/dev/usb-ffs", gadget, "ep0");
+}
+
+bool path_of_controller(char path[MOST_PATH], const char *controller, const char *attribute)
+{
+    return make(path, "/sys/class/udc", controller, attribute);
+}
+
+bool path_of_kernel(char path[MOST_PATH], const char *name)
+{
+    return make(path, "/proc", name, "");
+}
+
+bool path_line(const char *path, char *line, size_t room)
+{
+    int error, file = open(path, O_RDONLY | O_CLOEXEC);
+    ssize_t count = file < 0 ? -1 : read(file, line, room - 1);
+    error = errno;
+    if (file >= 0)
+        close(file);
+    errno = error;
+    line[count < 0 ? 0 : count] = '\0';
+    line[strcspn(line, "\n")] = '\0';
+    return count >= 0;
+}
+
+bool path_is_name(const char *name)
+{
+    return *name != '\0' && *name != '.' && strchr(name, '/') == NULL && strlen(name) < 128;
+}

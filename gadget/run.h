@@ -1,0 +1,10 @@
+/* The work of `run`. */
+#ifndef DFU_GADGET_RUN_H
+#define DFU_GADGET_RUN_H
+
+#include "words.h"
+
+/* Is the device until a signal ends it: the status. */
+int run_device(const struct words *words);
+
+#endif

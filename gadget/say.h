@@ -1,0 +1,32 @@
+/* The lines on standard error. */
+#ifndef DFU_GADGET_SAY_H
+#define DFU_GADGET_SAY_H
+
+#include "status.h"
+
+#include <stdbool.h>
+#include <stdint.h>
+
+/* A line about a file or another name that others chose: the name, escaped where it has to be, and what is wrong with it. False. */
+bool say_wrong(const char *name, const char *why);
+
+/* The same, with the reason that errno has. False. */
+bool say_failed(const char *name, const char *what);
+
+/* A line about what happens, as a change of mode. */
+void say_event(const char *format, ...) __attribute__((format(printf, 1, 2)));
+
+/* Whether each request gets a line. */
+extern bool say_is_verbose;
+
+/* A line for a request, once it is answered: docs/dfu-gadget.1, REQUESTS, has its words. `answer` is how many bytes of `out` went
+   back, or negative for a stall. */
+void say_request(const uint8_t setup[8], int32_t answer, const uint8_t *out, int32_t state, int64_t ms);
+
+/* A line for a change of state that no request made: by time, or by a reset of the bus. */
+void say_change(const char *what, int64_t ms, int32_t state);
+
+/* The name of a state, bState (USB DFU 1.1, section 6.1.2). */
+const char *state_name(int32_t state);
+
+#endif

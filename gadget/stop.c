@@ -1,0 +1,76 @@
+/* Signals. A handler notes which one came, and writes to a pipe that each wait looks at: so one that comes just before a wait ends it
+   too. A transfer of endpoint 0 is broken off by it. */
+#define _GNU_SOURCE
+#include "stop.h"
+#include "status.h"
+
+#include <errno.h>
+#include <fcntl.h>
+#include <signal.h>
+#include <stddef.h>
+#include <string.h>
+#include <unistd.h>
+
+static const int kinds[] = {SIGTERM, SIGINT, SIGHUP};
+static volatile sig_atomic_t came;
+static int wake[2] = {-1, -1};
+
+static void on_stop(int number)
+{
+    int before = errno;
+    ssize_t written;
+    came = number;
+    written = write(wake[1], "", 1);
+    (void)written;
+    errno = before;
+}
+
+/* A page of the mapping that can't be read: the disk failed, or somebody made the file shorter. Endpoint 0 is closed with the program,
+   and so the gadget leaves the bus. */
+static void on_lost(int number)
+{
+    static const char line[] = "dfu-gadget: the medium can't be read any more\n";
+    ssize_t written = write(STDERR_FILENO, line, sizeof line - 1);
+    (void)written;
+    (void)number;
+    _exit(STATUS_MEDIUM);
+}
+
+bool stop_catch(void)
+{
+    struct sigaction action = {.sa_handler = on_stop}, now;
+    if (pipe2(wake, O_CLOEXEC | O_NONBLOCK) != 0)
+        return false;
+    sigfillset(&action.sa_mask);
+    for (size_t at = 0; at < sizeof kinds / sizeof kinds[0]; at++)
+        if (sigaction(kinds[at], NULL, &now) == 0 && now.sa_handler != SIG_IGN)
+            sigaction(kinds[at], &action, NULL);
+    signal(SIGPIPE, SIG_IGN);
+    return true;
+}
+
+int stop_signal(void)
+{
+    return came;
+}
+
+int stop_descriptor(void)
+{
+    return wake[0];
+}
+
+void stop_forget(void)
+{
+    struct sigaction now;
+    for (size_t at = 0; at < sizeof kinds / sizeof kinds[0]; at++)
+        if (sigaction(kinds[at], NULL, &now) == 0 && now.sa_handler == on_stop)
+            signal(kinds[at], SIG_DFL);
+    signal(SIGPIPE, SIG_DFL);
+    signal(SIGBUS, SIG_DFL);
+}
+
+void stop_at_lost_medium(void)
+{
+    struct sigaction action = {.sa_handler = on_lost};
+    sigaction(SIGBUS, &action, NULL);
+}

@@ -1,0 +1,22 @@
+/* What ends `run`: SIGTERM, SIGINT or SIGHUP. */
+#ifndef DFU_GADGET_STOP_H
+#define DFU_GADGET_STOP_H
+
+#include <stdbool.h>
+
+/* From here on a signal is noted, and ends a wait and a transfer that is under way. False where there is no pipe for it. */
+bool stop_catch(void);
+
+/* The signal that came, 0 where none did. */
+int stop_signal(void);
+
+/* A file descriptor that can be read once one came, for poll. */
+int stop_descriptor(void);
+
+/* The signals as they were, in a child before its program. */
+void stop_forget(void);
+
+/* Where the medium can't be read any more, this ends the program, with STATUS_MEDIUM. */
+void stop_at_lost_medium(void);
+
+#endif

@@ -1,0 +1,42 @@
+/* What the command line asks for, and the file of --config. */
+#ifndef DFU_GADGET_WORDS_H
+#define DFU_GADGET_WORDS_H
+
+#include <stdbool.h>
+#include <stddef.h>
+#include <stdint.h>
+
+enum job { JOB_NONE, JOB_FORMAT, JOB_IMAGE, JOB_RUN, JOB_HELP, JOB_VERSION };
+
+struct words {
+    enum job job;
+    const char *medium;       /* MEDIUM */
+    const char *image;        /* IMAGE of format */
+    uint32_t most;            /* --most, 0 where it wasn't given */
+    bool force;
+    const char *controller;   /* NULL where it wasn't given */
+    const char *config;       /* NULL where it wasn't given */
+    const char *application, *upgrade;  /* the gadgets of both modes */
+    const char *command;      /* of --on-installed, NULL where it wasn't given */
+    const char *root;
+    bool dfu_mode, dry_run, verbose;
+    uint8_t attributes;
+    uint16_t detach_ms, transfer;
+    uint32_t busy_ms, manifest_ms, least;
+};
+
+/* Reads the words into `words`, and the file of --config before them, so that the words win. STATUS_DONE; or STATUS_WORDS where they
+   aren't understood, or STATUS_FILE where the file can't be read, which is said. */
+int words_read(struct words *words, int count, char **texts);
+
+/* Takes an option by its name, as the command line or the file has it; `value` is NULL where there is none. False, which is said. */
+bool words_option(struct words *words, const char *name, const char *value);
+
+/* Reads the file of --config. STATUS_DONE, or as words_read. */
+int config_read(struct words *words);
+
+/* Print the help, and the version, on standard output. */
+void words_help(void);
+void words_version(void);
+
+#endif
