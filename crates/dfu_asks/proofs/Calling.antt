@@ -23,6 +23,8 @@ use Rattle.dfu_asks.specs.Carried.{carried, IsPiece}
 use Rattle.dfu_asks.specs.Due.{IsDueRow, Fails}
 use Rattle.dfu_asks.specs.Asks.{block_in, store_in, device_in, device_of, IsDevice, IsDue, IsJobOf, IsDueStage, IsWorking, writes_in, IsBrokenOff, Gives, IsRest}
 use Rattle.dfu_asks.specs.Calls.{HasEnded, Asks, Comes, comes_asks, comes_ended, Called, called_ended, called_asks}
+use Rattle.dfu_asks.specs.Refused.{IsTaken}
+use Rattle.dfu_asks.proofs.Pieces.{piece_one, piece_end, piece_some}
 use Rattle.dfu_asks.proofs.Carrying.{step_carried, broken_carried}
 use Rattle.dfu_asks.proofs.Inside.{working_within}
 use Rattle.dfu_asks.proofs.Ended.{broken_ended}
@@ -108,19 +110,43 @@ module _ (a mid now : Asking) (flash : List ℕ) (d : Shown) (first : IsRest a m
   pub kept_device : device_in now flash ≡ d
   kept_device = (λ i. shows ((second.config ∙ first.config ∙ sym config) i) (store_kept i) now.mode (block_in now)) ∙ parts
 
+  -- And it is one still.
+  pub kept_is : IsDevice now flash
+  kept_is = record {
+    store = subst IsStore (sym (store_kept ∙ slots)) is.store;
+    sound = subst (λ (s : SlotsState). IsTrue (is_sound now.mode (length (block_in now)) s)) (sym store_kept) sound;
+  }
+
   -- The call has come to its end.
   pub kept_ended : (x : Answer) (count : ℕ) (out out' sent : List ℕ) (Row : Answer → List ℕ → Shown → Type 0) → count ≡ length sent
       → out' ≡ sent ++ drop count out → Row x sent d → HasEnded flash x count out out' now Row
   kept_ended x count out out' sent Row count_is out_is row = record {
     gave = record { sent = sent; count_is = count_is; out_is = out_is; row = subst (λ (y : Shown). Row x sent y) (sym kept_device) row };
     work = second.work ∙ first.work ∙ none;
-    is = record {
-      store = subst IsStore (sym (store_kept ∙ slots)) is.store;
-      sound = subst (λ (s : SlotsState). IsTrue (is_sound now.mode (length (block_in now)) s)) (sym store_kept) sound;
-    };
+    is = kept_is;
   }
 
 -- How a piece went.
+
+-- The piece that was asked for is the one that was taken.
+pub one_piece : (a : Asking) (w : Work) (x : Work) (ws : List Write) (p q : Write) → x ≡ w → ws ≡ writes_in a w → IsPiece (writes_in a x) x.done p
+    → IsPiece ws w.done q → p ≡ q
+one_piece a w x ws p q same is first second = piece_one (writes_in a w) w.done p q
+    (subst (λ (y : Work). IsPiece (writes_in a y) y.done p) same first) (subst (λ (l : List Write). IsPiece l w.done q) is second)
+
+-- A device with a next piece is one that a piece can be taken of.
+pub taken_from : (a : Asking) (w : Work) (ws : List Write) (p : Write) (room : ℕ) → 6 ≤ room → a.work ≡ Some w → ws ≡ writes_in a w
+    → IsPiece ws w.done p → IsTaken a room
+taken_from a w ws p room fits is same piece =
+    let there : IsPiece (writes_in a w) w.done p = subst (λ (l : List Write). IsPiece l w.done p) same piece in
+    record {
+      fits = fits;
+      work = w;
+      is_left = record {
+        work_is = is;
+        left = omega (arith, piece_end (writes_in a w) w.done p there, piece_some (writes_in a w) w.done p there);
+      };
+    }
 
 module _ (a : Asking) (len : ℕ) (s : SlotsState) (was before : List ℕ) (asks : Asks a len s was before) (p : Write)
     (piece : IsPiece (writes_in a asks.work) asks.work.done p) (flash : List ℕ) (torn : Torn before p.at p.bytes flash) where

@@ -32,9 +32,14 @@ use Rattle.dfu_asks.specs.Asks.{IsBlockJob, IsCommitJob, IsDue, IsWorking, block
 use Rattle.dfu_asks.proofs.Working.{IsNext, IsAll, next_in, all_in}
 
 -- Writes within a range lie within as many bytes.
-within_range : (ws : List Write) (from to size : ℕ) → AllInside from to ws → to ≤ size → AreWithin ws size
+pub within_range : (ws : List Write) (from to size : ℕ) → AllInside from to ws → to ≤ size → AreWithin ws size
 within_range [] from to size inside le = tt
 within_range (w ∷ ws) from to size (low, high, inside) le = (omega arith, within_range ws from to size inside le)
+
+-- They lie within a wider one.
+inside_wider : (ws : List Write) (from to : ℕ) → AllInside (from + 1) to ws → AllInside from to ws
+inside_wider [] from to inside = tt
+inside_wider (w ∷ ws) from to (low, high, inside) = (omega (arith, low), high, inside_wider ws from to inside)
 
 module _ (s : SlotsState) (store : IsStore s) (u : WriteUnit) (grain : s.medium.grain ≡ in_place u) where
   abbrev g : ℕ
@@ -55,21 +60,18 @@ module _ (s : SlotsState) (store : IsStore s) (u : WriteUnit) (grain : s.medium.
   room_there : 2 * g + room_of s ≡ slot_size s.medium.bytes
   room_there = omega (arith, room_capacity s, store.has_image.active.sized.room)
 
-  block_inside : (n : ℕ) (b : List ℕ) (close : Bool) (held : List ℕ) → length held ≤ n → n + length b ≤ room_of s
-      → AllInside place to (job_writes (job.Block place close) (in_place u) n held b)
-  block_inside n b close held le room =
-      inside_append place to (if close then record { at = place; bytes = gate_unit (gate_size u) 0 } ∷ [] else [])
-      (put_writes (in_place u) (held_place (in_place u) place n held) held b)
-      (inside_if place to close (record { at = place; bytes = gate_unit (gate_size u) 0 } ∷ []) []
-      (omega arith, omega (arith, length-gate_unit (gate_size u) 0 (unit_wide u), room_there, gate), tt) tt)
-      (put_inside (in_place u) held b place to (held_place (in_place u) place n held) (edge to) (omega arith)
-      (omega (arith, length-append held b, le, room, room_there, gate)))
+  -- What is put lies behind the first byte of the spare slot, which is its gate.
+  pub put_beyond : (n : ℕ) (b : List ℕ) (held : List ℕ) → length held ≤ n → n + length b ≤ room_of s
+      → AllInside (place + 1) to (put_writes (in_place u) (held_place (in_place u) place n held) held b)
+  put_beyond n b held le room =
+      put_inside (in_place u) held b (place + 1) to (held_place (in_place u) place n held) (edge to) (omega (arith, unit_wide u))
+      (omega (arith, length-append held b, le, room, room_there, gate))
 
-  commit_inside : (n gen crc : ℕ) (b : List ℕ) → s.put_end ≡ n
-      → AllInside place to (job_writes (job.Commit place gen crc) (in_place u) n s.held b)
-  commit_inside n gen crc b here =
-      inside_append place to (part_writes (in_place u) (held_place (in_place u) place n s.held) s.held) (open_writes (in_place u) place gen n crc)
-      (some_inside 0 place to (held_place (in_place u) place n s.held) (filled u s.held) (edge to) (omega arith)
+  -- So does what was held back.
+  pub part_beyond : (n : ℕ) → s.put_end ≡ n
+      → AllInside (place + 1) to (part_writes (in_place u) (held_place (in_place u) place n s.held) s.held)
+  part_beyond n here =
+      some_inside 0 (place + 1) to (held_place (in_place u) place n s.held) (filled u s.held) (edge to) (omega (arith, unit_wide u))
       (omega (
         arith,
         here,
@@ -78,7 +80,22 @@ module _ (s : SlotsState) (store : IsStore s) (u : WriteUnit) (grain : s.medium.
         room_capacity s,
         room_there,
         ap (λ (x : Grain). length (filled x.unit s.held)) grain,
-      ))) (
+      ))
+
+  block_inside : (n : ℕ) (b : List ℕ) (close : Bool) (held : List ℕ) → length held ≤ n → n + length b ≤ room_of s
+      → AllInside place to (job_writes (job.Block place close) (in_place u) n held b)
+  block_inside n b close held le room =
+      let put = put_writes (in_place u) (held_place (in_place u) place n held) held b in
+      inside_append place to (if close then record { at = place; bytes = gate_unit (gate_size u) 0 } ∷ [] else []) put
+      (inside_if place to close (record { at = place; bytes = gate_unit (gate_size u) 0 } ∷ []) []
+      (omega arith, omega (arith, length-gate_unit (gate_size u) 0 (unit_wide u), room_there, gate), tt) tt)
+      (inside_wider put place to (put_beyond n b held le room))
+
+  commit_inside : (n gen crc : ℕ) (b : List ℕ) → s.put_end ≡ n
+      → AllInside place to (job_writes (job.Commit place gen crc) (in_place u) n s.held b)
+  commit_inside n gen crc b here =
+      let part = part_writes (in_place u) (held_place (in_place u) place n s.held) s.held in
+      inside_append place to part (open_writes (in_place u) place gen n crc) (inside_wider part place to (part_beyond n here)) (
         omega arith,
         omega (arith, length-header_unit (gate_size u) gen n crc (unit_wide u), room_there, gate),
         (omega arith, omega (arith, length-gate_unit (gate_size u) OPEN (unit_wide u), room_there, gate), tt),
@@ -88,7 +105,8 @@ module _ (s : SlotsState) (store : IsStore s) (u : WriteUnit) (grain : s.medium.
   few n some (inl none) = absurd (some none)
   few n some (inr put) = omega (arith, held_end s store.puts, eqb-true _ _ (and_parts (is_begun s) (s.put_end == n) put).1)
 
-  held_little : (n : ℕ) → (n ≡ 0) ⊎ (is_put n s ≡ true) → length (held_before s n) ≤ n
+  -- No more is held back before a block than was put.
+  pub held_little : (n : ℕ) → (n ≡ 0) ⊎ (is_put n s ≡ true) → length (held_before s n) ≤ n
   held_little n before = elim (cases_eq n 0) [
     | inl none ↦ subst (λ (c : Bool). length (if c then [] else s.held) ≤ n) (sym (ap (λ (k : ℕ). k == 0) none)) (omega arith)
     | inr some ↦ subst (λ (c : Bool). length (if c then [] else s.held) ≤ n) (sym (ne_eqb n 0 some)) (few n some before)
@@ -106,7 +124,7 @@ module _ (s : SlotsState) (store : IsStore s) (u : WriteUnit) (grain : s.medium.
         (commit_inside n _ _ b (eqb-true _ _ (and_parts (is_begun s) (s.put_end == n) whole.put).1))
 
     -- The writes of the row that is due lie within the spare slot.
-    due_inside : (m : Mode) (asked : Option ℕ) (len : ℕ) → IsTrue (is_sound m (length b) s) → IsDue m asked len s j end held
+    pub due_inside : (m : Mode) (asked : Option ℕ) (len : ℕ) → IsTrue (is_sound m (length b) s) → IsDue m asked len s j end held
         → AllInside place to (job_writes j (in_place u) end held b)
     due_inside (mode.DownloadSync n number) asked len sound due = of_block n (next_in n (length b) s sound) due.1
     due_inside (mode.DownloadBusy n number passed) asked len sound due = of_block n (next_in n (length b) s sound) due.1
@@ -114,7 +132,8 @@ module _ (s : SlotsState) (store : IsStore s) (u : WriteUnit) (grain : s.medium.
     due_inside (mode.Manifest n passed) asked len sound due = of_commit n (all_in n s sound) due.1
     due_inside m asked len sound due = absurd due
 
-  end_there : to ≤ length s.medium.bytes
+  -- The spare slot ends within the medium.
+  pub end_there : to ≤ length s.medium.bytes
   end_there = spare_end g s.medium.bytes (standing store.has_image.active).sized
 
 -- So the writes that a device works for lie within its flash.

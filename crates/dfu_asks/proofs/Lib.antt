@@ -8,4 +8,5 @@ mod Ended
 mod Inside
 mod Calling
 mod Spared
+mod Shut
 mod Started

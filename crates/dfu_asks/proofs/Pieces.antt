@@ -1,5 +1,5 @@
 -- The pieces of a series, write by write.
-use Rattle.std.proofs.Common.{◌≡◌, inl, inr, ◌==◌, Bool, if◌then◌else◌, ℕ, ◌+◌, ◌-◌, ◌≤◌, ◌<◌, min, List, [], ◌∷◌, ◌++◌, length, take, drop, replicate, slice_range, sym, ◌∙◌, ap, subst, arith, length-drop}
+use Rattle.std.proofs.Common.{◌≡◌, inl, inr, ◌==◌, Bool, if◌then◌else◌, ℕ, ◌+◌, ◌-◌, ◌≤◌, ◌<◌, min, List, [], ◌∷◌, ◌++◌, length, take, drop, replicate, slice_range, refl, sym, ◌∙◌, ap, subst, arith, length-drop}
 use Rattle.std.proofs.lemmas.Bool.{cases_eq, ne_eqb}
 use Rattle.std.proofs.lemmas.List.{take-take, drop-drop, append-nil, length-take-le, take-replicate}
 use Rattle.std.proofs.lemmas.Slice.{between_is}
@@ -13,7 +13,7 @@ use Rattle.dfu_slots.proofs.Within.{take_past}
 use Rattle.dfu_slots.proofs.Parts.{length-header_unit}
 use Rattle.dfu_slots.proofs.Sectors.{unit_wide}
 use Rattle.dfu_asks.specs.declared.job.Job.TheVariants.{Commit}
-use Rattle.dfu_asks.specs.Carried.{total, IsPart, IsPiece}
+use Rattle.dfu_asks.specs.Carried.{total, IsPart, IsPiece, IsReached}
 use Rattle.dfu_asks.specs.Jobs.{job_writes, held_place}
 
 -- A write of some bytes is one write, and of no bytes it is none.
@@ -184,3 +184,30 @@ pub piece_some : (ws : List Write) (n : ℕ) (p : Write) → IsPiece ws n p → 
 piece_some [] n p absent = absurd absent
 piece_some (w ∷ ws) n p (inl part) = part.some
 piece_some (w ∷ ws) n p (inr (past, piece)) = piece_some ws (n - length w.bytes) p piece
+
+-- A series of which nothing is carried out.
+pub reached_none : (ws : List Write) → IsReached ws 0
+reached_none [] = refl
+reached_none (w ∷ ws) = elim (cases_eq (length w.bytes) 0) [
+  | inl empty ↦
+      let e : 0 ≡ 0 - length w.bytes = omega arith in
+      inr (omega (arith, empty), subst (λ (k : ℕ). IsReached ws k) e (reached_none ws))
+  | inr some ↦ inl (omega (arith, some), refl)
+]
+
+-- Behind whole pieces the next one is carried out.
+pub reached_step : (ws : List Write) (n : ℕ) (p : Write) → IsReached ws n → IsPiece ws n p → IsReached ws (n + length p.bytes)
+reached_step [] n p reached absent = absurd absent
+reached_step (w ∷ ws) n p (inl front) (inl part) = elim (cases_eq (n + length p.bytes) (length w.bytes)) [
+  | inl whole ↦
+      let e : 0 ≡ n + length p.bytes - length w.bytes = omega (arith, whole) in
+      inr (omega (arith, whole), subst (λ (k : ℕ). IsReached ws k) e (reached_none ws))
+  | inr more ↦
+      let full : length p.bytes ≡ 256 = omega (arith, part.size, part.within, more) in
+      inl (omega (arith, part.within, more), omega (arith, front.1, full))
+]
+reached_step (w ∷ ws) n p (inl front) (inr (past, piece)) = absurd (omega (arith, front.0, past))
+reached_step (w ∷ ws) n p (inr (past, reached)) (inl part) = absurd (omega (arith, past, part.some, part.within))
+reached_step (w ∷ ws) n p (inr (past, reached)) (inr (later, piece)) =
+    let e : n - length w.bytes + length p.bytes ≡ n + length p.bytes - length w.bytes = omega (arith, past) in
+    inr (omega (arith, past), subst (λ (k : ℕ). IsReached ws k) e (reached_step ws (n - length w.bytes) p reached piece))

@@ -1,5 +1,5 @@
 -- A range within the spare slot.
-use Rattle.std.proofs.Common.{◌≡◌, ◌≢◌, ◌⊎◌, ⊎_elim, nat_eq, IsTrue, ℕ, ◌+◌, ◌≤◌, List, slice_index, sym, ◌∙◌, ap, arith}
+use Rattle.std.proofs.Common.{◌≡◌, ◌≢◌, ◌⊎◌, ⊎_elim, nat_eq, not, IsTrue, ℕ, ◌+◌, ◌≤◌, List, slice_index, sym, ◌∙◌, ap, arith}
 use Rattle.std.proofs.lemmas.Grind.{common_steps}
 use Rattle.dfu_slots.specs.Medium.{MediumState}
 use Rattle.dfu_slots.specs.Layout.{slot_size, OPEN}
@@ -11,6 +11,10 @@ use Rattle.dfu_asks.specs.Mapped.{IsInSpare}
 -- Numbers that are tested equal are.
 pub eq_from : (a b : ℕ) → IsTrue (nat_eq a b) → a ≡ b
 eq_from a b t = grind (arith, common_steps)
+
+-- And those that are not, are not.
+pub ne_from : (a b : ℕ) → IsTrue (not (nat_eq a b)) → a ≢ b
+ne_from a b t = grind (arith, common_steps)
 
 -- A slot whose gate is closed is the spare one, where there is an active image.
 pub spare_closed : (m : MediumState) (image : List ℕ) (slot at len : ℕ) → Active m image → (slot ≡ 0) ⊎ (slot ≡ slot_size m.bytes)

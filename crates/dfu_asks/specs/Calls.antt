@@ -9,7 +9,7 @@ use Rattle.dfu_asks.specs.declared.work.Work.{Work}
 use Rattle.dfu_asks.specs.declared.asking.Asking.{Asking}
 use Rattle.dfu_asks.specs.declared.reply.Reply.{Reply}
 use Rattle.dfu_asks.specs.declared.reply.Reply.TheVariants as reply
-use Rattle.dfu_asks.specs.Carried.{total, carried}
+use Rattle.dfu_asks.specs.Carried.{total, carried, IsReached}
 use Rattle.dfu_asks.specs.Due.{IsDueRow, Works, Fails}
 use Rattle.dfu_asks.specs.Asks.{store_in, device_in, device_of, IsDevice, IsWorking, writes_in}
 
@@ -27,13 +27,14 @@ pub record HasEnded (flash : List ℕ) (a : Answer) (count : ℕ) (out out' : Li
   pub work : now.work ≡ None
   pub is : IsDevice now flash
 
--- A device asks for the writes of the row that is due in it, of which so many bytes are carried out on its flash: `was` was its flash
+-- A device asks for the writes of the row that is due in it, some of whose pieces are carried out on its flash: `was` was its flash
 -- before the first of them.
 pub record Asks (a : Asking) (len : ℕ) (s : SlotsState) (was flash : List ℕ) : Type 0 where
   pub work : Work
   pub work_is : a.work ≡ Some work
   pub working : IsWorking a work len s was
   pub left : work.done < total (writes_in a work)
+  pub reached : IsReached (writes_in a work) work.done
   pub flash_is : flash ≡ carried was (writes_in a work) work.done
 
 -- What comes of a device that works for the row that is due: it asks, further on; or the row came to its end.
@@ -63,3 +64,9 @@ pub data Took (d : Shown) (len : ℕ) (s : SlotsState) (was : List ℕ) (p : Wri
   took_lied : (x : Answer) (count : ℕ) → failed ≡ false → ¬ (slice_range flash p.at (p.at + length p.bytes) ≡ p.bytes)
       → r ≡ reply.Answered x count → HasEnded flash x count out out' now (λ y sent w'. Fails NotVerified len d y sent w')
       → Took d len s was p failed flash out now out' r
+
+-- A piece of this work stands there, and it was not the last one.
+pub record AsksOn (a : Asking) (w : Work) (p : Write) (failed : Bool) (flash : List ℕ) : Type 0 where
+  pub well : failed ≡ false
+  pub stands : slice_range flash p.at (p.at + length p.bytes) ≡ p.bytes
+  pub more : w.done + length p.bytes < total (writes_in a w)

@@ -1,5 +1,5 @@
 -- A series of writes that is carried out piece by piece.
-use Rattle.std.specs.Prelude.{◌≡◌, ◌⊎◌, ℕ, ◌+◌, ◌-◌, ◌≤◌, ◌<◌, min, List, [], ◌∷◌, length, take, slice_range}
+use Rattle.std.specs.Prelude.{◌≡◌, ◌⊎◌, ℕ, ◌+◌, ◌-◌, ◌%◌, ◌≤◌, ◌<◌, min, List, [], ◌∷◌, length, take, slice_range}
 use Rattle.dfu_slots.specs.Medium.{Write, written}
 
 -- How many bytes a series of writes has.
@@ -24,6 +24,11 @@ pub record IsPart (w : Write) (n : ℕ) (p : Write) : Type 0 where
 abbrev pub IsPiece : List Write → ℕ → Write → Type 0
 IsPiece [] n p = ⊥
 IsPiece (w ∷ ws) n p = IsPart w n p ⊎ ((length w.bytes ≤ n) × IsPiece ws (n - length w.bytes) p)
+
+-- So many bytes of a series are carried out in whole pieces: of the write that they end in a multiple of 256.
+abbrev pub IsReached : List Write → ℕ → Type 0
+IsReached [] n = n ≡ 0
+IsReached (w ∷ ws) n = ((n < length w.bytes) × (n % 256 ≡ 0)) ⊎ ((length w.bytes ≤ n) × IsReached ws (n - length w.bytes))
 
 -- All writes of a series lie within so many bytes.
 abbrev pub AreWithin : List Write → ℕ → Type 0

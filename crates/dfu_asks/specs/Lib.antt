@@ -4,4 +4,5 @@ pub mod Series
 pub mod Jobs
 pub mod Due
 pub mod Asks
+pub mod Refused
 pub mod Calls

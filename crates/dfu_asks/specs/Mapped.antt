@@ -1,11 +1,11 @@
 -- Flash that is mapped into memory: it is read there, and its owner alone writes it.
-use Rattle.std.specs.Prelude.{◌+◌, ◌-◌, ◌^◌, ◌≤◌, ℕ, List, []}
+use Rattle.std.specs.Prelude.{◌≡◌, ◌≢◌, ◌⊎◌, ◌+◌, ◌-◌, ◌^◌, ◌≤◌, ℕ, List, [], slice_index}
 use Rattle.dfu_slots.specs.declared.unit.Unit.{Unit as WriteUnit}
 use Rattle.dfu_slots.specs.Units.{in_place}
 use Rattle.dfu_slots.specs.Medium.{MediumState}
 use Rattle.dfu_slots.specs.Medium.Fuse.{Unknown}
-use Rattle.dfu_slots.specs.Layout.{slot_size}
-use Rattle.dfu_slots.specs.Image.{gate_of, spare_at}
+use Rattle.dfu_slots.specs.Layout.{slot_size, OPEN}
+use Rattle.dfu_slots.specs.Image.{gate_of, spare_at, HasImage}
 
 -- The medium of these bytes that its owner writes in this unit: nothing is known of its next writes.
 abbrev pub mapped : WriteUnit → List ℕ → MediumState
@@ -15,3 +15,8 @@ mapped unit bytes = record { bytes = bytes; failures = 2 ^ 64 - 1; fuse = Unknow
 pub record IsInSpare (m : MediumState) (at len : ℕ) : Type 0 where
   pub from : spare_at (gate_of m) m.bytes ≤ at
   pub to : at + len ≤ spare_at (gate_of m) m.bytes + slot_size m.bytes
+
+-- A range is not asked for: whichever slot it lies in has an open gate, and is not the spare of an active image.
+abbrev pub IsHeldBack : MediumState → ℕ → ℕ → Type 0
+IsHeldBack m at len = (slot : ℕ) → (slot ≡ 0) ⊎ (slot ≡ slot_size m.bytes) → slot ≤ at → at + len ≤ slot + slot_size m.bytes
+    → (slice_index m.bytes slot ≡ OPEN) × (HasImage m → spare_at (gate_of m) m.bytes ≢ slot)

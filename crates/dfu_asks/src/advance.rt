@@ -1,8 +1,8 @@
 //! How a device goes on with what is left to be written of a row.
-ghost use Rattle.std.specs.Prelude.{◌≡◌, ◌≤◌, ℕ, List, length, IsTrue, Option};
+ghost use Rattle.std.specs.Prelude.{◌≡◌, ◌≤◌, ◌<◌, ◌↔◌, ℕ, List, length, IsTrue, Option, Some};
 ghost use Rattle.dfu_slots.specs.Seen.{SlotsState};
 ghost use Rattle.dfu_device.specs.Parts.{stage_of, is_sound};
-ghost use Rattle.dfu_asks.specs.Carried.{carried};
+ghost use Rattle.dfu_asks.specs.Carried.{total, carried, IsReached};
 ghost use Rattle.dfu_asks.specs.Asks.{IsDueStage, IsJobOf, device_of, IsWorking, IsBrokenOff, Gives, block_in, writes_in};
 ghost use Rattle.dfu_asks.specs.Calls.{Comes};
 
@@ -54,8 +54,11 @@ impl<'b> Asking<'b> {
     /// Asks for the next write of this work, or comes to the end of the row.
     pub(crate) fn advance(&mut self, work: Work, out: &mut [u8]) -> Reply
         requires { 6 ≤ length out.old }
-        ensures { (len : ℕ) (s : SlotsState) (was flash : List ℕ) → IsWorking self.old work len s was →
-            flash ≡ carried was (writes_in self.old work) work.done → Comes (device_of self.old s) len s was flash out.old self.new out.new result }
+        ensures outcome { (len : ℕ) (s : SlotsState) (was flash : List ℕ) → IsWorking self.old work len s was →
+            flash ≡ carried was (writes_in self.old work) work.done → IsReached (writes_in self.old work) work.done →
+            Comes (device_of self.old s) len s was flash out.old self.new out.new result }
+        ensures more { (result ≡ Reply.Asks) ↔ (work.done < total (writes_in self.old work)) }
+        ensures kept { result ≡ Reply.Asks → self.new.work ≡ Some work }
     {
         match next_piece(work.job, &self.stock(), work.done as usize) {
             Some(_) => {

@@ -1,13 +1,14 @@
 //! The writes that are asked for: the next one, and how it went.
-ghost use Rattle.std.specs.Prelude.{◌≡◌, ◌≢◌, ◌+◌, ◌≤◌, ◌<◌, ◌^◌, ◌↔◌, ℕ, List, length, take, slice_range, Some, IfOk, IfSome, OnErr, IsTrue};
+ghost use Rattle.std.specs.Prelude.{◌≡◌, ◌≢◌, ◌+◌, ◌≤◌, ◌<◌, ◌^◌, ◌↔◌, ℕ, List, length, take, slice_range, Some, IfOk, IfErr, IfSome, IfNone, OnOk, OnErr, IsTrue, not};
 ghost use Rattle.dfu_slots.specs.Medium.{Write, Torn};
 ghost use Rattle.dfu_slots.specs.Image.{Active};
 ghost use Rattle.dfu_slots.specs.Seen.{SlotsState};
-ghost use Rattle.dfu_asks.specs.Mapped.{mapped, IsInSpare};
+ghost use Rattle.dfu_asks.specs.Mapped.{mapped, IsInSpare, IsHeldBack};
 ghost use Rattle.dfu_asks.specs.Carried.{IsPiece};
 ghost use Rattle.dfu_asks.specs.Jobs.{asked};
 ghost use Rattle.dfu_asks.specs.Asks.{writes_in, device_of};
-ghost use Rattle.dfu_asks.specs.Calls.{Asks, Took};
+ghost use Rattle.dfu_asks.specs.Calls.{Asks, Took, AsksOn};
+ghost use Rattle.dfu_asks.specs.Refused.{IsLeft, IsNotTaken, IsTaken};
 ghost use Rattle.dfu_asks.specs.declared.work.Work.{Work};
 
 use crate::piece::next_piece;
@@ -38,7 +39,8 @@ fn stands(flash: &[u8], piece: &Piece) -> bool
 fn is_spare(flash: &[u8], unit: Unit, at: u64, len: u64) -> bool
     requires small { at + len < 2 ^ 42 }
     requires some { 0 < len }
-    ensures { IsTrue result → (image : List ℕ) → Active (mapped unit flash.now) image → IsInSpare (mapped unit flash.now) at len }
+    ensures yes { IsTrue result → (image : List ℕ) → Active (mapped unit flash.now) image → IsInSpare (mapped unit flash.now) at len }
+    ensures no { IsTrue (not result) → IsHeldBack (mapped unit flash.now) at len }
 {
     let half = flash.len() as u64 / 2;
     let slot = if at < half { 0 } else { half };
@@ -61,12 +63,17 @@ impl Asking<'_> {
     /// The next write that is asked for, at most 256 bytes. Whatever is kept, it lies within the spare slot of the flash as it
     /// stands, where that has an active image.
     ///
-    /// None where no write is due, or its range does not lie so.
+    /// None where no write is due, where its range does not lie so, or where the slot's gate is open and no image is active.
+    /// It is Some where a call answered `Asks` and the pieces before this one stand on the flash.
     pub fn next(&self, flash: &[u8]) -> Option<Piece>
         ensures piece { IfSome result (λ p. (w : Work) → self.now.work ≡ Some w → IsPiece (writes_in self.now w) w.done (asked p)) }
         ensures most { IfSome result (λ p. (0 < p.len) × (p.len ≤ 256)) }
         ensures spare { IfSome result (λ p. (image : List ℕ) → Active (mapped self.now.unit flash.now) image →
             IsInSpare (mapped self.now.unit flash.now) p.at p.len) }
+        ensures due { IfSome result (λ p. (w : Work) × IsLeft self.now w) }
+        ensures none { IfNone result ((w : Work) (p : Write) → self.now.work ≡ Some w → IsPiece (writes_in self.now w) w.done p →
+            IsHeldBack (mapped self.now.unit flash.now) p.at (length p.bytes)) }
+        ensures goes { IfNone result ((len : ℕ) (s : SlotsState) (was : List ℕ) → ¬ Asks self.now len s was flash.now) }
     {
         let work = self.work?;
         let piece = next_piece(work.job, &self.stock(), work.done as usize)?;
@@ -88,7 +95,12 @@ impl Asking<'_> {
         ensures outcome { IfOk result (λ r. (len : ℕ) (s : SlotsState) (was before : List ℕ) (asks : Asks self.old len s was before) (p : Write) →
             IsPiece (writes_in self.old asks.work) asks.work.done p → Torn before p.at p.bytes flash.now →
             Took (device_of self.old s) len s was p failed flash.now out.old self.new out.new r) }
-        ensures refused { OnErr result ((len : ℕ) (s : SlotsState) (was before : List ℕ) → Asks self.old len s was before → length out.old < 6) }
+        ensures on { IfOk result (λ r. (w : Work) (p : Write) → self.old.work ≡ Some w → IsPiece (writes_in self.old w) w.done p →
+            (r ≡ Reply.Asks) ↔ AsksOn self.old w p failed flash.now) }
+        ensures further { IfOk result (λ r. r ≡ Reply.Asks → (w : Work) (p : Write) → self.old.work ≡ Some w →
+            IsPiece (writes_in self.old w) w.done p → self.new.work ≡ Some (record w { done = w.done + length p.bytes })) }
+        ensures refused { IfErr result (λ e. IsNotTaken e self.old (length out.old)) }
+        ensures taken { OnOk result (IsTaken self.old (length out.old)) }
         ensures unchanged { OnErr result ((self.new ≡ self.old) × (out.new ≡ out.old)) }
     {
         if out.len() < 6 {

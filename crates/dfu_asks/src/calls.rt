@@ -1,5 +1,5 @@
 //! The calls for a device that asks.
-ghost use Rattle.std.specs.Prelude.{◌≡◌, ◌≢◌, ◌⊎◌, ◌≤◌, ◌^◌, ℕ, List, [], length, replicate, IfOk, IfErr, OnOk, OnErr, IsErrOf, IfSome, IfNone, IsSome, IsTrue};
+ghost use Rattle.std.specs.Prelude.{◌≡◌, ◌≢◌, ◌⊎◌, ◌≤◌, ◌^◌, ℕ, List, [], length, replicate, IfOk, IfErr, OnOk, OnErr, IsErrOf, IfSome, IfNone, IsSome, Some, IsTrue};
 ghost use Rattle.dfu_slots.specs.Image.{HasImage};
 ghost use Rattle.dfu_slots.specs.Store.{IsStore};
 ghost use Rattle.dfu_device.specs.Rows.{Handles, Elapses};
@@ -7,9 +7,12 @@ ghost use Rattle.dfu_device.specs.Table.{reset_stage};
 ghost use Rattle.dfu_device.specs.Parts.{shows, stage_of, is_sound};
 ghost use Rattle.dfu_device.specs.Stage.{state_of, code_of};
 ghost use Rattle.dfu_device.specs.Shown.{powered_on};
+ghost use Rattle.dfu_asks.specs.declared.work.Work.{Work};
 ghost use Rattle.dfu_asks.specs.Mapped.{mapped};
 ghost use Rattle.dfu_asks.specs.Asks.{store_in, device_in, block_in, IsDevice, IsRest, IsDueStage};
 ghost use Rattle.dfu_asks.specs.Calls.{Called, Comes};
+ghost use Rattle.dfu_asks.specs.Refused.{IsKept, IsUnfit, IsRefused, IsServed};
+ghost use Rattle.dfu_device.specs.Lent.{answer_room};
 
 use crate::due::{asked_now, passes_now};
 use crate::finish::{code_of, state_of};
@@ -18,83 +21,6 @@ use arrayvec::ArrayVec;
 use dfu_device::{Answer, Config, LentBlock, LentDevice, Mode};
 use dfu_slots::{Slots, Unit};
 use dfu_wire::{Code, State};
-
-// Takes a block out of its place, and leaves none there.
-fn take<'b>(place: &mut LentBlock<'b>) -> LentBlock<'b>
-    ensures { result ≡ place.old }
-{
-    std::mem::replace(
-        place,
-        LentBlock {
-            memory: &mut [],
-            len: 0,
-        },
-    )
-}
-
-// A copy of the bytes held.
-fn copy_of(held: &ArrayVec<u8, 256>) -> ArrayVec<u8, 256>
-    ensures { result.items ≡ held.now.items }
-{
-    let mut copy = ArrayVec::new();
-    let _ = copy.try_extend_from_slice(held.as_slice());
-    copy
-}
-
-impl<'b> Asking<'b> {
-    // The slot store on these bytes of flash.
-    fn open<'f>(&self, flash: &'f [u8]) -> Result<Slots<Mapped<'f>>, Refusal>
-        ensures ok { IfOk result (λ s. s ≡ store_in self.now flash.now) }
-        ensures store { OnOk result (IsStore (store_in self.now flash.now)) }
-        ensures no_store { OnErr result (¬ IsStore (store_in self.now flash.now) ⊎ (2 ^ 32 ≤ length flash.now)) }
-        ensures no_medium { IfErr result (λ e. e ≡ Refusal.NoMedium → ¬ HasImage (mapped self.now.unit flash.now) ⊎ (2 ^ 32 ≤ length flash.now)) }
-        ensures no_device { IfErr result (λ e. e ≢ Refusal.NoMedium → (e ≡ Refusal.NoDevice)) }
-    {
-        let Some(medium) = Mapped::new(flash, self.unit) else {
-            return Err(Refusal::NoMedium);
-        };
-        match Slots::from_parts(medium, copy_of(&self.held), self.put_end) {
-            Ok(slots) => Ok(slots),
-            Err(medium) => match Slots::open(medium) {
-                Ok(_) => Err(Refusal::NoDevice),
-                Err(_) => Err(Refusal::NoMedium),
-            },
-        }
-    }
-
-    // The device on these bytes of flash, which takes the block.
-    fn assemble<'f>(
-        &mut self,
-        flash: &'f [u8],
-    ) -> Result<LentDevice<Mapped<'f>, LentBlock<'b>>, Refusal>
-        ensures ok { IfOk result (λ d. d.device ≡ device_in self.old flash.now) }
-        ensures is { OnOk result (IsDevice self.old flash.now) }
-        ensures rest { OnOk result (IsRest self.old self.new) }
-        ensures mode { OnOk result (self.new.mode ≡ self.old.mode) }
-        ensures back { OnErr result (self.new ≡ self.old) }
-    {
-        let slots = self.open(flash)?;
-        match LentDevice::from_parts(self.config, slots, self.mode, take(&mut self.block)) {
-            Ok(device) => Ok(device),
-            Err(refused) => {
-                let (_, block) = refused;
-                self.block = block;
-                Err(Refusal::NoDevice)
-            }
-        }
-    }
-
-    // Keeps a device that wrote nothing.
-    fn keep(&mut self, device: LentDevice<Mapped<'_>, LentBlock<'b>>)
-        ensures device { let d = device.entry.device in shows d.config d.slots self.new.mode (block_in self.new) ≡ d }
-        ensures sound { IsTrue (is_sound self.new.mode (length (block_in self.new)) device.entry.device.slots) }
-        ensures rest { IsRest self.old self.new }
-    {
-        let (_, mode, block) = device.into_parts();
-        self.mode = mode;
-        self.block = block;
-    }
-}
 
 impl<'b> Asking<'b> {
     /// A device that gets power: in appIDLE, on flash that it reads and that is written in this unit. The memory of the block
@@ -110,7 +36,7 @@ impl<'b> Asking<'b> {
         ensures device { IfSome result (λ a. device_in a flash.now ≡ powered_on config (mapped unit flash.now)) }
         ensures is { IfSome result (λ a. IsDevice a flash.now) }
         ensures work { IfSome result (λ a. (a.work ≡ None) × (a.unit ≡ unit)) }
-        ensures none { IfNone result (¬ HasImage (mapped unit flash.now) ⊎ (2 ^ 32 ≤ length flash.now)) }
+        ensures none { IfNone result (¬ HasImage (mapped unit flash.now)) }
     {
         let medium = Mapped::new(flash, unit)?;
         match Slots::open(medium) {
@@ -147,7 +73,8 @@ impl<'b> Asking<'b> {
     ///
     /// `Asked` where writes are due; `NoRoom` where the buffer has less room than an answer may need, which is 6 bytes or the
     /// transfer size, whichever is more; `NoMedium` where the flash has no active image, or 2^32 bytes or more; `NoDevice` where
-    /// what is kept is none of a device on it. They are looked for in this order, and nothing changed then.
+    /// what is kept is none of a device on it, or its block has less room than the transfer size. They are looked for in this
+    /// order, and nothing changed then.
     pub fn handle(
         &mut self,
         flash: &[u8],
@@ -157,7 +84,10 @@ impl<'b> Asking<'b> {
     ) -> Result<Reply, Refusal>
         ensures outcome { IfOk result (λ r. Called self.old flash.now out.old
             (λ a sent d'. Handles setup.now body.now (device_in self.old flash.now) a sent d') self.new out.new r) }
+        ensures first { IfOk result (λ r. r ≡ Reply.Asks → (w : Work) × (self.new.work ≡ Some w) × (w.done ≡ 0)) }
         ensures is { OnOk result (IsDevice self.old flash.now) }
+        ensures served { OnOk result (IsServed self.old flash.now (answer_room self.old.config) (length out.old)) }
+        ensures refused { IfErr result (λ e. IsRefused e self.old flash.now (answer_room self.old.config) (length out.old)) }
         ensures asked { IsSome self.old.work → IsErrOf result Refusal.Asked }
         ensures unchanged { OnErr result ((self.new ≡ self.old) × (out.new ≡ out.old)) }
     {
@@ -185,11 +115,14 @@ impl<'b> Asking<'b> {
     ///
     /// # Errors
     ///
-    /// As `handle`, with a buffer of 6 bytes.
+    /// As `handle`, but for `NoRoom`.
     pub fn elapse(&mut self, flash: &[u8], ms: u32) -> Result<Reply, Refusal>
         ensures outcome { IfOk result (λ r. (out : List ℕ) × Called self.old flash.now (replicate 6 0)
             (λ a sent d'. (a ≡ Answer.Ack) × (sent ≡ []) × Elapses ms (device_in self.old flash.now) d') self.new out r) }
+        ensures first { IfOk result (λ r. r ≡ Reply.Asks → (w : Work) × (self.new.work ≡ Some w) × (w.done ≡ 0)) }
         ensures is { OnOk result (IsDevice self.old flash.now) }
+        ensures served { OnOk result (IsServed self.old flash.now 0 0) }
+        ensures refused { IfErr result (λ e. IsRefused e self.old flash.now 0 0) }
         ensures asked { IsSome self.old.work → IsErrOf result Refusal.Asked }
         ensures unchanged { OnErr result (self.new ≡ self.old) }
     {
@@ -216,6 +149,8 @@ impl<'b> Asking<'b> {
         ensures row { OnOk result (device_in self.new flash.now
             ≡ record (device_in self.old flash.now) { stage = reset_stage (device_in self.old flash.now).stage }) }
         ensures is { OnOk result (IsDevice self.new flash.now) }
+        ensures served { OnOk result (IsServed self.old flash.now 0 0) }
+        ensures refused { IfErr result (λ e. IsRefused e self.old flash.now 0 0) }
         ensures asked { IsSome self.old.work → IsErrOf result Refusal.Asked }
         ensures unchanged { OnErr result (self.new ≡ self.old) }
     {
@@ -238,8 +173,9 @@ impl<'b> Asking<'b> {
         requires room { 6 ≤ length out.old }
         requires held { device.device.slots.held ≡ self.old.held.items }
         requires end { device.device.slots.put_end ≡ self.old.put_end }
-        ensures { let d = device.entry.device in (len : ℕ) (flash : List ℕ) → d.slots ≡ store_in self.old flash → IsStore d.slots →
+        ensures outcome { let d = device.entry.device in (len : ℕ) (flash : List ℕ) → d.slots ≡ store_in self.old flash → IsStore d.slots →
             d.config ≡ self.old.config → IsDueStage d.stage asked len → Comes d len d.slots flash flash out.old self.new out.new result }
+        ensures first { result ≡ Reply.Asks → (w : Work) × (self.new.work ≡ Some w) × (w.done ≡ 0) }
     {
         let (slots, mode, block) = device.into_parts();
         self.mode = mode;

@@ -4,6 +4,7 @@
 mod advance;
 mod asking;
 mod asks;
+mod assemble;
 mod calls;
 mod due;
 mod finish;

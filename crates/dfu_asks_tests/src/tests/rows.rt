@@ -122,6 +122,20 @@ fn wait(
     }
 }
 
+/// Sends a setup with its body, and a GETSTATUS. It gives the time that the status asks for.
+fn send(
+    rt: &impl Abort,
+    device: &mut Asking<'_>,
+    flash: &mut [u8; 192],
+    request: (&[u8; 8], &[u8]),
+    trouble: Trouble,
+    went: &mut Went,
+) -> u32 {
+    ask(rt, device, flash, request, trouble, went);
+    ask(rt, device, flash, (&GET_STATUS, &[]), trouble, went);
+    u32::from(went.status[1])
+}
+
 /// Downloads `NEXT` with this trouble: GETSTATUS after each block and after the last, and time as the status asks for.
 pub fn download(
     rt: &impl Abort,
@@ -153,41 +167,16 @@ pub fn download(
         (3, &[]),
     ];
     for (number, body) in blocks {
-        ask(
-            rt,
-            &mut device,
-            flash,
-            (&dnload(number, body.len() as u8), body),
-            trouble,
-            &mut went,
-        );
-        ask(
-            rt,
-            &mut device,
-            flash,
-            (&GET_STATUS, &[]),
-            trouble,
-            &mut went,
-        );
-        if went.over {
-            return Ok(went);
-        }
-        let ms = u32::from(went.status[1]);
-        if ms > 0 {
+        let setup = dnload(number, body.len() as u8);
+        let ms = send(rt, &mut device, flash, (&setup, body), trouble, &mut went);
+        if ms > 0 && !went.over {
             wait(rt, &mut device, flash, ms, trouble, &mut went);
-            if went.over {
-                return Ok(went);
-            }
-            ask(
-                rt,
-                &mut device,
-                flash,
-                (&GET_STATUS, &[]),
-                trouble,
-                &mut went,
-            );
         }
-        if went.status[0] != 0 {
+        if ms > 0 && !went.over {
+            let request: (&[u8; 8], &[u8]) = (&GET_STATUS, &[]);
+            ask(rt, &mut device, flash, request, trouble, &mut went);
+        }
+        if went.over || went.status[0] != 0 {
             return Ok(went);
         }
     }

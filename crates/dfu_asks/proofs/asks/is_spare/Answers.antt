@@ -1,8 +1,8 @@
-use Rattle.std.proofs.Common.{◌≡◌, ◌⊎◌, inl, inr, ◌/◌, ◌≤◌, length, sym, ◌∙◌, ap, arith}
+use Rattle.std.proofs.Common.{◌≡◌, ◌⊎◌, inl, inr, ⊎_elim, ℕ, ◌/◌, ◌≤◌, length, slice_index, sym, ◌∙◌, ap, arith}
 use Rattle.dfu_slots.specs.Medium.{MediumState}
 use Rattle.dfu_slots.specs.Image.{gate_of, spare_at}
 use Rattle.dfu_asks.specs.Mapped.{mapped}
-use Rattle.dfu_asks.proofs.Spared.{eq_from, spare_closed, spare_found}
+use Rattle.dfu_asks.proofs.Spared.{eq_from, ne_from, spare_closed, spare_found}
 use Rattle.dfu_asks.proofs.asks.is_spare.Goals as goal
 use Rattle.dfu_asks.proofs.asks.is_spare.Goals.{then-at-half, else-at-half}
 
@@ -12,8 +12,8 @@ bounds-flash-slot c = elim c.if-at-half.branch [
   | else-at-half w ↦ omega (arith, w.if-at-half.false, w.slot-is, c.requires.some, c.if-at-len.false)
 ]
 
-pub returns-then-flash-slot : goal.returns-then-flash-slot
-returns-then-flash-slot c = λ t image a.
+pub returns-then-flash-slot-clause-yes : goal.returns-then-flash-slot-clause-yes
+returns-then-flash-slot-clause-yes c = λ t image a.
     let flash = c.args.flash.now in
     let slot = c.if-at-half.slot in
     let either : (slot ≡ 0) ⊎ (slot ≡ length flash / 2) = elim c.if-at-half.branch [
@@ -26,8 +26,8 @@ returns-then-flash-slot c = λ t image a.
     ] in
     spare_closed (mapped c.args.unit flash) image slot c.args.at c.args.len a either c.if-flash-slot.true low (omega (arith, c.if-at-len.false))
 
-pub returns-in-Ok : goal.returns-in-Ok
-returns-in-Ok c = λ t image a.
+pub returns-in-Ok-clause-yes : goal.returns-in-Ok-clause-yes
+returns-in-Ok-clause-yes c = λ t image a.
     let flash = c.args.flash.now in
     let slot = c.if-at-half.slot in
     let m : c.in-Ok.slots.medium ≡ mapped c.args.unit flash = c.in-Ok.ensures.ok ∙ c.in-Some.ensures.some in
@@ -38,3 +38,20 @@ returns-in-Ok c = λ t image a.
       | else-at-half w ↦ omega (arith, w.if-at-half.false, w.slot-is)
     ] in
     spare_found (mapped c.args.unit flash) slot c.args.at c.args.len is low (omega (arith, c.if-at-len.false))
+
+pub returns-in-Ok-clause-no : goal.returns-in-Ok-clause-no
+returns-in-Ok-clause-no c = λ t k either low high.
+    let flash = c.args.flash.now in
+    let slot = c.if-at-half.slot in
+    let m : c.in-Ok.slots.medium ≡ mapped c.args.unit flash = c.in-Ok.ensures.ok ∙ c.in-Some.ensures.some in
+    let is : c.from.result ≡ spare_at (gate_of (mapped c.args.unit flash)) flash =
+    c.from.ensures ∙ c.spare_place.ensures ∙ ap (λ (x : MediumState). spare_at (gate_of x) x.bytes) m in
+    let same : k ≡ slot = elim c.if-at-half.branch [
+      | then-at-half w ↦ ⊎_elim (λ first. omega (arith, first, w.slot-is))
+          (λ second. absurd (omega (arith, second, low, w.if-at-half.true))) either
+      | else-at-half w ↦ ⊎_elim (λ first. absurd (omega (arith, first, high, w.if-at-half.false, c.requires.some)))
+          (λ second. omega (arith, second, w.slot-is)) either
+    ] in (
+      ap (λ (j : ℕ). slice_index flash j) same ∙ c.if-flash-slot.false,
+      λ has e. ne_from _ _ t (is ∙ e ∙ same),
+    )

@@ -1,4 +1,4 @@
-use Rattle.std.proofs.Common.{◌≡◌, ◌∷◌, [], None, refl, sym, ◌∙◌, ap, subst}
+use Rattle.std.proofs.Common.{◌≡◌, ◌∷◌, [], None, refl, sym, ◌∙◌, ap, subst, arith}
 use Rattle.dfu_slots.specs.Seen.{spare_of}
 use Rattle.dfu_slots.specs.Store.{IsStore}
 use Rattle.dfu_device.specs.declared.answer.Answer.TheVariants as answer
@@ -24,7 +24,7 @@ returns-then-passes_now-clause-outcome c =
       called_from a0 flash (0 ∷ 0 ∷ 0 ∷ 0 ∷ 0 ∷ 0 ∷ [])
           (λ y sent w'. (y ≡ answer.Ack) × (sent ≡ []) × Elapses c.args.ms (device_in a0 flash) w') c.start.new.self
           c.start.new.out c.start.result d 0 ok
-          (c.start.ensures 0 flash (slots ∙ sym (rest_store a0 a1 flash rest))
+          (c.start.ensures.outcome 0 flash (slots ∙ sym (rest_store a0 a1 flash rest))
           (subst IsStore (sym slots) c.in_ok-device.ensures.is.store)
           (ap (λ (w : Shown). w.config) ok ∙ sym rest.config)
           (subst (λ (st : Stage). IsDueStage st None 0) (sym (ap (λ (w : Shown). w.stage) ok))
@@ -47,3 +47,17 @@ returns-clause-outcome c =
           answer.Ack 0 (0 ∷ 0 ∷ 0 ∷ 0 ∷ 0 ∷ 0 ∷ []) (0 ∷ 0 ∷ 0 ∷ 0 ∷ 0 ∷ 0 ∷ []) []
           (λ y sent w'. (y ≡ answer.Ack) × (sent ≡ []) × Elapses c.args.ms (device_in a0 flash) w') refl refl (refl, refl, row)),
     )
+
+pub returns-then-passes_now-clause-served : goal.returns-then-passes_now-clause-served
+returns-then-passes_now-clause-served c = record {
+  work = no_work c.args.self.now.work (sym c.is_some.ensures ∙ c.if-is_some.false);
+  fits = omega arith;
+  kept = c.in_ok-device.ensures.kept;
+}
+
+pub returns-clause-served : goal.returns-clause-served
+returns-clause-served c = record {
+  work = no_work c.args.self.now.work (sym c.is_some.ensures ∙ c.if-is_some.false);
+  fits = omega arith;
+  kept = c.in_ok-device.ensures.kept;
+}

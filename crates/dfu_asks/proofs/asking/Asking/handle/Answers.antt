@@ -1,4 +1,4 @@
-use Rattle.std.proofs.Common.{◌≡◌, Some, sym, ◌∙◌, ap, subst}
+use Rattle.std.proofs.Common.{◌≡◌, Some, sym, ◌∙◌, ap, subst, rules}
 use Rattle.dfu_slots.specs.Store.{IsStore}
 use Rattle.dfu_device.specs.Stage.{Stage}
 use Rattle.dfu_device.specs.Shown.{Shown}
@@ -39,9 +39,23 @@ returns-in-Some-clause-outcome c =
     let slots : d.slots ≡ store_in a0 flash = ap (λ (w : Shown). w.slots) ok in
     called_from a0 flash c.args.out.now (λ y sent w'. Handles c.args.setup.now c.args.body.now (device_in a0 flash) y sent w') c.start.new.self
     c.start.new.out c.start.result d len ok
-    (c.start.ensures len flash (slots ∙ sym (rest_store a0 a1 flash rest))
+    (c.start.ensures.outcome len flash (slots ∙ sym (rest_store a0 a1 flash rest))
     (subst IsStore (sym slots) c.in_ok-device.ensures.is.store)
     (ap (λ (w : Shown). w.config) ok ∙ sym rest.config)
     (subst (λ (st : Stage). IsDueStage st (Some len) len) (sym (ap (λ (w : Shown). w.stage) ok))
     (c.in-Some.ensures.stage (spare_of (store_in a0 flash)) (block_in a0))))
     (c.in-Some.ensures.some (store_in a0 flash) (block_in a0))
+
+pub returns-in-Some-handle_into-clause-served : goal.returns-in-Some-handle_into-clause-served
+returns-in-Some-handle_into-clause-served c = record {
+  work = no_work c.args.self.now.work (sym c.is_some.ensures ∙ c.if-is_some.false);
+  fits = search rules;
+  kept = c.in_ok-device.ensures.kept;
+}
+
+pub returns-in-Some-clause-served : goal.returns-in-Some-clause-served
+returns-in-Some-clause-served c = record {
+  work = no_work c.args.self.now.work (sym c.is_some.ensures ∙ c.if-is_some.false);
+  fits = search rules;
+  kept = c.in_ok-device.ensures.kept;
+}

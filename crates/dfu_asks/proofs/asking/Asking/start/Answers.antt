@@ -1,4 +1,4 @@
-use Rattle.std.proofs.Common.{◌≡◌, take, sym, ◌∙◌, ap, subst}
+use Rattle.std.proofs.Common.{◌≡◌, take, refl, sym, ◌∙◌, ap, subst}
 use Rattle.dfu_slots.specs.Seen.{SlotsState, spare_of}
 use Rattle.dfu_device.specs.Stage.{Stage}
 use Rattle.dfu_device.specs.Shown.{Shown}
@@ -7,11 +7,12 @@ use Rattle.dfu_asks.specs.declared.asking.Asking.{Asking}
 use Rattle.dfu_asks.specs.Asks.{block_in, device_of, IsDueStage, writes_in}
 use Rattle.dfu_asks.specs.Calls.{Comes}
 use Rattle.dfu_asks.proofs.Carrying.{carried_none}
+use Rattle.dfu_asks.proofs.Pieces.{reached_none}
 use Rattle.dfu_asks.proofs.Calling.{begins}
 use Rattle.dfu_asks.proofs.asking.Asking.start.Goals as goal
 
-pub returns : goal.returns
-returns c = λ len flash slots store config due.
+pub returns-clause-outcome : goal.returns-clause-outcome
+returns-clause-outcome c = λ len flash slots store config due.
     let a0 = c.args.self.now in
     let d = c.args.device.device in
     let p = c.into_parts-slots.result in
@@ -31,5 +32,10 @@ returns c = λ len flash slots store config due.
     (c.begin_job-job.ensures.due (spare_of p.0) items c.args.asked len due_there) in
     let dev : device_of a1 d.slots ≡ d = (λ i. shows (conf i) (sym there i) (mode i) (block i)) ∙ e.parts in
     subst (λ (x : Shown). Comes x len d.slots flash flash c.args.out.now c.advance.new.self c.advance.new.out c.advance.result) dev
-    (c.advance.ensures len d.slots flash flash working
-    (sym (carried_none (writes_in a1 (record { job = c.begin_job-job.result; asked = c.args.asked; done = 0 })) flash)))
+    (c.advance.ensures.outcome len d.slots flash flash working
+    (sym (carried_none (writes_in a1 (record { job = c.begin_job-job.result; asked = c.args.asked; done = 0 })) flash))
+    (reached_none (writes_in a1 (record { job = c.begin_job-job.result; asked = c.args.asked; done = 0 }))))
+
+pub returns-clause-first : goal.returns-clause-first
+returns-clause-first c = λ asks.
+    (record { job = c.begin_job-job.result; asked = c.args.asked; done = 0 }, c.advance.ensures.kept asks, refl)

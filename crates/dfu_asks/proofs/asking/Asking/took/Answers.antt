@@ -1,15 +1,15 @@
-use Rattle.std.proofs.Common.{◌≡◌, ℕ, ◌+◌, ◌≤◌, List, length, slice_range, refl, sym, ◌∙◌, ap, subst, arith}
+use Rattle.std.proofs.Common.{◌≡◌, ℕ, ◌+◌, ◌≤◌, length, slice_range, Some, refl, sym, ◌∙◌, ap, subst, arith}
+use Rattle.std.proofs.lemmas.Bool.{false≢true}
 use Rattle.dfu_slots.specs.declared.fault.WriteFault.TheVariants.{Failed, NotVerified}
 use Rattle.dfu_slots.specs.Units.{in_place}
 use Rattle.dfu_slots.specs.Medium.{Write}
 use Rattle.dfu_asks.specs.declared.work.Work.{Work}
-use Rattle.dfu_asks.specs.declared.asking.Asking.{Asking}
-use Rattle.dfu_asks.specs.Carried.{carried, IsPiece}
+use Rattle.dfu_asks.specs.Carried.{total, carried, IsReached}
 use Rattle.dfu_asks.specs.Jobs.{asked, writes_for, job_writes}
 use Rattle.dfu_asks.specs.Asks.{writes_in, IsWorking}
 use Rattle.dfu_asks.specs.Calls.{took_well, took_failed, took_lied}
-use Rattle.dfu_asks.proofs.Pieces.{piece_one}
-use Rattle.dfu_asks.proofs.Calling.{same_work, is_true, is_false, piece_failed, piece_stands}
+use Rattle.dfu_asks.proofs.Pieces.{reached_step}
+use Rattle.dfu_asks.proofs.Calling.{same_work, is_true, is_false, one_piece, taken_from, piece_failed, piece_stands}
 use Rattle.dfu_asks.proofs.asking.Asking.took.Goals as goal
 
 pub returns-then-failed-clause-outcome : goal.returns-then-failed-clause-outcome
@@ -20,12 +20,6 @@ returns-then-failed-clause-outcome c = λ len s was before asks p piece torn.
     (piece_failed c.args.self.now len s was before asks p piece c.args.flash.now torn Failed c.fail-answer.new.self w.asked
     c.fail-answer.result.0 c.fail-answer.result.1 c.args.out.now c.fail-answer.new.out (ap (λ (x : Work). x.asked) same)
     c.fail-answer.ensures.broken c.fail-answer.ensures.gives)
-
--- The piece that was asked for is the one that was taken.
-one_piece : (a : Asking) (w : Work) (x : Work) (ws : List Write) (p q : Write) → x ≡ w → ws ≡ writes_in a w → IsPiece (writes_in a x) x.done p
-    → IsPiece ws w.done q → p ≡ q
-one_piece a w x ws p q same is first second = piece_one (writes_in a w) w.done p q
-    (subst (λ (y : Work). IsPiece (writes_in a y) y.done p) same first) (subst (λ (l : List Write). IsPiece l w.done q) is second)
 
 pub returns-then-not-stands-clause-outcome : goal.returns-then-not-stands-clause-outcome
 returns-then-not-stands-clause-outcome c = λ len s was before asks p piece torn.
@@ -67,6 +61,75 @@ returns-clause-outcome c = λ len s was before asks p piece torn.
     subst (λ (x : Work). flash ≡ carried was (writes_in a x) (x.done + length p.bytes)) same
     (piece_stands a len s was before asks p piece flash torn fits there) in
     took_well c.if-failed.false there
-    (c.advance.ensures len s was flash
+    (c.advance.ensures.outcome len s was flash
     (record { medium = k.medium; store = k.store; sound = k.sound; due = k.due })
-    (stood ∙ ap (λ (m : ℕ). carried was (writes_in a w) (w.done + m)) size))
+    (stood ∙ ap (λ (m : ℕ). carried was (writes_in a w) (w.done + m)) size)
+    (subst (λ (m : ℕ). IsReached (writes_in a w) (w.done + m)) size
+    (subst (λ (x : Work). IsReached (writes_in a x) (x.done + length p.bytes)) same
+    (reached_step (writes_in a asks.work) asks.work.done p asks.reached piece))))
+
+pub returns-then-failed-clause-taken : goal.returns-then-failed-clause-taken
+returns-then-failed-clause-taken c =
+    let w = c.in-Some.work in
+    let e = c.stock.ensures in
+    taken_from c.args.self.now w (writes_for w.job c.stock.result) (asked c.in-Some-next_piece.piece) (length c.args.out.now)
+    (omega (arith, c.if-out-lt6.false)) c.in-Some.is
+    (λ i. job_writes w.job (in_place (e.unit i)) (e.end i) (e.held i) (e.block i)) c.in-Some-next_piece.ensures.some
+
+pub returns-then-not-stands-clause-taken : goal.returns-then-not-stands-clause-taken
+returns-then-not-stands-clause-taken c =
+    let w = c.in-Some.work in
+    let e = c.stock.ensures in
+    taken_from c.args.self.now w (writes_for w.job c.stock.result) (asked c.in-Some-next_piece.piece) (length c.args.out.now)
+    (omega (arith, c.if-out-lt6.false)) c.in-Some.is
+    (λ i. job_writes w.job (in_place (e.unit i)) (e.end i) (e.held i) (e.block i)) c.in-Some-next_piece.ensures.some
+
+pub returns-then-failed-clause-on : goal.returns-then-failed-clause-on
+returns-then-failed-clause-on c = λ w p is piece. (λ asks. cc, λ on. absurd (false≢true (sym on.well ∙ c.if-failed.true)))
+
+pub returns-then-not-stands-clause-on : goal.returns-then-not-stands-clause-on
+returns-then-not-stands-clause-on c = λ w p is piece.
+    let a = c.args.self.now in
+    let v = c.in-Some.work in
+    let e = c.stock.ensures in
+    let one : p ≡ asked c.in-Some-next_piece.piece =
+    one_piece a v w (writes_for v.job c.stock.result) p (asked c.in-Some-next_piece.piece) (same_work w v (sym is ∙ c.in-Some.is))
+    (λ i. job_writes v.job (in_place (e.unit i)) (e.end i) (e.held i) (e.block i)) piece c.in-Some-next_piece.ensures.some in (
+      λ asks. cc,
+      λ on. absurd (is_false c.stands.result c.if-not-stands.true
+          (c.stands.ensures.stands.1 (subst (λ (y : Write). slice_range c.args.flash.now y.at (y.at + length y.bytes) ≡ y.bytes) one on.stands))),
+    )
+
+pub returns-clause-on : goal.returns-clause-on
+returns-clause-on c = λ w p is piece.
+    let a = c.args.self.now in
+    let v = c.in-Some.work in
+    let e = c.stock.ensures in
+    let same = same_work w v (sym is ∙ c.in-Some.is) in
+    let one : p ≡ asked c.in-Some-next_piece.piece =
+    one_piece a v w (writes_for v.job c.stock.result) p (asked c.in-Some-next_piece.piece) same
+    (λ i. job_writes v.job (in_place (e.unit i)) (e.end i) (e.held i) (e.block i)) piece c.in-Some-next_piece.ensures.some in
+    let size : length p.bytes ≡ c.in-Some-next_piece.piece.len = ap (λ (y : Write). length y.bytes) one ∙ c.in-Some-next_piece.ensures.count in
+    let all : total (writes_in a w) ≡ total (writes_in a v) = ap (λ (x : Work). total (writes_in a x)) same in
+    let done : w.done ≡ v.done = ap (λ (x : Work). x.done) same in (
+      λ asks. record {
+        well = c.if-failed.false;
+        stands = subst (λ (y : Write). slice_range c.args.flash.now y.at (y.at + length y.bytes) ≡ y.bytes) (sym one)
+            (c.stands.ensures.stands.0 (is_true c.stands.result c.if-not-stands.false));
+        more = omega (arith, c.advance.ensures.more.0 asks, size, all, done);
+      },
+      λ on. c.advance.ensures.more.1 (omega (arith, on.more, size, all, done)),
+    )
+
+pub returns-clause-further : goal.returns-clause-further
+returns-clause-further c = λ asks w p is piece.
+    let a = c.args.self.now in
+    let v = c.in-Some.work in
+    let e = c.stock.ensures in
+    let same = same_work w v (sym is ∙ c.in-Some.is) in
+    let one : p ≡ asked c.in-Some-next_piece.piece =
+    one_piece a v w (writes_for v.job c.stock.result) p (asked c.in-Some-next_piece.piece) same
+    (λ i. job_writes v.job (in_place (e.unit i)) (e.end i) (e.held i) (e.block i)) piece c.in-Some-next_piece.ensures.some in
+    let size : length p.bytes ≡ c.in-Some-next_piece.piece.len = ap (λ (y : Write). length y.bytes) one ∙ c.in-Some-next_piece.ensures.count in
+    c.advance.ensures.kept asks
+    ∙ (λ i. Some (record { job = (sym same i).job; asked = (sym same i).asked; done = (sym same i).done + sym size i }))
