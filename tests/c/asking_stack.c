@@ -77,5 +77,5 @@ int main(int count, char **words) {
                 took();
     }
     printf("the record has %zu bytes\n", sizeof device);
-    return most > allowed || dfu_device_state(&device.device) != 9 || place.length != 4000;
+    return most > allowed || dfu_device_state(&device.device) != 2 || place.length != 4000;
 }

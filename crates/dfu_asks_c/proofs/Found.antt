@@ -1,8 +1,11 @@
 -- Why a call for a device that asks is refused.
-use Rattle.std.proofs.Common.{◌≡◌, ◌⊎◌, inl, inr, true, false, Option, Some, None, is_some, subst, sym, refl}
+use Rattle.std.proofs.Common.{◌≡◌, ◌⊎◌, inl, inr, true, false, Option, Some, None, is_some, subst, sym, refl, ℕ, ◌≤◌, arith}
 use Rattle.dfu_device.specs.declared.block.LentBlock.{LentBlock}
 use Rattle.dfu_asks.specs.declared.asking.Asking.{Asking}
 use Rattle.dfu_asks.specs.declared.work.Work.{Work}
+use Rattle.dfu_asks.specs.declared.refusal.Refusal.{Refusal as Why}
+use Rattle.dfu_asks.specs.declared.refusal.Refusal.TheVariants as why
+use Rattle.dfu_asks.specs.Refused.{IsNotTaken}
 use Rattle.dfu_asks_c.specs.declared.refusal.Refusal.{Refusal}
 use Rattle.dfu_asks_c.specs.declared.refusal.Refusal.TheVariants as refusal
 use Rattle.dfu_asks_c.specs.Calls.{IsRefusedAsking}
@@ -31,3 +34,10 @@ no_asks a none (len, s, was, flash, asks) = kept a.work asks.work none asks.work
     kept : (w : Option Work) (x : Work) → is_some w ≡ false → w ≡ Some x → ⊥
     kept (Some w) x e is = cc
     kept None x e is = cc
+
+-- Where a piece is not taken, with room for an answer, the device is at no work.
+pub not_taken : (e : Why) (a : Asking) (room : ℕ) → 6 ≤ room → IsNotTaken e a room → ¬ IsAtWork a
+not_taken why.NoRoom a room fits short at = omega (arith, fits, short)
+not_taken why.NoDevice a room fits none (len, s, was, flash, asks) = none.1 asks.work (record { work_is = asks.work_is; left = asks.left })
+not_taken why.Asked a room fits none at = none
+not_taken why.NoMedium a room fits none at = none

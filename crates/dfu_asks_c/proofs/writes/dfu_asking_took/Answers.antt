@@ -5,7 +5,7 @@ use Rattle.dfu_asks.specs.declared.reply.Reply.TheVariants as reply
 use Rattle.dfu_asks_c.specs.Calls.{Went}
 use Rattle.dfu_asks_c.specs.Writes.{refuses_unfound, refuses_piece}
 use Rattle.dfu_asks_c.proofs.Kept.{goes, lend, with_lent, with_this, old_in, went}
-use Rattle.dfu_asks_c.proofs.Found.{no_asks}
+use Rattle.dfu_asks_c.proofs.Found.{no_asks, not_taken}
 use Rattle.dfu_asks_c.proofs.Whole.{took_as, took_few, took_whole, same_whole}
 use Rattle.dfu_asks_c.proofs.writes.dfu_asking_took.Goals as goal
 
@@ -104,7 +104,7 @@ returns-in-Err-took c =
         refuses_piece was
             (to_z-of_z w32 _ (omega (arith, c.number-in-Err-took.type_inv)) ∙ c.number-in-Err-took.ensures) found.room
             (with_this k r c.args.block.now c.in-Ok.asking was.block found.config found.ok found.fits found.short c.from.ensures refl)
-            (λ (len, s, before, flash, asks). absurd (omega (arith, c.in-Err-took.ensures.refused len s before flash asks, length-take-le 6 out fits))),
+            (not_taken _ was _ (omega (arith, length-take-le 6 out fits)) c.in-Err-took.ensures.refused),
         refl,
         inr (
           was,
