@@ -1,7 +1,7 @@
 //! A device on flash that is erased in sectors: each cut, failure and lie in a write or an erase of two downloads,
 //! held against a plain model of the bytes.
 
-use super::bench::{AMPLE, Setup, Turn, USUAL, W, go, offer, pass, play, world_on};
+use super::bench::{Setup, USUAL, W, go, offer, pass, play, world_on};
 use super::plain::plain_image;
 use dfu_host::Report;
 use dfu_link::{Fate, World};
