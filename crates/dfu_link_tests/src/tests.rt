@@ -9,6 +9,7 @@ mod lists;
 mod plain;
 mod runs;
 mod scripts;
+mod sectors;
 mod uploads;
 mod verifying;
 

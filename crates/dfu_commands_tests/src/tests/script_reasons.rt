@@ -6,7 +6,7 @@ use std::test::Fail;
 
 /// A line that is none of the language, and why.
 #[rattlefmt::skip]
-static LINES: [(&[u8], &str); 19] = [
+static LINES: [(&[u8], &str); 21] = [
     (b"bogus", "its first word is none of the language"),
     (b"go", "behind go a word is missing, as pass"),
     (b"go home", "the word behind go is none of the language"),
@@ -17,6 +17,8 @@ static LINES: [(&[u8], &str); 19] = [
     (b"show # a", "a comment is a line of its own"),
     (b"ids 1209 0001 010", "its word 4 isn't four hexadecimal digits"),
     (b"unit 32", "its word 2 isn't 1, 16, 64 or 256"),
+    (b"erase 4095", "its word 2 isn't 0 or a multiple of 256 up to 131,072"),
+    (b"erase 131328", "its word 2 isn't 0 or a multiple of 256 up to 131,072"),
     (b"capacity 0", "its word 2 isn't a number from 1 to 1,048,576"),
     (b"limits 1 65536", "its word 3 isn't a number, at most 65,535"),
     (b"offer 0", "its word 2 isn't an even count of hexadecimal digits, or - for no bytes"),
@@ -46,13 +48,16 @@ fn says_which_rule_a_line_breaks(rt: HostRuntime) -> Result<(), Fail> {
 
 /// Scripts that set up no device, and the line and the cause.
 #[rattlefmt::skip]
-static SETUPS: [(&[u8], &str); 7] = [
+static SETUPS: [(&[u8], &str); 10] = [
     (b"device 07 255 0 0 5 0", "1: TRANSFER isn't 1 to 4,096"),
     (b"unit 16\ndevice 07 255 8 0 16777216 0\n", "2: BUSY or MANIFEST is over 16,777,215"),
     (b"device 0b 255 8 1 5 0\nshow\n", "1: MANIFEST is 0 on a device that isn't tolerant"),
     (b"device 0C 255 8 1 5 0\ndevice 0c 255 8 0 5 0\n", "2: LEAST isn't 1 to 16,777,216"),
     (b"capacity 24\nunit 16\nimage 00\n", "2: the capacity is no multiple of the unit"),
     (b"unit 16\n# a\ncapacity 24\nshow\n", "3: the capacity is no multiple of the unit"),
+    (b"erase 512\ncapacity 768\n", "2: the capacity is no multiple of the sector"),
+    (b"capacity 768\nerase 0\nerase 512\nshow\n", "3: the capacity is no multiple of the sector"),
+    (b"erase 512\nunit 16\n# a\ncapacity 24\n", "4: the capacity is no multiple of the unit"),
     (b"image 000000\ncapacity 2\n", "2: the factory image is longer than the capacity"),
 ];
 
@@ -73,8 +78,9 @@ fn says_why_no_device_is_set_up(rt: HostRuntime) -> Result<(), Fail> {
 }
 
 /// Scripts that set up a device.
-static SOUND: [&[u8]; 2] = [
+static SOUND: [&[u8]; 3] = [
     b"",
+    b"erase 512\ncapacity 1024\nerase 256\nunit 256\n",
     b"capacity 32\nunit 16\nimage 00\ndevice 03 255 8 1 5 10\n",
 ];
 

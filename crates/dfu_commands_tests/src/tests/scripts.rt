@@ -178,14 +178,31 @@ fn scripts_write_whole_units(rt: HostRuntime) -> Result<(), Fail> {
     all_print(&rt, rt.alloc(), &UNITS, Exit::Done)
 }
 
+/// Scripts whose medium is erased in sectors.
+#[rattlefmt::skip]
+static SECTORS: [(&str, &str); 5] = [
+    ("unit 256 / erase 4096 / capacity 4096 / offer W / go pass 13", "report installed / image ffffffff"),
+    ("unit 256 / erase 4096 / capacity 4096 / offer W / go pass 10 / go cut 4 a5", "report restarts-spent / image ffffffff"),
+    ("unit 256 / erase 4096 / capacity 4096 / offer W / go pass 10 / go cut 4 -", "report restarts-spent / image 00"),
+    ("unit 256 / erase 4096 / capacity 4096 / offer W / go pass 10 / go cut 0 a5", "report restarts-spent / image 00"),
+    ("unit 256 / erase 4096 / capacity 4096 / offer W / go pass 10 / go lie 2 00 / go pass 1", "report refused errVERIFY / image 00"),
+];
+
+#[test]
+fn scripts_erase_sectors(rt: HostRuntime) -> Result<(), Fail> {
+    all_print(&rt, rt.alloc(), &SECTORS, Exit::Done)
+}
+
 /// Scripts that stop.
 #[rattlefmt::skip]
-static STOPPED: [(&str, &str); 5] = [
+static STOPPED: [(&str, &str); 7] = [
     ("show / capacity 8", "state appIDLE status OK image 00 / refused LateConfig 2"),
     ("show / bogus", "state appIDLE status OK image 00 / refused BadLine 2"),
     ("bogus / device 07 255 0 1 5 10", "refused BadLine 1"),
     ("device 07 255 0 1 5 10", "refused BadConfig"),
     ("image 0001 / capacity 1 / offer W", "refused BadConfig"),
+    ("unit 256 / erase 512 / capacity 768 / offer W", "refused BadConfig"),
+    ("upload / erase 512", "refused LateConfig 2"),
 ];
 
 #[test]

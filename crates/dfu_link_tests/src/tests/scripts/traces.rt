@@ -76,3 +76,26 @@ fn lost_requests_have_no_answer(rt: HostRuntime) -> Result<(), Fail> {
     let wanted = format!(in rt.alloc(); "{UPLOAD}image 00\n")?;
     traced(&rt, rt.alloc(), "upload/go pass 3/go lostout", &wanted)
 }
+
+/// Flash with sectors: the first block writes nothing, as the medium's unit isn't full. The image is put in place by an
+/// erase and a write of its data, of its header, and of its gate; the first erase lies.
+const ERASED: &str = "\
+# 11 WaitManifest; wait 10; lie 0 ff; -; dfuMANIFEST; dfuMANIFEST-SYNC; \
+erased 4096 at 20480 lied, 256 at 20480, erased 4096 at 16384, 256 at 16384, erased 4096 at 12288, 256 at 12288; 15 ms
+image ffffffff
+";
+
+#[test]
+fn erases_are_told(rt: HostRuntime) -> Result<(), Fail> {
+    let text = text_of(
+        rt.alloc(),
+        "unit 256/erase 4096/capacity 4096/offer W/go pass 10/go lie 0 ff",
+    )?;
+    let (answer, out) = script_traced(rt.alloc(), text.as_slice(), Vec::new(rt.alloc()));
+    assert!(rt; answer.is_ok());
+    match std::str::from_utf8(&out)?.find("# 11 ") {
+        Some(at) => assert_eq!(rt; std::str::from_utf8(&out)?.get(at..), Some(ERASED)),
+        None => panic!(rt; "the action isn't told"),
+    }
+    Ok(())
+}
