@@ -13,6 +13,8 @@ pub(crate) enum Seen<'c> {
 /// A request and its answer.
 #[derive(Clone, Copy)]
 pub(crate) struct Exchange<'c> {
+    /// The number of the packet that completed it, from 1 on.
+    pub packet: usize,
     pub address: Address,
     pub setup: [u8; 8],
     pub body: &'c [u8],

@@ -1,6 +1,8 @@
 //! Submissions and completions are joined.
 
-ghost use Rattle.std.specs.Prelude.{◌≤◌, length};
+ghost use Rattle.std.specs.Prelude.{◌≡◌, ◌≤◌, length, false, true, Err, OnOk};
+ghost use Rattle.dfu_capture.specs.Packets.{begins_capture};
+ghost use Rattle.dfu_capture.specs.declared.fault.CaptureFault.TheVariants as CaptureFault;
 
 use crate::address::Address;
 use crate::exchange::{Exchange, Seen};
@@ -36,6 +38,8 @@ fn seen_of<'c>(setup: &[u8; 8], event: &UsbEvent<'c>) -> Seen<'c> {
 /// Transfers, as they come.
 #[derive(Drop)]
 struct Joining<'c> {
+    // How many packets came.
+    count: usize,
     pending: Vec<Pending<'c>>,
     exchanges: Vec<Exchange<'c>>,
 }
@@ -82,6 +86,7 @@ impl<'c> Joining<'c> {
         };
         let [kind, ..] = began.setup;
         let exchange = Exchange {
+            packet: self.count,
             address: began.address,
             setup: began.setup,
             body: began.body,
@@ -111,14 +116,15 @@ impl<'c> Joining<'c> {
 /// submission is passed over, as at the begin of a capture, and so is a submission without a completion.
 ///
 /// NotUsbmon where it is no capture, or a packet has another link type; NoMemory where an allocation was refused.
-pub(crate) fn exchanges_of(
-    alloc: Global,
-    capture: &[u8],
-) -> Result<Vec<Exchange<'_>>, CaptureFault> {
+pub(crate) fn exchanges_of(alloc: Global, capture: &[u8]) -> Result<Vec<Exchange<'_>>, CaptureFault>
+    ensures none { begins_capture capture.now ≡ false → result ≡ Err CaptureFault.NotUsbmon }
+    ensures some { OnOk result (begins_capture capture.now ≡ true) }
+{
     let Some(mut form) = form_of(capture) else {
         return Err(CaptureFault::NotUsbmon);
     };
     let mut joining = Joining {
+        count: 0,
         pending: Vec::new(alloc),
         exchanges: Vec::new(alloc),
     };
@@ -127,6 +133,9 @@ pub(crate) fn exchanges_of(
         let Some(record) = form.record(rest) else {
             break;
         };
+        if record.is_counted {
+            joining.count = joining.count.saturating_add(1);
+        }
         if let Some(packet) = record.packet {
             if usbmon::head_of(packet.link).is_none() {
                 return Err(CaptureFault::NotUsbmon);

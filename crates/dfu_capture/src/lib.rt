@@ -15,3 +15,4 @@ mod usbmon;
 pub use address::Address;
 pub use fault::CaptureFault;
 pub use logging::{is_capture, log_of};
+pub use usbmon::{Kind, UsbEvent, packet_event};

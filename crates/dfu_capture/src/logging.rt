@@ -1,5 +1,9 @@
 //! The log of a device.
 
+ghost use Rattle.std.specs.Prelude.{◌≡◌, false, true, Err, OnOk};
+ghost use Rattle.dfu_capture.specs.Packets.{begins_capture};
+ghost use Rattle.dfu_capture.specs.declared.fault.CaptureFault.TheVariants as CaptureFault;
+
 use crate::address::Address;
 use crate::exchange::{Exchange, Seen};
 use crate::fault::CaptureFault;
@@ -8,7 +12,9 @@ use crate::records::form_of;
 use std::alloc::{AllocError, Global};
 
 /// Whether bytes begin as a capture does: pcap of either order, or pcapng. Four bytes are enough.
-pub fn is_capture(bytes: &[u8]) -> bool {
+pub fn is_capture(bytes: &[u8]) -> bool
+    ensures { result ≡ begins_capture bytes.now }
+{
     form_of(bytes).is_some()
 }
 
@@ -100,9 +106,31 @@ impl Followed {
     }
 }
 
+/// A log with a line for each packet so far.
+#[derive(Drop)]
+struct Log {
+    text: Vec<u8>,
+    lines: usize,
+}
+
+impl Log {
+    /// Adds the line of an exchange behind empty lines for the packets before it.
+    fn push(&mut self, exchange: &Exchange<'_>) -> Result<(), AllocError> {
+        for _line in self.lines.saturating_add(1)..exchange.packet {
+            self.text.push(b'\n')?;
+        }
+        self.lines = exchange.packet;
+        if exchange.new_address().is_some() {
+            self.text.extend_from_slice(b"reset\n")
+        } else {
+            push_exchange(&mut self.text, exchange)
+        }
+    }
+}
+
 /// Adds what an exchange says of the device.
 fn log_one(
-    log: &mut Vec<u8>,
+    log: &mut Log,
     exchange: &Exchange<'_>,
     is_dfu: bool,
     followed: &mut Followed,
@@ -110,7 +138,7 @@ fn log_one(
     if let Some(address) = exchange.new_address() {
         if is_dfu && (followed.only.is_none() || followed.only == Some(address)) {
             followed.given = Some(address);
-            return match log.extend_from_slice(b"reset\n") {
+            return match log.push(exchange) {
                 Ok(()) => Ok(()),
                 Err(_) => Err(CaptureFault::NoMemory),
             };
@@ -123,14 +151,14 @@ fn log_one(
     if exchange.is_cut {
         return Err(CaptureFault::CutPacket);
     }
-    match push_exchange(log, exchange) {
+    match log.push(exchange) {
         Ok(()) => Ok(()),
         Err(_) => Err(CaptureFault::NoMemory),
     }
 }
 
-/// The log of a capture, a line for each request of the class to the device, and a line `reset` where SET_ADDRESS gives it an address. The
-/// device is the one at `only`, or the one that gets requests of DFU at this interface.
+/// The log of a capture. Line N is what packet N says, counted from 1 as other programs do: a request of the class to the device, where the
+/// packet completes it; `reset`, where SET_ADDRESS gives the device an address; and else it is empty. The device is the one at `only`, or the one that gets requests of DFU at this interface.
 ///
 /// # Errors
 ///
@@ -141,9 +169,15 @@ pub fn log_of(
     capture: &[u8],
     interface: u8,
     only: Option<Address>,
-) -> Result<Vec<u8>, CaptureFault> {
+) -> Result<Vec<u8>, CaptureFault>
+    ensures none { begins_capture capture.now ≡ false → result ≡ Err CaptureFault.NotUsbmon }
+    ensures some { OnOk result (begins_capture capture.now ≡ true) }
+{
     let exchanges = exchanges_of(alloc, capture)?;
-    let mut log = Vec::new(alloc);
+    let mut log = Log {
+        text: Vec::new(alloc),
+        lines: 0,
+    };
     let mut followed = Followed {
         only,
         last: None,
@@ -157,8 +191,9 @@ pub fn log_of(
         let is_dfu = is_dfu(&exchanges, interface, address);
         log_one(&mut log, exchange, is_dfu, &mut followed)?;
     }
-    if log.is_empty() {
+    let Log { text, .. } = log;
+    if text.is_empty() {
         return Err(CaptureFault::NoDevice);
     }
-    Ok(log)
+    Ok(text)
 }

@@ -1,6 +1,7 @@
 //! Numbers of a capture, in the order of bytes of the computer that made it.
 
-ghost use Rattle.std.specs.Prelude.{◌≡◌, slice_index_or};
+ghost use Rattle.std.specs.Prelude.{◌≡◌, drop, slice_index_or};
+ghost use Rattle.dfu_capture.specs.Packets.{two_in, four_in};
 
 /// The byte at a place, or 0 behind the end.
 pub(crate) fn byte_at(bytes: &[u8], at: usize) -> u8
@@ -13,7 +14,9 @@ pub(crate) fn byte_at(bytes: &[u8], at: usize) -> u8
 }
 
 /// The bytes from a place on; none where the place is behind the end.
-pub(crate) fn from(bytes: &[u8], at: usize) -> &[u8] {
+pub(crate) fn from(bytes: &[u8], at: usize) -> &[u8]
+    ensures { result.now ≡ drop at bytes.now }
+{
     match bytes.get(at..) {
         Some(rest) => rest,
         None => &[],
@@ -21,26 +24,29 @@ pub(crate) fn from(bytes: &[u8], at: usize) -> &[u8] {
 }
 
 /// The number of two bytes at the beginning.
-pub(crate) fn two(bytes: &[u8], is_big: bool) -> u16 {
-    let pair = [byte_at(bytes, 0), byte_at(bytes, 1)];
+pub(crate) fn two(bytes: &[u8], is_big: bool) -> u16
+    ensures { result ≡ two_in is_big bytes.now }
+{
+    let first = byte_at(bytes, 0) as u16;
+    let second = byte_at(bytes, 1) as u16;
     if is_big {
-        u16::from_be_bytes(pair)
+        256 * first + second
     } else {
-        u16::from_le_bytes(pair)
+        first + 256 * second
     }
 }
 
 /// The number of four bytes at the beginning.
-pub(crate) fn four(bytes: &[u8], is_big: bool) -> u32 {
-    let all = [
-        byte_at(bytes, 0),
-        byte_at(bytes, 1),
-        byte_at(bytes, 2),
-        byte_at(bytes, 3),
-    ];
+pub(crate) fn four(bytes: &[u8], is_big: bool) -> u32
+    ensures { result ≡ four_in is_big bytes.now }
+{
+    let first = byte_at(bytes, 0) as u32;
+    let second = byte_at(bytes, 1) as u32;
+    let third = byte_at(bytes, 2) as u32;
+    let fourth = byte_at(bytes, 3) as u32;
     if is_big {
-        u32::from_be_bytes(all)
+        16_777_216 * first + 65_536 * second + 256 * third + fourth
     } else {
-        u32::from_le_bytes(all)
+        first + 256 * second + 65_536 * third + 16_777_216 * fourth
     }
 }

@@ -1,6 +1,7 @@
 //! The records of a capture: pcap, and pcapng as Wireshark writes it.
 
-ghost use Rattle.std.specs.Prelude.{◌<◌, ◌≤◌, IfSome, length};
+ghost use Rattle.std.specs.Prelude.{◌≡◌, ◌<◌, ◌≤◌, ◌+◌, drop, take, is_some, true, IfSome, IsNone, length};
+ghost use Rattle.dfu_capture.specs.Packets.{begins_capture, captured_in};
 
 use crate::numbers::{byte_at, four, from, two};
 
@@ -24,19 +25,22 @@ pub(crate) struct Packet<'c> {
     pub bytes: &'c [u8],
 }
 
-/// A record: the packet that it has, if any, and how many bytes it takes.
+/// A record: the packet that it has, if any, whether it counts as one, as each does that other programs show, and how many bytes it takes.
 #[derive(Clone, Copy)]
 pub(crate) struct Record<'c> {
+    pub is_counted: bool,
     pub packet: Option<Packet<'c>>,
     pub size: usize,
 }
 
 /// The form of a capture, by its first bytes; `None` where it is none.
-pub(crate) fn form_of(bytes: &[u8]) -> Option<Form> {
-    let (is_ng, is_big) = match bytes {
-        [0xd4, 0xc3, 0xb2, 0xa1, ..] | [0x4d, 0x3c, 0xb2, 0xa1, ..] => (false, false),
-        [0xa1, 0xb2, 0xc3, 0xd4, ..] | [0xa1, 0xb2, 0x3c, 0x4d, ..] => (false, true),
-        [0x0a, 0x0d, 0x0d, 0x0a, ..] => (true, byte_at(bytes, 8) == 0x1a),
+pub(crate) fn form_of(bytes: &[u8]) -> Option<Form>
+    ensures { is_some result ≡ begins_capture bytes.now }
+{
+    let (is_ng, is_big) = match four(bytes, true) {
+        0xd4c3_b2a1 | 0x4d3c_b2a1 => (false, false),
+        0xa1b2_c3d4 | 0xa1b2_3c4d => (false, true),
+        0x0a0d_0d0a => (true, byte_at(bytes, 8) == 0x1a),
         _ => return None,
     };
     let mut form = Form {
@@ -58,7 +62,10 @@ pub(crate) fn head_of(form: &Form) -> usize {
 }
 
 /// The bytes from a place on, so many of them; `None` where there are fewer.
-fn part(bytes: &[u8], at: usize, count: usize) -> Option<&[u8]> {
+fn part(bytes: &[u8], at: usize, count: usize) -> Option<&[u8]>
+    ensures some { IfSome result (λ p. (p.now ≡ take count (drop at bytes.now)) × (at + count ≤ length bytes.now)) }
+    ensures none { IsNone result → length bytes.now < at + count }
+{
     let end = at.checked_add(count)?;
     bytes.get(at..end)
 }
@@ -74,7 +81,11 @@ impl Form {
 
     /// The record of pcap that begins the bytes; `None` where it isn't whole.
     fn plain_record<'c>(&self, bytes: &'c [u8]) -> Option<Record<'c>>
-        ensures { IfSome result (λ r. 0 < r.size) }
+        ensures size { IfSome result (λ r. (r.size ≡ 16 + captured_in self.now.is_big bytes.now) × (r.size ≤ length bytes.now)) }
+        ensures packet { IfSome result (λ r. IfSome r.packet (λ p. (p.is_big ≡ self.now.is_big)
+            × (p.bytes.now ≡ take (captured_in self.now.is_big bytes.now) (drop 16 bytes.now)))) }
+        ensures counted { IfSome result (λ r. (r.is_counted ≡ true) × (is_some r.packet ≡ true)) }
+        ensures none { IsNone result → length bytes.now < 16 + captured_in self.now.is_big bytes.now }
     {
         let count = four(from(bytes, 8), self.is_big) as usize;
         let packet = Packet {
@@ -83,6 +94,7 @@ impl Form {
             bytes: part(bytes, 16, count)?,
         };
         Some(Record {
+            is_counted: true,
             packet: Some(packet),
             size: count.checked_add(16)?,
         })
@@ -121,7 +133,8 @@ impl Form {
             return None;
         }
         let block = part(bytes, 0, size)?;
-        let packet = match four(block, self.is_big) {
+        let kind = four(block, self.is_big);
+        let packet = match kind {
             1 => {
                 self.add_link(two(from(block, 8), self.is_big));
                 None
@@ -129,7 +142,11 @@ impl Form {
             6 => self.block_packet(block),
             _ => None,
         };
-        Some(Record { packet, size })
+        Some(Record {
+            is_counted: matches!(kind, 2 | 3 | 6),
+            packet,
+            size,
+        })
     }
 
     /// The record that begins the bytes; `None` at the end of the capture, and where it ends in the middle.

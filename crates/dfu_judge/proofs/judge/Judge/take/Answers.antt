@@ -1,9 +1,8 @@
-use Rattle.std.specs.Prelude.{Bool, List, [], ◌∷◌, ◌++◌}
+use Rattle.std.specs.Prelude.{Bool, [], ◌∷◌, ◌++◌}
 use Rattle.std.proofs.Common.{sym, subst}
 use Rattle.dfu_judge.specs.declared.judge.TheConstants.{EVERY}
-use Rattle.dfu_judge.specs.declared.event.Event.{Event}
 use Rattle.dfu_judge.specs.Held.{Judged, since_of}
-use Rattle.dfu_judge.specs.MayAnswer.{CanAnswer, IsHeld, IsHeldPlain}
+use Rattle.dfu_judge.specs.MayAnswer.{IsHeld, IsHeldPlain}
 use Rattle.dfu_judge.specs.Verdict.{Departs}
 use Rattle.dfu_judge.proofs.Everywhere.{held_first_plain}
 use Rattle.dfu_judge.proofs.Verdicts.{held_next, goes_on, departs}
@@ -38,7 +37,7 @@ returns-in-None-clause-kept c is_none events so =
     (c.in-None.ensures.none is_none) in (
       next.0,
       subst (λ (b : Bool). IsHeldPlain (since_of b c.step-since.result c.step-whole.result) (events ++ c.args.event.now ∷ []))
-      (sym c.if-self.true) next.1,
+          (sym c.if-self.true) next.1,
     )
 
 pub returns-in-Some-departure-clause-whole : goal.returns-in-Some-departure-clause-whole
@@ -69,5 +68,5 @@ returns-in-None-departure-clause-kept c is_none events so =
     (c.in-None-departure.ensures.none is_none) in (
       next.0,
       subst (λ (b : Bool). IsHeldPlain (since_of b c.self.inside.since c.step-whole.result) (events ++ c.args.event.now ∷ []))
-      (sym c.if-self.false) next.1,
+          (sym c.if-self.false) next.1,
     )
