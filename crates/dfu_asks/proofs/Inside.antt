@@ -112,25 +112,27 @@ module _ (s : SlotsState) (store : IsStore s) (u : WriteUnit) (grain : s.medium.
     | inr some ↦ subst (λ (c : Bool). length (if c then [] else s.held) ≤ n) (sym (ne_eqb n 0 some)) (few n some before)
   ]
 
-  module _ (b held : List ℕ) (end : ℕ) (j : Job) where
-    of_block : (n : ℕ) → IsNext s n (length b) → IsBlockJob n s j end held → AllInside place to (job_writes j (in_place u) end held b)
-    of_block n next is = subst (λ (ws : List Write). AllInside place to ws)
-        (λ i. job_writes (sym is.job_is i) (in_place u) (sym is.end_is i) (sym is.held_is i) b)
-        (block_inside n b ((n == 0) && not (is_begun s)) (held_before s n) (held_little n next.before) next.room)
+  of_block : (b held : List ℕ) (end : ℕ) (j : Job)
+      → (n : ℕ) → IsNext s n (length b) → IsBlockJob n s j end held → AllInside place to (job_writes j (in_place u) end held b)
+  of_block b held end j n next is = subst (λ (ws : List Write). AllInside place to ws)
+      (λ i. job_writes (sym is.job_is i) (in_place u) (sym is.end_is i) (sym is.held_is i) b)
+      (block_inside n b ((n == 0) && not (is_begun s)) (held_before s n) (held_little n next.before) next.room)
 
-    of_commit : (n : ℕ) → IsAll s n → IsCommitJob n s j end held → AllInside place to (job_writes j (in_place u) end held b)
-    of_commit n whole is = subst (λ (ws : List Write). AllInside place to ws)
-        (λ i. job_writes (sym is.job_is i) (in_place u) (sym is.end_is i) (sym is.held_is i) b)
-        (commit_inside n _ _ b (eqb-true _ _ (and_parts (is_begun s) (s.put_end == n) whole.put).1))
+  of_commit : (b held : List ℕ) (end : ℕ) (j : Job)
+      → (n : ℕ) → IsAll s n → IsCommitJob n s j end held → AllInside place to (job_writes j (in_place u) end held b)
+  of_commit b held end j n whole is = subst (λ (ws : List Write). AllInside place to ws)
+      (λ i. job_writes (sym is.job_is i) (in_place u) (sym is.end_is i) (sym is.held_is i) b)
+      (commit_inside n _ _ b (eqb-true _ _ (and_parts (is_begun s) (s.put_end == n) whole.put).1))
 
-    -- The writes of the row that is due lie within the spare slot.
-    pub due_inside : (m : Mode) (asked : Option ℕ) (len : ℕ) → IsTrue (is_sound m (length b) s) → IsDue m asked len s j end held
-        → AllInside place to (job_writes j (in_place u) end held b)
-    due_inside (mode.DownloadSync n number) asked len sound due = of_block n (next_in n (length b) s sound) due.1
-    due_inside (mode.DownloadBusy n number passed) asked len sound due = of_block n (next_in n (length b) s sound) due.1
-    due_inside (mode.ManifestSync n) asked len sound due = of_commit n (all_in n s sound) due.1
-    due_inside (mode.Manifest n passed) asked len sound due = of_commit n (all_in n s sound) due.1
-    due_inside m asked len sound due = absurd due
+  -- The writes of the row that is due lie within the spare slot.
+  pub due_inside : (b held : List ℕ) (end : ℕ) (j : Job)
+      → (m : Mode) (asked : Option ℕ) (len : ℕ) → IsTrue (is_sound m (length b) s) → IsDue m asked len s j end held
+      → AllInside place to (job_writes j (in_place u) end held b)
+  due_inside b held end j (mode.DownloadSync n number) asked len sound due = of_block b held end j n (next_in n (length b) s sound) due.1
+  due_inside b held end j (mode.DownloadBusy n number passed) asked len sound due = of_block b held end j n (next_in n (length b) s sound) due.1
+  due_inside b held end j (mode.ManifestSync n) asked len sound due = of_commit b held end j n (all_in n s sound) due.1
+  due_inside b held end j (mode.Manifest n passed) asked len sound due = of_commit b held end j n (all_in n s sound) due.1
+  due_inside b held end j m asked len sound due = absurd due
 
   -- The spare slot ends within the medium.
   pub end_there : to ≤ length s.medium.bytes

@@ -161,34 +161,36 @@ module _ (s : SlotsState) (store : IsStore s) (u : WriteUnit) (grain : s.medium.
   begun_there true false e t = sym e
   begun_there false false e t = t
 
-  module _ (b held : List ℕ) (end : ℕ) (j : Job) (k : ℕ) where
-    of_block : (n : ℕ) → IsNext s n (length b) → IsBlockJob n s j end held → IsShut (carried m (job_writes j (in_place u) end held b) k)
-    of_block n next is = subst (λ (ws : List Write). IsShut (carried m ws k))
-        (λ i. job_writes (sym is.job_is i) (in_place u) (sym is.end_is i) (sym is.held_is i) b)
-        (block_shut ((n == 0) && not (is_begun s)) n k (held_before s n) b
-        (λ e. ⊎_elim (λ none. begun_there (n == 0) (is_begun s) e (ap (λ (i : ℕ). i == 0) none))
-        (λ put. (and_parts (is_begun s) (s.put_end == n) put).0) next.before)
-        (put_beyond s store u grain n b (held_before s n) (held_little s store u grain n next.before) next.room))
+  of_block : (b held : List ℕ) (end : ℕ) (j : Job) (k : ℕ)
+      → (n : ℕ) → IsNext s n (length b) → IsBlockJob n s j end held → IsShut (carried m (job_writes j (in_place u) end held b) k)
+  of_block b held end j k n next is = subst (λ (ws : List Write). IsShut (carried m ws k))
+      (λ i. job_writes (sym is.job_is i) (in_place u) (sym is.end_is i) (sym is.held_is i) b)
+      (block_shut ((n == 0) && not (is_begun s)) n k (held_before s n) b
+      (λ e. ⊎_elim (λ none. begun_there (n == 0) (is_begun s) e (ap (λ (i : ℕ). i == 0) none))
+      (λ put. (and_parts (is_begun s) (s.put_end == n) put).0) next.before)
+      (put_beyond s store u grain n b (held_before s n) (held_little s store u grain n next.before) next.room))
 
-    of_commit : (n : ℕ) → IsAll s n → IsCommitJob n s j end held → IsReached (job_writes j (in_place u) end held b) k
-        → k < total (job_writes j (in_place u) end held b) → IsShut (carried m (job_writes j (in_place u) end held b) k)
-    of_commit n whole is reached left =
-        let put = and_parts (is_begun s) (s.put_end == n) whole.put in
-        let same : job_writes j (in_place u) end held b ≡ job_writes (job.Commit place _ _) (in_place u) n s.held b =
-        (λ i. job_writes (is.job_is i) (in_place u) (is.end_is i) (is.held_is i) b) in
-        subst (λ (ws : List Write). IsShut (carried m ws k)) (sym same)
-        (commit_shut n _ _ k s.held b put.0 (part_beyond s store u grain n (eqb-true _ _ put.1))
-        (subst (λ (ws : List Write). IsReached ws k) same reached) (subst (λ (ws : List Write). k < total ws) same left))
+  of_commit : (b held : List ℕ) (end : ℕ) (j : Job) (k : ℕ)
+      → (n : ℕ) → IsAll s n → IsCommitJob n s j end held → IsReached (job_writes j (in_place u) end held b) k
+      → k < total (job_writes j (in_place u) end held b) → IsShut (carried m (job_writes j (in_place u) end held b) k)
+  of_commit b held end j k n whole is reached left =
+      let put = and_parts (is_begun s) (s.put_end == n) whole.put in
+      let same : job_writes j (in_place u) end held b ≡ job_writes (job.Commit place _ _) (in_place u) n s.held b =
+      (λ i. job_writes (is.job_is i) (in_place u) (is.end_is i) (is.held_is i) b) in
+      subst (λ (ws : List Write). IsShut (carried m ws k)) (sym same)
+      (commit_shut n _ _ k s.held b put.0 (part_beyond s store u grain n (eqb-true _ _ put.1))
+      (subst (λ (ws : List Write). IsReached ws k) same reached) (subst (λ (ws : List Write). k < total ws) same left))
 
-    -- While writes of the row that is due are left, the gate of the spare is closed, or none is carried out yet.
-    pub due_shut : (m : Mode) (asked : Option ℕ) (len : ℕ) → IsTrue (is_sound m (length b) s) → IsDue m asked len s j end held
-        → IsReached (job_writes j (in_place u) end held b) k → k < total (job_writes j (in_place u) end held b)
-        → IsShut (carried s.medium.bytes (job_writes j (in_place u) end held b) k)
-    due_shut (mode.DownloadSync n number) asked len sound due reached left = of_block n (next_in n (length b) s sound) due.1
-    due_shut (mode.DownloadBusy n number passed) asked len sound due reached left = of_block n (next_in n (length b) s sound) due.1
-    due_shut (mode.ManifestSync n) asked len sound due reached left = of_commit n (all_in n s sound) due.1 reached left
-    due_shut (mode.Manifest n passed) asked len sound due reached left = of_commit n (all_in n s sound) due.1 reached left
-    due_shut m asked len sound due reached left = absurd due
+  -- While writes of the row that is due are left, the gate of the spare is closed, or none is carried out yet.
+  pub due_shut : (b held : List ℕ) (end : ℕ) (j : Job) (k : ℕ)
+      → (m : Mode) (asked : Option ℕ) (len : ℕ) → IsTrue (is_sound m (length b) s) → IsDue m asked len s j end held
+      → IsReached (job_writes j (in_place u) end held b) k → k < total (job_writes j (in_place u) end held b)
+      → IsShut (carried s.medium.bytes (job_writes j (in_place u) end held b) k)
+  due_shut b held end j k (mode.DownloadSync n number) asked len sound due reached left = of_block b held end j k n (next_in n (length b) s sound) due.1
+  due_shut b held end j k (mode.DownloadBusy n number passed) asked len sound due reached left = of_block b held end j k n (next_in n (length b) s sound) due.1
+  due_shut b held end j k (mode.ManifestSync n) asked len sound due reached left = of_commit b held end j k n (all_in n s sound) due.1 reached left
+  due_shut b held end j k (mode.Manifest n passed) asked len sound due reached left = of_commit b held end j k n (all_in n s sound) due.1 reached left
+  due_shut b held end j k m asked len sound due reached left = absurd due
 
 -- The next piece lies within a slot that is the spare one, or whose gate is closed.
 pub record Goes (a : Asking) (flash : List ℕ) (p : Write) : Type 0 where

@@ -70,40 +70,29 @@ pub(crate) fn mode_of(kept: &DfuDevice) -> Option<Mode>
     if kept.version != VERSION {
         return None;
     }
-    let (first, second, number) = (kept.first, kept.second, kept.number);
+    // As a download keeps them.
+    let (written, passed, number) = (kept.first, kept.second, kept.number);
     let mode = match kept.mode {
         0 => Mode::AppIdle,
         1 => Mode::AppDetach {
-            timer: first,
-            passed: second,
+            timer: kept.first,
+            passed,
         },
         2 => Mode::DfuIdle,
-        3 => Mode::DownloadSync {
-            written: first,
-            number,
-        },
-        4 => Mode::DownloadSyncWritten {
-            written: first,
-            number,
-        },
+        3 => Mode::DownloadSync { written, number },
+        4 => Mode::DownloadSyncWritten { written, number },
         5 => Mode::DownloadBusy {
-            written: first,
+            written,
             number,
-            passed: second,
+            passed,
         },
-        6 => Mode::DownloadIdle {
-            written: first,
-            number,
-        },
-        7 => Mode::ManifestSync { written: first },
+        6 => Mode::DownloadIdle { written, number },
+        7 => Mode::ManifestSync { written },
         8 => Mode::ManifestSyncComplete,
-        9 => Mode::Manifest {
-            written: first,
-            passed: second,
-        },
+        9 => Mode::Manifest { written, passed },
         10 => Mode::ManifestWaitReset,
         11 => Mode::UploadIdle {
-            place: first,
+            place: kept.first,
             number,
         },
         12 => match code_of(number) {

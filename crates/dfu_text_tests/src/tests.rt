@@ -170,7 +170,7 @@ functional download yes upload no tolerant yes will-detach yes detach 255 transf
     // A keyboard's own descriptor has type 21h too.
     let second: &[u8] = b"configuration 2\ninterface 1 alternate 0 mode run-time string 0\n\
 functional download yes upload no tolerant no will-detach no detach 1000 transfer 64 version 0100\n";
-    let known: [(&str, &[u8], Exit); 10] = [
+    let known: [(&str, &[u8], Exit); 3] = [
         (
             "09021b0001010080320904000000fe01020409210dff0000041001",
             one,
@@ -183,6 +183,13 @@ functional download yes upload no tolerant no will-detach no detach 1000 transfe
             Exit::Done,
         ),
         ("090209000003008032", b"configuration 3\n", Exit::Done),
+    ];
+    shows(&rt, rt.alloc(), "configuration", &known);
+}
+
+#[test]
+fn shows_no_odd_configurations(rt: HostRuntime) {
+    let unread: [(&str, &[u8], Exit); 9] = [
         ("0902090000030080", b"refused Short\n", Exit::Refused),
         ("090409000003008032", b"refused WrongType\n", Exit::Refused),
         (
@@ -198,9 +205,6 @@ functional download yes upload no tolerant no will-detach no detach 1000 transfe
             Exit::Refused,
         ),
         ("09020b0000030080320304", b"refused Short\n", Exit::Refused),
-    ];
-    shows(&rt, rt.alloc(), "configuration", &known);
-    let unread: [(&str, &[u8], Exit); 2] = [
         (
             "0902100001030080320704000000fe01",
             b"refused WrongLength\n",
