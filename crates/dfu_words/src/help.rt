@@ -44,7 +44,8 @@ Example:
 
 pub(crate) const SHOW: &str = "Print the fields of bytes that go over the wire";
 
-pub(crate) const SHOW_KIND: &str = "What the bytes are: functional, status, state, setup or configuration";
+pub(crate) const SHOW_KIND: &str =
+    "What the bytes are: functional, status, state, setup or configuration";
 
 pub(crate) const SHOW_HEX: &str = "The bytes, two hexadecimal digits each";
 
