@@ -13,7 +13,7 @@ static READ: [(&str, &str, &str, u8); 14] = [
     ("dfu run a", "refused BadLine 1\n", "open a;", 1),
     ("dfu run -", "state appIDLE status OK image 00\nimage 00\n", "", 0),
     ("dfu run c", "fault Read\n", "open c;", 3),
-    ("dfu show state 00", "bad words\n", "", 2),
+    ("dfu show name 00", "bad words\n", "", 2),
     ("dfu judge -", "refused BadLine 1\n", "", 1),
     ("dfu judge a", "refused BadLine 1\n", "open a;", 1),
     ("dfu judge c", "fault Read\n", "open c;", 3),
