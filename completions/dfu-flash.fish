@@ -15,7 +15,7 @@ complete -c dfu-flash -x -l limits -d 'Give up after A actions, or after R resta
 complete -c dfu-flash -x -l transfer-size -d 'Send and ask for blocks of B bytes, up to 4096, whatever the device says'
 complete -c dfu-flash -l dry-run -d 'Look for file and device, and send nothing'
 complete -c dfu-flash -l quiet -d 'Print no progress'
-complete -c dfu-flash -l verbose -d 'Print a line for each transfer, wait and reset'
+complete -c dfu-flash -l verbose -d 'Print a line for each transfer, wait and reset; --verbose=<FILE> logs them'
 complete -c dfu-flash -l json -d 'Print one record in JSON at the end'
 complete -c dfu-flash -l list -d 'List the devices that are there'
 complete -c dfu-flash -s h -l help -d 'Print help'

@@ -126,6 +126,7 @@ static struct answer send_to(struct wire *wire, const struct dfu_action *action,
     if (!is_in)
         memcpy(wire->bytes, body, length);
     wire->is_leaving = false;
+    log_device(&wire->trace.log, wire->device);
     answer = answer_of(wire, is_in, length, transfer(wire, action->setup, length));
     wire->is_leaving = answer.seen == DFU_SEEN_ACK && is_request(action->setup, KIND_OUT, REQUEST_DETACH);
     note_end(wire, action, &answer);
@@ -137,6 +138,7 @@ struct answer answer_send(struct wire *wire, const struct dfu_action *action, co
     int64_t began_ms = clock_ms();
     struct answer answer = send_to(wire, action, body);
     trace_request(&wire->trace, action->setup, &answer, clock_ms() - began_ms);
+    log_request(&wire->trace.log, action->setup, wire->device->is.interface, wire->bytes, &answer);
     return answer;
 }
 
@@ -198,5 +200,7 @@ struct answer answer_reset(struct wire *wire)
     int64_t began_ms = clock_ms();
     struct answer answer = reset_reported(wire);
     trace_reset(&wire->trace, &answer, clock_ms() - began_ms);
+    if (answer.seen == DFU_SEEN_RESET && wire->device->handle != NULL)
+        log_reset(&wire->trace.log);
     return answer;
 }

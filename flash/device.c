@@ -36,6 +36,8 @@ int device_open(struct device *device)
     error = device_set(device);
     if (error != 0)
         device_close(device);
+    else
+        device->opened++;
     return error;
 }
 

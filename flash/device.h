@@ -18,6 +18,7 @@ struct patience {
 struct device {
     libusb_context *usb;
     libusb_device_handle *handle;         /* NULL while it is away */
+    uint64_t opened;                      /* how often it was opened */
     struct found is;                      /* as it was found last */
     char path[PATH_ROOM];                 /* by this it is found again, */
     const char *serial;                   /* or by the serial number that was asked for; NULL where none was, */

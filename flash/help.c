@@ -38,7 +38,7 @@ void words_help(void)
           "  --transfer-size <B>  Send and ask for blocks of B bytes, up to 4096, whatever the device says\n"
           "  --dry-run            Look for file and device, and send nothing\n"
           "  --quiet              Print no progress\n"
-          "  --verbose            Print a line for each transfer, wait and reset\n"
+          "  --verbose            Print a line for each transfer, wait and reset; --verbose=<FILE> logs them\n"
           "  --json               Print one record in JSON at the end\n"
           "  --list               List the devices that are there\n"
           "  -h, --help           Print help\n"

@@ -75,14 +75,17 @@ static void ask(const struct words *words)
     session.actions = words->actions;
     session.restarts = words->restarts;
     session.transfer = words->transfer;
-    session.wire.trace.is_on = words->verbose;
+    session.wire.trace.is_on = words->verbose || words->log != NULL;
     session.wire.device = &device;
 }
 
 /* Opens the device; from here on signals and --timeout end what is done with it. */
 static int begin_work(const struct words *words)
 {
-    int error = device_open(&device);
+    int error;
+    if (!log_open(&session.wire.trace.log, words->log))
+        return say_none(words, STATUS_FILE);
+    error = device_open(&device);
     if (error != 0) {
         device.is.access = error;
         return say_none(words, say_no_access(&device.is));
@@ -180,6 +183,7 @@ static int over_usb(const struct words *words)
         status = list_devices(device.usb, &wanted, words->json);
     else
         status = words->job == JOB_DETACH ? run_detach(words, &wanted) : flash(words, &wanted);
+    log_close(&session.wire.trace.log);
     device_drop(&device);
     libusb_exit(device.usb);
     return status;

@@ -11,22 +11,25 @@
 
 #define SHORT_BYTES 8 /* an answer of up to so many is shown byte by byte */
 
-static void print_hex(const uint8_t *bytes, size_t count)
+/* Where a line goes that is to be printed; in a log it begins as a comment. */
+static FILE *begin_line(const struct trace *trace)
 {
-    for (size_t at = 0; at < count; at++)
-        fprintf(stderr, "%02x", bytes[at]);
+    if (trace->log.file == NULL)
+        return stderr;
+    fputs("# ", trace->log.file);
+    return trace->log.file;
 }
 
-static void print_bytes(const struct answer *answer)
+static void print_bytes(FILE *out, const struct answer *answer)
 {
     if (answer->count == 0 || answer->count > SHORT_BYTES)
-        fprintf(stderr, "%zu-bytes", answer->count);
+        fprintf(out, "%zu-bytes", answer->count);
     else
-        print_hex(answer->bytes, answer->count);
+        print_hex(out, answer->bytes, answer->count);
 }
 
 /* What was reported to the host, and of nothing the error of libusb. */
-static void print_answer(const struct answer *answer)
+static void print_answer(FILE *out, const struct answer *answer)
 {
     static const char *const seen[] = {
         [DFU_SEEN_ACK] = "ack",     [DFU_SEEN_BYTES] = "",     [DFU_SEEN_STALL] = "stall",       [DFU_SEEN_NOTHING] = "nothing",
@@ -35,13 +38,13 @@ static void print_answer(const struct answer *answer)
     static const char prefix[] = "LIBUSB_ERROR_";
     const char *error = answer->error < 0 ? libusb_error_name(answer->error) : "";
     if (answer->is_gone)
-        fputs("gone", stderr);
+        fputs("gone", out);
     else if (answer->seen == DFU_SEEN_BYTES)
-        print_bytes(answer);
+        print_bytes(out, answer);
     else
-        fputs(answer->seen < sizeof seen / sizeof *seen ? seen[answer->seen] : "?", stderr);
+        fputs(answer->seen < sizeof seen / sizeof *seen ? seen[answer->seen] : "?", out);
     if (answer->seen == DFU_SEEN_NOTHING && !answer->is_gone && *error != '\0')
-        fprintf(stderr, ":%s", strncmp(error, prefix, sizeof prefix - 1) == 0 ? error + sizeof prefix - 1 : error);
+        fprintf(out, ":%s", strncmp(error, prefix, sizeof prefix - 1) == 0 ? error + sizeof prefix - 1 : error);
 }
 
 /* The state that an answer to GETSTATUS or GETSTATE has in it (USB DFU 1.1, sections 6.1.2 and 6.1.5). */
@@ -55,55 +58,62 @@ static const char *state_in(uint8_t request, const struct answer *answer)
 }
 
 /* The first four words. */
-static void print_front(struct trace *trace, const char *what, uint32_t value, unsigned length)
+static FILE *print_front(struct trace *trace, const char *what, uint32_t value, unsigned length)
 {
+    FILE *out = begin_line(trace);
     if (trace->is_own)
-        fputs("own:", stderr);
+        fputs("own:", out);
     else
-        fprintf(stderr, "%" PRIu64, ++trace->number);
-    fprintf(stderr, " %s %" PRIu32 " %u ", what, value, length);
+        fprintf(out, "%" PRIu64, ++trace->number);
+    fprintf(out, " %s %" PRIu32 " %u ", what, value, length);
+    return out;
 }
 
 void trace_request(struct trace *trace, const uint8_t setup[8], const struct answer *answer, int64_t ms)
 {
+    FILE *out;
     if (!trace->is_on)
         return;
-    print_front(trace, request_name(setup[1]), setup_value(setup), setup_length(setup));
-    print_answer(answer);
-    fprintf(stderr, " %s %" PRId64 "\n", state_in(setup[1], answer), ms);
+    out = print_front(trace, request_name(setup[1]), setup_value(setup), setup_length(setup));
+    print_answer(out, answer);
+    fprintf(out, " %s %" PRId64 "\n", state_in(setup[1], answer), ms);
 }
 
 void trace_wait(struct trace *trace, uint32_t asked, const struct answer *answer, int64_t ms)
 {
+    FILE *out;
     if (!trace->is_on)
         return;
-    print_front(trace, "WAIT", asked, 0);
-    print_answer(answer);
-    fprintf(stderr, " - %" PRId64 "\n", ms);
+    out = print_front(trace, "WAIT", asked, 0);
+    print_answer(out, answer);
+    fprintf(out, " - %" PRId64 "\n", ms);
 }
 
 void trace_reset(struct trace *trace, const struct answer *answer, int64_t ms)
 {
+    FILE *out;
     if (!trace->is_on)
         return;
-    print_front(trace, "RESET", 0, 0);
-    print_answer(answer);
-    fprintf(stderr, " - %" PRId64 "\n", ms);
+    out = print_front(trace, "RESET", 0, 0);
+    print_answer(out, answer);
+    fprintf(out, " - %" PRId64 "\n", ms);
 }
 
 void trace_begin(const struct trace *trace, const char *goal, const struct found *is, unsigned transfer, uint32_t actions,
                  uint16_t restarts)
 {
+    FILE *out;
     if (!trace->is_on)
         return;
-    fprintf(stderr, "begin %s %04x:%04x:%04x %s %u %u %s ", goal, is->vendor, is->product, is->release, is->path, is->interface,
+    out = begin_line(trace);
+    fprintf(out, "begin %s %04x:%04x:%04x %s %u %u %s ", goal, is->vendor, is->product, is->release, is->path, is->interface,
             is->alternate, is->is_upgrade ? "DFU" : "run-time");
-    print_hex(is->descriptor, is->descriptor_size);
-    fprintf(stderr, "%s %u %" PRIu32 " %u\n", is->descriptor_size == 0 ? "-" : "", transfer, actions, restarts);
+    print_hex(out, is->descriptor, is->descriptor_size);
+    fprintf(out, "%s %u %" PRIu32 " %u\n", is->descriptor_size == 0 ? "-" : "", transfer, actions, restarts);
 }
 
 void trace_abort(const struct trace *trace)
 {
     if (trace->is_on)
-        fputs("abort\n", stderr);
+        fputs("abort\n", begin_line(trace));
 }

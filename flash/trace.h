@@ -1,6 +1,9 @@
-/* The trace of --verbose: what is done, and what comes of it, a line each on standard error. docs/dfu-flash.1 has the form. */
+/* The trace of --verbose: what is done, and what comes of it, a line each on standard error, or in a log (log.h). docs/dfu-flash.1 has
+   the form. */
 #ifndef DFU_FLASH_TRACE_H
 #define DFU_FLASH_TRACE_H
+
+#include "log.h"
 
 #include <stdbool.h>
 #include <stdint.h>
@@ -10,6 +13,7 @@ struct found;
 
 struct trace {
     bool is_on;
+    struct log log;
     bool is_own;     /* what is done is this program's own, and no action of the host: it has no number */
     uint64_t number; /* of the last action */
 };

@@ -23,7 +23,7 @@ static const struct option options[] = {
     {"timeout", required_argument, NULL, TIMEOUT}, {"limits", required_argument, NULL, LIMITS},
     {"transfer-size", required_argument, NULL, TRANSFER_SIZE},
     {"dry-run", no_argument, NULL, DRY_RUN},       {"quiet", no_argument, NULL, QUIET},
-    {"verbose", no_argument, NULL, VERBOSE},       {"json", no_argument, NULL, JSON},
+    {"verbose", optional_argument, NULL, VERBOSE}, {"json", no_argument, NULL, JSON},
     {"list", no_argument, NULL, LIST},             {"help", no_argument, NULL, HELP},
     {"version", no_argument, NULL, VERSION},       {NULL, 0, NULL, 0},
 };
@@ -134,6 +134,14 @@ static bool is_wait(const char *text, struct words *words)
     return text == NULL || is_count("--wait takes seconds, as --wait=30, from 1 to 1000000", text, MOST_SECONDS, &words->patience);
 }
 
+/* --verbose, or --verbose=FILE: the next word is none of it. */
+static bool is_verbose(const char *text, struct words *words)
+{
+    words->verbose = words->verbose || text == NULL;
+    words->log = text != NULL ? text : words->log;
+    return text == NULL || *text != '\0' || refuse("--verbose takes the name of a file, as --verbose=FILE", "");
+}
+
 static bool is_transfer(const char *text, struct words *words)
 {
     uint32_t bytes = 0;
@@ -170,7 +178,7 @@ static bool take_option(struct words *words, int code, int count, char **texts)
     case LIMITS: return is_limits(optarg, optind < count ? texts[optind++] : NULL, words);
     case DRY_RUN: words->dry_run = true; return true;
     case QUIET: words->quiet = true; return true;
-    case VERBOSE: words->verbose = true; return true;
+    case VERBOSE: return is_verbose(optarg, words);
     case JSON: words->json = true; return true;
     case LIST: return is_job(words, JOB_LIST);
     case 'h':
@@ -185,11 +193,12 @@ static bool take_option(struct words *words, int code, int count, char **texts)
 static bool is_fit(const struct words *words)
 {
     bool has_session = words->has_limits || words->dry_run || words->transfer != 0;
+    bool has_trace = words->verbose || words->log != NULL;
     if (words->force && words->job != JOB_UPLOAD)
         return refuse("--force goes with --upload alone", "");
     if (!words->verify && words->job != JOB_DOWNLOAD)
         return refuse("--no-verify goes with a download alone", "");
-    if (words->job == JOB_LIST && (has_session || words->quiet || words->verbose || words->wait || words->timeout != 0))
+    if (words->job == JOB_LIST && (has_session || words->quiet || has_trace || words->wait || words->timeout != 0))
         return refuse("--list goes with what chooses devices, and with --json, alone", "");
     if (words->job == JOB_DETACH && has_session)
         return refuse("--detach goes with no --limits, --dry-run or --transfer-size", "");

@@ -16,6 +16,7 @@ struct words {
     bool has_dfu_ids;                /* as RUN,DFU: in DFU mode it may have these */
     uint16_t dfu_vendor, dfu_product;
     const char *path, *serial;       /* NULL where they weren't given */
+    const char *log;                 /* the file of --verbose=FILE, or NULL */
     int interface, alternate;        /* -1 where they weren't given */
     const char *setting;             /* the name of --alt, NULL where it is a number or wasn't given */
     bool has_limits;                 /* --limits was given */

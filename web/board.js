@@ -27,7 +27,7 @@ export function settingOf(device, place) {
 export class Board {
   // place: { interface, alternate } in DFU mode, where one was chosen. ask: what a person is asked for, as flash.js has it.
   constructor(usb, clock, ask, place = {}) {
-    Object.assign(this, { usb, clock, ask, place, handle: null, hasLeft: false, isMany: false, bystanders: new Set() })
+    Object.assign(this, { usb, clock, ask, place, handle: null, hasLeft: false, isMany: false, returns: 0, bystanders: new Set() })
     this.onDisconnect = event => {
       if (event.device !== this.handle) return
       this.handle = null
@@ -143,7 +143,7 @@ export class Board {
         const picked = chosen
         const found = picked ? [picked] : await this.again()
         this.isMany = found.length > 1
-        if (found.length === 1 && await this.isOpened(found[0])) return true
+        if (found.length === 1 && await this.isOpened(found[0])) return ++this.returns > 0
         if (this.isMany || picked === null) return false
         if (picked !== undefined) asked = chosen = undefined
         if (asked === undefined && this.clock.now() >= end)

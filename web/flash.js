@@ -231,7 +231,7 @@ export class FlashView {
       make('p', { className: 'small' }, make('code', {}, lineOf({ name, code, words }))))
     by('report').focus()
     this.refresh()
-    this.log = `${[...trace.lines, lineOf({ name, code, words })].join('\n')}\n`
+    this.log = `${[...trace.lines, `# ${lineOf({ name, code, words })}`].join('\n')}\n`
     by('log-row').hidden = false
   }
 }

@@ -1,5 +1,5 @@
-// The trace of a session, in the lines of `dfu-flash --verbose` (docs/dfu-flash.1, TRACE). WebUSB tells no path: it is 0, a bus without
-// ports.
+// The log of a session, as `dfu-flash --verbose=FILE` writes it (docs/dfu-flash.1, TRACE; flash/log.h): for readers, and for `dfu judge`.
+// WebUSB tells no path: it is 0, a bus without ports.
 import { SEEN } from './host.js'
 import { REQUESTS, STATES, digits, hexOf, partsOf, stateOf } from './names.js'
 
@@ -20,36 +20,50 @@ export function stateIn(request, { seen, bytes }) {
 
 export class Trace {
   constructor() {
-    Object.assign(this, { lines: [], number: 0, isOwn: false })
+    Object.assign(this, { lines: [], number: 0, isOwn: false, returns: 0 })
+  }
+
+  say(text) {
+    this.lines.push(`# ${text}`)
   }
 
   // The first word is the number of the action, or says that it is none of the host's.
   add(what, value, length, answer, state, ms) {
     const front = this.isOwn ? 'own:' : ++this.number
-    this.lines.push(`${front} ${what} ${value} ${length} ${answerWord(answer)} ${state} ${Math.round(ms)}`)
+    this.say(`${front} ${what} ${value} ${length} ${answerWord(answer)} ${state} ${Math.round(ms)}`)
   }
 
-  request(setup, answer, ms) {
+  request(setup, answer, ms, body, index) {
     const { request, value, length } = partsOf(setup)
     this.add(REQUESTS[request], value, length, answer, stateIn(request, answer), ms)
+    const asked = [...setup.slice(0, 4), index, 0, ...setup.slice(6)]
+    const came = ['ack', hexOf(answer.bytes) || 'ack', 'stall'][answer.seen] ?? 'nothing'
+    this.lines.push(`${hexOf(asked)} ${hexOf(body) || '-'} ${came}`)
+  }
+
+  // Before a request: a device that was away since the last one, and is back, was reset.
+  returned(returns) {
+    if (returns > this.returns) this.lines.push('reset')
+    this.returns = returns
   }
 
   wait(asked, answer, ms) {
     this.add('WAIT', asked, 0, answer, '-', ms)
   }
 
-  reset(answer, ms) {
+  reset(answer, ms, isOpen) {
     this.add('RESET', 0, 0, answer, '-', ms)
+    if (answer.seen === SEEN.RESET && isOpen) this.lines.push('reset')
   }
 
   begin(goal, is, { transfer, actions, restarts }) {
     const ids = [is.vendor, is.product, is.device ?? is.release].map(number => digits(number, 4)).join(':')
     const mode = is.isUpgrade ? 'DFU' : 'run-time'
     const descriptor = is.descriptor.length === 0 ? '-' : hexOf(is.descriptor)
-    this.lines.push(`begin ${goal} ${ids} 0 ${is.interface} ${is.alternate} ${mode} ${descriptor} ${transfer} ${actions} ${restarts}`)
+    this.say(`begin ${goal} ${ids} 0 ${is.interface} ${is.alternate} ${mode} ${descriptor} ${transfer} ${actions} ${restarts}`)
   }
 
   abort() {
-    this.lines.push('abort')
+    this.say('abort')
   }
 }

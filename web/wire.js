@@ -85,7 +85,7 @@ export class Wire {
   async send(setup, body) {
     const began = this.clock.now()
     const answer = await this.sent(setup, body)
-    this.trace.request(setup, answer, this.clock.now() - began)
+    this.trace.request(setup, answer, this.clock.now() - began, body, this.board.is.interface)
     return answer
   }
 
@@ -97,6 +97,7 @@ export class Wire {
     }
     if (!board.isOpen() && !await board.reopen()) return told(SEEN.NOTHING, { isGone: true })
     this.isLeaving = false
+    this.trace.returned(board.returns)
     const answer = await this.answered(setup, body)
     this.isLeaving = answer.seen === SEEN.ACK && isDetach(setup)
     this.noteEnd(setup, body.length, answer)
@@ -156,7 +157,7 @@ export class Wire {
   async reset() {
     const began = this.clock.now()
     const answer = await this.wasReset()
-    this.trace.reset(answer, this.clock.now() - began)
+    this.trace.reset(answer, this.clock.now() - began, this.board.isOpen())
     return answer
   }
 

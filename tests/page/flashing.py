@@ -62,8 +62,8 @@ def log_file(browser, work):
             break
         time.sleep(0.05)
     lines = file.read_text().splitlines() if file.exists() else ['']
-    check_that('the log begins', lines[0].startswith('begin verified 1209:0001:0100 0 0 0 DFU 0921'), lines)
-    check_that('the log ends', lines[-1].startswith('verified: after a reset'), lines)
+    check_that('the log begins', lines[0].startswith('# begin verified 1209:0001:0100 0 0 0 DFU 0921'), lines)
+    check_that('the log ends', lines[-1].startswith('# verified: after a reset'), lines)
 
 
 def by_keyboard(browser, address, work):

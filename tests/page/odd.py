@@ -67,12 +67,17 @@ def every(browser, what, words, kinds, may=None):
     return dict(zip(list_of, found))
 
 
+def told(found):
+    """The lines of a log that are for readers."""
+    return [line[2:] for line in found['trace'] if line.startswith('# ')]
+
+
 def fates(browser):
-    clean = in_page(browser, {})[0]['trace']
+    clean = told(in_page(browser, {})[0])
     sent = [line.split(' ')[1:4] for line in clean[1:] if line.split(' ')[1] not in ('WAIT', 'RESET')]
     found = every(browser, 'WebUSB', {}, ['late', 'stall', 'fails', 'leave-after'], {'verified', 'different'})
     for (kind, number), one in found.items():
-        has_left = any(' left ' in line for line in one['trace'])
+        has_left = any(' left ' in line for line in told(one))
         # Where the power goes behind dfuMANIFEST the device may have started its image: it is compared, and the old one stands.
         check(f'{kind} {number}: its report', one['name'], 'different' if has_left and one['image'] == text(OLD) else 'verified')
         if kind == 'leave-after' and sent[number][0] != 'DETACH':
@@ -105,7 +110,7 @@ def cancels(browser):
     count = in_page(browser, {})[0]['actions']
     for at, one in enumerate(in_page(browser, *({'stopAt': at} for at in range(count)))):
         is_last = at == count - 1
-        check(f'cancelled at {at}', (one['name'], 'abort' in one['trace']), ('verified', True) if is_last else ('aborted', True))
+        check(f'cancelled at {at}', (one['name'], 'abort' in told(one)), ('verified', True) if is_last else ('aborted', True))
         check_that(f'cancelled at {at}: one image or the other', one['image'] in (text(OLD), text(NEW)), one['image'])
 
 

@@ -2,7 +2,6 @@
 import json
 import os
 import pathlib
-import re
 import subprocess
 import tempfile
 
@@ -72,22 +71,24 @@ class Flash:
         env = {**os.environ, 'LD_LIBRARY_PATH': self.folder, 'USB_IMAGE': f'{self.at}/old', 'USB_SAVE': f'{self.at}/saved',
                'USB_FATE': fate, **variables}
         options = [] if words.get('wantsVerified', True) else ['--no-verify']
-        command = [f'{self.folder}/dfu-flash', '--json', '--quiet', '--verbose', '--path', '1-1', *options, f'{self.at}/new.dfu']
+        log = self.at / 'log'
+        log.unlink(missing_ok=True)
+        command = [f'{self.folder}/dfu-flash', '--json', '--quiet', f'--verbose={log}', '--path', '1-1', *options, f'{self.at}/new.dfu']
         done = subprocess.run(command, env=env, capture_output=True, text=True, check=False)
         record = json.loads(done.stdout.splitlines()[-1])
         code = f" {record['code']}" if 'code' in record else ''
-        trace = [line for line in done.stderr.splitlines() if re.match('begin |own: |[0-9]+ |abort', line)]
+        trace = log.read_text().splitlines()
         return {'line': f"{record['report']}{code}: {record['words']}", 'status': record['status'], 'goal': record.get('goal'),
                 'image': text((self.at / 'saved').read_bytes()), 'trace': [strip(line) for line in trace],
                 **{name: record.get(name) for name in ('actions', 'transfers', 'restarts')}}
 
 
 def strip(line):
-    """A line of the trace without the path and the milliseconds that it took."""
+    """A line of the log without the path and the milliseconds that an action took."""
     words = line.split(' ')
-    if words[0] == 'begin':
-        words[3] = '-'
-    return ' '.join(words if words[0] in ('begin', 'abort') else words[:-1])
+    if words[:2] == ['#', 'begin']:
+        words[4] = '-'
+    return ' '.join(words[:-1] if words[0] == '#' and words[1] not in ('begin', 'abort') else words)
 
 
 def compare(what, found, run):

@@ -1,0 +1,50 @@
+# Rows of tests/flash: the log of --verbose=FILE. For readers it has the lines of --verbose; and `dfu judge` keeps what the proved device
+# answered, whatever was lost, and U-Boot's rules by their habit.
+
+# judged WANTED: the last line that `dfu judge` prints of the log begins so.
+judged() {
+    case $("$top/dfu" judge session.log | tail -n 1) in
+    "$1 events"*) true ;;
+    *) false ;;
+    esac
+}
+for settings in USB_START=app 'USB_START=app USB_ATTRIBUTES=0f USB_DETACH=5' USB_ATTRIBUTES=05 USB_CAPACITY=13 USB_DEVICE=uboot; do
+    for fate in '' 'lost-out 1' 'lost-back 4' 'leave 1' 'leave 2,lost-out 7' 'leave 4' 'leave 20'; do
+        rm -f session.log
+        flash "$settings" --quiet --verbose=session.log new.dfu
+        case $settings in *uboot) verdict='kept by bootloader' ;; *) verdict=kept ;; esac
+        expect "a log of $settings with $fate: $verdict" judged "$verdict"
+        expect "a log of $settings with $fate: nothing else is said" test ! -s err
+        sed -n 's/^# [0-9]* \([A-Z]* [0-9]* [0-9]* [^ ]*\) .*/\1/p' session.log | grep -v '^WAIT\|^RESET' > found
+        heard > wanted
+        expect "a log of $settings with $fate: its requests" diff wanted found
+        expect 'each has a line for the judge' test "$(grep -c '^[0-9a-f]\{16\} ' session.log)" -eq "$(wc -l < wanted)"
+    done
+done
+fate=
+
+# A state that is none of the standard's there.
+sed '0,/000000000200$/s//000000000900/' session.log > wrong.log
+expect 'a wrong answer in a log' test "$("$top/dfu" judge wrong.log | sed -n '1s/ .*//p')" = departs
+
+# What is there stays, but for what loses nothing by it. Nothing is sent where there is no log.
+row 3 old '' '' --verbose=session.log new.dfu
+says 'session.log can'\''t be made: it is there already'
+expect 'a log that is there: nothing is sent' is_silent
+ln -s elsewhere link
+row 3 old '' '' --verbose=link new.dfu
+expect 'a link to nothing is not followed' test ! -e elsewhere
+row 3 old '' '' --verbose=nowhere/log new.dfu
+row 3 old '' '' --verbose=. new.dfu
+row 2 - '' '' --verbose= new.dfu
+row 2 - '' '' --list --verbose=x.log
+expect 'no log of a list' test ! -e x.log
+row 0 old '' '' --dry-run --verbose=x.log new.dfu
+expect 'no log of a dry run' test ! -e x.log
+mkfifo pipe
+cat pipe > piped &
+row 0 new 'verified: ' '' --quiet --verbose=pipe new.dfu
+wait
+expect 'a pipe' grep -q '^# begin verified' piped
+row 0 new 'verified: ' '' --quiet --verbose=/dev/full new.dfu
+says '/dev/full was not written whole: '
