@@ -136,9 +136,11 @@ static struct answer send_to(struct wire *wire, const struct dfu_action *action,
 struct answer answer_send(struct wire *wire, const struct dfu_action *action, const uint8_t *body)
 {
     int64_t began_ms = clock_ms();
+    uint64_t before = wire->transfers;
     struct answer answer = send_to(wire, action, body);
     trace_request(&wire->trace, action->setup, &answer, clock_ms() - began_ms);
-    log_request(&wire->trace.log, action->setup, wire->device->is.interface, wire->bytes, &answer);
+    if (wire->transfers != before)
+        log_request(&wire->trace.log, action->setup, wire->device->is.interface, wire->bytes, &answer);
     return answer;
 }
 

@@ -32,7 +32,4 @@ void log_reset(struct log *log);
 /* Nothing more comes. Where something could not be written, that is said. */
 void log_close(struct log *log);
 
-/* Bytes, as hexadecimal digits. */
-void print_hex(FILE *out, const uint8_t *bytes, size_t count);
-
 #endif

@@ -75,3 +75,9 @@ void text_from_units(const unsigned char *bytes, size_t count, char *text, size_
     }
     text[length] = '\0';
 }
+
+void text_hex(FILE *out, const uint8_t *bytes, size_t count)
+{
+    for (size_t at = 0; at < count; at++)
+        fprintf(out, "%02x", bytes[at]);
+}

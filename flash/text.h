@@ -16,6 +16,9 @@ bool text_is_control(uint32_t character);
 /* Prints it as it is, but for bytes of control characters and of what isn't UTF-8, which are written as \xNN. */
 void text_print(FILE *out, const char *text);
 
+/* Prints bytes as hexadecimal digits. */
+void text_hex(FILE *out, const uint8_t *bytes, size_t count);
+
 /* Writes the units of UTF-16, the low byte of each first, as UTF-8: up to a NUL, and as many as the room has place for. */
 void text_from_units(const unsigned char *bytes, size_t count, char *text, size_t room);
 

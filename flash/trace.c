@@ -4,6 +4,7 @@
 #include "trace.h"
 #include "answer.h"
 #include "standard.h"
+#include "text.h"
 
 #include <inttypes.h>
 #include <stdio.h>
@@ -25,7 +26,7 @@ static void print_bytes(FILE *out, const struct answer *answer)
     if (answer->count == 0 || answer->count > SHORT_BYTES)
         fprintf(out, "%zu-bytes", answer->count);
     else
-        print_hex(out, answer->bytes, answer->count);
+        text_hex(out, answer->bytes, answer->count);
 }
 
 /* What was reported to the host, and of nothing the error of libusb. */
@@ -108,7 +109,7 @@ void trace_begin(const struct trace *trace, const char *goal, const struct found
     out = begin_line(trace);
     fprintf(out, "begin %s %04x:%04x:%04x %s %u %u %s ", goal, is->vendor, is->product, is->release, is->path, is->interface,
             is->alternate, is->is_upgrade ? "DFU" : "run-time");
-    print_hex(out, is->descriptor, is->descriptor_size);
+    text_hex(out, is->descriptor, is->descriptor_size);
     fprintf(out, "%s %u %" PRIu32 " %u\n", is->descriptor_size == 0 ? "-" : "", transfer, actions, restarts);
 }
 

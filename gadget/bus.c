@@ -43,7 +43,7 @@ void bus_reset(struct bus *bus)
 {
     bus_pass(bus);
     machine_reset(&bus->machine);
-    say_change("reset", 0, machine_state(&bus->machine));
+    say_reset(machine_state(&bus->machine));
     look(bus);
 }
 
@@ -88,7 +88,10 @@ static bool decide(struct bus *bus, const uint8_t setup[8], uint8_t out[MOST_TRA
     uint8_t body[MOST_TRANSFER];
     size_t length = (size_t)(setup[6] | setup[7] << 8);
     switch (machine_plan(&bus->machine, setup)) {
-    case PLAN_STALL: *answer = DFU_STALL; return true;
+    case PLAN_STALL:
+        *answer = DFU_STALL;
+        say_exchange(setup, body, 0, DFU_STALL, out);
+        return true;
     case PLAN_ANSWER: length = 0; break;
     case PLAN_TAKE:
         if (function_take(&bus->functions[bus->mode], body, length) != (int)length)
@@ -96,6 +99,8 @@ static bool decide(struct bus *bus, const uint8_t setup[8], uint8_t out[MOST_TRA
         break;
     }
     *answer = machine_handle(&bus->machine, setup, body, length, out);
+    if (bus->machine.refusal == 0)
+        say_exchange(setup, body, length, *answer, out);
     return true;
 }
 

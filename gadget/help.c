@@ -33,7 +33,7 @@ void words_help(void)
           "  --manifest <MS>         What an image takes to be put in place, else 20\n"
           "  --least <BYTES>         Take no image of fewer bytes, else 1\n"
           "  --dry-run               Say what is there and what is missing, and do nothing\n"
-          "  --verbose               Print a line for each request\n"
+          "  --verbose               Print a line for each request; --verbose=<FILE> logs them\n"
           "  --root <FOLDER>         Look for /sys, /dev/usb-ffs and /proc in FOLDER, for tests\n"
           "\n"
           "  -h, --help              Print help\n"

@@ -119,6 +119,8 @@ int run_device(const struct words *words)
     bus.controller.state = bus.functions[APPLICATION].ep0 = bus.functions[UPGRADE].ep0 = -1;
     bus.installed = (struct installed){.command = words->command, .medium = words->medium, .child = -1};
     say_is_verbose = words->verbose;
+    if (words->log != NULL && !say_to(words->log))
+        return STATUS_FILE;
     stop_at_lost_medium();
     if (!stop_catch()) {
         say_failed("a pipe", "can't be had");
@@ -132,6 +134,7 @@ int run_device(const struct words *words)
         function_close(&bus.functions[mode]);
     controller_close(&bus.controller);
     medium_close(&medium);
+    say_no_more(words->log);
     if (stop_signal() != 0)
         say_event("ended: by signal %d", stop_signal());
     return status;

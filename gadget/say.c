@@ -1,5 +1,6 @@
 /* The lines on standard error. A request has seven words with one space between, as an action of dfu-flash has. */
 #include "say.h"
+#include "../flash/fresh.h"
 #include "../flash/text.h"
 
 #include <errno.h>
@@ -49,34 +50,78 @@ void say_event(const char *format, ...)
     fputc('\n', stderr);
 }
 
-static void print_answer(const uint8_t setup[8], int32_t answer, const uint8_t *out)
+static FILE *log_file;
+
+bool say_to(const char *name)
+{
+    log_file = fresh_open(name);
+    return log_file != NULL || say_failed(name, "can't be made");
+}
+
+void say_no_more(const char *name)
+{
+    if (log_file != NULL && !fresh_close(log_file))
+        say_failed(name, "was not written whole");
+    log_file = NULL;
+}
+
+/* Where a line goes; in a log it begins as a comment. */
+static FILE *begin_line(void)
+{
+    if (log_file == NULL)
+        return stderr;
+    fputs("# ", log_file);
+    return log_file;
+}
+
+static void print_answer(FILE *file, const uint8_t setup[8], int32_t answer, const uint8_t *out)
 {
     if (answer < 0)
-        fputs("stall", stderr);
+        fputs("stall", file);
     else if ((setup[0] & 0x80) == 0)
-        fputs("ack", stderr);
+        fputs("ack", file);
     else if (answer == 0 || answer > SHORT_BYTES)
-        fprintf(stderr, "%" PRId32 "-bytes", answer);
+        fprintf(file, "%" PRId32 "-bytes", answer);
     else
-        for (int32_t at = 0; at < answer; at++)
-            fprintf(stderr, "%02x", out[at]);
+        text_hex(file, out, (size_t)answer);
 }
 
 void say_request(const uint8_t setup[8], int32_t answer, const uint8_t *out, int32_t state, int64_t ms)
 {
     static uint64_t number;
     size_t request = setup[1];
+    FILE *file;
     number++;
     if (!say_is_verbose)
         return;
-    fprintf(stderr, "%" PRIu64 " %s %u %u ", number, request < sizeof requests / sizeof *requests ? requests[request] : "?",
+    file = begin_line();
+    fprintf(file, "%" PRIu64 " %s %u %u ", number, request < sizeof requests / sizeof *requests ? requests[request] : "?",
             (unsigned)(setup[2] | setup[3] << 8), (unsigned)(setup[6] | setup[7] << 8));
-    print_answer(setup, answer, out);
-    fprintf(stderr, " %s %" PRId64 "\n", state_name(state), ms);
+    print_answer(file, setup, answer, out);
+    fprintf(file, " %s %" PRId64 "\n", state_name(state), ms);
+}
+
+void say_exchange(const uint8_t setup[8], const uint8_t *body, size_t length, int32_t answer, const uint8_t *out)
+{
+    if (log_file == NULL)
+        return;
+    text_hex(log_file, setup, 8);
+    fputs(length > 0 ? " " : " -", log_file);
+    text_hex(log_file, body, length);
+    fputs(answer < 0 ? " stall" : answer == 0 ? " ack" : " ", log_file);
+    text_hex(log_file, out, answer < 0 ? 0 : (size_t)answer);
+    fputc('\n', log_file);
 }
 
 void say_change(const char *what, int64_t ms, int32_t state)
 {
     if (say_is_verbose)
-        fprintf(stderr, "%s: %" PRId64 " ms, %s\n", what, ms, state_name(state));
+        fprintf(begin_line(), "%s: %" PRId64 " ms, %s\n", what, ms, state_name(state));
+}
+
+void say_reset(int32_t state)
+{
+    say_change("reset", 0, state);
+    if (log_file != NULL)
+        fputs("reset\n", log_file);
 }

@@ -5,6 +5,7 @@
 #include "status.h"
 
 #include <stdbool.h>
+#include <stddef.h>
 #include <stdint.h>
 
 /* A line about a file or another name that others chose: the name, escaped where it has to be, and what is wrong with it. False. */
@@ -19,12 +20,23 @@ void say_event(const char *format, ...) __attribute__((format(printf, 1, 2)));
 /* Whether each request gets a line. */
 extern bool say_is_verbose;
 
+/* Has these lines, as comments, and each request and reset as a line that `dfu judge` reads, in a new file of this name. False where it
+   can't be made, which is said. */
+bool say_to(const char *name);
+
+/* Nothing more comes. Where something could not be written, that is said. */
+void say_no_more(const char *name);
+
+/* What was answered to a request, with so many bytes of its data stage that were taken, for `dfu judge`. */
+void say_exchange(const uint8_t setup[8], const uint8_t *body, size_t length, int32_t answer, const uint8_t *out);
+
 /* A line for a request, once it is answered: docs/dfu-gadget.1, REQUESTS, has its words. `answer` is how many bytes of `out` went
    back, or negative for a stall. */
 void say_request(const uint8_t setup[8], int32_t answer, const uint8_t *out, int32_t state, int64_t ms);
 
-/* A line for a change of state that no request made: by time, or by a reset of the bus. */
+/* A line for a change of state that no request made: by time, or by a reset of the bus, which `dfu judge` hears of too. */
 void say_change(const char *what, int64_t ms, int32_t state);
+void say_reset(int32_t state);
 
 /* The name of a state, bState (USB DFU 1.1, section 6.1.2). */
 const char *state_name(int32_t state);

@@ -27,7 +27,7 @@ static const struct option options[] = {
     {"manifest", required_argument, NULL, MANIFEST},
     {"least", required_argument, NULL, LEAST},
     {"dry-run", no_argument, NULL, DRY_RUN},
-    {"verbose", no_argument, NULL, VERBOSE},
+    {"verbose", optional_argument, NULL, VERBOSE},
     {"root", required_argument, NULL, ROOT},
     {"help", no_argument, NULL, HELP},
     {"version", no_argument, NULL, VERSION},
@@ -122,7 +122,7 @@ static bool take(struct words *words, int code, const char *value)
     case MANIFEST: return take_ms(value, &words->manifest_ms);
     case LEAST: return take_size(value, &words->least);
     case DRY_RUN: return words->dry_run = true;
-    case VERBOSE: return words->verbose = true;
+    case VERBOSE: words->verbose = true; return value == NULL || take_text(value, &words->log);
     case ROOT: return take_text(value, &words->root);
     case 'h':
     case HELP: words->job = JOB_HELP; return true;
@@ -139,7 +139,7 @@ bool words_option(struct words *words, const char *name, const char *value)
             continue;
         if (option->val < CONTROLLER || option->val == CONFIG || option->val >= HELP)
             return refuse(name, "it can't stand in the file of --config");
-        if ((option->has_arg == required_argument) != (value != NULL))
+        if (option->has_arg != optional_argument && (option->has_arg == required_argument) != (value != NULL))
             return refuse(name, value == NULL ? "it takes a word" : "it takes no word");
         return take(words, option->val, value);
     }

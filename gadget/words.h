@@ -20,6 +20,7 @@ struct words {
     const char *command;      /* of --on-installed, NULL where it wasn't given */
     const char *root;
     bool dfu_mode, dry_run, verbose;
+    const char *log; /* the file of --verbose=FILE, or NULL */
     uint8_t attributes;
     uint16_t detach_ms, transfer;
     uint32_t busy_ms, manifest_ms, least;

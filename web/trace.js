@@ -33,12 +33,15 @@ export class Trace {
     this.say(`${front} ${what} ${value} ${length} ${answerWord(answer)} ${state} ${Math.round(ms)}`)
   }
 
-  request(setup, answer, ms, body, index) {
+  request(setup, answer, ms) {
     const { request, value, length } = partsOf(setup)
     this.add(REQUESTS[request], value, length, answer, stateIn(request, answer), ms)
-    const asked = [...setup.slice(0, 4), index, 0, ...setup.slice(6)]
-    const came = ['ack', hexOf(answer.bytes) || 'ack', 'stall'][answer.seen] ?? 'nothing'
-    this.lines.push(`${hexOf(asked)} ${hexOf(body) || '-'} ${came}`)
+  }
+
+  // A request that was sent to that interface, for the judge.
+  exchange(setup, index, body, { seen, bytes }) {
+    const sent = hexOf([...setup.slice(0, 4), index, 0, ...setup.slice(6)])
+    this.lines.push(`${sent} ${hexOf(body) || '-'} ${['ack', hexOf(bytes) || 'ack', 'stall'][seen] ?? 'nothing'}`)
   }
 
   // Before a request: a device that was away since the last one, and is back, was reset.

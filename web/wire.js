@@ -84,8 +84,10 @@ export class Wire {
 
   async send(setup, body) {
     const began = this.clock.now()
+    const { transfers } = this
     const answer = await this.sent(setup, body)
-    this.trace.request(setup, answer, this.clock.now() - began, body, this.board.is.interface)
+    this.trace.request(setup, answer, this.clock.now() - began)
+    if (this.transfers > transfers) this.trace.exchange(setup, this.board.is.interface, body, answer)
     return answer
   }
 

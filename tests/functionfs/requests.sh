@@ -288,6 +288,26 @@ reset => upgrade leaves / application joins
 END
 is 'no command' test "$(grep -c 'nowhere' err)" -eq 0
 
+# The log of --verbose=FILE: the lines for readers, and those for `dfu judge`, which keeps the device.
+for rows in "$download" "$stalled"; do
+    fresh
+    rm -f session.log
+    log="=session.log"
+    row 'a log' '--dfu-mode --busy 20 --transfer-size 64' << END
+setup a105000000000100 => upgrade joins / a105 02
+$rows
+reset => upgrade leaves / application joins
+END
+    is 'a log: a line for readers' grep -q '^# 1 GETSTATE 0 1 02 dfuIDLE 0$' session.log
+    is 'a log: the reset' test "$(grep -c '^reset$' session.log)" -eq 1
+    is 'a log: it is not on standard error' test "$(grep -c GETSTATE err)" -eq 0
+    equal 'a log: the judge' kept "$("$top/dfu" judge session.log | tail -n 1 | sed 's/ events.*//')"
+    play --dfu-mode < /dev/null
+    equal 'a log that is there' 3 "$code"
+    is 'a log that is there' grep -q "^dfu-gadget: session.log can't be made: File exists$" err
+    log=
+done
+
 # A kernel that takes no such descriptors, a file that is made shorter, and signals.
 fresh
 GADGET_OLD_KERNEL=1

@@ -31,8 +31,8 @@ expect 'a wrong answer in a log' test "$("$top/dfu" judge wrong.log | sed -n '1s
 row 3 old '' '' --verbose=session.log new.dfu
 says 'session.log can'\''t be made: it is there already'
 expect 'a log that is there: nothing is sent' is_silent
-ln -s elsewhere link
-row 3 old '' '' --verbose=link new.dfu
+ln -s elsewhere dangling
+row 3 old '' '' --verbose=dangling new.dfu
 expect 'a link to nothing is not followed' test ! -e elsewhere
 row 3 old '' '' --verbose=nowhere/log new.dfu
 row 3 old '' '' --verbose=. new.dfu
