@@ -89,9 +89,9 @@ abbrev machine_at : LinkState → List ℕ → Machine
 machine_at w image = machine_with image w.bench.device.stage w.bench.session w.up
 
 agrees_then : {factory : List ℕ} {past : List Begun} {before : Option Report} {w : LinkState}
-    (k : HeadlineHolds factory past before w.bench) → AgreesOn w.bench w.up (machine_at w k.image)
+    (k : HeadlineHolds factory past before w.bench) → AgreesOn w.bench w.up (machine_at w k.says.image)
 agrees_then {w = w} k = record {
-  active = k.active;
+  active = k.says.active;
   pending = refl;
   live = refl;
   up_is = refl;
@@ -100,14 +100,14 @@ agrees_then {w = w} k = record {
 }
 
 past_then : {factory : List ℕ} {past : List Begun} {before : Option Report} {w : LinkState}
-    (k : HeadlineHolds factory past before w.bench) → IsOfPast factory past (machine_at w k.image)
+    (k : HeadlineHolds factory past before w.bench) → IsOfPast factory past (machine_at w k.says.image)
 past_then {past = past} {w = w} k = record {
-  known = k.known;
+  known = k.says.known;
   offers = λ x one. elim (one_apart (closed_in w.bench.device.stage) (session_in w.bench.session) x one) [
-    | inl left ↦ k.waiting x (waits_in w.bench.device.stage x left)
-    | inr right ↦ last_was past x (k.live x (lives_in w.bench.session x right))
+    | inl left ↦ k.kept.waiting x (waits_in w.bench.device.stage x left)
+    | inr right ↦ last_was past x (k.kept.live x (lives_in w.bench.session x right))
   ];
-  live = λ x e. k.live x (session_loads w.bench.session x e);
+  live = λ x e. k.kept.live x (session_loads w.bench.session x e);
 }
 
 -- The headline holds where a session machine agrees that has what was offered, and where what is reported is so.
@@ -115,12 +115,11 @@ abbrev pub holds_by : {factory : List ℕ} {past : List Begun} {report : Option 
     → AgreesOn b up m → IsOfPast factory past m → (SaysInPlace report → (b.device.stage ≡ InAppIdle) × IsLastPayload past m.cur)
     → HeadlineHolds factory past report b
 holds_by {b = b} {m = m} agrees of_past in_place = record {
-  image = m.cur;
-  active = agrees.active;
-  known = of_past.known;
-  in_place = in_place;
-  waiting = λ x is. of_past.offers x (waits_offered b.device.stage m.offers x agrees.sound is);
-  live = λ x is. of_past.live x (agrees.live ∙ loads_session b.session x is);
+  says = record { image = m.cur; active = agrees.active; known = of_past.known; in_place = in_place };
+  kept = record {
+    waiting = λ x is. of_past.offers x (waits_offered b.device.stage m.offers x agrees.sound is);
+    live = λ x is. of_past.live x (agrees.live ∙ loads_session b.session x is);
+  };
 }
 
 -- The headline holds after an event that such a session machine follows.
@@ -145,7 +144,7 @@ keeps : {factory : List ℕ} {past : List Begun} {before : Option Report} {w w' 
     → HeadlineHolds factory (begun event past) report w'.bench
 keeps {factory = factory} {past = past} {w = w} {w' = w'} event {report = report} follow k =
     subst (λ (sessions : List Begun). HeadlineHolds factory sessions report w'.bench) (begun_same event past)
-    (holds_after (happening event) (past_then k) (follow (machine_at w k.image) (agrees_then k)))
+    (holds_after (happening event) (past_then k) (follow (machine_at w k.says.image) (agrees_then k)))
 
 -- An event that each session machine follows keeps the headline.
 pub step_keeps : (w w' : LinkState) (event : Event) (result : Result (Option Report) LinkFault) → AllFollow w (happening event) w' result
@@ -170,10 +169,9 @@ stopped_keeps {w = w} {w' = w'} {reports = reports} n events chain =
 -- The headline holds at the start.
 pub holds_at_rest : HoldsAtRest
 holds_at_rest b factory active none still = record {
-  image = factory;
-  active = active;
-  known = inl refl;
-  in_place = λ e. absurd e;
-  waiting = λ x is. absurd (still x is);
-  live = λ x is. absurd (subst (λ (s : Session). IsLivePayload s x) none is);
+  says = record { image = factory; active = active; known = inl refl; in_place = λ e. absurd e };
+  kept = record {
+    waiting = λ x is. absurd (still x is);
+    live = λ x is. absurd (subst (λ (s : Session). IsLivePayload s x) none is);
+  };
 }

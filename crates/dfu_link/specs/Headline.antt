@@ -47,6 +47,14 @@ IsLastPayload [] x = ⊥
 IsLastPayload (WithOffer file ∷ past) x = IsPayload x file
 IsLastPayload (AsUpload ∷ past) x = ⊥
 
+-- What the headline says, when these sessions have begun and this was reported last. The active image is the factory image or a payload
+-- offered so far. Where Installed or Verified was reported, the device is in appIDLE, and that image is the last session's payload.
+pub record HeadlineSays (factory : List ℕ) (past : List Begun) (report : Option Report) (b : Bench) : Type 0 where
+  pub image : List ℕ
+  pub active : Active b.device.slots.medium image
+  pub known : (image ≡ factory) ⊎ WasOffered past image
+  pub in_place : SaysInPlace report → (b.device.stage ≡ InAppIdle) × IsLastPayload past image
+
 -- The device has all bytes of an image, these, and has not put it in place yet.
 abbrev pub IsWaiting : Stage → List ℕ → Type 0
 IsWaiting (InManifestSync taken) x = x ≡ taken
@@ -65,16 +73,15 @@ abbrev pub IsLivePayload : Session → List ℕ → Type 0
 IsLivePayload Nobody x = ⊥
 IsLivePayload (Hosted host) x = IsGoalPayload host.task.goal x
 
--- The headline holds of a device and its session, when these sessions have begun and this was reported last. The active image is the
--- factory image or the whole payload of a file offered so far. Where Installed or Verified was reported, the device is in appIDLE, and the
--- active image is the payload of the last session. The last two facts keep it so: what is still to be put in place was offered.
-pub record HeadlineHolds (factory : List ℕ) (past : List Begun) (report : Option Report) (b : Bench) : Type 0 where
-  pub image : List ℕ
-  pub active : Active b.device.slots.medium image
-  pub known : (image ≡ factory) ⊎ WasOffered past image
-  pub in_place : SaysInPlace report → (b.device.stage ≡ InAppIdle) × IsLastPayload past image
+-- What keeps the headline: an image that waits to be put in place was offered, and a live session's payload is that of the last offer.
+pub record KeepsHeadline (past : List Begun) (b : Bench) : Type 0 where
   pub waiting : (x : List ℕ) → IsWaiting b.device.stage x → WasOffered past x
   pub live : (x : List ℕ) → IsLivePayload b.session x → IsLastPayload past x
+
+-- The headline holds: it is so, and what keeps it is so.
+pub record HeadlineHolds (factory : List ℕ) (past : List Begun) (report : Option Report) (b : Bench) : Type 0 where
+  pub says : HeadlineSays factory past report b
+  pub kept : KeepsHeadline past b
 
 -- Where the headline holds before an event, it holds after it, with what the event reports. A refused event changes nothing.
 abbrev pub StepKeepsHeadline : LinkState → Event → LinkState → Result (Option Report) LinkFault → Type 0

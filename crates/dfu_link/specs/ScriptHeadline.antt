@@ -37,7 +37,7 @@ pub data EventsHold (factory : List ℕ) (past : List Begun) (b : Bench) :
   no_event : EventsHold factory past b [] [] past b
   event_holds : {hs : List Happening} {printed : List ℕ} {mid : List Begun} {c c' : Bench} {report : Option Report} (h : Happening)
       → EventsHold factory past b hs printed mid c → (holds : HeadlineHolds factory (begun_by h mid) report c')
-      → EventsHold factory past b (hs ++ h ∷ []) (printed ++ told_line (Ok report) holds.image) (begun_by h mid) c'
+      → EventsHold factory past b (hs ++ h ∷ []) (printed ++ told_line (Ok report) holds.says.image) (begun_by h mid) c'
   event_refused : {hs : List Happening} {printed : List ℕ} {mid : List Begun} {c : Bench} (h : Happening) (fault : LinkFault)
       → EventsHold factory past b hs printed mid c → IsRefused c h fault
       → EventsHold factory past b (hs ++ h ∷ []) (printed ++ refusal_line fault) mid c

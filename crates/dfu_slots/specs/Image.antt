@@ -1,10 +1,10 @@
 -- Which image of a medium is the active one.
-use Rattle.std.specs.Prelude.{◌≡◌, ◌⊎◌, ◌&&◌, ◌||◌, not, ℕ, ◌*◌, ◌^◌, ◌<◌, ◌≤◌, Bool, List, length, take, if◌then◌else◌, ◌==◌, nat_le}
+use Rattle.std.specs.Prelude.{◌≡◌, ◌⊎◌, ◌&&◌, ◌||◌, not, ℕ, ◌+◌, ◌*◌, ◌%◌, ◌^◌, ◌<◌, ◌≤◌, Bool, List, length, take, if◌then◌else◌, ◌==◌, nat_le}
 use Rattle.std.specs.Str.{bytes_eq}
 use Rattle.dfu_suffix.specs.Register.{register}
 use Rattle.dfu_slots.specs.Units.{gate_room, IsWhole}
 use Rattle.dfu_slots.specs.Medium.{MediumState, Fuse}
-use Rattle.dfu_slots.specs.Layout.{Slot, slot, slot_size, capacity, ArePlaces, OPEN, generation, next_generation, version, header_length, header, HasHeader}
+use Rattle.dfu_slots.specs.Layout.{Slot, slot, slot_size, capacity, OPEN, generation, next_generation, version, header_length, header, HasHeader}
 
 -- How many bytes the gate and the header of a slot have each for themselves.
 abbrev pub gate_of : MediumState → ℕ
@@ -12,7 +12,7 @@ gate_of m = gate_room m.grain
 
 -- The slot of a medium that begins at this place.
 abbrev pub slot_of : MediumState → ℕ → Slot
-slot_of m at = slot (gate_of m) m.bytes at
+slot_of m at = slot (gate_room m.grain) m.bytes at
 
 -- How many bytes of data each slot of a medium has.
 abbrev pub capacity_of : MediumState → ℕ
@@ -21,26 +21,26 @@ capacity_of m = capacity (gate_of m) m.bytes
 -- The medium is two slots of one size, each with 1 to 2^24 bytes of data in whole units and sectors.
 pub record IsSized (m : MediumState) : Type 0 where
   pub even : length m.bytes ≡ 2 * slot_size m.bytes
-  pub room : 2 * gate_of m < slot_size m.bytes
-  pub bound : capacity_of m ≤ 2 ^ 24
-  pub whole : IsWhole m.grain (capacity_of m)
+  pub room : 2 * gate_room m.grain < slot_size m.bytes
+  pub bound : capacity (gate_room m.grain) m.bytes ≤ 2 ^ 24
+  pub whole : IsWhole m.grain (capacity (gate_room m.grain) m.bytes)
 
 -- A slot counts where its gate is open and its header, if that is of version 2, is well formed with the length in it.
 pub record Counts (s : Slot) : Type 0 where
   pub is_open : s.gate ≡ OPEN
   pub intact : version s ≡ 2 → HasHeader s (header_length s)
 
--- The first of two slots counts, and the other one does not, or is one generation behind.
+-- The first of two slots counts, and the other one does not, or is one generation behind; after 255 comes 0.
 pub record IsNewest (mine other : Slot) : Type 0 where
   pub counts : Counts mine
-  pub newer : ¬ Counts other ⊎ generation mine ≡ next_generation (generation other)
+  pub newer : ¬ Counts other ⊎ generation mine ≡ (generation other + 1) % 256
 
 -- This is the active image of the medium: so many bytes from the front of the newest slot's data as that slot's header says.
 pub record Active (m : MediumState) (image : List ℕ) : Type 0 where
   pub sized : IsSized m
   pub at : ℕ
   pub spare : ℕ
-  pub places : ArePlaces m.bytes at spare
+  pub places : ((at ≡ 0) × (spare ≡ slot_size m.bytes)) ⊎ ((at ≡ slot_size m.bytes) × (spare ≡ 0))
   pub newest : IsNewest (slot_of m at) (slot_of m spare)
   pub header_is : HasHeader (slot_of m at) (length image)
   pub image_is : image ≡ take (length image) (slot_of m at).data_bytes

@@ -18,8 +18,7 @@ pub data Fuse : Type 0 where
   -- Every write fails and leaves nothing.
   Stopped : Fuse
 
--- A medium: its bytes, how often a write has failed, what the next writes will do, its grain, and a tag of its owner's choice, by which
--- the owner knows it again.
+-- A medium: its bytes, how often a write has failed, what the next writes will do, its grain, and a tag by which its owner knows it.
 pub record MediumState : Type 0 where
   pub bytes : List ℕ
   pub failures : ℕ

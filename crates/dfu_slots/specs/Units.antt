@@ -23,9 +23,9 @@ in_place unit = record { unit = unit; sector = 0 }
 abbrev pub gate_size : WriteUnit → ℕ
 gate_size unit = max 16 (unit_size unit)
 
--- So many bytes the gate of a slot has for itself, and its header as many: their unit, and at least a sector.
+-- So many bytes the gate of a slot has for itself, and its header as many: 16, a unit or a sector, whichever is most.
 abbrev pub gate_room : Grain → ℕ
-gate_room grain = max (gate_size grain.unit) grain.sector
+gate_room grain = max (max 16 (unit_size grain.unit)) grain.sector
 
 -- A place or a length is whole in a unit where it is a multiple of the unit's size.
 abbrev pub IsMultiple : WriteUnit → ℕ → Type 0
@@ -33,7 +33,7 @@ IsMultiple unit n = n % unit_size unit ≡ 0
 
 -- So many bytes are whole in the unit, and in the sector, which is one that the store takes.
 pub record IsWhole (grain : Grain) (n : ℕ) : Type 0 where
-  pub units : IsMultiple grain.unit n
+  pub units : n % unit_size grain.unit ≡ 0
   pub sectors : 0 < grain.sector → n % grain.sector ≡ 0
   pub pages : grain.sector % 256 ≡ 0
   pub bound : grain.sector ≤ 2 ^ 17
