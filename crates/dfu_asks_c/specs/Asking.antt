@@ -1,15 +1,14 @@
 -- The device that asks which a record is.
 use Rattle.std.specs.Prelude.{◌≡◌, ◌+◌, ◌^◌, ◌<◌, ◌≤◌, ℕ, Bool, true, false, List, Option, Some, None, length, take}
-use Rattle.dfu_slots.specs.Units.{unit_size}
 use Rattle.dfu_asks.specs.declared.job.Job.{Job}
 use Rattle.dfu_asks.specs.declared.job.Job.TheVariants as job
 use Rattle.dfu_asks.specs.declared.work.Work.{Work}
 use Rattle.dfu_asks.specs.declared.asking.Asking.{Asking}
 use Rattle.dfu_asks.specs.Asks.{block_in}
-use Rattle.dfu_asks_c.specs.declared.config.DfuConfig.{DfuConfig}
+use Rattle.dfu_c_parts.specs.declared.config.DfuConfig.{DfuConfig}
 use Rattle.dfu_asks_c.specs.declared.asking.DfuAsking.{DfuAsking}
-use Rattle.dfu_asks_c.specs.Config.{setting_of, IsConfig}
-use Rattle.dfu_asks_c.specs.Device.{HasMode}
+use Rattle.dfu_c_parts.specs.Config.{setting_of, unit_of, IsConfig}
+use Rattle.dfu_c_parts.specs.Record.{HasMode, held_in}
 
 -- This number is 1 for a yes, and 0 for a no.
 abbrev pub IsFlag : Bool → ℕ → Type 0
@@ -32,18 +31,18 @@ abbrev pub HasWork : DfuAsking → Option Work → Type 0
 HasWork r None = r.work ≡ 0
 HasWork r (Some w) = HasJob r w.job × IsAsked r.asked w.asked × (w.done ≡ r.done)
 
--- The device with this configuration in place of its own.
+-- The device with this configuration in place of its own, and its unit.
 abbrev pub settled : DfuConfig → Asking → Asking
-settled c a = record a { config = setting_of c }
+settled c a = record a { config = setting_of c; unit = unit_of c }
 
 -- The record is this device that asks, but for its block.
 pub record IsKept (c : DfuConfig) (r : DfuAsking) (a : Asking) : Type 0 where
   pub config : a.config ≡ setting_of c
-  pub unit : unit_size a.unit ≡ r.unit
+  pub unit : a.unit ≡ unit_of c
   pub sector : r.sector ≡ 0
   pub mode : HasMode r.device a.mode
-  pub few : r.held_length ≤ 256
-  pub held : a.held.items ≡ take r.held_length r.held
+  pub few : r.device.held_length ≤ 256
+  pub held : a.held.items ≡ held_in r.device
   pub end : a.put_end ≡ r.device.put_end
   pub work : HasWork r a.work
 

@@ -10,8 +10,9 @@ use Rattle.dfu_slots.specs.Units.{in_place}
 use Rattle.dfu_slots.specs.Image.{Active}
 use Rattle.dfu_slots.specs.Seen.{format_series}
 use Rattle.dfu_slots.specs.Changes.{IsFormatFault}
-use Rattle.dfu_asks_c.specs.Numbers.{NO_MEDIUM, WRONG_UNIT, format_number}
-use Rattle.dfu_asks_c.specs.Power.{IsGrain, IsNoGrain}
+use Rattle.dfu_c_parts.specs.declared.config.DfuConfig.{DfuConfig}
+use Rattle.dfu_c_parts.specs.Config.{unit_of, IsConfig}
+use Rattle.dfu_asks_c.specs.Numbers.{NO_CONFIG, NO_MEDIUM, WRONG_UNIT, format_number}
 
 -- The medium of these bytes of memory: it is written in this unit, and no write of it fails.
 abbrev pub memory_of : WriteUnit → List ℕ → MediumState
@@ -27,14 +28,17 @@ pub record IsFormatted (unit : WriteUnit) (bytes image bytes' : List ℕ) : Type
   pub active : Active (memory_of unit bytes') image
 
 -- Memory was formatted.
-pub record Formats (size sector : ℕ) (bytes image : List ℕ) (result : ℤ) (bytes' : List ℕ) : Type 0 where
+pub record Formats (c : DfuConfig) (sector : ℕ) (bytes image : List ℕ) (result : ℤ) (bytes' : List ℕ) : Type 0 where
   pub number_is : result ≡ pos 0
-  pub unit : WriteUnit
-  pub grain : IsGrain size sector unit
-  pub formatted : IsFormatted unit bytes image bytes'
+  pub config : IsConfig c
+  pub in_place : sector ≡ 0
+  pub formatted : IsFormatted (unit_of c) bytes image bytes'
 
--- This is the first thing that is wrong: there is no such unit; or else the memory has 2^32 bytes or more; or else this fault.
-abbrev pub IsNoFormat : ℕ → ℕ → List ℕ → List ℕ → ℤ → Type 0
-IsNoFormat size sector bytes image result = ((result ≡ WRONG_UNIT) × IsNoGrain size sector)
-    ⊎ ((unit : WriteUnit) × IsGrain size sector unit × (((result ≡ NO_MEDIUM) × (2 ^ 32 ≤ length bytes))
-    ⊎ ((f : FormatFault) × (f ≢ fault.Failed) × (result ≡ format_number f) × (length bytes < 2 ^ 32) × IsFormatFault f (memory_of unit bytes) image)))
+-- This is the first thing that is wrong: the configuration is not allowed; or else there are sectors; or else the memory has 2^32 bytes
+-- or more; or else this fault.
+abbrev pub IsNoFormat : DfuConfig → ℕ → List ℕ → List ℕ → ℤ → Type 0
+IsNoFormat c sector bytes image result = ((result ≡ NO_CONFIG) × ¬ IsConfig c)
+    ⊎ ((result ≡ WRONG_UNIT) × IsConfig c × (sector ≢ 0))
+    ⊎ ((result ≡ NO_MEDIUM) × IsConfig c × (sector ≡ 0) × (2 ^ 32 ≤ length bytes))
+    ⊎ ((f : FormatFault) × (f ≢ fault.Failed) × (result ≡ format_number f) × IsConfig c × (sector ≡ 0) × (length bytes < 2 ^ 32)
+    × IsFormatFault f (memory_of (unit_of c) bytes) image)

@@ -10,10 +10,10 @@ use Rattle.dfu_asks.specs.Carried.{IsPiece}
 use Rattle.dfu_asks.specs.Asks.{writes_in}
 use Rattle.dfu_asks.specs.Calls.{Asks}
 use Rattle.dfu_asks_c.specs.declared.ask.DfuAsk.{DfuAsk}
-use Rattle.dfu_asks_c.specs.declared.config.DfuConfig.{DfuConfig}
+use Rattle.dfu_c_parts.specs.declared.config.DfuConfig.{DfuConfig}
 use Rattle.dfu_asks_c.specs.declared.asking.DfuAsking.{DfuAsking}
 use Rattle.dfu_asks_c.specs.declared.refusal.Refusal.{Refusal}
-use Rattle.dfu_asks_c.specs.Config.{transfer_of}
+use Rattle.dfu_c_parts.specs.Config.{transfer_of}
 use Rattle.dfu_asks_c.specs.Asking.{IsAsking}
 use Rattle.dfu_asks_c.specs.Calls.{IsUnfound}
 use Rattle.dfu_asks_c.specs.Numbers.{refusal_number, NO_DEVICE}

@@ -1,15 +1,13 @@
 //! What a program in C keeps of a device that asks, between two calls.
 
-use crate::device::DfuDevice;
+use dfu_c_parts::DfuDevice;
 
 /// What is kept of a device that asks for its writes: `struct dfu_asking`, as the last call left it.
 #[repr(C)]
 #[derive(Drop)]
 pub struct DfuAsking {
-    /// The device, as dfu_device_c has it; its slot and header are 0.
+    /// The device, as dfu_device_c has it, with the bytes that are held back; its slot and header are 0.
     pub device: DfuDevice,
-    /// How many bytes the flash is written at a time: 1, 16, 64 or 256.
-    pub unit: u32,
     /// How many bytes of the flash are erased at a time: 0, it is written over in place.
     pub sector: u32,
     /// What is due: 0 no writes, 1 a block, 2 an image is put in place.
@@ -22,12 +20,8 @@ pub struct DfuAsking {
     pub done: u32,
     /// 0; or 1 more than wLength of the GETSTATUS that waits for its answer.
     pub asked: u32,
-    /// How many bytes of `held` are held back until a unit is whole, 0 to 256.
-    pub held_length: u16,
     /// The generation of the image that is put in place.
     pub generation: u8,
     /// Whether the gate of the spare slot is closed first: 1, or 0.
     pub close: u8,
-    /// The bytes that are held back.
-    pub held: [u8; 256],
 }

@@ -1,29 +1,18 @@
 //! What a program in C asks of a device that asks before the body of a setup is there.
-ghost use Rattle.std.specs.Prelude.{◌≡◌, ◌≢◌, ◌⊎◌, ◌-◌, ◌*◌, ◌/◌, pos, nat_lt};
-ghost use Rattle.dfu_slots.specs.Units.{in_place, gate_room};
-ghost use Rattle.dfu_device.specs.Rows.{body_length};
-ghost use Rattle.dfu_asks_c.specs.Config.{IsConfig};
+ghost use Rattle.std.specs.Prelude.{◌≡◌, ◌⊎◌, pos};
+ghost use Rattle.dfu_c_parts.specs.Config.{IsConfig};
 ghost use Rattle.dfu_asks_c.specs.Numbers.{STALL, NOT_LONG};
 ghost use Rattle.dfu_asks_c.specs.Stalls.{ToldStall};
-ghost use Rattle.dfu_asks_c.specs.Long.{after_long, IsLong, TakesLong};
+ghost use Rattle.dfu_c_parts.specs.Long.{IsLong};
+ghost use Rattle.dfu_asks_c.specs.Long.{TakesLong};
 ghost use Rattle.dfu_asks_c.specs.Setups.{RefusesSetup};
 
 use crate::asking::DfuAsking;
-use crate::config::{DfuConfig, functional_of, is_allowed};
-use crate::device::{mode_of, set_mode};
-use crate::stalls::{Limits, will_stall};
-use crate::work::unit_of;
-use dfu_device::Mode;
-use dfu_slots::Unit;
-use dfu_wire::{Code, Setup};
-
-// How many bytes of data a slot has, in flash of so many bytes that is written in this unit.
-fn room_of(unit: Unit, size: usize) -> u64
-    ensures { result ≡ size / 2 - 2 * gate_room (in_place unit) }
-{
-    let gate = u64::from(unit.size().max(16));
-    (size as u64 / 2).saturating_sub(2 * gate)
-}
+use dfu_c_parts::{
+    DfuConfig, Limits, after_long, functional_of, is_allowed, is_long, mode_of, room_of, set_mode,
+    unit_of, will_stall,
+};
+use dfu_wire::Setup;
 
 /// Whether `dfu_asking_handle` will stall this setup, whatever body of wLength bytes comes with it: 1 or 0. `size` is how many
 /// bytes the flash has.
@@ -43,43 +32,19 @@ pub extern "C" fn dfu_asking_would_stall(
     let Some(mode) = mode_of(&device.device) else {
         return -4;
     };
-    let Some(unit) = unit_of(device.unit) else {
-        return -4;
-    };
     if device.work != 0 {
         return -12;
     }
     let limits = Limits {
         functional: functional_of(config),
         least: config.least,
-        room: room_of(unit, size),
+        room: room_of(unit_of(config), size),
     };
     if will_stall(&limits, mode, Setup::decode(setup).request()) {
         1
     } else {
         0
     }
-}
-
-// Where a device goes from this mode by a body that is longer than a block may be.
-fn after_long(mode: Mode) -> Mode
-    ensures { result ≡ after_long mode }
-{
-    match mode {
-        Mode::AppIdle | Mode::AppDetach { .. } => Mode::AppIdle,
-        Mode::ManifestWaitReset => Mode::ManifestWaitReset,
-        Mode::Error { code } => Mode::Error { code },
-        _ => Mode::Error {
-            code: Code::StalledPkt,
-        },
-    }
-}
-
-// Whether the host sends more bytes with this setup than a block has.
-fn is_long(setup: &Setup, transfer: u16) -> bool
-    ensures { result ≡ nat_lt transfer (body_length setup.now) }
-{
-    setup.kind == 0x21 && setup.length > transfer
 }
 
 /// As `dfu_asking_handle` with a body of wLength bytes, which are more than the transfer size: -1. Refused with -9 where
