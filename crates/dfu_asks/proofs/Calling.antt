@@ -1,7 +1,7 @@
 -- What a call of a device that asks leaves.
-use Rattle.std.proofs.Common.{◌≡◌, inr, ◌&&◌, Bool, true, false, not, IsTrue, ℕ, ◌+◌, ◌≤◌, List, ◌++◌, length, drop, slice_range, Option, Some, None, is_some, refl, sym, ◌∙◌, ap, subst, arith}
+use Rattle.std.proofs.Common.{◌≡◌, inr, ◌&&◌, Bool, true, false, not, IsTrue, ℕ, ◌+◌, ◌≤◌, ◌<◌, List, ◌++◌, length, drop, slice_range, Option, Some, None, is_some, refl, sym, ◌∙◌, ap, subst, arith}
 use Rattle.std.proofs.lemmas.Grind.{common_steps}
-use Rattle.dfu_slots.specs.declared.unit.Unit.{Unit as WriteUnit}
+use Rattle.dfu_slots.specs.Units.{Grain}
 use Rattle.dfu_slots.specs.declared.fault.WriteFault.{WriteFault}
 use Rattle.dfu_slots.specs.declared.fault.WriteFault.TheVariants.{NotVerified}
 use Rattle.dfu_slots.specs.Medium.{Write, Torn, FailedWrite}
@@ -19,11 +19,14 @@ use Rattle.dfu_asks.specs.declared.work.Work.{Work}
 use Rattle.dfu_asks.specs.declared.asking.Asking.{Asking}
 use Rattle.dfu_asks.specs.declared.reply.Reply.{Reply}
 use Rattle.dfu_asks.specs.Mapped.{mapped}
-use Rattle.dfu_asks.specs.Carried.{carried, IsPiece}
+use Rattle.dfu_asks.specs.Steps.{Step, step_writes}
+use Rattle.dfu_asks.specs.Carried.{total, carried, IsPiece}
 use Rattle.dfu_asks.specs.Due.{IsDueRow, Fails}
-use Rattle.dfu_asks.specs.Asks.{block_in, store_in, device_in, device_of, IsDevice, IsDue, IsJobOf, IsDueStage, IsWorking, writes_in, IsBrokenOff, Gives, IsRest}
+use Rattle.dfu_asks.specs.Asks.{grain_in, block_in, store_in, device_in, device_of, IsDevice, IsDue, IsJobOf, IsDueStage, IsWorking, writes_in, steps_in, IsBrokenOff, Gives, IsRest}
 use Rattle.dfu_asks.specs.Calls.{HasEnded, Asks, Comes, comes_asks, comes_ended, Called, called_ended, called_asks}
 use Rattle.dfu_asks.specs.Refused.{IsTaken}
+use Rattle.dfu_asks.proofs.Steps.{job_writes_are}
+use Rattle.dfu_asks.proofs.Bits.{IsBitOf, bit_of}
 use Rattle.dfu_asks.proofs.Pieces.{piece_one, piece_end, piece_some}
 use Rattle.dfu_asks.proofs.Carrying.{step_carried, broken_carried}
 use Rattle.dfu_asks.proofs.Inside.{working_within}
@@ -50,7 +53,7 @@ is_off b e = grind (arith, common_steps)
 
 -- The store is as it was where all but the mode and the block is.
 pub rest_store : (a mid : Asking) (flash : List ℕ) → IsRest a mid → store_in mid flash ≡ store_in a flash
-rest_store a mid flash r = λ i. store_of (mapped (r.unit i) flash) (r.held i) (r.end i)
+rest_store a mid flash r = λ i. store_of (mapped (record { unit = r.unit i; sector = (r.sector i).size }) flash) (r.held i) (r.end i)
 
 -- A call that begins.
 
@@ -63,12 +66,12 @@ due_of (mode.Manifest n passed) xs ys asked len s j end held due is = (due, is)
 due_of m xs ys asked len s j end held due is = absurd due
 
 -- A device that begins the job of the row that is due works for it.
-pub begins : (a : Asking) (m : Mode) (b : List ℕ) (there s : SlotsState) (u : WriteUnit) (flash xs ys : List ℕ) (j : Job) (asked : Option ℕ)
-    (len : ℕ) → a.unit ≡ u → a.mode ≡ m → block_in a ≡ b → there ≡ s → s.medium ≡ mapped u flash → IsStore s
+pub begins : (a : Asking) (m : Mode) (b : List ℕ) (there s : SlotsState) (u : Grain) (flash xs ys : List ℕ) (j : Job) (asked : Option ℕ)
+    (len : ℕ) → grain_in a ≡ u → a.mode ≡ m → block_in a ≡ b → there ≡ s → s.medium ≡ mapped u flash → IsStore s
     → IsTrue (is_sound m (length b) there) → IsDueStage (stage_of m xs ys) asked len → IsJobOf m there j a.put_end a.held.items
     → IsWorking a (record { job = j; asked = asked; done = 0 }) len s flash
 begins a m b there s u flash xs ys j asked len unit mode_is block same medium store sound due is = record {
-  medium = medium ∙ ap (λ (x : WriteUnit). mapped x flash) (sym unit);
+  medium = medium ∙ ap (λ (x : Grain). mapped x flash) (sym unit);
   store = store;
   sound = subst (λ (x : Mode). IsTrue (is_sound x (length (block_in a)) s)) (sym mode_is)
       (subst (λ (l : List ℕ). IsTrue (is_sound m (length l) s)) (sym block)
@@ -104,7 +107,7 @@ module _ (a mid now : Asking) (flash : List ℕ) (d : Shown) (first : IsRest a m
     (sound : IsTrue (is_sound now.mode (length (block_in now)) d.slots)) (is : IsDevice a flash)
     (slots : d.slots ≡ store_in a flash) (config : d.config ≡ a.config) (none : a.work ≡ None) where
   store_kept : store_in now flash ≡ d.slots
-  store_kept = (λ i. store_of (mapped ((second.unit ∙ first.unit) i) flash) ((second.held ∙ first.held) i) ((second.end ∙ first.end) i)) ∙ sym slots
+  store_kept = (λ i. store_of (mapped (record { unit = (second.unit ∙ first.unit) i; sector = ((second.sector ∙ first.sector) i).size }) flash) ((second.held ∙ first.held) i) ((second.end ∙ first.end) i)) ∙ sym slots
 
   -- What is kept is the device that was.
   pub kept_device : device_in now flash ≡ d
@@ -129,29 +132,45 @@ module _ (a mid now : Asking) (flash : List ℕ) (d : Shown) (first : IsRest a m
 -- How a piece went.
 
 -- The piece that was asked for is the one that was taken.
-pub one_piece : (a : Asking) (w : Work) (x : Work) (ws : List Write) (p q : Write) → x ≡ w → ws ≡ writes_in a w → IsPiece (writes_in a x) x.done p
-    → IsPiece ws w.done q → p ≡ q
-one_piece a w x ws p q same is first second = piece_one (writes_in a w) w.done p q
-    (subst (λ (y : Work). IsPiece (writes_in a y) y.done p) same first) (subst (λ (l : List Write). IsPiece l w.done q) is second)
+pub one_piece : (a : Asking) (w : Work) (x : Work) (ss : List Step) (p q : Step) → x ≡ w → ss ≡ steps_in a w → IsPiece (steps_in a x) x.done p
+    → IsPiece ss w.done q → p ≡ q
+one_piece a w x ss p q same is first second = piece_one (steps_in a w) w.done p q
+    (subst (λ (y : Work). IsPiece (steps_in a y) y.done p) same first) (subst (λ (l : List Step). IsPiece l w.done q) is second)
+
+-- The writes of the steps of a work are its writes.
+pub writes_are : (a : Asking) (w : Work) → step_writes (steps_in a w) ≡ writes_in a w
+writes_are a w = job_writes_are w.job (grain_in a) a.put_end a.held.items (block_in a)
+
+-- A piece of a work is some bytes of one of its writes.
+pub bit_in : (a : Asking) (w : Work) (p : Step) → IsPiece (steps_in a w) w.done p → IsBitOf (writes_in a w) w.done p.write
+bit_in a w p piece = subst (λ (ws : List Write). IsBitOf ws w.done p.write) (writes_are a w) (bit_of (steps_in a w) w.done p piece)
+
+-- With a next piece some bytes of the work are left.
+pub piece_left : (a : Asking) (w : Work) (p : Step) → IsPiece (steps_in a w) w.done p → w.done < total (writes_in a w)
+piece_left a w p piece = omega (
+  arith,
+  piece_end (steps_in a w) w.done p piece,
+  piece_some (steps_in a w) w.done p piece,
+  ap total (writes_are a w),
+)
+
+-- Where no step of it is left, none of its bytes is.
+pub none_left : (a : Asking) (w : Work) (ss : List Step) → ss ≡ steps_in a w → total (step_writes ss) ≤ w.done → total (writes_in a w) ≤ w.done
+none_left a w ss same le = omega (arith, ap (λ (xs : List Step). total (step_writes xs)) same, ap total (writes_are a w), le)
 
 -- A device with a next piece is one that a piece can be taken of.
-pub taken_from : (a : Asking) (w : Work) (ws : List Write) (p : Write) (room : ℕ) → 6 ≤ room → a.work ≡ Some w → ws ≡ writes_in a w
-    → IsPiece ws w.done p → IsTaken a room
-taken_from a w ws p room fits is same piece =
-    let there : IsPiece (writes_in a w) w.done p = subst (λ (l : List Write). IsPiece l w.done p) same piece in
-    record {
-      fits = fits;
-      work = w;
-      is_left = record {
-        work_is = is;
-        left = omega (arith, piece_end (writes_in a w) w.done p there, piece_some (writes_in a w) w.done p there);
-      };
-    }
+pub taken_from : (a : Asking) (w : Work) (ss : List Step) (p : Step) (room : ℕ) → 6 ≤ room → a.work ≡ Some w → ss ≡ steps_in a w
+    → IsPiece ss w.done p → IsTaken a room
+taken_from a w ss p room fits is same piece = record {
+  fits = fits;
+  work = w;
+  is_left = record { work_is = is; left = piece_left a w p (subst (λ (l : List Step). IsPiece l w.done p) same piece) };
+}
 
-module _ (a : Asking) (len : ℕ) (s : SlotsState) (was before : List ℕ) (asks : Asks a len s was before) (p : Write)
-    (piece : IsPiece (writes_in a asks.work) asks.work.done p) (flash : List ℕ) (torn : Torn before p.at p.bytes flash) where
-  torn_there : Torn (carried was (writes_in a asks.work) asks.work.done) p.at p.bytes flash
-  torn_there = subst (λ (l : List ℕ). Torn l p.at p.bytes flash) asks.flash_is torn
+module _ (a : Asking) (len : ℕ) (s : SlotsState) (was before : List ℕ) (asks : Asks a len s was before) (p : Step)
+    (piece : IsPiece (steps_in a asks.work) asks.work.done p) (flash : List ℕ) (torn : Torn before p.write.at p.write.bytes flash) where
+  torn_there : Torn (carried was (writes_in a asks.work) asks.work.done) p.write.at p.write.bytes flash
+  torn_there = subst (λ (l : List ℕ). Torn l p.write.at p.write.bytes flash) asks.flash_is torn
 
   -- It failed, or other bytes stand there: the row with that fault.
   pub piece_failed : (fault : WriteFault) (now : Asking) (asked : Option ℕ) (x : Answer) (count : ℕ) (out out' : List ℕ) → asks.work.asked ≡ asked
@@ -159,19 +178,21 @@ module _ (a : Asking) (len : ℕ) (s : SlotsState) (was before : List ℕ) (asks
       → HasEnded flash x count out out' now (λ y sent w'. Fails fault len (device_of a s) y sent w')
   piece_failed fault now asked x count out out' same off gives =
       broken_ended a now asks.work len s was flash asks.working x count out out' fault
-      (broken_carried a.unit fault (writes_in a asks.work) was flash asks.work.done p (working_within a asks.work len s was asks.working)
-      piece torn_there) off
+      (broken_carried (grain_in a) fault (writes_in a asks.work) was flash asks.work.done p.write (working_within a asks.work len s was asks.working)
+      (bit_in a asks.work p piece) torn_there) off
       (subst (λ (y : Option ℕ). Gives now.mode y x count out out') (sym same) gives)
 
   -- It stands there: the series stands one piece further.
-  pub piece_stands : p.at + length p.bytes ≤ length flash → slice_range flash p.at (p.at + length p.bytes) ≡ p.bytes
-      → flash ≡ carried was (writes_in a asks.work) (asks.work.done + length p.bytes)
+  pub piece_stands : p.write.at + length p.write.bytes ≤ length flash
+      → slice_range flash p.write.at (p.write.at + length p.write.bytes) ≡ p.write.bytes
+      → flash ≡ carried was (writes_in a asks.work) (asks.work.done + length p.write.bytes)
   piece_stands fits stands =
       let old = carried was (writes_in a asks.work) asks.work.done in
-      let lied : FailedWrite NotVerified (mapped a.unit old) p.at p.bytes (mapped a.unit flash) =
+      let lied : FailedWrite NotVerified (mapped (grain_in a) old) p.write.at p.write.bytes (mapped (grain_in a) flash) =
       record { bytes = torn_there; failures = omega arith; fuse = refl; grain = refl; tag = refl } in
-      (was_written (mapped a.unit old) p.at p.bytes (mapped a.unit flash) (omega (arith, fits, torn_there.size)) (inr lied) stands).bytes
-      ∙ sym (step_carried (writes_in a asks.work) was asks.work.done p (working_within a asks.work len s was asks.working) piece)
+      (was_written (mapped (grain_in a) old) p.write.at p.write.bytes (mapped (grain_in a) flash) (omega (arith, fits, torn_there.size)) (inr lied) stands).bytes
+      ∙ sym (step_carried (writes_in a asks.work) was asks.work.done p.write (working_within a asks.work len s was asks.working)
+      (bit_in a asks.work p piece))
 
 -- A store is sound where nothing is put.
 pub idle_sound : (s : SlotsState) → IsStore s → IsTrue (is_shaped s && true)

@@ -1,13 +1,14 @@
 -- What a series leaves that is carried out piece by piece.
 use Rattle.std.proofs.Common.{◌≡◌, inl, inr, ℕ, ◌+◌, ◌-◌, ◌≤◌, List, [], ◌∷◌, ◌++◌, length, take, drop, slice_range, refl, sym, ◌∙◌, ap, subst, arith}
 use Rattle.std.proofs.lemmas.List.{take-take, length-take-le, take_all, drop-take, take-append-drop}
-use Rattle.dfu_slots.specs.declared.unit.Unit.{Unit as WriteUnit}
 use Rattle.dfu_slots.specs.declared.fault.WriteFault.{WriteFault}
+use Rattle.dfu_slots.specs.Units.{Grain}
 use Rattle.dfu_slots.specs.Medium.{Write, Wrote, AllWrites, BrokenWrites, KeepsOutside, Torn, written}
 use Rattle.dfu_slots.proofs.Torn.{written_torn, keeps_both, keeps_wider}
 use Rattle.dfu_slots.proofs.Within.{written_written, written_nil}
 use Rattle.dfu_asks.specs.Mapped.{mapped}
-use Rattle.dfu_asks.specs.Carried.{total, carried, AreWithin, IsPart, IsPiece}
+use Rattle.dfu_asks.specs.Carried.{total, carried, AreWithin}
+use Rattle.dfu_asks.proofs.Bits.{IsBit, IsBitOf}
 
 -- Of a series of which nothing is carried out nothing shows.
 pub carried_none : (ws : List Write) (m : List ℕ) → carried m ws 0 ≡ m
@@ -29,7 +30,7 @@ inside_after : (ws : List Write) (m : List ℕ) (at : ℕ) (new : List ℕ) → 
 inside_after ws m at new fits inside = subst (λ (n : ℕ). AreWithin ws n) (sym (kept_size m at new fits)) inside
 
 -- The next piece of a write, behind what is carried out of it.
-part_carried : (m : List ℕ) (w : Write) (n : ℕ) (p : Write) → w.at + length w.bytes ≤ length m → IsPart w n p
+part_carried : (m : List ℕ) (w : Write) (n : ℕ) (p : Write) → w.at + length w.bytes ≤ length m → IsBit w n p
     → written m w.at (take (n + length p.bytes) w.bytes) ≡ written (written m w.at (take n w.bytes)) p.at p.bytes
 part_carried m w n p fits part =
     let k = length p.bytes in
@@ -50,7 +51,7 @@ part_carried m w n p fits part =
     there front = ap (λ (x : ℕ). w.at + x) front ∙ sym part.place
 
 -- Behind a piece that is carried out the series stands one piece further.
-pub step_carried : (ws : List Write) (m : List ℕ) (n : ℕ) (p : Write) → AreWithin ws (length m) → IsPiece ws n p
+pub step_carried : (ws : List Write) (m : List ℕ) (n : ℕ) (p : Write) → AreWithin ws (length m) → IsBitOf ws n p
     → carried m ws (n + length p.bytes) ≡ written (carried m ws n) p.at p.bytes
 step_carried [] m n p inside none = absurd none
 step_carried (w ∷ ws) m n p (high, inside) (inl part) =
@@ -72,7 +73,7 @@ step_carried (w ∷ ws) m n p (high, inside) (inr (past, piece)) =
     ∙ step_carried ws mid (n - length w.bytes) p (inside_after ws m w.at w.bytes high inside) piece
     ∙ (λ i. written (carried (written m w.at (sym first i)) ws (n - length w.bytes)) p.at p.bytes)
 
-module _ (u : WriteUnit) where
+module _ (u : Grain) where
   wrote : (m : List ℕ) (w : Write) → Wrote (mapped u m) w.at w.bytes (mapped u (written m w.at w.bytes))
   wrote m w = record { bytes = refl; failures = omega arith; fuse = refl; grain = refl; tag = refl }
 
@@ -90,7 +91,7 @@ module _ (u : WriteUnit) where
 
   -- Whatever becomes of a piece, the series was broken off in the write that the piece is of.
   pub broken_carried : (fault : WriteFault) (ws : List Write) (m now : List ℕ) (n : ℕ) (p : Write) → AreWithin ws (length m)
-      → IsPiece ws n p → Torn (carried m ws n) p.at p.bytes now → BrokenWrites fault (mapped u m) ws (mapped u now)
+      → IsBitOf ws n p → Torn (carried m ws n) p.at p.bytes now → BrokenWrites fault (mapped u m) ws (mapped u now)
   broken_carried fault [] m now n p inside none torn = absurd none
   broken_carried fault (w ∷ ws) m now n p (high, inside) (inl part) torn =
       let none : n - length w.bytes ≡ 0 = omega (arith, part.within, part.some) in

@@ -13,7 +13,7 @@ use Rattle.dfu_asks.specs.declared.asking.Asking.{Asking}
 use Rattle.dfu_asks.specs.Mapped.{mapped}
 use Rattle.dfu_asks.specs.Carried.{total, carried}
 use Rattle.dfu_asks.specs.Due.{Works, Fails}
-use Rattle.dfu_asks.specs.Asks.{block_in, store_in, device_of, IsWorking, writes_in, IsFinished, IsBrokenOff, IsAnswered, Gives, done_mode, failed_mode}
+use Rattle.dfu_asks.specs.Asks.{grain_in, block_in, store_in, device_of, IsWorking, writes_in, IsFinished, IsBrokenOff, IsAnswered, Gives, done_mode, failed_mode}
 use Rattle.dfu_asks.specs.Calls.{HasEnded}
 use Rattle.dfu_asks.proofs.Carrying.{all_carried}
 use Rattle.dfu_asks.proofs.Working.{Ends, held_after, end_after, works, fails}
@@ -46,30 +46,30 @@ ended a now asked flash x count out out' S M Row config store mode block work gi
 module _ (a now : Asking) (w : Work) (len : ℕ) (s : SlotsState) (was flash : List ℕ) (working : IsWorking a w len s was) (x : Answer)
     (count : ℕ) (out out' : List ℕ) where
   -- All its writes worked.
-  pub all_ended : AllWrites (mapped a.unit was) (writes_in a w) (mapped a.unit flash) → IsFinished a now
+  pub all_ended : AllWrites (mapped (grain_in a) was) (writes_in a w) (mapped (grain_in a) flash) → IsFinished a now
       → Gives now.mode w.asked x count out out' → HasEnded flash x count out out' now (λ y sent w'. Works len (device_of a s) y sent w')
   all_ended all fin gives =
       ended a now w.asked flash x count out out'
-      (store_of (mapped a.unit flash) (held_after a.unit a.mode a.held.items (block_in a)) (end_after a.mode a.put_end (block_in a)))
+      (store_of (mapped (grain_in a) flash) (held_after (grain_in a) a.mode a.held.items (block_in a)) (end_after a.mode a.put_end (block_in a)))
       (done_mode a.config a.mode (length (block_in a))) (λ y sent w'. Works len (device_of a s) y sent w') fin.config
-      (λ i. store_of (mapped (fin.unit i) flash) (fin.held i) (fin.end i)) fin.mode fin.block fin.work gives
-      (λ sent says. works a.config a.unit (block_in a) a.held.items a.put_end w.job len s was flash working.medium working.store
+      (λ i. store_of (mapped (record { unit = fin.unit i; sector = (fin.sector i).size }) flash) (fin.held i) (fin.end i)) fin.mode fin.block fin.work gives
+      (λ sent says. works a.config (grain_in a) (block_in a) a.held.items a.put_end w.job len s was flash working.medium working.store
       a.mode w.asked working.sound working.due all x sent says)
 
   -- One of them had this fault.
-  pub broken_ended : (fault : WriteFault) → BrokenWrites fault (mapped a.unit was) (writes_in a w) (mapped a.unit flash)
+  pub broken_ended : (fault : WriteFault) → BrokenWrites fault (mapped (grain_in a) was) (writes_in a w) (mapped (grain_in a) flash)
       → IsBrokenOff fault a now → Gives now.mode w.asked x count out out'
       → HasEnded flash x count out out' now (λ y sent w'. Fails fault len (device_of a s) y sent w')
   broken_ended fault broken off gives =
-      ended a now w.asked flash x count out out' (store_on (mapped a.unit flash)) (failed_mode fault a.mode)
+      ended a now w.asked flash x count out out' (store_on (mapped (grain_in a) flash)) (failed_mode fault a.mode)
       (λ y sent w'. Fails fault len (device_of a s) y sent w') off.config
-      (λ i. store_of (mapped (off.unit i) flash) (off.held i) (off.end i)) off.mode off.block off.work gives
-      (λ sent says. fails a.config a.unit (block_in a) a.held.items a.put_end w.job len s was flash working.medium working.store
+      (λ i. store_of (mapped (record { unit = off.unit i; sector = (off.sector i).size }) flash) (off.held i) (off.end i)) off.mode off.block off.work gives
+      (λ sent says. fails a.config (grain_in a) (block_in a) a.held.items a.put_end w.job len s was flash working.medium working.store
       fault a.mode w.asked working.sound working.due broken x sent says)
 
   -- All are carried out.
   pub carried_ended : flash ≡ carried was (writes_in a w) w.done → total (writes_in a w) ≤ w.done → IsFinished a now
       → Gives now.mode w.asked x count out out' → HasEnded flash x count out out' now (λ y sent w'. Works len (device_of a s) y sent w')
   carried_ended is le fin gives = all_ended
-      (subst (λ (l : List ℕ). AllWrites (mapped a.unit was) (writes_in a w) (mapped a.unit l)) (sym is)
-      (all_carried a.unit (writes_in a w) was w.done le)) fin gives
+      (subst (λ (l : List ℕ). AllWrites (mapped (grain_in a) was) (writes_in a w) (mapped (grain_in a) l)) (sym is)
+      (all_carried (grain_in a) (writes_in a w) was w.done le)) fin gives

@@ -1,12 +1,19 @@
+mod Steps
+mod Bits
 mod Carrying
 mod Came
 mod Rows
 mod Pieces
+mod Skipped
+mod Locating
+mod JobPieces
 pub mod Working
 mod Quiet
 mod Ended
 mod Inside
+mod Sound
 mod Calling
 mod Spared
+mod Partly
 mod Shut
 mod Started

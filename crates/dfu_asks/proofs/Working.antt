@@ -3,9 +3,8 @@ use Rattle.std.proofs.Common.{◌≡◌, ◌⊎◌, inl, inr, ◌==◌, ◌&&◌
 use Rattle.std.proofs.lemmas.Grind.{common_steps}
 use Rattle.std.proofs.lemmas.Bool.{cases_eq, ne_eqb, and_parts, eqb-true}
 use Rattle.dfu_suffix.specs.Register.{register}
-use Rattle.dfu_slots.specs.declared.unit.Unit.{Unit as WriteUnit}
 use Rattle.dfu_slots.specs.declared.fault.WriteFault.{WriteFault}
-use Rattle.dfu_slots.specs.Units.{Grain, in_place}
+use Rattle.dfu_slots.specs.Units.{Grain}
 use Rattle.dfu_slots.specs.Medium.{MediumState, Write, Rose, AllWrites, BrokenWrites}
 use Rattle.dfu_slots.specs.Layout.{OPEN, next_generation, generation}
 use Rattle.dfu_slots.specs.Image.{gate_of, spare_at}
@@ -110,8 +109,8 @@ series_of_commit s n j u end held block unit put is =
     (register (take n (spare_of s))))
 
 -- What is held back once all is written.
-abbrev pub held_after : WriteUnit → Mode → List ℕ → List ℕ → List ℕ
-held_after u m held b = if is_block m then put_rest u held b else []
+abbrev pub held_after : Grain → Mode → List ℕ → List ℕ → List ℕ
+held_after w m held b = if is_block m then put_rest w.unit held b else []
 
 -- Where the puts end then.
 abbrev pub end_after : Mode → ℕ → List ℕ → ℕ
@@ -123,9 +122,9 @@ pub record Ends (c : Setting) (s : SlotsState) (m : Mode) (b : List ℕ) (Comes 
   pub store : IsStore s
   pub sound : IsTrue (is_sound m (length b) s)
 
-module _ (c : Setting) (u : WriteUnit) (b held : List ℕ) (end : ℕ) (j : Job) (len : ℕ) (s : SlotsState) (m flash : List ℕ)
-    (medium : s.medium ≡ mapped u m) (store : IsStore s) where
-  unit_is : s.medium.grain ≡ in_place u
+module _ (c : Setting) (w : Grain) (b held : List ℕ) (end : ℕ) (j : Job) (len : ℕ) (s : SlotsState) (m flash : List ℕ)
+    (medium : s.medium ≡ mapped w m) (store : IsStore s) where
+  unit_is : s.medium.grain ≡ w
   unit_is = ap (λ (x : MediumState). x.grain) medium
 
   shape : is_shaped s ≡ true
@@ -138,45 +137,45 @@ module _ (c : Setting) (u : WriteUnit) (b held : List ℕ) (end : ℕ) (j : Job)
   rose now is = omega (arith, is, ap (λ (x : MediumState). x.failures) medium)
 
   abbrev left : SlotsState
-  left = store_of (mapped u flash) (put_rest u held b) (capped end (length b))
+  left = store_of (mapped w flash) (put_rest w.unit held b) (capped end (length b))
 
   -- All writes of a block.
   block_left : (n : ℕ) → IsNext s n (length b) → IsBlockJob n s j end held
-      → AllWrites (mapped u m) (job_writes j (in_place u) end held b) (mapped u flash) → (capped end (length b) ≡ n + length b) × BlockWritten s n b left
+      → AllWrites (mapped w m) (job_writes j w end held b) (mapped w flash) → (capped end (length b) ≡ n + length b) × BlockWritten s n b left
   block_left n next job all =
       let cap : capped end (length b) ≡ n + length b = omega (arith, job.end_is, small (n + length b) next.room) in
-      let is : block_store s n b (mapped u flash) ≡ left =
-      (λ i. store_of (mapped u flash) (put_rest (unit_is i).unit (sym job.held_is i) b) (sym cap i)) in (
+      let is : block_store s n b (mapped w flash) ≡ left =
+      (λ i. store_of (mapped w flash) (put_rest (unit_is i).unit (sym job.held_is i) b) (sym cap i)) in (
         cap,
         subst (λ (x : SlotsState). BlockWritten s n b x) is
-            (block_written s store shape n b next.before next.room (mapped u flash)
-            (subst (λ (x : MediumState). AllWrites x (block_series s n b) (mapped u flash)) (sym medium)
-            (subst (λ (ws : List Write). AllWrites (mapped u m) ws (mapped u flash)) (series_of_block s n j (in_place u) end held b unit_is job) all))),
+            (block_written s store shape n b next.before next.room (mapped w flash)
+            (subst (λ (x : MediumState). AllWrites x (block_series s n b) (mapped w flash)) (sym medium)
+            (subst (λ (ws : List Write). AllWrites (mapped w m) ws (mapped w flash)) (series_of_block s n j w end held b unit_is job) all))),
       )
 
   -- A broken write of a block.
   block_off : (fault : WriteFault) (n : ℕ) → IsNext s n (length b) → IsBlockJob n s j end held
-      → BrokenWrites fault (mapped u m) (job_writes j (in_place u) end held b) (mapped u flash) → BlockBroken fault s n b (store_on (mapped u flash))
+      → BrokenWrites fault (mapped w m) (job_writes j w end held b) (mapped w flash) → BlockBroken fault s n b (store_on (mapped w flash))
   block_off fault n next job all =
-      block_broken s store shape n b next.before next.room (mapped u flash) fault
-      (subst (λ (x : MediumState). BrokenWrites fault x (block_series s n b) (mapped u flash)) (sym medium)
-      (subst (λ (ws : List Write). BrokenWrites fault (mapped u m) ws (mapped u flash)) (series_of_block s n j (in_place u) end held b unit_is job) all))
+      block_broken s store shape n b next.before next.room (mapped w flash) fault
+      (subst (λ (x : MediumState). BrokenWrites fault x (block_series s n b) (mapped w flash)) (sym medium)
+      (subst (λ (ws : List Write). BrokenWrites fault (mapped w m) ws (mapped w flash)) (series_of_block s n j w end held b unit_is job) all))
 
   -- All writes of a commit.
   commit_left : (n : ℕ) → IsAll s n → IsCommitJob n s j end held
-      → AllWrites (mapped u m) (job_writes j (in_place u) end held b) (mapped u flash) → CommitDone s n (store_on (mapped u flash))
+      → AllWrites (mapped w m) (job_writes j w end held b) (mapped w flash) → CommitDone s n (store_on (mapped w flash))
   commit_left n whole job all =
-      commit_done s store shape n whole.put whole.room (mapped u flash)
-      (subst (λ (x : MediumState). AllWrites x (writes_of s (Commit n)) (mapped u flash)) (sym medium)
-      (subst (λ (ws : List Write). AllWrites (mapped u m) ws (mapped u flash)) (series_of_commit s n j (in_place u) end held b unit_is whole.put job) all))
+      commit_done s store shape n whole.put whole.room (mapped w flash)
+      (subst (λ (x : MediumState). AllWrites x (writes_of s (Commit n)) (mapped w flash)) (sym medium)
+      (subst (λ (ws : List Write). AllWrites (mapped w m) ws (mapped w flash)) (series_of_commit s n j w end held b unit_is whole.put job) all))
 
   -- A broken write of a commit.
   commit_broke : (fault : WriteFault) (n : ℕ) → IsAll s n → IsCommitJob n s j end held
-      → BrokenWrites fault (mapped u m) (job_writes j (in_place u) end held b) (mapped u flash) → CommitBroken fault s n (store_on (mapped u flash))
+      → BrokenWrites fault (mapped w m) (job_writes j w end held b) (mapped w flash) → CommitBroken fault s n (store_on (mapped w flash))
   commit_broke fault n whole job all =
-      commit_off s store shape n whole.put whole.room (mapped u flash) fault
-      (subst (λ (x : MediumState). BrokenWrites fault x (writes_of s (Commit n)) (mapped u flash)) (sym medium)
-      (subst (λ (ws : List Write). BrokenWrites fault (mapped u m) ws (mapped u flash)) (series_of_commit s n j (in_place u) end held b unit_is whole.put job) all))
+      commit_off s store shape n whole.put whole.room (mapped w flash) fault
+      (subst (λ (x : MediumState). BrokenWrites fault x (writes_of s (Commit n)) (mapped w flash)) (sym medium)
+      (subst (λ (ws : List Write). BrokenWrites fault (mapped w m) ws (mapped w flash)) (series_of_commit s n j w end held b unit_is whole.put job) all))
 
   shaped_left : (x : SlotsState) → IsStore x → IsTrue (is_shaped x && true)
   shaped_left x st = sound_shape (is_shaped x) (shaped x st)
@@ -186,10 +185,10 @@ module _ (c : Setting) (u : WriteUnit) (b held : List ℕ) (end : ℕ) (j : Job)
 
   -- All is written: the row that is due, and the device after it.
   pub works : (d : Mode) (asked : Option ℕ) → IsTrue (is_sound d (length b) s) → IsDue d asked len s j end held
-      → AllWrites (mapped u m) (job_writes j (in_place u) end held b) (mapped u flash) → (a : Answer) (out : List ℕ)
+      → AllWrites (mapped w m) (job_writes j w end held b) (mapped w flash) → (a : Answer) (out : List ℕ)
       → IsAnswered (done_mode c d (length b)) asked a out
-      → Ends c (store_of (mapped u flash) (held_after u d held b) (end_after d end b)) (done_mode c d (length b)) b
-      (Works len (shows c s d b) a out (shows c (store_of (mapped u flash) (held_after u d held b) (end_after d end b)) (done_mode c d (length b)) b))
+      → Ends c (store_of (mapped w flash) (held_after w d held b) (end_after d end b)) (done_mode c d (length b)) b
+      (Works len (shows c s d b) a out (shows c (store_of (mapped w flash) (held_after w d held b) (end_after d end b)) (done_mode c d (length b)) b))
   works (mode.DownloadSync n number) asked sound due all a out says =
       let next = next_in n (length b) s sound in
       let got = block_left n next due.1 all in
@@ -238,7 +237,7 @@ module _ (c : Setting) (u : WriteUnit) (b held : List ℕ) (end : ℕ) (j : Job)
           record { config_is = refl; room = got.room; stage_is = refl; calls = got.calls; image = got.image },
         );
         store = got.store;
-        sound = shaped_left (store_on (mapped u flash)) got.store;
+        sound = shaped_left (store_on (mapped w flash)) got.store;
       }
   works (mode.Manifest n passed) asked sound due all a out says =
       let got = commit_left n (all_in n s sound) due.1 all in
@@ -250,65 +249,65 @@ module _ (c : Setting) (u : WriteUnit) (b held : List ℕ) (end : ℕ) (j : Job)
       next_stage : Bool → Stage
       next_stage t = if t then InManifestSyncComplete else InManifestWaitReset
 
-      tolerant : (t : Bool) → CommitDone s n (store_on (mapped u flash)) → (a ≡ answer.Ack) × (out ≡ [])
-          → Ends c (store_on (mapped u flash)) (next_mode t) b (((a ≡ answer.Ack) × (out ≡ []))
-          × Committed (take n (spare_of s)) c s (next_stage t) (shows c (store_on (mapped u flash)) (next_mode t) b))
+      tolerant : (t : Bool) → CommitDone s n (store_on (mapped w flash)) → (a ≡ answer.Ack) × (out ≡ [])
+          → Ends c (store_on (mapped w flash)) (next_mode t) b (((a ≡ answer.Ack) × (out ≡ []))
+          × Committed (take n (spare_of s)) c s (next_stage t) (shows c (store_on (mapped w flash)) (next_mode t) b))
       tolerant true got says = record {
         comes = (says, record { config_is = refl; room = got.room; stage_is = refl; calls = got.calls; image = got.image });
         store = got.store;
-        sound = shaped_left (store_on (mapped u flash)) got.store;
+        sound = shaped_left (store_on (mapped w flash)) got.store;
       }
       tolerant false got says = record {
         comes = (says, record { config_is = refl; room = got.room; stage_is = refl; calls = got.calls; image = got.image });
         store = got.store;
-        sound = shaped_left (store_on (mapped u flash)) got.store;
+        sound = shaped_left (store_on (mapped w flash)) got.store;
       }
   works d asked sound due all a out says = absurd due
 
   -- A write had a fault: the row with that fault, and the device after it.
   pub fails : (fault : WriteFault) (d : Mode) (asked : Option ℕ) → IsTrue (is_sound d (length b) s) → IsDue d asked len s j end held
-      → BrokenWrites fault (mapped u m) (job_writes j (in_place u) end held b) (mapped u flash) → (a : Answer) (out : List ℕ)
+      → BrokenWrites fault (mapped w m) (job_writes j w end held b) (mapped w flash) → (a : Answer) (out : List ℕ)
       → IsAnswered (failed_mode fault d) asked a out
-      → Ends c (store_on (mapped u flash)) (failed_mode fault d) b
-      (Fails fault len (shows c s d b) a out (shows c (store_on (mapped u flash)) (failed_mode fault d) b))
+      → Ends c (store_on (mapped w flash)) (failed_mode fault d) b
+      (Fails fault len (shows c s d b) a out (shows c (store_on (mapped w flash)) (failed_mode fault d) b))
   fails fault (mode.DownloadSync n number) asked sound due all a out says =
       let got = block_off fault n (next_in n (length b) s sound) due.1 all in
       record {
         comes = (
           subst (λ (x : Option ℕ). IsAnswered (mode.Error (write_code fault)) x a out) due.0 says [] [],
-          record { config_is = refl; room = got.room; stage_is = refl; calls = got.calls; image = got.image; failed = rose (store_on (mapped u flash)) refl },
+          record { config_is = refl; room = got.room; stage_is = refl; calls = got.calls; image = got.image; failed = rose (store_on (mapped w flash)) refl },
         );
         store = got.store;
-        sound = shaped_left (store_on (mapped u flash)) got.store;
+        sound = shaped_left (store_on (mapped w flash)) got.store;
       }
   fails fault (mode.DownloadBusy n number passed) asked sound due all a out says =
       let got = block_off fault n (next_in n (length b) s sound) due.1 all in
       record {
         comes = (
           subst (λ (x : Option ℕ). IsAnswered (mode.Error (write_code fault)) x a out) due.0 says,
-          record { config_is = refl; room = got.room; stage_is = refl; calls = got.calls; image = got.image; failed = rose (store_on (mapped u flash)) refl },
+          record { config_is = refl; room = got.room; stage_is = refl; calls = got.calls; image = got.image; failed = rose (store_on (mapped w flash)) refl },
         );
         store = got.store;
-        sound = shaped_left (store_on (mapped u flash)) got.store;
+        sound = shaped_left (store_on (mapped w flash)) got.store;
       }
   fails fault (mode.ManifestSync n) asked sound due all a out says =
       let got = commit_broke fault n (all_in n s sound) due.1 all in
       record {
         comes = (
           subst (λ (x : Option ℕ). IsAnswered (mode.Error (commit_code fault)) x a out) due.0 says [] [],
-          record { config_is = refl; room = got.room; stage_is = refl; calls = got.calls; image = got.image; failed = rose (store_on (mapped u flash)) refl },
+          record { config_is = refl; room = got.room; stage_is = refl; calls = got.calls; image = got.image; failed = rose (store_on (mapped w flash)) refl },
         );
         store = got.store;
-        sound = shaped_left (store_on (mapped u flash)) got.store;
+        sound = shaped_left (store_on (mapped w flash)) got.store;
       }
   fails fault (mode.Manifest n passed) asked sound due all a out says =
       let got = commit_broke fault n (all_in n s sound) due.1 all in
       record {
         comes = (
           subst (λ (x : Option ℕ). IsAnswered (mode.Error (commit_code fault)) x a out) due.0 says,
-          record { config_is = refl; room = got.room; stage_is = refl; calls = got.calls; image = got.image; failed = rose (store_on (mapped u flash)) refl },
+          record { config_is = refl; room = got.room; stage_is = refl; calls = got.calls; image = got.image; failed = rose (store_on (mapped w flash)) refl },
         );
         store = got.store;
-        sound = shaped_left (store_on (mapped u flash)) got.store;
+        sound = shaped_left (store_on (mapped w flash)) got.store;
       }
   fails fault d asked sound due all a out says = absurd due

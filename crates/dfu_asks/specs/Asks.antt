@@ -2,7 +2,7 @@
 use Rattle.std.specs.Prelude.{◌≡◌, ℕ, ◌+◌, ◌-◌, ◌^◌, ◌≤◌, ◌==◌, ◌&&◌, not, min, Bool, true, false, IsTrue, List, [], ◌++◌, length, take, drop, Option, Some, None, if◌then◌else◌}
 use Rattle.dfu_suffix.specs.Register.{register}
 use Rattle.dfu_slots.specs.declared.fault.WriteFault.{WriteFault}
-use Rattle.dfu_slots.specs.Units.{in_place}
+use Rattle.dfu_slots.specs.Units.{Grain}
 use Rattle.dfu_slots.specs.Medium.{Write}
 use Rattle.dfu_slots.specs.Layout.{generation, next_generation}
 use Rattle.dfu_slots.specs.Image.{gate_of, spare_at}
@@ -23,17 +23,22 @@ use Rattle.dfu_asks.specs.declared.job.Job.{Job}
 use Rattle.dfu_asks.specs.declared.job.Job.TheVariants as job
 use Rattle.dfu_asks.specs.declared.work.Work.{Work}
 use Rattle.dfu_asks.specs.declared.asking.Asking.{Asking}
-use Rattle.dfu_asks.specs.Mapped.{mapped}
+use Rattle.dfu_asks.specs.Mapped.{grain_of, mapped}
 use Rattle.dfu_asks.specs.Series.{held_before}
-use Rattle.dfu_asks.specs.Jobs.{job_writes}
+use Rattle.dfu_asks.specs.Steps.{Step}
+use Rattle.dfu_asks.specs.Jobs.{job_writes, job_steps}
 
 -- The block that is not written.
 abbrev pub block_in : Asking → List ℕ
 block_in a = take a.block.len a.block.memory.now
 
+-- How its flash is written.
+abbrev pub grain_in : Asking → Grain
+grain_in a = grain_of a.unit a.sector
+
 -- The slot store on these bytes of flash.
 abbrev pub store_in : Asking → List ℕ → SlotsState
-store_in a flash = store_of (mapped a.unit flash) a.held.items a.put_end
+store_in a flash = store_of (mapped (grain_in a) flash) a.held.items a.put_end
 
 -- The device on these bytes of flash.
 abbrev pub device_in : Asking → List ℕ → Shown
@@ -67,11 +72,15 @@ IsDue m asked len s j end held = ⊥
 
 -- The writes of its work.
 abbrev pub writes_in : Asking → Work → List Write
-writes_in a w = job_writes w.job (in_place a.unit) a.put_end a.held.items (block_in a)
+writes_in a w = job_writes w.job (grain_in a) a.put_end a.held.items (block_in a)
+
+-- The same as steps.
+abbrev pub steps_in : Asking → Work → List Step
+steps_in a w = job_steps w.job (grain_in a) a.put_end a.held.items (block_in a)
 
 -- It works for the row that is due in the device that it was, on these bytes of flash, in this slot store.
 pub record IsWorking (a : Asking) (w : Work) (len : ℕ) (s : SlotsState) (flash : List ℕ) : Type 0 where
-  pub medium : s.medium ≡ mapped a.unit flash
+  pub medium : s.medium ≡ mapped (grain_in a) flash
   pub store : IsStore s
   pub sound : IsTrue (is_sound a.mode (length (block_in a)) s)
   pub due : IsDue a.mode w.asked len s w.job a.put_end a.held.items
@@ -105,6 +114,7 @@ failed_mode fault m = if is_block m then mode.Error (write_code fault) else mode
 pub record IsFinished (a : Asking) (a' : Asking) : Type 0 where
   pub config : a'.config ≡ a.config
   pub unit : a'.unit ≡ a.unit
+  pub sector : a'.sector ≡ a.sector
   pub mode : a'.mode ≡ done_mode a.config a.mode (length (block_in a))
   pub block : block_in a' ≡ block_in a
   pub held : a'.held.items ≡ (if is_block a.mode then put_rest a.unit a.held.items (block_in a) else [])
@@ -115,6 +125,7 @@ pub record IsFinished (a : Asking) (a' : Asking) : Type 0 where
 pub record IsBrokenOff (fault : WriteFault) (a : Asking) (a' : Asking) : Type 0 where
   pub config : a'.config ≡ a.config
   pub unit : a'.unit ≡ a.unit
+  pub sector : a'.sector ≡ a.sector
   pub mode : a'.mode ≡ failed_mode fault a.mode
   pub block : block_in a' ≡ block_in a
   pub held : a'.held.items ≡ []
@@ -139,6 +150,7 @@ pub record Gives (m : Mode) (asked : Option ℕ) (a : Answer) (count : ℕ) (out
 pub record IsRest (a a' : Asking) : Type 0 where
   pub config : a'.config ≡ a.config
   pub unit : a'.unit ≡ a.unit
+  pub sector : a'.sector ≡ a.sector
   pub held : a'.held.items ≡ a.held.items
   pub end : a'.put_end ≡ a.put_end
   pub work : a'.work ≡ a.work

@@ -11,7 +11,7 @@ use Rattle.dfu_asks.specs.declared.reply.Reply.{Reply}
 use Rattle.dfu_asks.specs.declared.reply.Reply.TheVariants as reply
 use Rattle.dfu_asks.specs.Carried.{total, carried, IsReached}
 use Rattle.dfu_asks.specs.Due.{IsDueRow, Works, Fails}
-use Rattle.dfu_asks.specs.Asks.{store_in, device_in, device_of, IsDevice, IsWorking, writes_in}
+use Rattle.dfu_asks.specs.Asks.{store_in, device_in, device_of, IsDevice, IsWorking, writes_in, steps_in}
 
 -- The bytes of an answer stand at the front of a buffer, and the rest of it is as it was.
 pub record Gave (a : Answer) (count : ℕ) (out out' : List ℕ) (Row : Answer → List ℕ → Type 0) : Type 0 where
@@ -34,7 +34,7 @@ pub record Asks (a : Asking) (len : ℕ) (s : SlotsState) (was flash : List ℕ)
   pub work_is : a.work ≡ Some work
   pub working : IsWorking a work len s was
   pub left : work.done < total (writes_in a work)
-  pub reached : IsReached (writes_in a work) work.done
+  pub reached : IsReached (steps_in a work) work.done
   pub flash_is : flash ≡ carried was (writes_in a work) work.done
 
 -- What comes of a device that works for the row that is due: it asks, further on; or the row came to its end.

@@ -1,6 +1,7 @@
 -- A series of writes that is carried out piece by piece.
-use Rattle.std.specs.Prelude.{◌≡◌, ◌⊎◌, ℕ, ◌+◌, ◌-◌, ◌%◌, ◌≤◌, ◌<◌, min, List, [], ◌∷◌, length, take, slice_range}
+use Rattle.std.specs.Prelude.{◌≡◌, ◌⊎◌, ℕ, ◌+◌, ◌-◌, ◌%◌, ◌≤◌, ◌<◌, min, true, if◌then◌else◌, List, [], ◌∷◌, length, take, slice_range}
 use Rattle.dfu_slots.specs.Medium.{Write, written}
+use Rattle.dfu_asks.specs.Steps.{Step}
 
 -- How many bytes a series of writes has.
 abbrev pub total : List Write → ℕ
@@ -12,23 +13,29 @@ abbrev pub carried : List ℕ → List Write → ℕ → List ℕ
 carried bytes [] n = bytes
 carried bytes (w ∷ ws) n = carried (written bytes w.at (take n w.bytes)) ws (n - length w.bytes)
 
--- Behind the first n bytes of a write this piece of it comes: what is left of the write, and at most 256 bytes.
-pub record IsPart (w : Write) (n : ℕ) (p : Write) : Type 0 where
-  pub some : 0 < length p.bytes
-  pub size : length p.bytes ≡ min 256 (length w.bytes - n)
-  pub within : n + length p.bytes ≤ length w.bytes
-  pub place : p.at ≡ w.at + n
-  pub bytes_are : p.bytes ≡ slice_range w.bytes n (n + length p.bytes)
+-- Behind the first n bytes of a step this piece of it comes: what is left of it, and of a program at most 256 bytes.
+pub record IsPart (s : Step) (n : ℕ) (p : Step) : Type 0 where
+  pub kind : p.erases ≡ s.erases
+  pub some : 0 < length p.write.bytes
+  pub size : length p.write.bytes ≡ (if s.erases then length s.write.bytes - n else min 256 (length s.write.bytes - n))
+  pub within : n + length p.write.bytes ≤ length s.write.bytes
+  pub place : p.write.at ≡ s.write.at + n
+  pub bytes_are : p.write.bytes ≡ slice_range s.write.bytes n (n + length p.write.bytes)
 
--- Behind the first n bytes of a series this piece of one of its writes comes.
-abbrev pub IsPiece : List Write → ℕ → Write → Type 0
+-- Behind the first n bytes of a series this piece of one of its steps comes.
+abbrev pub IsPiece : List Step → ℕ → Step → Type 0
 IsPiece [] n p = ⊥
-IsPiece (w ∷ ws) n p = IsPart w n p ⊎ ((length w.bytes ≤ n) × IsPiece ws (n - length w.bytes) p)
+IsPiece (s ∷ ss) n p = IsPart s n p ⊎ ((length s.write.bytes ≤ n) × IsPiece ss (n - length s.write.bytes) p)
 
--- So many bytes of a series are carried out in whole pieces: of the write that they end in a multiple of 256.
-abbrev pub IsReached : List Write → ℕ → Type 0
+-- So many bytes of a series are carried out in whole pieces: of the step that they end in none where it erases, else a multiple of 256.
+abbrev pub IsReached : List Step → ℕ → Type 0
 IsReached [] n = n ≡ 0
-IsReached (w ∷ ws) n = ((n < length w.bytes) × (n % 256 ≡ 0)) ⊎ ((length w.bytes ≤ n) × IsReached ws (n - length w.bytes))
+IsReached (s ∷ ss) n = ((n < length s.write.bytes) × (n % 256 ≡ 0) × (s.erases ≡ true → n ≡ 0))
+    ⊎ ((length s.write.bytes ≤ n) × IsReached ss (n - length s.write.bytes))
+
+-- It erases one whole sector, or programs.
+abbrev pub IsSound : ℕ → Step → Type 0
+IsSound sector p = p.erases ≡ true → (length p.write.bytes ≡ sector) × (p.write.at % sector ≡ 0)
 
 -- All writes of a series lie within so many bytes.
 abbrev pub AreWithin : List Write → ℕ → Type 0

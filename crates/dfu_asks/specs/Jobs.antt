@@ -1,8 +1,10 @@
 -- The writes of a job.
-use Rattle.std.specs.Prelude.{ℕ, ◌+◌, ◌-◌, ◌*◌, List, [], ◌∷◌, ◌++◌, length, take, if◌then◌else◌}
-use Rattle.dfu_slots.specs.Units.{Grain, in_place, gate_room}
+use Rattle.std.specs.Prelude.{◌≡◌, ℕ, ◌+◌, ◌-◌, ◌*◌, ◌^◌, ◌<◌, ◌≤◌, true, false, List, [], ◌∷◌, ◌++◌, length, take, replicate, if◌then◌else◌}
+use Rattle.dfu_slots.specs.Units.{Grain, gate_room, filled}
 use Rattle.dfu_slots.specs.Medium.{Write}
 use Rattle.dfu_slots.specs.Writes.{closed_gate, put_writes, part_writes, open_writes}
+use Rattle.dfu_asks.specs.Mapped.{grain_of}
+use Rattle.dfu_asks.specs.Steps.{Step, some_steps, put_steps, open_steps, close_step}
 use Rattle.dfu_asks.specs.declared.job.Job.{Job}
 use Rattle.dfu_asks.specs.declared.job.Job.TheVariants.{Block, Commit}
 use Rattle.dfu_asks.specs.declared.piece.Piece.{Piece}
@@ -20,10 +22,29 @@ job_writes (Block spare close) grain end held block =
 job_writes (Commit spare gen crc) grain end held block =
     part_writes grain (held_place grain spare end held) held ++ open_writes grain spare gen end crc
 
--- The write that a piece asks for.
-abbrev pub asked : Piece → Write
-asked p = record { at = p.at; bytes = take p.len p.bytes }
+-- The same as steps.
+abbrev pub job_steps : Job → Grain → ℕ → List ℕ → List ℕ → List Step
+job_steps (Block spare close) grain end held block =
+    (if close then close_step grain spare ∷ [] else []) ++ put_steps grain (held_place grain spare end held) held block
+job_steps (Commit spare gen crc) grain end held block =
+    some_steps grain.sector (held_place grain spare end held) (filled grain.unit held) ++ open_steps grain spare gen end crc
 
--- The writes of a job that are made of this stock.
-abbrev pub writes_for : Job → Stock → List Write
-writes_for job s = job_writes job (in_place s.unit) s.put_end s.held.now s.block.now
+-- The step that a piece asks for.
+abbrev pub asked : Piece → Step
+asked p = record { erases = p.erases; write = record { at = p.at; bytes = if p.erases then replicate p.len 255 else take p.len p.bytes } }
+
+-- It has some bytes: a program at most 256, and an erase no more than a sector.
+pub record IsFit (sector : ℕ) (p : Piece) : Type 0 where
+  pub some : 0 < p.len
+  pub programs : p.erases ≡ false → p.len ≤ 256
+  pub erases : p.erases ≡ true → p.len ≤ sector
+  pub small : p.at < 2 ^ 43
+  pub count : length (asked p).write.bytes ≡ p.len
+
+-- How the flash is written that this stock is for.
+abbrev pub grain_for : Stock → Grain
+grain_for s = grain_of s.unit s.sector
+
+-- The steps of a job that are made of this stock.
+abbrev pub steps_for : Job → Stock → List Step
+steps_for job s = job_steps job (grain_for s) s.put_end s.held.now s.block.now

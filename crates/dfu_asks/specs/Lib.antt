@@ -1,7 +1,9 @@
 pub mod Mapped
+pub mod Steps
 pub mod Carried
 pub mod Series
 pub mod Jobs
+pub mod Located
 pub mod Due
 pub mod Asks
 pub mod Refused

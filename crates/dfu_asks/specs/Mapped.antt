@@ -1,15 +1,20 @@
 -- Flash that is mapped into memory: it is read there, and its owner alone writes it.
 use Rattle.std.specs.Prelude.{◌≡◌, ◌≢◌, ◌⊎◌, ◌+◌, ◌-◌, ◌^◌, ◌≤◌, ℕ, List, [], slice_index}
 use Rattle.dfu_slots.specs.declared.unit.Unit.{Unit as WriteUnit}
-use Rattle.dfu_slots.specs.Units.{in_place}
+use Rattle.dfu_slots.specs.Units.{Grain}
 use Rattle.dfu_slots.specs.Medium.{MediumState}
 use Rattle.dfu_slots.specs.Medium.Fuse.{Unknown}
 use Rattle.dfu_slots.specs.Layout.{slot_size, OPEN}
 use Rattle.dfu_slots.specs.Image.{gate_of, spare_at, HasImage}
+use Rattle.dfu_asks.specs.declared.sector.Sector.{Sector}
 
--- The medium of these bytes that its owner writes in this unit: nothing is known of its next writes.
-abbrev pub mapped : WriteUnit → List ℕ → MediumState
-mapped unit bytes = record { bytes = bytes; failures = 2 ^ 64 - 1; fuse = Unknown; grain = in_place unit; tag = [] }
+-- It is written in this unit, and erased in these sectors before.
+abbrev pub grain_of : WriteUnit → Sector → Grain
+grain_of unit sector = record { unit = unit; sector = sector.size }
+
+-- The medium of these bytes that its owner writes so: nothing is known of its next writes.
+abbrev pub mapped : Grain → List ℕ → MediumState
+mapped grain bytes = record { bytes = bytes; failures = 2 ^ 64 - 1; fuse = Unknown; grain = grain; tag = [] }
 
 -- So many bytes from there on lie within the spare slot of a medium.
 pub record IsInSpare (m : MediumState) (at len : ℕ) : Type 0 where

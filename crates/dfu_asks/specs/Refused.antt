@@ -7,7 +7,7 @@ use Rattle.dfu_asks.specs.declared.refusal.Refusal.{Refusal}
 use Rattle.dfu_asks.specs.declared.refusal.Refusal.TheVariants as refusal
 use Rattle.dfu_asks.specs.Mapped.{mapped}
 use Rattle.dfu_asks.specs.Carried.{total}
-use Rattle.dfu_asks.specs.Asks.{IsDevice, writes_in}
+use Rattle.dfu_asks.specs.Asks.{IsDevice, grain_in, writes_in}
 
 -- What is kept is a device on this flash, and the memory of its block has room for the transfer size.
 pub record IsKept (a : Asking) (flash : List ℕ) : Type 0 where
@@ -18,8 +18,8 @@ pub record IsKept (a : Asking) (flash : List ℕ) : Type 0 where
 abbrev pub IsUnfit : Refusal → Asking → List ℕ → Type 0
 IsUnfit refusal.Asked a flash = ⊥
 IsUnfit refusal.NoRoom a flash = ⊥
-IsUnfit refusal.NoMedium a flash = ¬ HasImage (mapped a.unit flash)
-IsUnfit refusal.NoDevice a flash = HasImage (mapped a.unit flash) × ¬ IsKept a flash
+IsUnfit refusal.NoMedium a flash = ¬ HasImage (mapped (grain_in a) flash)
+IsUnfit refusal.NoDevice a flash = HasImage (mapped (grain_in a) flash) × ¬ IsKept a flash
 
 -- A call with a buffer of so many bytes, of which it needs so many, is refused for this. The causes are looked for in this order.
 abbrev pub IsRefused : Refusal → Asking → List ℕ → (need room : ℕ) → Type 0

@@ -2,11 +2,14 @@
 ghost use Rattle.std.specs.Prelude.{◌≡◌, ◌≤◌, ◌<◌, ◌↔◌, ℕ, List, length, IsTrue, Option, Some};
 ghost use Rattle.dfu_slots.specs.Seen.{SlotsState};
 ghost use Rattle.dfu_device.specs.Parts.{stage_of, is_sound};
+ghost use Rattle.dfu_asks.specs.declared.work.Work.{Work};
+ghost use Rattle.dfu_asks.specs.Jobs.{steps_for};
 ghost use Rattle.dfu_asks.specs.Carried.{total, carried, IsReached};
-ghost use Rattle.dfu_asks.specs.Asks.{IsDueStage, IsJobOf, device_of, IsWorking, IsBrokenOff, Gives, block_in, writes_in};
+ghost use Rattle.dfu_asks.specs.Asks.{IsDueStage, IsJobOf, device_of, IsWorking, IsBrokenOff, Gives, block_in, writes_in, steps_in};
 ghost use Rattle.dfu_asks.specs.Calls.{Comes};
 
-use crate::piece::{Stock, next_piece};
+use crate::next_piece::next_piece;
+use crate::piece::Stock;
 use crate::start::{block_job, commit_job};
 use crate::{Asking, Job, Mapped, Reply, Work};
 use dfu_device::{Answer, Block, Mode};
@@ -15,15 +18,14 @@ use dfu_slots::{Slots, WriteFault};
 impl<'b> Asking<'b> {
     /// What the writes of a job are made of.
     pub(crate) fn stock(&self) -> Stock<'_>
-        ensures unit { result.unit ≡ self.now.unit }
-        ensures end { result.put_end ≡ self.now.put_end }
-        ensures held { result.held.now ≡ self.now.held.items }
-        ensures block { result.block.now ≡ block_in self.now }
+        ensures steps { (w : Work) → steps_for w.job result ≡ steps_in self.now w }
+        ensures sector { result.sector ≡ self.now.sector }
         ensures few { length result.held.now ≤ 256 }
         ensures most { length result.block.now ≤ 4096 }
     {
         Stock {
             unit: self.unit,
+            sector: self.sector,
             put_end: self.put_end,
             held: self.held.as_slice(),
             block: self.block.bytes(),
@@ -55,7 +57,7 @@ impl<'b> Asking<'b> {
     pub(crate) fn advance(&mut self, work: Work, out: &mut [u8]) -> Reply
         requires { 6 ≤ length out.old }
         ensures outcome { (len : ℕ) (s : SlotsState) (was flash : List ℕ) → IsWorking self.old work len s was →
-            flash ≡ carried was (writes_in self.old work) work.done → IsReached (writes_in self.old work) work.done →
+            flash ≡ carried was (writes_in self.old work) work.done → IsReached (steps_in self.old work) work.done →
             Comes (device_of self.old s) len s was flash out.old self.new out.new result }
         ensures more { (result ≡ Reply.Asks) ↔ (work.done < total (writes_in self.old work)) }
         ensures kept { result ≡ Reply.Asks → self.new.work ≡ Some work }

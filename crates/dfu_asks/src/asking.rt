@@ -1,6 +1,6 @@
 //! A device that asks for its writes.
 
-use crate::Work;
+use crate::{Sector, Work};
 use arrayvec::ArrayVec;
 use dfu_device::{Config, LentBlock, Mode};
 use dfu_slots::Unit;
@@ -12,6 +12,8 @@ pub struct Asking<'b> {
     pub config: Config,
     /// In which unit the flash is written.
     pub unit: Unit,
+    /// In which sectors it is erased before, if in any.
+    pub sector: Sector,
     /// Where it stands.
     pub mode: Mode,
     /// The block that is not written, in memory that the caller lends.

@@ -1,46 +1,64 @@
 //! The writes that are asked for: the next one, and how it went.
-ghost use Rattle.std.specs.Prelude.{◌≡◌, ◌≢◌, ◌+◌, ◌≤◌, ◌<◌, ◌^◌, ◌↔◌, ℕ, List, length, take, slice_range, Some, IfOk, IfErr, IfSome, IfNone, OnOk, OnErr, IsTrue, not};
-ghost use Rattle.dfu_slots.specs.Medium.{Write, Torn};
+ghost use Rattle.std.specs.Prelude.{◌≡◌, ◌≢◌, ◌+◌, ◌≤◌, ◌<◌, ◌^◌, false, ◌↔◌, ℕ, List, length, replicate, slice_range, Some, IfOk, IfErr, IfSome, IfNone, OnOk, OnErr, IsTrue, not};
+ghost use Rattle.dfu_slots.specs.Medium.{Torn};
 ghost use Rattle.dfu_slots.specs.Image.{Active};
 ghost use Rattle.dfu_slots.specs.Seen.{SlotsState};
-ghost use Rattle.dfu_asks.specs.Mapped.{mapped, IsInSpare, IsHeldBack};
-ghost use Rattle.dfu_asks.specs.Carried.{IsPiece};
-ghost use Rattle.dfu_asks.specs.Jobs.{asked};
-ghost use Rattle.dfu_asks.specs.Asks.{writes_in, device_of};
+ghost use Rattle.dfu_asks.specs.Mapped.{grain_of, mapped, IsInSpare, IsHeldBack};
+ghost use Rattle.dfu_asks.specs.Steps.{Step};
+ghost use Rattle.dfu_asks.specs.Carried.{IsPiece, IsSound};
+ghost use Rattle.dfu_asks.specs.Jobs.{asked, IsFit};
+ghost use Rattle.dfu_asks.specs.Asks.{grain_in, steps_in, device_of};
 ghost use Rattle.dfu_asks.specs.Calls.{Asks, Took, AsksOn};
 ghost use Rattle.dfu_asks.specs.Refused.{IsLeft, IsNotTaken, IsTaken};
 ghost use Rattle.dfu_asks.specs.declared.work.Work.{Work};
 
-use crate::piece::next_piece;
+use crate::next_piece::next_piece;
 use crate::start::spare_place;
-use crate::{Asking, Mapped, Piece, Refusal, Reply, Work};
+use crate::{Asking, Mapped, Piece, Refusal, Reply, Sector, Work};
 use dfu_slots::{Slots, Unit, WriteFault};
 
 // The first byte of an open gate.
 const OPEN_GATE: u8 = 0xa5;
 
-// Whether the bytes of a piece stand where it was to be written.
+// Whether all bytes are FFh.
+fn is_blank(bytes: &[u8]) -> bool
+    ensures { IsTrue result ↔ (bytes.now ≡ replicate (length bytes.now) 255) }
+{
+    for i in 0..bytes.len() {
+        if bytes[i] != 0xff {
+            return false;
+        }
+    }
+    true
+}
+
+// Whether the bytes of a piece stand where it was to be programmed, or FFh where it was to erase.
 fn stands(flash: &[u8], piece: &Piece) -> bool
     requires some { 0 < piece.now.len }
-    requires most { piece.now.len ≤ 256 }
-    requires small { piece.now.at < 2 ^ 41 }
+    requires most { piece.now.erases ≡ false → piece.now.len ≤ 256 }
+    requires small { piece.now.at < 2 ^ 43 }
+    requires large { piece.now.len < 2 ^ 32 }
     ensures within { IsTrue result → piece.now.at + piece.now.len ≤ length flash.now }
-    ensures stands { let p = asked piece.now in
+    ensures stands { let p = (asked piece.now).write in
         IsTrue result ↔ (slice_range flash.now p.at (p.at + length p.bytes) ≡ p.bytes) }
 {
     if piece.at + piece.len as u64 > flash.len() as u64 {
         return false;
     }
     let at = piece.at as usize;
+    if piece.erases {
+        return is_blank(&flash[at..at + piece.len]);
+    }
     flash[at..at + piece.len] == piece.bytes[..piece.len]
 }
 
 // Whether a range lies within the spare slot of this flash.
-fn is_spare(flash: &[u8], unit: Unit, at: u64, len: u64) -> bool
-    requires small { at + len < 2 ^ 42 }
+fn is_spare(flash: &[u8], unit: Unit, sector: Sector, at: u64, len: u64) -> bool
+    requires small { at + len < 2 ^ 44 }
     requires some { 0 < len }
-    ensures yes { IsTrue result → (image : List ℕ) → Active (mapped unit flash.now) image → IsInSpare (mapped unit flash.now) at len }
-    ensures no { IsTrue (not result) → IsHeldBack (mapped unit flash.now) at len }
+    ensures yes { let m = mapped (grain_of unit sector) flash.now in
+        IsTrue result → (image : List ℕ) → Active m image → IsInSpare m at len }
+    ensures no { IsTrue (not result) → IsHeldBack (mapped (grain_of unit sector) flash.now) at len }
 {
     let half = flash.len() as u64 / 2;
     let slot = if at < half { 0 } else { half };
@@ -50,7 +68,7 @@ fn is_spare(flash: &[u8], unit: Unit, at: u64, len: u64) -> bool
     if flash[slot as usize] != OPEN_GATE {
         return true;
     }
-    let Some(medium) = Mapped::new(flash, unit) else {
+    let Some(medium) = Mapped::with_sector(flash, unit, sector) else {
         return false;
     };
     match Slots::open(medium) {
@@ -59,46 +77,63 @@ fn is_spare(flash: &[u8], unit: Unit, at: u64, len: u64) -> bool
     }
 }
 
+// Whether a piece programs, or erases one whole sector.
+fn is_sound(sector: Sector, piece: &Piece) -> bool
+    requires { IsFit sector.size piece.now }
+    ensures { IsTrue result ↔ IsSound sector.size (asked piece.now) }
+{
+    if !piece.erases {
+        return true;
+    }
+    let size = sector.size();
+    piece.len == size as usize && piece.at % u64::from(size) == 0
+}
+
 impl Asking<'_> {
-    /// The next write that is asked for, at most 256 bytes. Whatever is kept, it lies within the spare slot of the flash as it
-    /// stands, where that has an active image.
+    /// The next piece that is asked for: at most 256 bytes to be programmed, or one sector to be erased. Whatever is kept, it lies
+    /// within the spare slot of the flash as it stands, where that has an active image.
     ///
-    /// None where no write is due, where its range does not lie so, or where the slot's gate is open and no image is active.
+    /// None where no write is due, where its range does not lie so, where the slot's gate is open and no image is active, or where
+    /// what is kept would erase less than a sector.
     /// It is Some where a call answered `Asks` and the pieces before this one stand on the flash.
     pub fn next(&self, flash: &[u8]) -> Option<Piece>
-        ensures piece { IfSome result (λ p. (w : Work) → self.now.work ≡ Some w → IsPiece (writes_in self.now w) w.done (asked p)) }
-        ensures most { IfSome result (λ p. (0 < p.len) × (p.len ≤ 256)) }
-        ensures spare { IfSome result (λ p. (image : List ℕ) → Active (mapped self.now.unit flash.now) image →
-            IsInSpare (mapped self.now.unit flash.now) p.at p.len) }
+        ensures piece { IfSome result (λ p. (w : Work) → self.now.work ≡ Some w → IsPiece (steps_in self.now w) w.done (asked p)) }
+        ensures most { IfSome result (λ p. IsFit self.now.sector.size p) }
+        ensures sector { IfSome result (λ p. IsSound self.now.sector.size (asked p)) }
+        ensures spare { IfSome result (λ p. (image : List ℕ) → Active (mapped (grain_in self.now) flash.now) image →
+            IsInSpare (mapped (grain_in self.now) flash.now) p.at p.len) }
         ensures due { IfSome result (λ p. (w : Work) × IsLeft self.now w) }
-        ensures none { IfNone result ((w : Work) (p : Write) → self.now.work ≡ Some w → IsPiece (writes_in self.now w) w.done p →
-            IsHeldBack (mapped self.now.unit flash.now) p.at (length p.bytes)) }
+        ensures none { IfNone result ((w : Work) (p : Step) → self.now.work ≡ Some w → IsPiece (steps_in self.now w) w.done p →
+            IsSound self.now.sector.size p → IsHeldBack (mapped (grain_in self.now) flash.now) p.write.at (length p.write.bytes)) }
         ensures goes { IfNone result ((len : ℕ) (s : SlotsState) (was : List ℕ) → ¬ Asks self.now len s was flash.now) }
     {
         let work = self.work?;
         let piece = next_piece(work.job, &self.stock(), work.done as usize)?;
-        if is_spare(flash, self.unit, piece.at, piece.len as u64) {
+        if !is_sound(self.sector, &piece) {
+            return None;
+        }
+        if is_spare(flash, self.unit, self.sector, piece.at, piece.len as u64) {
             Some(piece)
         } else {
             None
         }
     }
 
-    /// The write that `next` gave was carried out, or it failed. It is read back on the flash.
+    /// The piece that `next` gave was carried out, or it failed. It is read back on the flash: of an erase the whole sector, as FFh.
     ///
-    /// It asks for the next write; or the row has come to its end, and this is its answer.
+    /// It asks for the next piece; or the row has come to its end, and this is its answer.
     ///
     /// # Errors
     ///
     /// `NoRoom` where the buffer has less than 6 bytes; else `NoDevice` where no write is due. Nothing changed then.
     pub fn took(&mut self, flash: &[u8], failed: bool, out: &mut [u8]) -> Result<Reply, Refusal>
-        ensures outcome { IfOk result (λ r. (len : ℕ) (s : SlotsState) (was before : List ℕ) (asks : Asks self.old len s was before) (p : Write) →
-            IsPiece (writes_in self.old asks.work) asks.work.done p → Torn before p.at p.bytes flash.now →
-            Took (device_of self.old s) len s was p failed flash.now out.old self.new out.new r) }
-        ensures on { IfOk result (λ r. (w : Work) (p : Write) → self.old.work ≡ Some w → IsPiece (writes_in self.old w) w.done p →
-            (r ≡ Reply.Asks) ↔ AsksOn self.old w p failed flash.now) }
-        ensures further { IfOk result (λ r. r ≡ Reply.Asks → (w : Work) (p : Write) → self.old.work ≡ Some w →
-            IsPiece (writes_in self.old w) w.done p → self.new.work ≡ Some (record w { done = w.done + length p.bytes })) }
+        ensures outcome { IfOk result (λ r. (len : ℕ) (s : SlotsState) (was before : List ℕ) (asks : Asks self.old len s was before) (p : Step) →
+            IsPiece (steps_in self.old asks.work) asks.work.done p → Torn before p.write.at p.write.bytes flash.now →
+            Took (device_of self.old s) len s was p.write failed flash.now out.old self.new out.new r) }
+        ensures on { IfOk result (λ r. (w : Work) (p : Step) → self.old.work ≡ Some w → IsPiece (steps_in self.old w) w.done p →
+            (r ≡ Reply.Asks) ↔ AsksOn self.old w p.write failed flash.now) }
+        ensures further { IfOk result (λ r. r ≡ Reply.Asks → (w : Work) (p : Step) → self.old.work ≡ Some w →
+            IsPiece (steps_in self.old w) w.done p → self.new.work ≡ Some (record w { done = w.done + length p.write.bytes })) }
         ensures refused { IfErr result (λ e. IsNotTaken e self.old (length out.old)) }
         ensures taken { OnOk result (IsTaken self.old (length out.old)) }
         ensures memory { self.new.block.memory.ghost_name ≡ self.old.block.memory.ghost_name }

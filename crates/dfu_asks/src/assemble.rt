@@ -4,7 +4,7 @@ ghost use Rattle.dfu_slots.specs.Image.{HasImage};
 ghost use Rattle.dfu_slots.specs.Store.{IsStore};
 ghost use Rattle.dfu_device.specs.Parts.{shows, is_sound};
 ghost use Rattle.dfu_asks.specs.Mapped.{mapped};
-ghost use Rattle.dfu_asks.specs.Asks.{store_in, device_in, block_in, IsDevice, IsRest};
+ghost use Rattle.dfu_asks.specs.Asks.{grain_in, store_in, device_in, block_in, IsDevice, IsRest};
 ghost use Rattle.dfu_asks.specs.Refused.{IsKept, IsUnfit};
 
 use crate::{Asking, Mapped, Refusal};
@@ -40,10 +40,10 @@ impl<'b> Asking<'b> {
         ensures ok { IfOk result (λ s. s ≡ store_in self.now flash.now) }
         ensures store { OnOk result (IsStore (store_in self.now flash.now)) }
         ensures no_store { OnErr result (¬ IsStore (store_in self.now flash.now)) }
-        ensures no_medium { IfErr result (λ e. e ≡ Refusal.NoMedium → ¬ HasImage (mapped self.now.unit flash.now)) }
-        ensures no_device { IfErr result (λ e. e ≢ Refusal.NoMedium → (e ≡ Refusal.NoDevice) × HasImage (mapped self.now.unit flash.now)) }
+        ensures no_medium { IfErr result (λ e. e ≡ Refusal.NoMedium → ¬ HasImage (mapped (grain_in self.now) flash.now)) }
+        ensures no_device { IfErr result (λ e. e ≢ Refusal.NoMedium → (e ≡ Refusal.NoDevice) × HasImage (mapped (grain_in self.now) flash.now)) }
     {
-        let Some(medium) = Mapped::new(flash, self.unit) else {
+        let Some(medium) = Mapped::with_sector(flash, self.unit, self.sector) else {
             return Err(Refusal::NoMedium);
         };
         match Slots::from_parts(medium, copy_of(&self.held), self.put_end) {

@@ -1,5 +1,6 @@
 //! The calls for a device that asks.
 ghost use Rattle.std.specs.Prelude.{◌≡◌, ◌≢◌, ◌⊎◌, ◌≤◌, ◌^◌, ℕ, List, [], length, replicate, IfOk, IfErr, OnOk, OnErr, IsErrOf, IfSome, IfNone, IsSome, Some, IsTrue};
+ghost use Rattle.dfu_slots.specs.Units.{in_place};
 ghost use Rattle.dfu_slots.specs.Image.{HasImage};
 ghost use Rattle.dfu_slots.specs.Store.{IsStore};
 ghost use Rattle.dfu_device.specs.Rows.{Handles, Elapses};
@@ -8,7 +9,7 @@ ghost use Rattle.dfu_device.specs.Parts.{shows, stage_of, is_sound};
 ghost use Rattle.dfu_device.specs.Stage.{state_of, code_of};
 ghost use Rattle.dfu_device.specs.Shown.{powered_on};
 ghost use Rattle.dfu_asks.specs.declared.work.Work.{Work};
-ghost use Rattle.dfu_asks.specs.Mapped.{mapped};
+ghost use Rattle.dfu_asks.specs.Mapped.{grain_of, mapped};
 ghost use Rattle.dfu_asks.specs.Asks.{store_in, device_in, block_in, IsDevice, IsRest, IsDueStage};
 ghost use Rattle.dfu_asks.specs.Calls.{Called, Comes};
 ghost use Rattle.dfu_asks.specs.Refused.{IsKept, IsUnfit, IsRefused, IsServed};
@@ -16,15 +17,15 @@ ghost use Rattle.dfu_device.specs.Lent.{answer_room};
 
 use crate::due::{asked_now, passes_now};
 use crate::finish::{code_of, state_of};
-use crate::{Asking, Mapped, Refusal, Reply, Work};
+use crate::{Asking, Mapped, Refusal, Reply, Sector, Work};
 use arrayvec::ArrayVec;
 use dfu_device::{Answer, Config, LentBlock, LentDevice, Mode};
 use dfu_slots::{Slots, Unit};
 use dfu_wire::{Code, State};
 
 impl<'b> Asking<'b> {
-    /// A device that gets power: in appIDLE, on flash that it reads and that is written in this unit. The memory of the block
-    /// is to have room for the transfer size, or each call but this one is refused with `NoDevice`.
+    /// A device that gets power: in appIDLE, on flash that it reads and that is written in place, in this unit. The memory of the
+    /// block is to have room for the transfer size, or each call but this one is refused with `NoDevice`.
     ///
     /// None exactly where the flash has no active image, or 2^32 bytes or more.
     pub fn power_on(
@@ -33,17 +34,38 @@ impl<'b> Asking<'b> {
         block: LentBlock<'b>,
         flash: &[u8],
     ) -> Option<Asking<'b>>
-        ensures device { IfSome result (λ a. device_in a flash.now ≡ powered_on config (mapped unit flash.now)) }
+        ensures device { IfSome result (λ a. device_in a flash.now ≡ powered_on config (mapped (in_place unit) flash.now)) }
         ensures is { IfSome result (λ a. IsDevice a flash.now) }
         ensures work { IfSome result (λ a. (a.work ≡ None) × (a.unit ≡ unit)) }
+        ensures sector { IfSome result (λ a. a.sector.size ≡ 0) }
         ensures memory { IfSome result (λ a. a.block ≡ block.entry) }
-        ensures none { IfNone result (¬ HasImage (mapped unit flash.now)) }
+        ensures none { IfNone result (¬ HasImage (mapped (in_place unit) flash.now)) }
     {
-        let medium = Mapped::new(flash, unit)?;
+        Asking::power_on_sectors(config, unit, Sector::none(), block, flash)
+    }
+
+    /// The same, on flash that is erased in sectors before it is written, or where there are none is written in place.
+    pub fn power_on_sectors(
+        config: Config,
+        unit: Unit,
+        sector: Sector,
+        block: LentBlock<'b>,
+        flash: &[u8],
+    ) -> Option<Asking<'b>>
+        ensures device { let m = mapped (grain_of unit sector) flash.now in
+            IfSome result (λ a. device_in a flash.now ≡ powered_on config m) }
+        ensures is { IfSome result (λ a. IsDevice a flash.now) }
+        ensures work { IfSome result (λ a. (a.work ≡ None) × (a.unit ≡ unit)) }
+        ensures sector { IfSome result (λ a. a.sector ≡ sector) }
+        ensures memory { IfSome result (λ a. a.block ≡ block.entry) }
+        ensures none { IfNone result (¬ HasImage (mapped (grain_of unit sector) flash.now)) }
+    {
+        let medium = Mapped::with_sector(flash, unit, sector)?;
         match Slots::open(medium) {
             Ok(_) => Some(Asking {
                 config,
                 unit,
+                sector,
                 mode: Mode::AppIdle,
                 block,
                 held: ArrayVec::new(),

@@ -1,13 +1,16 @@
 //! Laws of what is asked. Each is the contract of a function with an empty body, which is proved and not to be called.
 
 ghost use Rattle.std.specs.Prelude.{◌≡◌, ◌⊎◌, ◌+◌, ◌≤◌, ℕ, List, length, true};
-ghost use Rattle.dfu_slots.specs.declared.unit.Unit.{Unit as WriteUnit};
+ghost use Rattle.dfu_slots.specs.Units.{Grain};
 ghost use Rattle.dfu_slots.specs.declared.fault.WriteFault.{WriteFault};
 ghost use Rattle.dfu_slots.specs.Medium.{MediumState, Write, AllWrites, BrokenWrites, Torn, written};
 ghost use Rattle.dfu_slots.specs.Seen.{SlotsState, Commit, writes_of, store_on, room_of, is_shaped};
 ghost use Rattle.dfu_slots.specs.Store.{IsStore};
 ghost use Rattle.dfu_device.specs.Parts.{is_put};
 ghost use Rattle.dfu_asks.specs.Mapped.{mapped};
+ghost use Rattle.dfu_asks.specs.declared.job.Job.{Job};
+ghost use Rattle.dfu_asks.specs.Steps.{Step, step_writes};
+ghost use Rattle.dfu_asks.specs.Jobs.{job_writes, job_steps};
 ghost use Rattle.dfu_asks.specs.Carried.{total, carried, AreWithin, IsPiece};
 ghost use Rattle.dfu_asks.specs.Series.{block_series, block_store, BlockWritten, BlockBroken, CommitDone, CommitBroken};
 
@@ -15,13 +18,21 @@ ghost use Rattle.dfu_asks.specs.Series.{block_series, block_store, BlockWritten,
 /// that is carried out it stands one piece further; and whatever becomes of a piece, any bytes in its range, the series was
 /// broken off in the write that the piece is of.
 pub fn pieces_are_the_writes()
-    ensures all { (unit : WriteUnit) (writes : List Write) (bytes : List ℕ) →
-        AllWrites (mapped unit bytes) writes (mapped unit (carried bytes writes (total writes))) }
-    ensures next { (writes : List Write) (bytes : List ℕ) (n : ℕ) (piece : Write) → AreWithin writes (length bytes) → IsPiece writes n piece →
-        carried bytes writes (n + length piece.bytes) ≡ written (carried bytes writes n) piece.at piece.bytes }
-    ensures torn { (unit : WriteUnit) (fault : WriteFault) (writes : List Write) (bytes now : List ℕ) (n : ℕ) (piece : Write) →
-        AreWithin writes (length bytes) → IsPiece writes n piece → Torn (carried bytes writes n) piece.at piece.bytes now →
-        BrokenWrites fault (mapped unit bytes) writes (mapped unit now) }
+    ensures all { (grain : Grain) (writes : List Write) (bytes : List ℕ) →
+        AllWrites (mapped grain bytes) writes (mapped grain (carried bytes writes (total writes))) }
+    ensures next { (steps : List Step) (bytes : List ℕ) (n : ℕ) (piece : Step) → let writes = step_writes steps in
+        AreWithin writes (length bytes) → IsPiece steps n piece →
+        carried bytes writes (n + length piece.write.bytes) ≡ written (carried bytes writes n) piece.write.at piece.write.bytes }
+    ensures torn { (grain : Grain) (fault : WriteFault) (steps : List Step) (bytes now : List ℕ) (n : ℕ) (piece : Step) →
+        let writes = step_writes steps in AreWithin writes (length bytes) → IsPiece steps n piece →
+        Torn (carried bytes writes n) piece.write.at piece.write.bytes now →
+        BrokenWrites fault (mapped grain bytes) writes (mapped grain now) }
+{}
+
+/// The steps of a job, each the erase of a sector or a program, are its writes.
+pub fn steps_are_the_writes()
+    ensures { (job : Job) (grain : Grain) (end : ℕ) (held block : List ℕ) →
+        step_writes (job_steps job grain end held block) ≡ job_writes job grain end held block }
 {}
 
 /// Whoever makes the writes of a row, in their order, has made the calls of the row; where one of them had a fault, the row's

@@ -1,32 +1,60 @@
 //! A medium that is read as memory, and written by its owner.
-ghost use Rattle.std.specs.Prelude.{◌≡◌, ◌^◌, ◌<◌, ◌≤◌, length, IfSome, IfNone};
-ghost use Rattle.dfu_asks.specs.Mapped.{mapped};
+ghost use Rattle.std.specs.Prelude.{◌≡◌, ◌%◌, ◌^◌, ◌<◌, ◌≤◌, length, IfSome, IfNone};
+ghost use Rattle.dfu_slots.specs.Units.{in_place};
+ghost use Rattle.dfu_asks.specs.Mapped.{grain_of, mapped};
 
+use crate::Sector;
 use dfu_slots::{Failed, Medium, Unit};
 
-/// Flash that is mapped into memory: it is read there, and no write through this works. Its owner writes it in place, in this unit.
+/// Flash that is mapped into memory: it is read there, and no write or erase through this works. Its owner writes it, in this unit,
+/// in place or in sectors that it erases before.
 #[derive(Drop)]
 pub struct Mapped<'m> {
     pub(crate) bytes: &'m [u8],
     pub(crate) unit: Unit,
+    pub(crate) sector: Sector,
     ghost short: { length bytes.now < 2 ^ 32 },
 }
 
 impl<'m> Mapped<'m> {
-    /// The medium of these bytes, which is written in this unit; None where they are 2^32 or more.
+    /// The medium of these bytes, which is written in place, in this unit; None where they are 2^32 or more.
     pub fn new(bytes: &'m [u8], unit: Unit) -> Option<Mapped<'m>>
-        ensures some { IfSome result (λ m. mapped m.unit m.bytes.now ≡ mapped unit bytes.now) }
+        ensures some { IfSome result (λ m. mapped (grain_of m.unit m.sector) m.bytes.now ≡ mapped (in_place unit) bytes.now) }
+        ensures none { IfNone result (2 ^ 32 ≤ length bytes.now) }
+    {
+        Mapped::with_sector(bytes, unit, Sector::none())
+    }
+
+    /// The medium of these bytes, which is written in this unit, in sectors of so many bytes that are erased before, or at 0 in place.
+    ///
+    /// None where the sector is neither 0 nor a multiple of 256 up to 131,072, or where there are 2^32 bytes or more.
+    pub fn with_sectors(bytes: &'m [u8], unit: Unit, sector: u32) -> Option<Mapped<'m>>
+        ensures some { IfSome result (λ m. mapped (grain_of m.unit m.sector) m.bytes.now
+            ≡ mapped (record { unit = unit; sector = sector }) bytes.now) }
+        ensures none { IfNone result ((sector % 256 ≡ 0) → (sector ≤ 2 ^ 17) → 2 ^ 32 ≤ length bytes.now) }
+        ensures refused { IfSome result (λ m. (sector % 256 ≡ 0) × (sector ≤ 2 ^ 17)) }
+    {
+        Mapped::with_sector(bytes, unit, Sector::new(sector)?)
+    }
+
+    /// The same, by a sector that is one.
+    pub(crate) fn with_sector(bytes: &'m [u8], unit: Unit, sector: Sector) -> Option<Mapped<'m>>
+        ensures some { IfSome result (λ m. mapped (grain_of m.unit m.sector) m.bytes.now ≡ mapped (grain_of unit sector) bytes.now) }
         ensures none { IfNone result (2 ^ 32 ≤ length bytes.now) }
     {
         if bytes.len() > 0xffff_ffff {
             return None;
         }
-        Some(Mapped { bytes, unit })
+        Some(Mapped {
+            bytes,
+            unit,
+            sector,
+        })
     }
 }
 
 impl<'m> Medium for Mapped<'m> {
-    ghost state = { λ m. mapped m.unit m.bytes.now };
+    ghost state = { λ m. mapped (grain_of m.unit m.sector) m.bytes.now };
 
     fn len(&self) -> u32 {
         self.bytes.len() as u32
@@ -37,8 +65,7 @@ impl<'m> Medium for Mapped<'m> {
     }
 
     fn sector(&self) -> u32 {
-        let _len = self.bytes.len();
-        0
+        self.sector.size()
     }
 
     // A library that goes into a bootloader is to be small.

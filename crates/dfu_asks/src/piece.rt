@@ -1,34 +1,29 @@
-//! The writes of a job, piece by piece.
-ghost use Rattle.std.specs.Prelude.{◌≡◌, ◌+◌, ◌-◌, ◌*◌, ◌^◌, ◌<◌, ◌≤◌, ◌∷◌, ◌++◌, [], length, take, replicate, slice_range, IfSome, IfNone};
-ghost use Rattle.dfu_slots.specs.Units.{in_place, gate_size, gate_room, fill_size};
+//! What a piece is, and what pieces are made of.
+ghost use Rattle.std.specs.Prelude.{◌≡◌, ◌+◌, ◌-◌, ◌*◌, ◌^◌, ◌<◌, ◌≤◌, ◌++◌, false, length, take, replicate, slice_range};
+ghost use Rattle.dfu_slots.specs.Units.{gate_size, gate_room, fill_size};
 ghost use Rattle.dfu_slots.specs.Layout.{header};
-ghost use Rattle.dfu_slots.specs.Writes.{put_writes};
-ghost use Rattle.dfu_asks.specs.Carried.{total, IsPart, IsPiece};
-ghost use Rattle.dfu_asks.specs.Jobs.{writes_for, held_place, asked};
+ghost use Rattle.dfu_slots.specs.Writes.{head_size};
+ghost use Rattle.dfu_asks.specs.Mapped.{grain_of};
+ghost use Rattle.dfu_asks.specs.Steps.{erase_step, program};
+ghost use Rattle.dfu_asks.specs.Carried.{IsPart};
+ghost use Rattle.dfu_asks.specs.Jobs.{grain_for, held_place, asked, IsFit};
 
-use crate::Job;
+use crate::Sector;
 use dfu_slots::Unit;
-
-// How many bytes a piece has at most.
-const MOST: usize = 256;
-
-// The first byte of an open gate unit.
-const OPEN_GATE: u8 = 0xa5;
-
-// The first byte of a gate unit that is written to close it.
-const CLOSED_GATE: u8 = 0x00;
 
 // The version of a header that is written.
 const VERSION: u8 = 2;
 
-/// A piece of a write: its first `len` bytes are to be written at `at`.
+/// A piece: the first `len` of its bytes are to be programmed at `at`, or the sector that begins there is to be erased.
 #[derive(Clone, Copy, Drop)]
 pub struct Piece {
-    /// Where its first byte goes.
+    /// Whether it erases: the `len` bytes there are FFh then.
+    pub erases: bool,
+    /// Where its first byte is.
     pub at: u64,
-    /// How many bytes it has, 1 to 256.
+    /// How many bytes it has: 1 to 256, or where it erases those of a sector.
     pub len: usize,
-    /// Its bytes.
+    /// Its bytes, where it programs.
     pub bytes: [u8; 256],
 }
 
@@ -36,13 +31,14 @@ pub struct Piece {
 #[derive(Clone, Copy, Drop)]
 pub(crate) struct Stock<'a> {
     pub(crate) unit: Unit,
+    pub(crate) sector: Sector,
     pub(crate) put_end: u32,
     pub(crate) held: &'a [u8],
     pub(crate) block: &'a [u8],
 }
 
-// These bytes, and zeros behind them up to 256.
-fn fill_up(bytes: &[u8]) -> [u8; 256]
+/// These bytes, and zeros behind them up to 256.
+pub(crate) fn fill_up(bytes: &[u8]) -> [u8; 256]
     requires { length bytes.now ≤ 256 }
     ensures { result ≡ bytes.now ++ replicate (256 - length bytes.now) 0 }
 {
@@ -51,17 +47,24 @@ fn fill_up(bytes: &[u8]) -> [u8; 256]
     unit
 }
 
+/// How many bytes the gate of a slot has for itself, and as many its header.
+pub(crate) fn gate_room(unit: Unit, sector: Sector) -> u64
+    ensures value { result ≡ gate_room (grain_of unit sector) }
+    ensures most { result ≤ 2 ^ 17 }
+{
+    u64::from(sector.size()).max(gate_size(unit) as u64)
+}
+
 /// How many bytes the gate unit of a slot has, and as many its header unit.
 pub(crate) fn gate_size(unit: Unit) -> usize
     ensures value { result ≡ gate_size unit }
-    ensures room { result ≡ gate_room (in_place unit) }
     ensures most { result ≤ 256 }
 {
     unit.size().max(16) as usize
 }
 
-// The header of a new image.
-fn header(generation: u8, len: u32, register: u32) -> [u8; 16]
+/// The header of a new image.
+pub(crate) fn header(generation: u8, len: u32, register: u32) -> [u8; 16]
     ensures { result ≡ header 2 generation len register }
 {
     let [a, b, c, d] = len.to_le_bytes();
@@ -71,8 +74,8 @@ fn header(generation: u8, len: u32, register: u32) -> [u8; 16]
     ]
 }
 
-// How many zeros fill so many bytes up to the end of a unit.
-fn fill_size(unit: Unit, len: usize) -> usize
+/// How many zeros fill so many bytes up to the end of a unit.
+pub(crate) fn fill_size(unit: Unit, len: usize) -> usize
     requires { len ≤ 256 }
     ensures value { result ≡ fill_size unit len }
     ensures most { len + result ≤ 256 }
@@ -81,30 +84,44 @@ fn fill_size(unit: Unit, len: usize) -> usize
     (size - len % size) % size
 }
 
-// Where what is held back belongs, of a slot that begins there.
-fn held_place(spare: u32, stock: &Stock<'_>) -> u64
+/// Where what is held back belongs, of a slot that begins there.
+pub(crate) fn held_place(spare: u32, stock: &Stock<'_>) -> u64
     requires { length stock.now.held.now ≤ 256 }
-    ensures value { result ≡ held_place (in_place stock.now.unit) spare stock.now.put_end stock.now.held.now }
+    ensures value { result ≡ held_place (grain_for stock.now) spare stock.now.put_end stock.now.held.now }
     ensures small { result < 2 ^ 40 }
 {
     let at = u64::from(stock.put_end).saturating_sub(stock.held.len() as u64);
-    u64::from(spare) + 2 * gate_size(stock.unit) as u64 + at
+    u64::from(spare) + 2 * gate_room(stock.unit, stock.sector) + at
 }
 
-// What is left of a write of at most 256 bytes, behind its first `done`.
-fn rest_of(at: u64, bytes: &[u8], done: usize) -> Piece
+/// The erase of so many bytes there.
+pub(crate) fn erase_piece(at: u64, len: usize) -> Piece
+    requires some { 0 < len }
+    requires small { at < 2 ^ 42 }
+    ensures step { asked result ≡ erase_step at len }
+    ensures len { result.len ≡ len }
+    ensures fits { IsFit len result }
+{
+    Piece {
+        erases: true,
+        at,
+        len,
+        bytes: [0xff; 256],
+    }
+}
+
+/// What is left of a write of at most 256 bytes, behind its first `done`.
+pub(crate) fn rest_of(at: u64, bytes: &[u8], done: usize) -> Piece
     requires some { done < length bytes.now }
     requires most { length bytes.now ≤ 256 }
     requires small { at < 2 ^ 40 }
-    ensures part { IsPart (record { at = at; bytes = bytes.now }) done (asked result) }
-    ensures end { done + result.len ≡ length bytes.now }
-    ensures small { result.at < 2 ^ 41 }
-    ensures one { 0 < result.len }
-    ensures count { length (asked result).bytes ≡ result.len }
-    ensures most { result.len ≤ 256 }
+    ensures part { IsPart (program at bytes.now) done (asked result) }
+    ensures fits { IsFit 0 result }
+    ensures len { done + result.len ≡ length bytes.now }
 {
     let rest = &bytes[done..];
     Piece {
+        erases: false,
         at: at + done as u64,
         len: rest.len(),
         bytes: fill_up(rest),
@@ -128,133 +145,43 @@ pub(crate) fn copy_joined(held: &[u8], block: &[u8], from: usize, out: &mut [u8]
     back.copy_from_slice(&block[..back.len()]);
 }
 
-// So many bytes of those held and of the block behind them, from there on, where the first of all goes to `at`.
-fn joined_piece(at: u64, stock: &Stock<'_>, done: usize, len: usize) -> Piece
+/// So many bytes of those held and of the block behind them, from there on, where the first of all goes to `at`.
+pub(crate) fn joined_piece(at: u64, stock: &Stock<'_>, done: usize, len: usize) -> Piece
     requires small { at < 2 ^ 40 }
     requires held { length stock.now.held.now ≤ 256 }
     requires block { length stock.now.block.now ≤ 4096 }
     requires within { done + len ≤ length stock.now.held.now + length stock.now.block.now }
+    requires some { 0 < len }
     requires most { len ≤ 256 }
-    ensures place { result.at ≡ at + done }
-    ensures count { length (asked result).bytes ≡ len }
+    ensures kind { (asked result).erases ≡ false }
+    ensures place { (asked result).write.at ≡ at + done }
+    ensures count { length (asked result).write.bytes ≡ len }
+    ensures bytes { (asked result).write.bytes ≡ slice_range (stock.now.held.now ++ stock.now.block.now) done (done + len) }
     ensures len { result.len ≡ len }
-    ensures bytes { (asked result).bytes ≡ slice_range (stock.now.held.now ++ stock.now.block.now) done (done + len) }
-    ensures most { result.len ≤ 256 }
+    ensures fits { IsFit 0 result }
 {
     let mut bytes = [0; 256];
     copy_joined(stock.held, stock.block, done, &mut bytes[..len]);
     Piece {
+        erases: false,
         at: at + done as u64,
         len,
         bytes,
     }
 }
 
-// The next piece of what a `put` writes, behind the first `done` bytes of it.
-fn put_piece(at: u64, stock: &Stock<'_>, done: usize) -> Option<Piece>
-    requires small { at < 2 ^ 40 }
+/// How many bytes a `put` writes first, by themselves: of the unit that the held bytes begin.
+pub(crate) fn head_size(stock: &Stock<'_>) -> usize
     requires held { length stock.now.held.now ≤ 256 }
     requires block { length stock.now.block.now ≤ 4096 }
-    ensures some { IfSome result (λ p. IsPiece (put_writes (in_place stock.now.unit) at stock.now.held.now stock.now.block.now) done (asked p)) }
-    ensures most { IfSome result (λ p. p.len ≤ 256) }
-    ensures end { IfSome result (λ p. done + p.len ≤ 8192) }
-    ensures small { IfSome result (λ p. p.at < 2 ^ 41) }
-    ensures one { IfSome result (λ p. 0 < p.len) }
-    ensures count { IfSome result (λ p. length (asked p).bytes ≡ p.len) }
-    ensures none { IfNone result (total (put_writes (in_place stock.now.unit) at stock.now.held.now stock.now.block.now) ≤ done) }
+    ensures value { result ≡ head_size stock.now.unit stock.now.held.now stock.now.block.now }
+    ensures most { result ≤ 256 }
 {
     let size = stock.unit.size() as usize;
     let all = stock.held.len() + stock.block.len();
-    let whole = all - all % size;
-    let head = if stock.held.is_empty() {
+    if stock.held.is_empty() {
         0
     } else {
-        size.min(whole)
-    };
-    let end = if done < head { head } else { whole };
-    if done >= end {
-        return None;
-    }
-    Some(joined_piece(at, stock, done, (end - done).min(MOST)))
-}
-
-// The next piece of what a commit writes, behind the first `done` bytes of it.
-fn commit_piece(
-    spare: u32,
-    generation: u8,
-    register: u32,
-    stock: &Stock<'_>,
-    done: usize,
-) -> Option<Piece>
-    requires held { length stock.now.held.now ≤ 256 }
-    ensures some { IfSome result (λ p. IsPiece (writes_for (Job.Commit spare generation register) stock.now) done (asked p)) }
-    ensures most { IfSome result (λ p. p.len ≤ 256) }
-    ensures end { IfSome result (λ p. done + p.len ≤ 8192) }
-    ensures small { IfSome result (λ p. p.at < 2 ^ 41) }
-    ensures one { IfSome result (λ p. 0 < p.len) }
-    ensures count { IfSome result (λ p. length (asked p).bytes ≡ p.len) }
-    ensures none { IfNone result (total (writes_for (Job.Commit spare generation register) stock.now) ≤ done) }
-{
-    let gate = gate_size(stock.unit);
-    let part = stock.held.len() + fill_size(stock.unit, stock.held.len());
-    if done < part {
-        let bytes = fill_up(stock.held);
-        return Some(rest_of(held_place(spare, stock), &bytes[..part], done));
-    }
-    if done < part + gate {
-        let bytes = fill_up(&header(generation, stock.put_end, register));
-        let at = u64::from(spare) + gate as u64;
-        return Some(rest_of(at, &bytes[..gate], done - part));
-    }
-    if done < part + gate + gate {
-        let bytes = fill_up(&[OPEN_GATE]);
-        return Some(rest_of(u64::from(spare), &bytes[..gate], done - part - gate));
-    }
-    None
-}
-
-// The next piece of what a block writes, behind the first `done` bytes of it.
-fn block_piece(spare: u32, close: bool, stock: &Stock<'_>, done: usize) -> Option<Piece>
-    requires held { length stock.now.held.now ≤ 256 }
-    requires block { length stock.now.block.now ≤ 4096 }
-    ensures some { IfSome result (λ p. IsPiece (writes_for (Job.Block spare close) stock.now) done (asked p)) }
-    ensures most { IfSome result (λ p. p.len ≤ 256) }
-    ensures end { IfSome result (λ p. done + p.len ≤ 8192) }
-    ensures small { IfSome result (λ p. p.at < 2 ^ 41) }
-    ensures one { IfSome result (λ p. 0 < p.len) }
-    ensures count { IfSome result (λ p. length (asked p).bytes ≡ p.len) }
-    ensures none { IfNone result (total (writes_for (Job.Block spare close) stock.now) ≤ done) }
-{
-    let at = held_place(spare, stock);
-    if !close {
-        return put_piece(at, stock, done);
-    }
-    let gate = gate_size(stock.unit);
-    if done < gate {
-        let bytes = fill_up(&[CLOSED_GATE]);
-        return Some(rest_of(u64::from(spare), &bytes[..gate], done));
-    }
-    put_piece(at, stock, done - gate)
-}
-
-/// The next piece of the writes of a job, behind their first `done` bytes; None where no byte is left.
-pub(crate) fn next_piece(job: Job, stock: &Stock<'_>, done: usize) -> Option<Piece>
-    requires held { length stock.now.held.now ≤ 256 }
-    requires block { length stock.now.block.now ≤ 4096 }
-    ensures some { IfSome result (λ p. IsPiece (writes_for job stock.now) done (asked p)) }
-    ensures most { IfSome result (λ p. p.len ≤ 256) }
-    ensures end { IfSome result (λ p. done + p.len ≤ 8192) }
-    ensures small { IfSome result (λ p. p.at < 2 ^ 41) }
-    ensures one { IfSome result (λ p. 0 < p.len) }
-    ensures count { IfSome result (λ p. length (asked p).bytes ≡ p.len) }
-    ensures none { IfNone result (total (writes_for job stock.now) ≤ done) }
-{
-    match job {
-        Job::Block { spare, close } => block_piece(spare, close, stock, done),
-        Job::Commit {
-            spare,
-            generation,
-            register,
-        } => commit_piece(spare, generation, register, stock, done),
+        size.min(all - all % size)
     }
 }

@@ -5,7 +5,7 @@ ghost use Rattle.dfu_slots.specs.Layout.{generation, next_generation};
 ghost use Rattle.dfu_slots.specs.Image.{gate_of, spare_at};
 ghost use Rattle.dfu_slots.specs.Seen.{active_slot, spare_of, is_begun};
 
-use crate::piece::gate_size;
+use crate::piece::gate_room;
 use crate::{Job, Mapped};
 use dfu_slots::{Medium, Slots};
 use dfu_suffix::Crc;
@@ -56,7 +56,10 @@ fn next_generation(slots: &Slots<Mapped<'_>>) -> u8
         medium.len() / 2
     };
     let mut byte = [0];
-    medium.read(active + gate_size(medium.unit()) as u32, &mut byte);
+    medium.read(
+        active + gate_room(medium.unit, medium.sector) as u32,
+        &mut byte,
+    );
     byte[0].wrapping_add(1)
 }
 
@@ -71,7 +74,7 @@ pub(crate) fn commit_job(slots: &Slots<Mapped<'_>>) -> Job
     let held = slots.held();
     let end = slots.put_end();
     let spare = spare_place(slots);
-    let from = spare as usize + 2 * gate_size(medium.unit());
+    let from = spare as usize + 2 * gate_room(medium.unit, medium.sector) as usize;
     let register = register_of(medium, from, end as usize - held.len(), held);
     Job::Commit {
         spare,

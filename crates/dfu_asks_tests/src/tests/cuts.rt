@@ -1,20 +1,37 @@
 //! A failure, a lie and a loss of power at each piece of a download.
 
+use super::chip::{Chip, KINDS};
 use super::rows::{Trouble, download};
-use super::{active, shipped};
 use std::process::Abort;
 use std::test::Fail;
 
+/// The old image is active; or the new one, where a piece is one of the gate's.
+fn has_image(rt: &impl Abort, chip: &Chip, piece: u32) {
+    let gate = if chip.kind.sector == 0 { 1 } else { 2 };
+    let at_gate = piece.saturating_add(gate) >= chip.kind.pieces;
+    assert!(rt; chip.active(rt) == (1, 0) || at_gate && chip.is_new(rt));
+}
+
+/// The next download goes on from what stands there.
+fn goes_on(rt: &impl Abort, chip: &mut Chip, times: (u32, u32)) -> Result<(), Fail> {
+    let went = download(rt, chip, times, Trouble::None)?;
+    assert_eq!(rt; went.status, [0, 0, 0, 0, 2, 0]);
+    assert!(rt; chip.is_new(rt));
+    Ok(())
+}
+
 #[test]
 fn each_failure_is_told(rt: HostRuntime) -> Result<(), Fail> {
-    for times in [(0, 0), (5, 5)] {
-        for piece in 0..5 {
-            let mut flash = shipped(rt.alloc())?;
-            let went = download(&rt, &mut flash, times, Trouble::Fails(piece))?;
-            let code = if piece < 3 { 0x03 } else { 0x06 };
-            assert_eq!(rt; (went.status[0], went.status[4]), (code, 10));
-            let image = active(&rt, &flash);
-            assert!(rt; image == (1, 0) || piece == 4 && image == (48, 0x77));
+    for kind in KINDS {
+        for times in [(0, 0), (5, 5)] {
+            for piece in 0..kind.pieces {
+                let mut chip = Chip::shipped(&rt, rt.alloc(), kind)?;
+                let went = download(&rt, &mut chip, times, Trouble::Fails(piece))?;
+                let code = if piece < kind.before { 0x03 } else { 0x06 };
+                assert_eq!(rt; (went.status[0], went.status[4]), (code, 10));
+                has_image(&rt, &chip, piece);
+                goes_on(&rt, &mut chip, times)?;
+            }
         }
     }
     Ok(())
@@ -22,12 +39,15 @@ fn each_failure_is_told(rt: HostRuntime) -> Result<(), Fail> {
 
 #[test]
 fn each_lie_is_told(rt: HostRuntime) -> Result<(), Fail> {
-    for times in [(0, 0), (5, 5)] {
-        for piece in 0..5 {
-            let mut flash = shipped(rt.alloc())?;
-            let went = download(&rt, &mut flash, times, Trouble::Lies(piece))?;
-            assert_eq!(rt; (went.status[0], went.status[4]), (0x07, 10));
-            assert_eq!(rt; active(&rt, &flash), (1, 0));
+    for kind in KINDS {
+        for times in [(0, 0), (5, 5)] {
+            for piece in 0..kind.pieces {
+                let mut chip = Chip::shipped(&rt, rt.alloc(), kind)?;
+                let went = download(&rt, &mut chip, times, Trouble::Lies(piece))?;
+                assert_eq!(rt; (went.status[0], went.status[4]), (0x07, 10));
+                assert_eq!(rt; chip.active(&rt), (1, 0));
+                goes_on(&rt, &mut chip, times)?;
+            }
         }
     }
     Ok(())
@@ -35,17 +55,15 @@ fn each_lie_is_told(rt: HostRuntime) -> Result<(), Fail> {
 
 #[test]
 fn each_loss_of_power_leaves_an_image(rt: HostRuntime) -> Result<(), Fail> {
-    for times in [(0, 0), (5, 5)] {
-        for piece in 0..5 {
-            let mut flash = shipped(rt.alloc())?;
-            let went = download(&rt, &mut flash, times, Trouble::Cut(piece))?;
-            assert!(rt; went.over);
-            let image = active(&rt, &flash);
-            assert!(rt; image == (1, 0) || piece == 4 && image == (48, 0x77));
-            // The next download goes on from there.
-            let went = download(&rt, &mut flash, times, Trouble::None)?;
-            assert_eq!(rt; went.status, [0, 0, 0, 0, 2, 0]);
-            assert_eq!(rt; active(&rt, &flash), (48, 0x77));
+    for kind in KINDS {
+        for times in [(0, 0), (5, 5)] {
+            for piece in 0..kind.pieces {
+                let mut chip = Chip::shipped(&rt, rt.alloc(), kind)?;
+                let went = download(&rt, &mut chip, times, Trouble::Cut(piece))?;
+                assert!(rt; went.over);
+                has_image(&rt, &chip, piece);
+                goes_on(&rt, &mut chip, times)?;
+            }
         }
     }
     Ok(())

@@ -1,9 +1,9 @@
 //! Downloads whose writes the test carries out.
 
-use super::{DETACH, GET_STATUS, NEXT, active, carry_out, config, dnload, shipped};
-use dfu_asks::{Asking, Refusal, Reply};
+use super::chip::{Chip, Fate, KINDS};
+use super::{DETACH, GET_STATUS, config, dnload};
+use dfu_asks::{Asking, Refusal, Reply, Sector};
 use dfu_device::{Answer, LentBlock};
-use dfu_slots::Unit;
 use std::process::Abort;
 use std::test::Fail;
 
@@ -12,11 +12,11 @@ use std::test::Fail;
 pub enum Trouble {
     /// Nothing.
     None,
-    /// This piece fails: its first byte is written.
+    /// This piece fails, and is torn.
     Fails(u32),
-    /// This piece is said to be written, and its first byte isn't.
+    /// This piece is said to be carried out, and isn't.
     Lies(u32),
-    /// The power goes in this piece, after its first byte.
+    /// The power goes in this piece, which is torn.
     Cut(u32),
 }
 
@@ -28,45 +28,36 @@ pub struct Went {
     pub over: bool,
 }
 
-/// One byte of the flash is written.
-fn spoil(flash: &mut [u8; 192], at: usize, byte: u8) {
-    if let Some(place) = flash.get_mut(at) {
-        *place = byte;
-    }
-}
-
 /// Carries out what is asked for.
 fn serve(
     rt: &impl Abort,
     device: &mut Asking<'_>,
-    flash: &mut [u8; 192],
+    chip: &mut Chip,
     trouble: Trouble,
     went: &mut Went,
 ) {
-    let mut out = [0; 20];
+    let mut out = [0; 1500];
     for _ in 0..40 {
-        let Some(piece) = device.next(&*flash) else {
+        let Some(piece) = device.next(&chip.flash) else {
             panic!(rt; "nothing is asked for");
         };
-        assert_eq!(rt; device.usb_reset(&*flash), Err(Refusal::Asked));
-        let at = piece.at as usize;
+        assert_eq!(rt; device.usb_reset(&chip.flash), Err(Refusal::Asked));
         let number = went.pieces;
         went.pieces = went.pieces.saturating_add(1);
-        let mut failed = false;
+        let fate = if trouble == Trouble::Lies(number) {
+            Fate::Lost
+        } else if trouble == Trouble::Fails(number) || trouble == Trouble::Cut(number) {
+            Fate::Torn
+        } else {
+            Fate::Done
+        };
+        chip.meet(rt, &piece, fate);
         if trouble == Trouble::Cut(number) {
-            spoil(flash, at, piece.bytes[0]);
             went.over = true;
             return;
         }
-        if trouble == Trouble::Fails(number) {
-            spoil(flash, at, piece.bytes[0]);
-            failed = true;
-        } else if trouble == Trouble::Lies(number) {
-            spoil(flash, at, !piece.bytes[0]);
-        } else {
-            carry_out(flash, &piece);
-        }
-        match device.took(&*flash, failed, &mut out) {
+        let failed = trouble == Trouble::Fails(number);
+        match device.took(&chip.flash, failed, &mut out) {
             Ok(Reply::Asks) => {}
             Ok(Reply::Answered(answer, count)) => {
                 if count == 6 {
@@ -84,19 +75,15 @@ fn serve(
 fn ask(
     rt: &impl Abort,
     device: &mut Asking<'_>,
-    flash: &mut [u8; 192],
+    chip: &mut Chip,
     request: (&[u8; 8], &[u8]),
     trouble: Trouble,
     went: &mut Went,
 ) {
     let (setup, body) = request;
-    let mut out = [0; 20];
-    let before = *flash;
-    match device.handle(&*flash, setup, body, &mut out) {
-        Ok(Reply::Asks) => {
-            assert!(rt; before == *flash);
-            serve(rt, device, flash, trouble, went);
-        }
+    let mut out = [0; 1500];
+    match device.handle(&chip.flash, setup, body, &mut out) {
+        Ok(Reply::Asks) => serve(rt, device, chip, trouble, went),
         Ok(Reply::Answered(_, count)) => {
             if count == 6 {
                 went.status.copy_from_slice(&out[..6]);
@@ -110,46 +97,57 @@ fn ask(
 fn wait(
     rt: &impl Abort,
     device: &mut Asking<'_>,
-    flash: &mut [u8; 192],
+    chip: &mut Chip,
     ms: u32,
     trouble: Trouble,
     went: &mut Went,
 ) {
-    match device.elapse(&*flash, ms) {
-        Ok(Reply::Asks) => serve(rt, device, flash, trouble, went),
+    match device.elapse(&chip.flash, ms) {
+        Ok(Reply::Asks) => serve(rt, device, chip, trouble, went),
         Ok(Reply::Answered(_, _)) => {}
         Err(_) => panic!(rt; "elapse is refused"),
     }
 }
 
-/// Sends a setup with its body, and a GETSTATUS. It gives the time that the status asks for.
+/// Sends a block, asks for the status after it, and lets the time pass that the status asks for.
 fn send(
     rt: &impl Abort,
     device: &mut Asking<'_>,
-    flash: &mut [u8; 192],
+    chip: &mut Chip,
     request: (&[u8; 8], &[u8]),
     trouble: Trouble,
     went: &mut Went,
-) -> u32 {
-    ask(rt, device, flash, request, trouble, went);
-    ask(rt, device, flash, (&GET_STATUS, &[]), trouble, went);
-    u32::from(went.status[1])
+) {
+    ask(rt, device, chip, request, trouble, went);
+    ask(rt, device, chip, (&GET_STATUS, &[]), trouble, went);
+    let ms = u32::from(went.status[1]);
+    if ms > 0 && !went.over {
+        wait(rt, device, chip, ms, trouble, went);
+    }
+    if ms > 0 && !went.over {
+        ask(rt, device, chip, (&GET_STATUS, &[]), trouble, went);
+    }
 }
 
-/// Downloads `NEXT` with this trouble: GETSTATUS after each block and after the last, and time as the status asks for.
+/// Downloads 77h throughout, in the blocks of this chip, with this trouble.
 pub fn download(
     rt: &impl Abort,
-    flash: &mut [u8; 192],
+    chip: &mut Chip,
     times: (u32, u32),
     trouble: Trouble,
 ) -> Result<Went, Fail> {
     let (busy, manifest) = times;
-    let mut memory = [0; 20];
+    let mut memory = [0; 1500];
     let block = LentBlock {
         memory: &mut memory,
         len: 0,
     };
-    let Some(mut device) = Asking::power_on(config(busy, manifest)?, Unit::U16, block, &*flash)
+    let kind = chip.kind;
+    let Some(sector) = Sector::new(kind.sector) else {
+        panic!(rt; "no such sector");
+    };
+    let config = config(busy, manifest)?;
+    let Some(mut device) = Asking::power_on_sectors(config, kind.unit, sector, block, &chip.flash)
     else {
         panic!(rt; "no power");
     };
@@ -158,40 +156,36 @@ pub fn download(
         pieces: 0,
         over: false,
     };
-    ask(rt, &mut device, flash, (&DETACH, &[]), trouble, &mut went);
-    assert_eq!(rt; device.usb_reset(&*flash), Ok(()));
-    let blocks: [(u8, &[u8]); 4] = [
-        (0, &NEXT[..20]),
-        (1, &NEXT[20..40]),
-        (2, &NEXT[40..]),
-        (3, &[]),
-    ];
-    for (number, body) in blocks {
-        let setup = dnload(number, body.len() as u8);
-        let ms = send(rt, &mut device, flash, (&setup, body), trouble, &mut went);
-        if ms > 0 && !went.over {
-            wait(rt, &mut device, flash, ms, trouble, &mut went);
-        }
-        if ms > 0 && !went.over {
-            let request: (&[u8; 8], &[u8]) = (&GET_STATUS, &[]);
-            ask(rt, &mut device, flash, request, trouble, &mut went);
-        }
+    ask(rt, &mut device, chip, (&DETACH, &[]), trouble, &mut went);
+    assert_eq!(rt; device.usb_reset(&chip.flash), Ok(()));
+    let image = [0x77; 1500];
+    let mut number: u8 = 0;
+    for len in kind.blocks {
+        let setup = dnload(number, *len);
+        let Some(body) = image.get(..usize::from(*len)) else {
+            panic!(rt; "a block is too long");
+        };
+        send(rt, &mut device, chip, (&setup, body), trouble, &mut went);
         if went.over || went.status[0] != 0 {
             return Ok(went);
         }
+        number = number.wrapping_add(1);
     }
+    let setup = dnload(number, 0);
+    send(rt, &mut device, chip, (&setup, &[]), trouble, &mut went);
     Ok(went)
 }
 
 #[test]
 fn a_download_is_what_was_asked_for(rt: HostRuntime) -> Result<(), Fail> {
-    for times in [(0, 0), (5, 0), (0, 5), (5, 5)] {
-        let mut flash = shipped(rt.alloc())?;
-        let went = download(&rt, &mut flash, times, Trouble::None)?;
-        assert_eq!(rt; went.status, [0, 0, 0, 0, 2, 0]);
-        assert_eq!(rt; active(&rt, &flash), (48, 0x77));
-        // The blocks make 16, 16 and 16 whole bytes, and leave none; then come the header and the gate.
-        assert_eq!(rt; went.pieces, 5);
+    for kind in KINDS {
+        for times in [(0, 0), (5, 0), (0, 5), (5, 5)] {
+            let mut chip = Chip::shipped(&rt, rt.alloc(), kind)?;
+            let went = download(&rt, &mut chip, times, Trouble::None)?;
+            assert_eq!(rt; went.status, [0, 0, 0, 0, 2, 0]);
+            assert!(rt; chip.is_new(&rt));
+            assert_eq!(rt; went.pieces, kind.pieces);
+        }
     }
     Ok(())
 }

@@ -1,7 +1,5 @@
 use Rattle.std.proofs.Common.{◌≡◌, ◌+◌, ◌-◌, ◌*◌, ◌++◌, length, take, slice_range, sym, ◌∙◌, ap, arith}
 use Rattle.dfu_suffix.specs.Register.{register}
-use Rattle.dfu_slots.specs.Units.{in_place, gate_room}
-use Rattle.dfu_slots.specs.declared.unit.Unit.{Unit as WriteUnit}
 use Rattle.dfu_slots.specs.Medium.{MediumState}
 use Rattle.dfu_slots.specs.Image.{gate_of, spare_at}
 use Rattle.dfu_slots.specs.Seen.{spare_of}
@@ -14,8 +12,8 @@ pub register_of-register-requires : goal.register_of-register-requires
 register_of-register-requires c =
     let s = c.args.slots.now in
     let m = c.medium-medium.result.now in
-    let same : mapped m.unit m.bytes.now ≡ s.medium = c.medium-medium.ensures.medium in
-    let gate : c.gate_size.result ≡ gate_of s.medium = c.gate_size.ensures.room ∙ ap (λ (x : WriteUnit). gate_room (in_place x)) c.unit.ensures ∙ ap gate_of same in
+    let same : mapped (record { unit = m.unit; sector = m.sector.size }) m.bytes.now ≡ s.medium = c.medium-medium.ensures.medium in
+    let gate : c.gate_room.result ≡ gate_of s.medium = c.gate_room.ensures.value ∙ ap gate_of same in
     omega (
       arith,
       put_fits s c.held-held.ensures.store,
@@ -30,10 +28,10 @@ pub returns : goal.returns
 returns c =
     let s = c.args.slots.now in
     let m = c.medium-medium.result.now in
-    let same : mapped m.unit m.bytes.now ≡ s.medium = c.medium-medium.ensures.medium in
-    let gate : c.gate_size.result ≡ gate_of s.medium = c.gate_size.ensures.room ∙ ap (λ (x : WriteUnit). gate_room (in_place x)) c.unit.ensures ∙ ap gate_of same in
+    let same : mapped (record { unit = m.unit; sector = m.sector.size }) m.bytes.now ≡ s.medium = c.medium-medium.ensures.medium in
+    let gate : c.gate_room.result ≡ gate_of s.medium = c.gate_room.ensures.value ∙ ap gate_of same in
     let bytes : m.bytes.now ≡ s.medium.bytes = ap (λ (x : MediumState). x.bytes) same in
-    let from : c.spare_place-spare.result + 2 * c.gate_size.result ≡ spare_at (gate_of s.medium) s.medium.bytes + 2 * gate_of s.medium =
+    let from : c.spare_place-spare.result + 2 * c.gate_room.result ≡ spare_at (gate_of s.medium) s.medium.bytes + 2 * gate_of s.medium =
     omega (arith, c.spare_place-spare.ensures, gate) in
     let size : c.put_end-end.result - length c.held-held.result.now ≡ s.put_end - length s.held =
     omega (arith, c.put_end-end.ensures.value, ap length c.held-held.ensures.held) in

@@ -4,7 +4,7 @@ use Rattle.dfu_device.specs.Stage.{Stage}
 use Rattle.dfu_device.specs.Shown.{Shown}
 use Rattle.dfu_device.specs.Parts.{shows, stage_of}
 use Rattle.dfu_asks.specs.declared.asking.Asking.{Asking}
-use Rattle.dfu_asks.specs.Asks.{block_in, device_of, IsDueStage, writes_in}
+use Rattle.dfu_asks.specs.Asks.{grain_in, block_in, device_of, IsDueStage, writes_in, steps_in}
 use Rattle.dfu_asks.specs.Calls.{Comes}
 use Rattle.dfu_asks.proofs.Carrying.{carried_none}
 use Rattle.dfu_asks.proofs.Pieces.{reached_none}
@@ -27,14 +27,14 @@ returns-clause-outcome c = λ len flash slots store config due.
     let mode : a1.mode ≡ p.1 = ap (λ (x : Asking). x.mode) same in
     let block : block_in a1 ≡ items = ap block_in same in
     let conf : a1.config ≡ d.config = ap (λ (x : Asking). x.config) same ∙ sym config in
-    let working = begins a1 p.1 items p.0 d.slots a0.unit flash (spare_of p.0) items c.begin_job-job.result c.args.asked len
-    (ap (λ (x : Asking). x.unit) same) mode block there (ap (λ (x : SlotsState). x.medium) slots) store e.sound due_there
+    let working = begins a1 p.1 items p.0 d.slots (grain_in a0) flash (spare_of p.0) items c.begin_job-job.result c.args.asked len
+    (ap grain_in same) mode block there (ap (λ (x : SlotsState). x.medium) slots) store e.sound due_there
     (c.begin_job-job.ensures.due (spare_of p.0) items c.args.asked len due_there) in
     let dev : device_of a1 d.slots ≡ d = (λ i. shows (conf i) (sym there i) (mode i) (block i)) ∙ e.parts in
     subst (λ (x : Shown). Comes x len d.slots flash flash c.args.out.now c.advance.new.self c.advance.new.out c.advance.result) dev
     (c.advance.ensures.outcome len d.slots flash flash working
     (sym (carried_none (writes_in a1 (record { job = c.begin_job-job.result; asked = c.args.asked; done = 0 })) flash))
-    (reached_none (writes_in a1 (record { job = c.begin_job-job.result; asked = c.args.asked; done = 0 }))))
+    (reached_none (steps_in a1 (record { job = c.begin_job-job.result; asked = c.args.asked; done = 0 }))))
 
 pub returns-clause-first : goal.returns-clause-first
 returns-clause-first c = λ asks.

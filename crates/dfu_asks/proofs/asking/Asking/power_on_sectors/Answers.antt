@@ -5,13 +5,13 @@ use Rattle.dfu_slots.specs.Store.{IsStore}
 use Rattle.dfu_slots.proofs.Seeing.{fresh_store}
 use Rattle.dfu_asks.specs.Mapped.{mapped}
 use Rattle.dfu_asks.proofs.Calling.{idle_sound}
-use Rattle.dfu_asks.proofs.asking.Asking.power_on.Goals as goal
+use Rattle.dfu_asks.proofs.asking.Asking.power_on_sectors.Goals as goal
 
 pub returns-in-Ok-clause-is : goal.returns-in-Ok-clause-is
 returns-in-Ok-clause-is c =
-    let m = mapped c.args.unit c.args.flash.now in
+    let m = mapped (record { unit = c.args.unit; sector = c.args.sector.size }) c.args.flash.now in
     let has : HasImage m = subst HasImage c.in_ok-medium.ensures.some c.in-Ok.ensures.has_image in
-    let none = c.new-in-Ok.ensures in
-    let store : IsStore (store_of m c.new-in-Ok.result.items 0) =
+    let none = c.new.ensures in
+    let store : IsStore (store_of m c.new.result.items 0) =
     subst (λ (l : List ℕ). IsStore (store_of m l 0)) (sym none) (fresh_store m has) in
-    record { store = store; sound = idle_sound (store_of m c.new-in-Ok.result.items 0) store }
+    record { store = store; sound = idle_sound (store_of m c.new.result.items 0) store }

@@ -1,0 +1,87 @@
+//! Where so many bytes of a write and of the erases before it lead.
+ghost use Rattle.std.specs.Prelude.{◌≡◌, ◌+◌, ◌^◌, ◌≤◌, ◌<◌};
+ghost use Rattle.dfu_asks.specs.Located.{LeadsToErase, LeadsTo, IsWithin};
+
+use crate::Sector;
+
+/// Where so many bytes of a write and of the erases before it lead.
+#[derive(Clone, Copy, Drop)]
+pub(crate) enum Located {
+    /// So many bytes of a sector are to be erased there.
+    Erase {
+        /// Where the first of them is.
+        place: u64,
+        /// How many they are.
+        len: usize,
+    },
+    /// The write stands so many bytes behind its first one.
+    Program {
+        /// So many bytes of it are written.
+        from: usize,
+    },
+    /// All is written, and so many bytes of what comes behind it.
+    Behind {
+        /// So many bytes of that.
+        rest: usize,
+    },
+}
+
+// Where so many bytes of the erases lead that begin in a range.
+fn locate_erase(sector: u32, at: u64, len: usize, done: usize) -> Located
+    requires some { 0 < sector }
+    requires large { 1 < sector }
+    requires most { sector ≤ 2 ^ 17 }
+    requires small { at < 2 ^ 41 }
+    requires short { len ≤ 4608 }
+    ensures { LeadsToErase sector at len done result }
+{
+    let size = u64::from(sector);
+    let end = at + len as u64;
+    let behind = at % size;
+    let mut place = if behind == 0 {
+        at
+    } else {
+        at + (size - behind)
+    };
+    let mut rest = done as u64;
+    while place < end {
+        if rest < size {
+            return Located::Erase {
+                place: place + rest,
+                len: (size - rest) as usize,
+            };
+        }
+        rest -= size;
+        place += size;
+    }
+    Located::Behind {
+        rest: rest as usize,
+    }
+}
+
+// Where so many bytes of a write of `len` bytes lead, behind its erases.
+fn locate_write(len: usize, rest: usize) -> Located
+    ensures { IsWithin len rest result }
+{
+    if rest < len {
+        Located::Program { from: rest }
+    } else {
+        Located::Behind { rest: rest - len }
+    }
+}
+
+/// Where so many bytes lead of a write of `len` bytes there, and of the erases of the sectors that begin in its range.
+pub(crate) fn locate(sector: Sector, at: u64, len: usize, done: usize) -> Located
+    requires small { at < 2 ^ 41 }
+    requires short { len ≤ 4608 }
+    ensures { LeadsTo sector.size at len done result }
+{
+    let size = sector.size();
+    if size == 0 {
+        return locate_write(len, done);
+    }
+    match locate_erase(size, at, len, done) {
+        Located::Behind { rest } => locate_write(len, rest),
+        found => found,
+    }
+}
