@@ -3,6 +3,7 @@
 # shellcheck shell=sh disable=SC2154
 # shellcheck source=tests/apart/functionfs/common.sh
 . ./common.sh
+export DM_DISABLE_UDEV=1 # no rule of udev answers dmsetup here
 printf 'the old image' > old
 head -c 12001 /dev/urandom > one
 head -c 12007 /dev/urandom > two
@@ -55,7 +56,7 @@ refuses() {
     tail -n 1 out
     case $1 in
     *dfu-flash) expect "$what: dfu-flash says so" test "$code" -eq 6 -a -n "$(grep errWRITE out)" ;;
-    *) expect "$what: dfu-util says so" test "$code" -eq 74 -a -n "$(grep errWRITE out err)" ;;
+    *) expect "$what: dfu-util says so" test "$code" -eq 74 -a -n "$(grep 'unable to write memory' out err)" ;;
     esac
     expect "$what: the log says so" grep -q 'was not written: Input/output error' log
 }
@@ -84,42 +85,33 @@ for places in "$slot $slot" "$((slot + 16)) 8" "$slot 8"; do
     stands "sectors $places, mended" one
 done
 
-# The very last write, which makes the new image active. Writes of its sector take half a second; the program is stopped (SIGSTOP) within the
-# one before it, and the sector fails from then on.
-in_flight() {
-    read -r _ writes < /sys/block/dm-0/inflight
-    [ "$writes" -gt 0 ]
-}
+# The very last write, which makes the new image active. A write of its sector takes a second; 3 seconds after the host was told that the
+# image is put in place there are two, and the program is stopped (SIGSTOP) within the first, and the sector fails from then on.
 fresh
-start --dfu-mode
+start '--dfu-mode --manifest 3000'
 {
     echo "0 $slot linear $disk 0"
-    echo "$slot 8 delay $disk $slot 0 $disk $slot 500"
     echo "$((slot + 8)) $((sectors - slot - 8)) linear $disk $((slot + 8))"
-} | table
+} > around
+mend
 ./dfu-flash one.dfu > out 2> err &
 flash=$!
-for _ in $(seq 1 400); do
-    if in_flight; then
-        usleep 100000
-        ! in_flight || break
-    fi
-    usleep 20000
-done
+until grep -q 'GETSTATUS .* dfuMANIFEST ' log; do usleep 20000; done
+sed "1a $slot 8 delay $disk $slot 0 $disk $slot 1000" around | table
+sleep 3.3
 kill -STOP "$device"
-while in_flight; do usleep 20000; done
-breaks $slot 8
+sleep 1
+breaks "$slot" 8
 kill -CONT "$device"
 wait "$flash"
 expect "the last write: $(tail -n 1 out)" test $? -eq 6
 expect 'the last write: the log says so' grep -q 'was not written: Input/output error' log
-grep -c '^' log
 stands 'the last write' old
 mend
 # A download after it, in the midst of which the power goes: it may not go into the slot of the image that the disk has active.
 ./dfu-flash two.dfu > out 2> err &
 flash=$!
-until grep -q 'DNLOAD 1 .* ack' log; do usleep 20000; done
+until [ "$(grep -c 'DNLOAD 1 .* ack' log)" -eq 2 ]; do usleep 20000; done
 kill -9 "$device"
 wait "$device" 2> /dev/null
 stands 'behind the last write, and killed' old

@@ -3,6 +3,7 @@
 # shellcheck shell=sh disable=SC2154
 # shellcheck source=tests/apart/functionfs/common.sh
 . ./common.sh
+export DM_DISABLE_UDEV=1 # no rule of udev answers dmsetup here
 echo "0 $(blockdev --getsz /dev/vda) log-writes /dev/vda /dev/vdb" | dmsetup create medium
 medium=/dev/dm-0
 ./set-up 0x1209 0x0001 0x0100 F1

@@ -108,16 +108,16 @@ programs() {
 
 # make: the first file system of the machine, $work/PROCESSOR.cpio.
 make() {
-    mkdir -p "$root/bin" "$root/dev" "$root/etc" "$root/lib" "$root/modules" "$root/proc" "$root/run" "$root/sbin" "$root/sys" \
+    mkdir -p "$root/bin" "$root/dev" "$root/etc" "$root/lib" "$root/modules" "$root/proc" "$root/run" "$root/sys" \
         "$root/usr/bin" "$root/work"
-    for name in virtio_pci virtio_blk dummy_hcd libcomposite usb_f_fs usb_f_acm dm_mod dm_flakey dm_delay dm_log_writes; do
+    for name in virtio_pci virtio_blk dummy_hcd libcomposite usb_f_fs usb_f_acm dm_flakey dm_delay dm_log_writes; do
         module "$name"
     done
     [ "$processor" = x86-64 ] || put_libraries
     programs
     put "$(found udevadm)" /bin/udevadm
     ln -s udevadm "$root/bin/systemd-udevd"
-    put "$(found dmsetup)" /sbin/dmsetup
+    put "$(found dmsetup)" /bin/dmsetup
     put "$(found dfu-util)" /usr/bin/dfu-util
     put "$(found dfu-suffix)" /usr/bin/dfu-suffix
     put "$(found busybox)" /bin/busybox
