@@ -143,12 +143,53 @@ static void take(const struct write *write, uint64_t flags)
         flush();
 }
 
+/* One entry of the log: how many bytes it takes. */
+static size_t take_entry(const struct file *log, size_t at)
+{
+    uint64_t fields[4];
+    char text[64] = "";
+    if (log->size - at < SECTOR)
+        fail(log->name, "is cut short");
+    memcpy(fields, log->bytes + at, sizeof fields);
+    struct write write = {(size_t)le64toh(fields[0]) * SECTOR, (size_t)le64toh(fields[1]) * SECTOR, log->bytes + at + SECTOR};
+    uint64_t flags = le64toh(fields[2]), length = le64toh(fields[3]);
+    if ((flags & MARK) != 0) {
+        memcpy(text, log->bytes + at + sizeof fields, length < 63 ? (size_t)length : 63);
+        if (strcmp(text, "dm-log-writes-end") != 0)
+            mark(text);
+        return SECTOR;
+    }
+    if ((flags & FLUSH) != 0) {
+        flushes++;
+        flush();
+    }
+    if (write.length > log->size - at - SECTOR)
+        fail(log->name, "is cut short");
+    if (write.length > 0)
+        take(&write, flags);
+    return SECTOR + write.length;
+}
+
+static void take_log(const struct file *log)
+{
+    uint64_t entries, magic;
+    uint32_t sector;
+    size_t at = SECTOR;
+    if (log->size < SECTOR)
+        fail(log->name, "is cut short");
+    memcpy(&magic, log->bytes, 8);
+    memcpy(&entries, log->bytes + 16, 8);
+    memcpy(&sector, log->bytes + 24, 4);
+    if (le64toh(magic) != MAGIC || le32toh(sector) != SECTOR)
+        fail(log->name, "is no log of dm-log-writes with sectors of 512 bytes");
+    for (uint64_t entry = 0; entry < le64toh(entries); entry++)
+        at += take_entry(log, at);
+    flush();
+}
+
 int main(int count, char **words)
 {
     struct file log, end;
-    uint64_t entries, magic, fields[4];
-    uint32_t sector;
-    size_t at = SECTOR;
     if (count < 5)
         return 2;
     disk = get(words[1]);
@@ -157,40 +198,11 @@ int main(int count, char **words)
     many = count - 4;
     images = calloc((size_t)many, sizeof *images);
     trial = malloc(disk.size);
-    if (images == NULL || trial == NULL || log.size < SECTOR || end.size != disk.size)
-        fail(words[2], "can't be looked at");
+    if (images == NULL || trial == NULL || end.size != disk.size)
+        fail(words[3], "can't be looked at");
     for (int image = 0; image < many; image++)
         images[image] = get(words[4 + image]);
-    memcpy(&magic, log.bytes, 8);
-    memcpy(&entries, log.bytes + 16, 8);
-    memcpy(&sector, log.bytes + 24, 4);
-    if (le64toh(magic) != MAGIC || le32toh(sector) != SECTOR)
-        fail(words[2], "is no log of dm-log-writes with sectors of 512 bytes");
-    for (uint64_t entry = 0; entry < le64toh(entries); entry++) {
-        if (at + SECTOR > log.size)
-            fail(words[2], "is cut short");
-        memcpy(fields, log.bytes + at, sizeof fields);
-        struct write write = {(size_t)le64toh(fields[0]) * SECTOR, (size_t)le64toh(fields[1]) * SECTOR, log.bytes + at + SECTOR};
-        uint64_t flags = le64toh(fields[2]);
-        if ((flags & MARK) != 0) {
-            char text[64] = "";
-            memcpy(text, log.bytes + at + sizeof fields, le64toh(fields[3]) < 63 ? (size_t)le64toh(fields[3]) : 63);
-            if (strncmp(text, "dm-log-writes-end", 17) != 0)
-                mark(text);
-            at += SECTOR;
-            continue;
-        }
-        if ((flags & FLUSH) != 0) {
-            flushes++;
-            flush();
-        }
-        at += SECTOR + write.length;
-        if (at > log.size)
-            fail(words[2], "is cut short");
-        if (write.length > 0)
-            take(&write, flags);
-    }
-    flush();
+    take_log(&log);
     if (memcmp(disk.bytes, end.bytes, disk.size) != 0)
         fail(words[3], "is not what the log leads to");
     if (now + 1 != many)

@@ -1,5 +1,5 @@
-# What runs in the machine: four downloads onto a medium whose writes the kernel's device mapper notes on the second disk, in the order in
-# which they came to the first. The computer outside then looks what a loss of power at each of them leaves (cuts.c).
+# What runs in the machine: four downloads onto a medium whose writes the kernel's device mapper notes on the second disk, in the order
+# in which they came to the first. The computer outside then looks what a loss of power at each of them leaves (cuts.c).
 # shellcheck shell=sh disable=SC2154
 # shellcheck source=tests/apart/functionfs/common.sh
 . ./common.sh

@@ -210,4 +210,17 @@ echo "row killed:$names"
 case $names in *torn*) failed=$((failed + 1)) ;; *) passed=$((passed + 1)) ;; esac
 ./set-up --remove
 expect 'set-up --remove' test ! -e /sys/kernel/config/usb_gadget/upgrade
+
+# The device without hardware that the documents speak of, and what it prints.
+DFU_GADGET=./dfu-gadget ./try old > tried 2>&1 &
+tried=$!
+is_there
+./dfu-flash new.dfu > out 2> err
+expect "try: $(tail -n 1 out)" test $? -eq 0
+kill "$tried"
+wait "$tried"
+expect 'try: it ended' test $? -eq 0
+sed 's/^/    /' tried
+sed 's/^/    /' out
+expect 'try: nothing stays' test ! -e /sys/kernel/config/usb_gadget/upgrade -a ! -e /sys/bus/usb/devices/1-1
 finish
