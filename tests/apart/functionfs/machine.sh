@@ -108,7 +108,7 @@ programs() {
 
 # make: the first file system of the machine, $work/PROCESSOR.cpio.
 make() {
-    mkdir -p "$root/bin" "$root/dev" "$root/etc" "$root/lib" "$root/modules" "$root/proc" "$root/run" "$root/sys" \
+    mkdir -p "$root/bin" "$root/dev" "$root/etc" "$root/lib" "$root/modules" "$root/proc" "$root/run" "$root/sys" "$root/tmp" \
         "$root/usr/bin" "$root/work"
     for name in virtio_pci virtio_blk dummy_hcd libcomposite usb_f_fs usb_f_acm dm_flakey dm_delay dm_log_writes; do
         module "$name"
