@@ -9,6 +9,7 @@ expect 'one of the two images' test -n "$(cmp before one > said && echo one; cmp
 start --dfu-mode
 ./dfu-flash --upload up > out 2> err
 expect "started again: $(tail -n 1 out)" cmp up before
+is_back
 ./dfu-flash one.dfu > out 2> err
 expect "a download: $(tail -n 1 out)" test $? -eq 0
 stop

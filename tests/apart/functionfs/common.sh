@@ -30,6 +30,11 @@ is_there() {
     done
     udevadm settle
 }
+# is_back: the same behind a program that is done with it. It leaves the bus a little later, to come back in its other mode.
+is_back() {
+    sleep 0.5
+    is_there
+}
 start() {
     # shellcheck disable=SC2086
     ./dfu-gadget run $medium --controller $udc --verbose $1 2> log &

@@ -10,8 +10,7 @@ medium=/dev/dm-0
 suffixed one two three four
 start '--dfu-mode --transfer-size 1024'
 for name in one two three four; do
-    sleep 0.5 # the device leaves the bus once the program has ended
-    is_there
+    is_back
     dmsetup message medium 0 mark $name
     ./dfu-flash $name.dfu > out 2> err
     expect "noted: $name: $(tail -n 1 out)" test $? -eq 0

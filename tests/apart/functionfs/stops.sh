@@ -9,8 +9,7 @@ echo 'begins'
 turn=0
 while :; do
     for name in one two; do
-        sleep 0.3 # the device leaves the bus once the program has ended
-        is_there
+        is_back
         ./dfu-flash --no-verify $name.dfu > out 2> err || echo "    $turn $name: $(tail -n 1 out) $(tail -n 1 err)"
         turn=$((turn + 1))
     done
