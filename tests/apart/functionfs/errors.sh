@@ -85,6 +85,25 @@ for places in "$slot $slot" "$((slot + 16)) 8" "$slot 8"; do
     stands "sectors $places, mended" one
 done
 
+# What an earlier program could not write is in the kernel's memory for as long as somebody has the disk open. It isn't taken for what the
+# disk has.
+dd if=$disk of=spare bs=512 skip="$slot" count="$slot" 2> said
+fresh
+dd if=spare of=$medium bs=512 skip=8 seek=$((slot + 8)) conv=fsync 2> said
+sleep 1000 < $medium &
+holder=$!
+breaks "$slot" 8
+dd if=spare of=$medium bs=512 count=8 seek="$slot" conv=fsync 2> said
+expect 'it was not written' test $? -ne 0
+./dfu-gadget image $medium > saved
+expect 'the kernel has it' cmp saved one
+start --dfu-mode
+rm -f up
+./dfu-flash --upload up > out 2> err
+expect 'dfu-gadget serves what the disk has' cmp up old
+stop
+kill "$holder"
+
 # The very last write, which makes the new image active. A write of its sector takes a second; 3 seconds after the host was told that the
 # image is put in place there are two, and the program is stopped (SIGSTOP) within the first, and the sector fails from then on.
 fresh
