@@ -42,5 +42,5 @@ complete -c dfu-gadget -x -n $with_run -l busy -d 'What a block takes, as the ho
 complete -c dfu-gadget -x -n $with_run -l manifest -d 'What an image takes to be put in place, else 20'
 complete -c dfu-gadget -x -n $with_run -l least -d 'Take no image of fewer bytes, else 1'
 complete -c dfu-gadget -n $with_run -l dry-run -d 'Say what is there and what is missing, and do nothing'
-complete -c dfu-gadget -n $with_run -l verbose -d 'Print a line for each request'
+complete -c dfu-gadget -n $with_run -l verbose -d 'Print a line for each request; --verbose=<FILE> logs them'
 complete -c dfu-gadget -r -F -n $with_run -l root -d 'Look for /sys, /dev/usb-ffs and /proc in FOLDER, for tests'

@@ -5,6 +5,7 @@
 #include "stop.h"
 
 #include <errno.h>
+#include <stdio.h>
 #include <string.h>
 
 #define UNIT 1   /* a file is written byte by byte as far as its layout goes, */
@@ -28,8 +29,10 @@ static bool carry_out(const struct machine *machine, const struct dfu_ask *ask)
     if (is_sound && medium_write(medium, ask->at, ask->bytes, ask->length))
         return true;
     say_failed(medium->name, "was not written");
-    if (is_sound && !medium_forget(medium, ask->at, ask->length))
+    if (is_sound && !medium_forget(medium, ask->at, ask->length)) {
+        fflush(NULL);
         stop_lost();
+    }
     return false;
 }
 

@@ -226,7 +226,7 @@ printf '%s\n' "$stale" > rows
 play '--dfu-mode --busy 20' < rows
 equal 'the kernel keeps it: the status' 5 "$code"
 unset GADGET_KEEPS
-wrong_program medium.c 's/POSIX_FADV_DONTNEED/POSIX_FADV_NORMAL/; s/ && !is_kept(medium, at, length);/ \&\& (true || is_kept(medium, at, length));/' \
+wrong_program medium.c 's/POSIX_FADV_DONTNEED/POSIX_FADV_NORMAL/; s/ && !is_kept(medium, .*/ \&\& (true || is_kept(medium, at, length));/' \
     'it reads what the disk has not' "$stale" '--dfu-mode --busy 20'
 for failing in 1 2 3; do
     number=$failing
