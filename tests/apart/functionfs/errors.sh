@@ -107,7 +107,7 @@ kill "$holder"
 # The very last write, which makes the new image active. A write of its sector takes a second; 3 seconds after the host was told that the
 # image is put in place there are two, and the program is stopped (SIGSTOP) within the first, and the sector fails from then on.
 fresh
-start '--dfu-mode --manifest 3000'
+start '--dfu-mode --manifest 3000 --busy 300'
 {
     echo "0 $slot linear $disk 0"
     echo "$((slot + 8)) $((sectors - slot - 8)) linear $disk $((slot + 8))"
