@@ -2,8 +2,10 @@
    for, each on the disk before the next, and no other call is made meanwhile. */
 #include "machine.h"
 #include "say.h"
+#include "stop.h"
 
 #include <errno.h>
+#include <stdio.h>
 #include <string.h>
 
 #define SECTOR 0 /* a file is written over in place */
@@ -19,17 +21,21 @@ static int32_t note(struct machine *machine, int32_t answer)
     return answer;
 }
 
-/* One write, and how it went. */
+/* One write, and how it went. Behind one that failed the library reads what the disk has. */
 static bool carry_out(const struct machine *machine, const struct dfu_ask *ask)
 {
     const struct medium *medium = machine->medium;
-    bool is_done = ask->kind == DFU_PROGRAM && ask->length <= sizeof ask->bytes && ask->at <= medium->size
+    bool is_sound = ask->kind == DFU_PROGRAM && ask->length <= MEDIUM_MOST_WRITE && ask->at <= medium->size
         && ask->length <= medium->size - ask->at;
     errno = EINVAL;
-    is_done = is_done && medium_write(medium, ask->at, ask->bytes, ask->length);
-    if (!is_done)
-        say_failed(medium->name, "was not written");
-    return is_done;
+    if (is_sound && medium_write(medium, ask->at, ask->bytes, ask->length))
+        return true;
+    say_failed(medium->name, "was not written");
+    if (is_sound && !medium_forget(medium, ask->at, ask->length)) {
+        fflush(NULL);
+        stop_lost();
+    }
+    return false;
 }
 
 /* Another image is in place where the active one begins somewhere else. */

@@ -95,6 +95,8 @@ static int overwrite(const struct words *words)
         is_done = (medium.is_device || ftruncate(medium.file, (off_t)size) == 0) && medium_write(&medium, 0, content, size)
             && fsync(medium.file) == 0;
         status = is_done || say_failed(words->medium, "can't be written") ? STATUS_DONE : STATUS_FILE;
+        if (!is_done)
+            medium_forget(&medium, 0, size);
         free(content);
     }
     medium_close(&medium);

@@ -111,6 +111,8 @@ bool medium_map(struct medium *medium, const char *name, enum medium_use use)
         medium_close(medium);
         return say_wrong(name, "it is too small for a medium: `dfu-gadget format` makes one");
     }
+    if (use == MEDIUM_WRITE) /* an earlier program may have ended behind a write that failed */
+        medium_forget(medium, 0, 0);
     bytes = mmap(NULL, medium->size, PROT_READ, MAP_SHARED, medium->file, 0);
     if (bytes == MAP_FAILED) {
         say_failed(name, "can't be mapped");
@@ -146,4 +148,26 @@ bool medium_write(const struct medium *medium, size_t at, const uint8_t *bytes, 
         length -= (size_t)count;
     }
     return fdatasync(medium->file) == 0;
+}
+
+/* Whether the kernel still has a page of these bytes in its memory. */
+static bool is_kept(const struct medium *medium, size_t at, size_t length)
+{
+    size_t page = (size_t)sysconf(_SC_PAGESIZE), from = at / page * page;
+    unsigned char kept[MEDIUM_MOST_WRITE / 4096 + 2] = {0};
+    bool is = mincore((void *)(uintptr_t)(medium->bytes + from), at + length - from, kept) != 0;
+    for (size_t each = 0; each < sizeof kept; each++)
+        is = is || (kept[each] & 1) != 0;
+    return is;
+}
+
+/* What is mapped isn't dropped, so that nothing stands there meanwhile. */
+bool medium_forget(const struct medium *medium, size_t at, size_t length)
+{
+    void *bytes = (void *)(uintptr_t)medium->bytes;
+    if (bytes == NULL)
+        return posix_fadvise(medium->file, 0, 0, POSIX_FADV_DONTNEED) == 0;
+    return mmap(bytes, medium->size, PROT_NONE, MAP_PRIVATE | MAP_ANONYMOUS | MAP_FIXED, -1, 0) == bytes
+        && posix_fadvise(medium->file, 0, 0, POSIX_FADV_DONTNEED) == 0
+        && mmap(bytes, medium->size, PROT_READ, MAP_SHARED | MAP_FIXED, medium->file, 0) == bytes && !is_kept(medium, at, length);
 }

@@ -38,4 +38,10 @@ size_t medium_most(size_t size);
 /* Puts bytes at their place, and on the disk. False where that failed, with errno. */
 bool medium_write(const struct medium *medium, size_t at, const uint8_t *bytes, size_t length);
 
+/* After a write that failed: Linux keeps the bytes in its memory, and gives them to whoever reads, though the disk hasn't got them. They
+   are dropped, so that what is read comes from the disk. False where they stay; of a medium that is mapped, `length` is at most
+   MEDIUM_MOST_WRITE. */
+#define MEDIUM_MOST_WRITE 256
+bool medium_forget(const struct medium *medium, size_t at, size_t length);
+
 #endif

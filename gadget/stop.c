@@ -25,15 +25,19 @@ static void on_stop(int number)
     errno = before;
 }
 
-/* A page of the mapping that can't be read: the disk failed, or somebody made the file shorter. Endpoint 0 is closed with the program,
-   and so the gadget leaves the bus. */
-static void on_lost(int number)
+_Noreturn void stop_lost(void)
 {
     static const char line[] = "dfu-gadget: the medium can't be read any more\n";
     ssize_t written = write(STDERR_FILENO, line, sizeof line - 1);
     (void)written;
-    (void)number;
     _exit(STATUS_MEDIUM);
+}
+
+/* A page of the mapping that can't be read: the disk failed, or somebody made the file shorter. */
+static void on_lost(int number)
+{
+    (void)number;
+    stop_lost();
 }
 
 bool stop_catch(void)

@@ -16,7 +16,11 @@ int stop_descriptor(void);
 /* The signals as they were, in a child before its program. */
 void stop_forget(void);
 
-/* Where the medium can't be read any more, this ends the program, with STATUS_MEDIUM. */
+/* The medium can't be read any more: this ends the program with STATUS_MEDIUM, which is said. Endpoint 0 is closed with it, and so the
+   gadget leaves the bus. */
+_Noreturn void stop_lost(void);
+
+/* From here on a page of the mapping that can't be read does that. */
 void stop_at_lost_medium(void);
 
 #endif

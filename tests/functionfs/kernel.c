@@ -25,6 +25,15 @@ ssize_t __real_write(int file, const void *bytes, size_t length);
 ssize_t __real_pread(int file, void *bytes, size_t length, off_t at);
 ssize_t __real_pwrite(int file, const void *bytes, size_t length, off_t at);
 int __real_fdatasync(int file);
+int __real_posix_fadvise(int file, off_t at, off_t length, int advice);
+
+/* What a write that isn't on the disk has put into the kernel's memory: a reader sees it until it is dropped. */
+static struct {
+    off_t at;
+    size_t length;
+    uint8_t before[4096];
+    bool is_lost;
+} last;
 
 static bool ends(const char *path, const char *end)
 {
@@ -195,16 +204,38 @@ ssize_t __wrap_pwrite(int file, const void *bytes, size_t length, off_t at)
     }
     if (getenv("GADGET_SAID") != NULL)
         host_note("write %lld %zu", (long long)at, length);
+    last.at = at;
+    last.length = length <= sizeof last.before ? length : 0;
+    if (last.length > 0 && __real_pread(file, last.before, length, at) != (ssize_t)length)
+        last.length = 0;
     return __real_pwrite(file, bytes, length, at);
 }
 
 int __wrap_fdatasync(int file)
 {
     if (is_nth("GADGET_FAILS_SYNC", ++syncs)) {
+        last.is_lost = true;
         errno = EIO;
         return -1;
     }
     return __real_fdatasync(file);
+}
+
+int __wrap_posix_fadvise(int file, off_t at, off_t length, int advice)
+{
+    if (advice == POSIX_FADV_DONTNEED && last.is_lost && getenv("GADGET_KEEPS") == NULL) {
+        __real_pwrite(file, last.before, last.length, last.at);
+        last.is_lost = false;
+    }
+    return __real_posix_fadvise(file, at, length, advice);
+}
+
+int __wrap_mincore(void *bytes, size_t length, unsigned char *kept)
+{
+    (void)bytes;
+    (void)length;
+    *kept = last.is_lost;
+    return 0;
 }
 
 int __wrap_clock_gettime(clockid_t clock, struct timespec *now)

@@ -156,7 +156,7 @@ wrong_program() {
     program=./wrong
     fresh
     printf '%s\n' "$4" > rows
-    play "--dfu-mode --transfer-size 64" < rows
+    play "${5:---dfu-mode --transfer-size 64}" < rows
     sed -n 's/.*=> *//p' rows | sed 's, / ,\n,g' | sed '/^$/d' > wanted
     sed '/^write \|protocol/d' said | sed '$d' > found
     is "$3" test -n "$(diff wanted found)"
@@ -205,6 +205,44 @@ for failure in GADGET_FAILS_WRITE GADGET_FAILS_SYNC; do
         is "$failure=$number: an image stands" eval 'cmp -s saved old || cmp -s saved new'
     done
     is "$failure: some were tried" test "$number" -gt 1
+done
+
+# A write that isn't on the disk stands in the kernel's memory all the same. The image that the disk has is the active one; and where the
+# power goes within a download after it, too.
+printf 'one more of 26 bytes .....' > third
+fresh
+export GADGET_FAILS_SYNC=3
+stale="setup a105000000000100 => upgrade joins / a105 02
+$(printf '%s\n' "$download" | sed '$d')
+setup a103000000000600 => a103 060000000a00
+setup 2104000000000000 => 2104 ok
+setup a102000000002000 => a102 $(hex old)"
+row 'the last write is not on the disk' '--dfu-mode --busy 20' << END
+$stale
+END
+is 'the last write is not on the disk: no image is in place' test "$(grep -c '^installed' err)" -eq 0
+export GADGET_KEEPS=1
+printf '%s\n' "$stale" > rows
+play '--dfu-mode --busy 20' < rows
+equal 'the kernel keeps it: the status' 5 "$code"
+unset GADGET_KEEPS
+wrong_program medium.c 's/POSIX_FADV_DONTNEED/POSIX_FADV_NORMAL/; s/ && !is_kept(medium, .*/ \&\& (true || is_kept(medium, at, length));/' \
+    'it reads what the disk has not' "$stale" '--dfu-mode --busy 20'
+for failing in 1 2 3; do
+    number=$failing
+    while :; do
+        number=$((number + 1))
+        fresh
+        export "GADGET_FAILS_SYNC=$failing" "GADGET_CUT=$number"
+        { printf '%s\nsetup 2104000000000000\n' "$download"; printf '%s\n' "$download" | sed "s/$(hex new)/$(hex third)/"; } > rows
+        play '--dfu-mode --busy 20' < rows
+        unset GADGET_FAILS_SYNC GADGET_CUT
+        [ "$code" -eq 96 ] || break
+        ./gadget image medium > saved || : > saved
+        is "write $failing fails, a cut within write $number: an image stands" eval 'cmp -s saved old || cmp -s saved third'
+    done
+    holds "write $failing fails, and once more" third
+    is "write $failing fails: some cuts were tried" test "$number" -gt $((failing + 1))
 done
 
 # The power goes within each write of a download in turn: one of the two images stands, whole, and the next download succeeds.

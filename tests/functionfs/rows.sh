@@ -32,14 +32,15 @@ fresh() {
 hex() {
     od -An -v -tx1 "$1" | tr -d ' \n'
 }
-# play SETTINGS: runs the script that stands on standard input, from what stands on the medium, with a log where `log` is =FILE. A line has a step, and behind => what has
-# to come of it, with ` / ` between. `wrong` notes are made by row; play alone sets `outcome`.
+# play SETTINGS: runs the script that stands on standard input, from what stands on the medium, with a log where `log` is =FILE. A line has
+# a step, and behind => what has to come of it, with ` / ` between. `wrong` notes are made by row; play alone sets `outcome`.
 play() {
     sed 's/ *=>.*//' > host
     rm -f said
     code=0
     # shellcheck disable=SC2086
-    env GADGET_HOST=host GADGET_SAID=said timeout 60 $program run medium --controller $udc --root root --verbose$log $1 > out 2> err || code=$?
+    env GADGET_HOST=host GADGET_SAID=said timeout 60 $program run medium --controller $udc --root root --verbose$log $1 > out 2> err ||
+        code=$?
     touch said
 }
 # row WHAT SETTINGS: plays it, and compares all that came of it. In the end the device leaves the bus, and the status is 0.

@@ -122,6 +122,16 @@ is 'the options of the help' test "$(wc -l < options)" -eq 19
 while read -r option; do
     case $manual in *"--$option"*) right ;; *) wrong "the manual lacks --$option" ;; esac
 done < options
+# The completions, with the same texts; in zsh they begin with a small letter.
+sed ':a; N; $!ba; s/>\n  */> /g' help | sed -n 's/^  *\(-[hV], \)*--\([a-z-]*\)\( <[^>]*>\)*  *\([A-Z].*\)/\2	\4/p' > texts
+equal 'the texts of the help' 19 "$(wc -l < texts)"
+while IFS='	' read -r option text; do
+    is "bash: $option" grep -q -e "--$option\>" "$top/completions/dfu-gadget.bash"
+    is "fish: $option" grep -q -F -e "-l $option" "$top/completions/dfu-gadget.fish"
+    is "fish: $option: $text" grep -q -F -e "-d '$text'" "$top/completions/dfu-gadget.fish"
+    low=$(printf '%s' "$text" | sed 's/^./\L&/')
+    is "zsh: $option: $text" grep -q -F -e "[$low]" "$top/completions/_dfu-gadget"
+done < texts
 sed -n 's|^ *STATUS_[A-Z]* = \([0-9]\),* */\* \(.*\) \*/|\1 \2|p' "$top/gadget/status.h" > statuses
 equal 'the statuses' 8 "$(wc -l < statuses)"
 while read -r status; do

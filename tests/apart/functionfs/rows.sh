@@ -1,51 +1,18 @@
 # What runs in the machine: dfu-flash, dfu-util and single transfers, over the kernel's USB and the real libusb, against dfu-gadget at the
 # device controller of dummy_hcd. The medium is a disk of the machine.
-passed=0
-failed=0
-medium=/dev/vda
-udc=dummy_udc.0
+# shellcheck shell=sh disable=SC2154
+# shellcheck source=tests/apart/functionfs/common.sh
+. ./common.sh
 printf 'the old image' > old
 printf 'a new image of 26 bytes ..' > new
 head -c 50001 /dev/urandom > large
-for name in new large; do
-    cp $name $name.dfu
-    dfu-suffix -v 1209 -p 0001 -d 0100 -a $name.dfu > said
-done
+suffixed new large
 cat > installed << 'END'
 #!/bin/sh
 dd if="$1" bs=1 skip="$2" count="$3" of=placed 2> /dev/null
 END
 chmod +x installed
 
-expect() {
-    what=$1
-    shift
-    if "$@"; then passed=$((passed + 1)); echo "row $what"; else
-        failed=$((failed + 1))
-        echo "row WRONG: $what: $*"
-        tail -n 20 log | sed 's/^/    /'
-    fi
-}
-# is_there: the device is on the bus, and udev is done with it.
-is_there() {
-    for _ in 1 2 3 4 5 6 7 8 9 10 11 12 13 14 15 16 17 18 19 20; do
-        [ ! -e /sys/bus/usb/devices/1-1:1.0 ] || break
-        sleep 0.3
-    done
-    udevadm settle
-}
-start() {
-    # shellcheck disable=SC2086
-    ./dfu-gadget run $medium --controller $udc --verbose $1 2> log &
-    device=$!
-    is_there
-}
-stop() {
-    kill "$device"
-    wait "$device" 2> /dev/null
-    ended=$?
-    ./dfu-gadget image $medium > saved
-}
 # row STATUS IMAGE TEXT SETTINGS COMMAND..: the status, the image that stands then (old, new, large, or - for any), and how the
 # last line begins.
 row() {
@@ -243,4 +210,17 @@ echo "row killed:$names"
 case $names in *torn*) failed=$((failed + 1)) ;; *) passed=$((passed + 1)) ;; esac
 ./set-up --remove
 expect 'set-up --remove' test ! -e /sys/kernel/config/usb_gadget/upgrade
-echo "$passed passed, $failed failed"
+
+# The device without hardware that the documents speak of, and what it prints.
+DFU_GADGET=./dfu-gadget ./try old > tried 2>&1 &
+tried=$!
+is_there
+./dfu-flash new.dfu > out 2> err
+expect "try: $(tail -n 1 out)" test $? -eq 0
+kill "$tried"
+wait "$tried"
+expect 'try: it ended' test $? -eq 0
+sed 's/^/    /' tried
+sed 's/^/    /' out
+expect 'try: nothing stays' test ! -e /sys/kernel/config/usb_gadget/upgrade -a ! -e /sys/bus/usb/devices/1-1
+finish
