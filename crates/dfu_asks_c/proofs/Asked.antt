@@ -18,10 +18,11 @@ use Rattle.dfu_asks.specs.declared.asking.Asking.{Asking}
 use Rattle.dfu_asks.specs.declared.work.Work.{Work}
 use Rattle.dfu_asks.specs.declared.job.Job.{Job}
 use Rattle.dfu_asks.specs.declared.job.Job.TheVariants as job
-use Rattle.dfu_asks.specs.Asks.{block_in, store_in, device_in, IsDevice}
+use Rattle.dfu_slots.specs.Units.{gate_room}
+use Rattle.dfu_asks.specs.Asks.{block_in, grain_in, store_in, device_in, IsDevice}
 use Rattle.dfu_c_parts.specs.declared.config.DfuConfig.{DfuConfig}
 use Rattle.dfu_c_parts.specs.declared.record.DfuDevice.{DfuDevice}
-use Rattle.dfu_c_parts.specs.Config.{setting_of, transfer_of, unit_of, gate_in}
+use Rattle.dfu_c_parts.specs.Config.{setting_of, transfer_of}
 use Rattle.dfu_c_parts.specs.Record.{HasMode, held_in}
 use Rattle.dfu_c_parts.specs.Stalls.{verdict, HasLimits, HoldsWritten, HasLength}
 use Rattle.dfu_c_parts.specs.Long.{after_long}
@@ -29,11 +30,12 @@ use Rattle.dfu_c_parts.proofs.Setups.{served_stalls, has_length, holds_written, 
 use Rattle.dfu_c_parts.proofs.LongSetups.{after_free, long_elsewhere, long_here}
 use Rattle.dfu_asks_c.specs.declared.asking.DfuAsking.{DfuAsking}
 use Rattle.dfu_asks_c.specs.Asking.{IsAsking, HasJob, HasWork}
+use Rattle.dfu_asks_c.specs.Power.{grain_of}
 use Rattle.dfu_asks_c.specs.Stalls.{ToldStall}
 use Rattle.dfu_asks_c.specs.Long.{TakesLong}
 
 -- The room of a slot of this flash.
-pub room_in : (a : Asking) (flash : List ℕ) → room_of (store_in a flash) ≡ length flash / 2 - 2 * gate_in a.unit
+pub room_in : (a : Asking) (flash : List ℕ) → room_of (store_in a flash) ≡ length flash / 2 - 2 * gate_room (grain_in a)
 unfolding room_of
 room_in a flash = refl
 
@@ -41,7 +43,7 @@ module _ (c : DfuConfig) (r : DfuAsking) (size : ℕ) (setup : List ℕ) (p : Se
     (the_setup : (x : Setup) → IsSetup x setup → p ≡ x) (the_request : (x : Asked) → Asks p x → q ≡ x)
     (the_mode : (x : Mode) → HasMode r.device x → m ≡ x)
     (said : (x : Profile) (image spare unwritten body : List ℕ)
-    → HasLimits x (setting_of c).functional (setting_of c).least (size / 2 - 2 * gate_in (unit_of c))
+    → HasLimits x (setting_of c).functional (setting_of c).least (size / 2 - 2 * gate_room (grain_of c r.sector))
     → HoldsWritten m spare → HasLength q body → Some b ≡ verdict (plan x image (stage_of m spare unwritten) (meant q body))) where
   -- So it is said of the device.
   stalls_device : (block flash : List ℕ) (a : Asking) → IsAsking c r block a → IsDevice a flash → length flash ≡ size → (body : List ℕ)
@@ -57,7 +59,8 @@ module _ (c : DfuConfig) (r : DfuAsking) (size : ℕ) (setup : List ℕ) (p : Se
         can_upload = ap (λ s. s.functional.can_upload) asking.kept.config;
         transfer = ap (λ s. s.functional.transfer) asking.kept.config;
         least = ap (λ s. s.least) asking.kept.config;
-        capacity = room_in a flash ∙ (λ i. size_is i / 2 - 2 * gate_in (asking.kept.unit i));
+        capacity = room_in a flash
+            ∙ (λ i. size_is i / 2 - 2 * gate_room (record { unit = asking.kept.unit i; sector = asking.kept.sector i }));
       })
       (holds_written m (length (block_in a)) store
       (subst (λ x. IsTrue (is_sound x (length (block_in a)) store)) (sym same) device.sound))
@@ -122,7 +125,7 @@ module _ (c : DfuConfig) (r r' : DfuAsking) (setup : List ℕ) (p : Setup) (m : 
         kept = record {
           config = asking.kept.config;
           unit = asking.kept.unit;
-          sector = ap (λ (x : DfuAsking). x.sector) rest ∙ asking.kept.sector;
+          sector = asking.kept.sector ∙ sym (ap (λ (x : DfuAsking). x.sector) rest);
           mode = moved;
           few = omega (arith, asking.kept.few, ap (λ (x : DfuDevice). x.held_length) held);
           held = asking.kept.held ∙ sym (ap held_in held);

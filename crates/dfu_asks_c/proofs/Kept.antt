@@ -13,8 +13,9 @@ use Rattle.dfu_device.specs.Shown.{Shown}
 use Rattle.dfu_asks.specs.declared.asking.Asking.{Asking}
 use Rattle.dfu_asks.specs.declared.reply.Reply.{Reply}
 use Rattle.dfu_asks.specs.Due.{WorksOut, FailsOut}
+use Rattle.dfu_asks.specs.Steps.{Step}
 use Rattle.dfu_asks.specs.Carried.{IsPiece}
-use Rattle.dfu_asks.specs.Asks.{device_in, device_of, block_in, writes_in, IsDevice}
+use Rattle.dfu_asks.specs.Asks.{device_in, device_of, block_in, steps_in, IsDevice}
 use Rattle.dfu_asks.specs.Calls.{Asks, Called, called_ended, called_asks, Comes, comes_asks, comes_ended, Took, took_well, took_failed, took_lied}
 use Rattle.dfu_c_parts.specs.declared.config.DfuConfig.{DfuConfig}
 use Rattle.dfu_asks_c.specs.declared.asking.DfuAsking.{DfuAsking}
@@ -194,17 +195,17 @@ replied c a a' flash out out' Row number result r config unit leaves device is c
 pub went : (c : DfuConfig) (a a' : Asking) (flash : List ℕ) (failed : Bool) (out out' : List ℕ) (result : ℤ) (r : Reply)
     → a.config ≡ setting_of c
     → a.unit ≡ unit_of c → result ≡ reply_number r
-    → ((len : ℕ) (s : SlotsState) (was before : List ℕ) (asks : Asks a len s was before) (p : Write)
-    → IsPiece (writes_in a asks.work) asks.work.done p → Torn before p.at p.bytes flash
-    → Took (device_of a s) len s was p failed flash out a' out' r)
+    → ((len : ℕ) (s : SlotsState) (was before : List ℕ) (asks : Asks a len s was before) (p : Step)
+    → IsPiece (steps_in a asks.work) asks.work.done p → Torn before p.write.at p.write.bytes flash
+    → Took (device_of a s) len s was p.write failed flash out a' out' r)
     → Went a flash failed out result (settled c a') out'
 went c a a' flash failed out out' result r config unit is comes = record {
   reply = r;
   number_is = is;
   took = λ len s was before asks p piece torn.
       let t = comes len s was before asks p piece torn in
-      let same = took_config a len s was before p failed flash out a' out' r asks t in
-      subst (λ (x : Asking). Took (device_of a s) len s was p failed flash out x out' r)
+      let same = took_config a len s was before p.write failed flash out a' out' r asks t in
+      subst (λ (x : Asking). Took (device_of a s) len s was p.write failed flash out x out' r)
       (is_settled c a' (same.config ∙ config) (same.unit ∙ unit)) t;
 }
 

@@ -2,5 +2,6 @@ pub mod Kept
 pub mod Whole
 pub mod Idle
 pub mod Found
+pub mod Handed
 pub mod Formatted
 pub mod Asked

@@ -1,13 +1,14 @@
 -- What a call answers to a program in C.
 use Rattle.std.specs.Prelude.{◌≡◌, ◌⊎◌, ℕ, ℤ, Bool, ◌<◌, ◌≤◌, IsSome, List, length, None}
-use Rattle.dfu_slots.specs.Medium.{Write, Torn}
+use Rattle.dfu_slots.specs.Medium.{Torn}
 use Rattle.dfu_slots.specs.Seen.{SlotsState}
 use Rattle.dfu_device.specs.declared.answer.Answer.{Answer}
 use Rattle.dfu_device.specs.Shown.{Shown}
 use Rattle.dfu_asks.specs.declared.asking.Asking.{Asking}
 use Rattle.dfu_asks.specs.declared.reply.Reply.{Reply}
 use Rattle.dfu_asks.specs.Carried.{IsPiece}
-use Rattle.dfu_asks.specs.Asks.{device_of, writes_in, IsDevice}
+use Rattle.dfu_asks.specs.Steps.{Step}
+use Rattle.dfu_asks.specs.Asks.{device_of, steps_in, IsDevice}
 use Rattle.dfu_asks.specs.Calls.{Called, Asks, Took}
 use Rattle.dfu_c_parts.specs.declared.config.DfuConfig.{DfuConfig}
 use Rattle.dfu_asks_c.specs.declared.asking.DfuAsking.{DfuAsking}
@@ -72,9 +73,9 @@ pub record Replied (a : Asking) (flash out : List ℕ) (Row : Answer → List �
 pub record Went (a : Asking) (flash : List ℕ) (failed : Bool) (out : List ℕ) (result : ℤ) (a' : Asking) (out' : List ℕ) : Type 0 where
   pub reply : Reply
   pub number_is : result ≡ reply_number reply
-  pub took : (len : ℕ) (s : SlotsState) (was before : List ℕ) (asks : Asks a len s was before) (p : Write)
-      → IsPiece (writes_in a asks.work) asks.work.done p → Torn before p.at p.bytes flash
-      → Took (device_of a s) len s was p failed flash out a' out' reply
+  pub took : (len : ℕ) (s : SlotsState) (was before : List ℕ) (asks : Asks a len s was before) (p : Step)
+      → IsPiece (steps_in a asks.work) asks.work.done p → Torn before p.write.at p.write.bytes flash
+      → Took (device_of a s) len s was p.write failed flash out a' out' reply
 
 -- The buffer was too small, and nothing happened.
 pub record HasNoRoom (least : ℕ) (r : DfuAsking) (block out : List ℕ) (result : ℤ) (r' : DfuAsking) (block' out' : List ℕ) : Type 0 where

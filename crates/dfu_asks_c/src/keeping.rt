@@ -9,7 +9,7 @@ ghost use Rattle.dfu_asks_c.specs.Calls.{IsUnfound};
 use crate::asking::DfuAsking;
 use crate::refusal::Refusal;
 use crate::work::{set_work, work_of};
-use dfu_asks::Asking;
+use dfu_asks::{Asking, Sector};
 use dfu_c_parts::{DfuConfig, config_of, held_of, mode_of, set_held, set_mode, unit_of};
 use dfu_device::{Config, LentBlock};
 use dfu_slots::Unit;
@@ -19,14 +19,16 @@ fn asking_of<'b>(config: Config, unit: Unit, kept: &DfuAsking) -> Option<Asking<
     ensures some { IfSome result (λ a. (c : Given) → setting_of c ≡ config → unit_of c ≡ unit → IsKept c kept.now a) }
     ensures none { IfNone result ((c : Given) (a : Device) → ¬ IsKept c kept.now a) }
 {
-    if kept.sector != 0 || kept.device.held_length > 256 {
+    if kept.device.held_length > 256 {
         return None;
     }
+    let sector = Sector::new(kept.sector)?;
     let mode = mode_of(&kept.device)?;
     let work = work_of(kept)?;
     Some(Asking {
         config,
         unit,
+        sector,
         mode,
         block: LentBlock {
             memory: &mut [],
@@ -79,5 +81,5 @@ pub(crate) fn keep(asking: &Asking<'_>, kept: &mut DfuAsking)
     set_work(kept, asking.work);
     kept.device.length = asking.block.len as u16;
     kept.device.put_end = asking.put_end;
-    kept.sector = 0;
+    kept.sector = asking.sector.size();
 }

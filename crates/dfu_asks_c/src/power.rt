@@ -4,29 +4,31 @@ ghost use Rattle.dfu_slots.specs.Image.{HasImage};
 ghost use Rattle.dfu_device.specs.Shown.{powered_on};
 ghost use Rattle.dfu_asks.specs.Mapped.{mapped};
 ghost use Rattle.dfu_asks.specs.Asks.{block_in, device_in, IsDevice};
-ghost use Rattle.dfu_asks_c.specs.Power.{IsThere, IsNoMedium, Powers, RefusesPower, Stands, RefusesPlace};
+ghost use Rattle.dfu_asks_c.specs.Power.{IsThere, IsNoMedium, Powers, RefusesPower, Stands};
 
 use crate::asking::DfuAsking;
 use crate::keeping::keep;
 use arrayvec::ArrayVec;
-use dfu_asks::{Asking, Mapped};
+use dfu_asks::{Asking, Mapped, Sector};
 use dfu_c_parts::{DfuConfig, DfuDevice, DfuPlace, VERSION, config_of, is_allowed, unit_of};
 use dfu_device::{Config, LentBlock, Mode};
 use dfu_slots::{Slots, Unit};
 
 // A device that gets power on flash with an active image, and has no block.
-fn powered<'b>(config: Config, unit: Unit, flash: &[u8]) -> Option<Asking<'b>>
-    ensures device { IfSome result (λ a. device_in a flash.now ≡ powered_on config (mapped unit flash.now)) }
+fn powered<'b>(config: Config, unit: Unit, sector: Sector, flash: &[u8]) -> Option<Asking<'b>>
+    ensures device { let m = mapped (record { unit = unit; sector = sector.size }) flash.now in
+        IfSome result (λ a. device_in a flash.now ≡ powered_on config m) }
     ensures is { IfSome result (λ a. IsDevice a flash.now) }
     ensures parts { IfSome result (λ a. (a.work ≡ None) × (a.unit ≡ unit) × (a.config ≡ config)) }
     ensures block { IfSome result (λ a. (a.block.len ≡ 0) × (block_in a ≡ [])) }
-    ensures none { IfNone result (IsNoMedium unit flash.now) }
+    ensures none { IfNone result (IsNoMedium (record { unit = unit; sector = sector.size }) flash.now) }
 {
-    let medium = Mapped::new(flash, unit)?;
+    let medium = Mapped::with_sectors(flash, unit, sector.size())?;
     match Slots::open(medium) {
         Ok(_) => Some(Asking {
             config,
             unit,
+            sector,
             mode: Mode::AppIdle,
             block: LentBlock {
                 memory: &mut [],
@@ -69,8 +71,8 @@ fn blank() -> DfuAsking {
 
 /// A device gets power, as `Asking::power_on`: 0, and `device` is in appIDLE. It may hold anything before.
 ///
-/// Refused with -2 where the configuration is not allowed; -13 where `sector` is not 0; -3 where the flash has no active image, or
-/// 2^32 bytes or more.
+/// Refused with -2 where the configuration is not allowed; -13 where `sector` is neither 0 nor a multiple of 256 up to 131,072; -3
+/// where the flash has no active image, or 2^32 bytes or more.
 #[unsafe(no_mangle)]
 pub extern "C" fn dfu_asking_power_on(
     config: &DfuConfig,
@@ -84,10 +86,10 @@ pub extern "C" fn dfu_asking_power_on(
     let Some(setting) = config_of(config) else {
         return -2;
     };
-    if sector != 0 {
+    let Some(erased) = Sector::new(sector) else {
         return -13;
-    }
-    match powered(setting, unit_of(config), flash) {
+    };
+    match powered(setting, unit_of(config), erased, flash) {
         Some(asking) => {
             *device = blank();
             keep(&asking, device);
@@ -98,11 +100,11 @@ pub extern "C" fn dfu_asking_power_on(
 }
 
 // Where the active image stands in this flash, if there is one.
-fn find(unit: Unit, flash: &[u8]) -> Option<DfuPlace>
-    ensures some { IfSome result (λ place. IsThere unit flash.now place) }
-    ensures none { IfNone result (IsNoMedium unit flash.now) }
+fn find(unit: Unit, sector: Sector, flash: &[u8]) -> Option<DfuPlace>
+    ensures some { IfSome result (λ place. IsThere (record { unit = unit; sector = sector.size }) flash.now place) }
+    ensures none { IfNone result (IsNoMedium (record { unit = unit; sector = sector.size }) flash.now) }
 {
-    let medium = Mapped::new(flash, unit)?;
+    let medium = Mapped::with_sectors(flash, unit, sector.size())?;
     match Slots::open(medium) {
         Ok(slots) => Some(DfuPlace {
             at: slots.image_at(),
@@ -114,8 +116,7 @@ fn find(unit: Unit, flash: &[u8]) -> Option<DfuPlace>
 
 /// Where the active image stands in its flash: 0, and `place` has it.
 ///
-/// Refused with -2 where the configuration is not allowed; -13 where `sector` is not 0; -3 where the flash has no active image, or
-/// 2^32 bytes or more.
+/// Refused as `dfu_asking_power_on`.
 #[unsafe(no_mangle)]
 pub extern "C" fn dfu_asking_image(
     config: &DfuConfig,
@@ -124,15 +125,15 @@ pub extern "C" fn dfu_asking_image(
     place: &mut DfuPlace,
 ) -> i32
     ensures outcome { Stands config.now sector flash.now result place.new
-        ⊎ (RefusesPlace config.now sector flash.now result × (place.new ≡ place.old)) }
+        ⊎ (RefusesPower config.now sector flash.now result × (place.new ≡ place.old)) }
 {
     if !is_allowed(config) {
         return -2;
     }
-    if sector != 0 {
+    let Some(erased) = Sector::new(sector) else {
         return -13;
-    }
-    match find(unit_of(config), flash) {
+    };
+    match find(unit_of(config), erased, flash) {
         Some(found) => {
             *place = found;
             0

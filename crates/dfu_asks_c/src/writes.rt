@@ -1,5 +1,5 @@
 //! The writes that are due: the next one, and how it went.
-ghost use Rattle.std.specs.Prelude.{◌≡◌, ◌⊎◌, IsSome, not, ◌==◌};
+ghost use Rattle.std.specs.Prelude.{◌≡◌, ◌⊎◌, IsSome, not, ◌==◌, if◌then◌else◌};
 ghost use Rattle.dfu_asks_c.specs.Calls.{Goes, Went, WasLent, HasNoRoom};
 ghost use Rattle.dfu_asks_c.specs.Writes.{HandsOut, RefusesPiece, IsAtWork};
 
@@ -12,8 +12,17 @@ use dfu_asks::Reply;
 use dfu_c_parts::DfuConfig;
 use dfu_device::LentBlock;
 
-// DFU_PROGRAM.
+// DFU_ERASE and DFU_PROGRAM.
+const ERASE: u32 = 1;
+
 const PROGRAM: u32 = 2;
+
+// The number of what a piece does.
+fn kind_of(erases: bool) -> u32
+    ensures { result ≡ (if erases then 1 else 2) }
+{
+    if erases { ERASE } else { PROGRAM }
+}
 
 /// The next write, as `Asking::next`: 0, and `ask` has it. Nothing else changes.
 ///
@@ -43,10 +52,10 @@ pub extern "C" fn dfu_asking_next(
     let Some(piece) = asking.next(flash) else {
         return Refusal::NoDevice.number();
     };
-    if piece.at > 0xffff_ffff {
+    if piece.at > 0xffff_ffff || piece.len > 131_072 {
         return Refusal::NoDevice.number();
     }
-    ask.kind = PROGRAM;
+    ask.kind = kind_of(piece.erases);
     ask.at = piece.at as u32;
     ask.length = piece.len as u32;
     let bytes = piece.bytes;

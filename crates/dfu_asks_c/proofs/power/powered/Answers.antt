@@ -9,9 +9,10 @@ use Rattle.dfu_asks_c.proofs.power.powered.Goals as goal
 
 pub returns-in-Ok-clause-is : goal.returns-in-Ok-clause-is
 returns-in-Ok-clause-is c =
-    let m = mapped c.args.unit c.args.flash.now in
-    let has : HasImage m = subst HasImage c.in_ok-medium.ensures.some c.in-Ok.ensures.has_image in
-    let none = c.new-in-Ok.ensures in
-    let store : IsStore (store_of m c.new-in-Ok.result.items 0) =
+    let m = mapped (record { unit = c.args.unit; sector = c.args.sector.size }) c.args.flash.now in
+    let has : HasImage m = subst (λ (n : ℕ). HasImage (mapped (record { unit = c.args.unit; sector = n }) c.args.flash.now)) c.size.ensures.value
+        (subst HasImage c.in_ok-medium.ensures.some c.in-Ok.ensures.has_image) in
+    let none = c.new.ensures in
+    let store : IsStore (store_of m c.new.result.items 0) =
     subst (λ (l : List ℕ). IsStore (store_of m l 0)) (sym none) (fresh_store m has) in
-    record { store = store; sound = idle_sound (store_of m c.new-in-Ok.result.items 0) store }
+    record { store = store; sound = idle_sound (store_of m c.new.result.items 0) store }

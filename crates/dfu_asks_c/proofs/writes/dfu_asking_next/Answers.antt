@@ -1,8 +1,12 @@
-use Rattle.std.proofs.Common.{refl, sym, ◌∙◌, inl, inr, w32, arith}
+use Rattle.std.proofs.Common.{ℕ, refl, sym, ◌∙◌, subst, inl, inr, w32, arith}
 use Rattle.std.proofs.lemmas.Int.{to_z-of_z}
 use Rattle.dfu_asks_c.specs.Writes.{refuses_unfound, refuses_piece}
 use Rattle.dfu_asks_c.proofs.Kept.{lend, with_lent, with_this}
 use Rattle.dfu_asks_c.proofs.Found.{due_work}
+use Rattle.dfu_asks_c.proofs.Handed.{is_kind, programs, by_number, same_step}
+use Rattle.dfu_asks.specs.Steps.{Step}
+use Rattle.dfu_asks.specs.Carried.{IsPiece, IsSound}
+use Rattle.dfu_asks.specs.Asks.{steps_in}
 use Rattle.dfu_asks_c.proofs.writes.dfu_asking_next.Goals as goal
 
 pub returns-in-Err : goal.returns-in-Err
@@ -61,18 +65,23 @@ returns c =
     let block = lend c.args.block c.from.result (omega (arith, found.fits, c.from.ensures)) (omega (arith, found.short, c.from.ensures)) in
     let due = due_work c.in-Ok.asking.work (sym c.is_some.ensures ∙ c.if-not-is_some.false) in
     let says = c.in-Some.ensures in
+    let p = c.in-Some.piece in
+    let same = same_step p.erases c.kind_of-ask.result p.at p.len p.bytes c.kind_of-ask.ensures in
+    let asking = record c.in-Ok.asking { block = block } in
     record {
       outcome = inl (record {
         number_is = refl;
         room = found.room;
-        asking = record c.in-Ok.asking { block = block };
+        asking = asking;
         is = with_this k r c.args.block.now c.in-Ok.asking block found.config found.ok found.fits found.short c.from.ensures refl;
         work = due.0;
         work_is = due.1;
-        kind = refl;
-        piece = says.piece due.0 due.1;
-        some = says.most.0;
-        most = says.most.1;
+        kind = is_kind p.erases c.kind_of-ask.result c.kind_of-ask.ensures;
+        piece = subst (λ (s : Step). IsPiece (steps_in asking due.0) due.0.done s) (sym same) (says.piece due.0 due.1);
+        some = says.most.some;
+        most = λ is. says.most.programs (programs p.erases c.kind_of-ask.result c.kind_of-ask.ensures is);
+        sector = subst (λ (n : ℕ). IsSound n (by_number c.kind_of-ask.result p.at p.len p.bytes)) found.ok.sector
+            (subst (λ (s : Step). IsSound asking.sector.size s) (sym same) says.sector);
         spare = says.spare;
       });
     }

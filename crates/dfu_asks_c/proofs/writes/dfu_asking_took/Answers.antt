@@ -56,7 +56,7 @@ returns-in-Ok-Asks c =
           (c.keep.ensures.kept k) c.keep.ensures.length
           (went k was c.took.new.self flash _ out _ _ reply.Asks found.ok.config found.ok.unit refl
           (λ len s was before asks p piece torn.
-          took_whole 6 out c.took.new.out fits size _ len s was p _ flash c.took.new.self reply.Asks
+          took_whole 6 out c.took.new.out fits size _ len s was p.write _ flash c.took.new.self reply.Asks
           (took_as is (c.in-Ok-Asks.ensures.outcome len s was before asks p piece torn)))));
     }
 
@@ -84,9 +84,9 @@ returns-in-Ok-Answered c =
           (to_z-of_z w32 _ (omega (arith, c.number_of.type_inv)) ∙ c.number_of.ensures)
           (λ len s was before asks p piece torn.
           let t = took_as is (c.in-Ok-Answered.ensures.outcome len s was before asks p piece torn) in
-          let few = took_few 6 out c.took.new.out fits size _ len s was p _ flash c.took.new.self answer count t in
+          let few = took_few 6 out c.took.new.out fits size _ len s was p.write _ flash c.took.new.self answer count t in
           let same : count ≡ c.min.result = omega (arith, few, c.min.ensures) in
-          took_whole 6 out c.took.new.out fits size _ len s was p _ flash c.took.new.self _
+          took_whole 6 out c.took.new.out fits size _ len s was p.write _ flash c.took.new.self _
           (took_as (ap (λ (n : ℕ). reply.Answered answer n) same) t))));
     }
 
