@@ -11,7 +11,7 @@ pub returns-in-Ok-clause-is : goal.returns-in-Ok-clause-is
 returns-in-Ok-clause-is c =
     let m = mapped (record { unit = c.args.unit; sector = c.args.sector.size }) c.args.flash.now in
     let has : HasImage m = subst (λ (n : ℕ). HasImage (mapped (record { unit = c.args.unit; sector = n }) c.args.flash.now)) c.size.ensures.value
-        (subst HasImage c.in_ok-medium.ensures.some c.in-Ok.ensures.has_image) in
+    (subst HasImage c.in_ok-medium.ensures.some c.in-Ok.ensures.has_image) in
     let none = c.new.ensures in
     let store : IsStore (store_of m c.new.result.items 0) =
     subst (λ (l : List ℕ). IsStore (store_of m l 0)) (sym none) (fresh_store m has) in
