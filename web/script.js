@@ -51,6 +51,7 @@ const FORMS = {
 
 function go([fate, ...rest]) {
   if (fate === 'pass') return rest.length === 1 ? whole({ what: 'go', fate, times: number(rest[0], 1000000, 1) }) : null
+  if (fate === 'until') return rest.length === 1 && rest[0] === 'report' ? { what: 'until' } : null
   if (fate === 'slip') return rest.length === 1 ? whole({ what: 'go', fate, ms: number(rest[0]), times: 1 }) : null
   if (HARMS.includes(fate))
     return rest.length === 2 ? whole({ what: 'go', fate, writes: number(rest[0]), tear: bytesOf(rest[1]), times: 1 }) : null

@@ -66,6 +66,7 @@ export class World {
     else if (line.what === 'upload') this.offer('upload', NONE)
     else if (line.what === 'abort') this.giveUp()
     else if (line.what === 'go') for (let turn = 0; turn < line.times; turn++) this.go(line)
+    else if (line.what === 'until') this.passOn()
     else if (line.what === 'time') device.elapse(line.ms)
     else if (line.what === 'reset') this.outside(() => device.reset())
     else this.outside(() => device.power())
@@ -112,6 +113,12 @@ export class World {
     this.actions++
     this.onAction({ number: this.actions, action, line, seen, bytes, state: STATES[this.device.state()] })
     return this.end()
+  }
+
+  // Actions that pass, until one prints its session's report or its refusal.
+  passOn() {
+    const count = this.printed.length
+    while (this.printed.length === count) this.go({ what: 'go', fate: 'pass', times: 1 })
   }
 
   // Makes calls of the device, of which a write may be harmed, and the power cut.

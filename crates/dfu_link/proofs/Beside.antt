@@ -1,7 +1,7 @@
 -- The session machine goes along with a script.
 use Rattle.std.proofs.Common.{◌≡◌, ◌⊎◌, inl, inr, ℕ, Bool, List, [], ◌∷◌, ◌++◌, Option, Some, None, Result, Ok, refl, sym, ap, ◌∙◌, subst, append_assoc}
 use Rattle.std.proofs.lemmas.List.{append-nil}
-use Rattle.std.specs.Prelude.{unwrap_or}
+use Rattle.std.specs.Prelude.{◌+◌, unwrap_or, replicate}
 use Rattle.dfu_slots.specs.Seen.{image_of}
 use Rattle.dfu_device.specs.Setting.{Setting}
 use Rattle.dfu_host.specs.declared.report.Report.{Report}
@@ -13,14 +13,15 @@ use Rattle.dfu_link.specs.Play.{Answered, given}
 use Rattle.dfu_link.specs.Agreement.{AgreesOn}
 use Rattle.dfu_link.specs.Bytes.{link_of}
 use Rattle.dfu_link.specs.Bench.{Bench, ShowsActive}
-use Rattle.dfu_link.specs.Happening.{Happening}
+use Rattle.dfu_link.specs.Happening.{Happening, Goes, Pass, unharmed}
 use Rattle.dfu_link.specs.Understood.{ImageShown}
 use Rattle.dfu_link.specs.Comes.{Comes, refuses, happens, shown_as}
 use Rattle.dfu_link.specs.Standing.{IsSteady}
 use Rattle.dfu_link.specs.Texts.{uploaded_line, told_line, answer_line, line_of_image, state_text}
 use Rattle.dfu_link.specs.Said.{Said, Show}
-use Rattle.dfu_link.specs.ScriptRun.{AllCome, none_comes, then_comes, Point, LineActs, skips, limits_to as acts_limits, plays, shows as acts_shows, LinesRun, stays, then_runs}
-use Rattle.dfu_link.specs.ScriptLegal.{begun_with, Vouches, GoesWith, reported, EventsGo, no_event, one_event, LineGoes, does_nothing, limits_to, lets_come, shows, LinesGo, no_line, one_line}
+use Rattle.dfu_link.specs.ScriptRun.{AllCome, none_comes, then_comes, Point, LineActs, skips, limits_to as acts_limits, plays, goes_on as acts_on, shows as acts_shows, LinesRun, stays, then_runs}
+use Rattle.dfu_link.specs.ScriptLegal.{begun_with, Vouches, GoesWith, reported, EventsGo, no_event, one_event, LineGoes, does_nothing, limits_to, lets_come, goes_on, shows, LinesGo, no_line, one_line}
+use Rattle.dfu_link.proofs.MoveLaws.{replicate_more}
 use Rattle.dfu_link.proofs.Saying.{only_offered}
 use Rattle.dfu_link.proofs.Steady.{comes_follow, comes_sure, uploads_give}
 
@@ -154,15 +155,16 @@ pub cur_shown : ImageShown → {factory : List ℕ} (b : Bench) (m : Machine) �
 cur_shown shown b m vouches = (shown b).1 m.cur vouches.agrees.active
 
 -- A line that was done, with which the machine went along.
-record LineGone (factory : List ℕ) (s : Setting) (before : List Report) (p : Point) (m : Machine) (said : Said) (out : List ℕ)
+pub record LineGone (factory : List ℕ) (s : Setting) (before : List Report) (p : Point) (m : Machine) (said : Said) (out : List ℕ)
     (p' : Point) : Type 0 where
   pub reports : List Report
   pub after : Machine
   pub go : LineGoes factory p m said reports out p' after
   pub beside : Beside factory s (before ++ reports) p'.at after
 
-line_gone : ImageShown → {factory : List ℕ} {s : Setting} {before : List Report} {p p' : Point} {m : Machine} {said : Said} {out : List ℕ}
-    → Beside factory s before p.at m → LineActs p said out p' → LineGone factory s before p m said out p'
+-- The machine goes along with a line.
+pub line_gone : ImageShown → {factory : List ℕ} {s : Setting} {before : List Report} {p p' : Point} {m : Machine} {said : Said}
+    {out : List ℕ} → Beside factory s before p.at m → LineActs p said out p' → LineGone factory s before p m said out p'
 line_gone shown {factory = factory} {s = s} {before = before} {p = p} {m = m} beside skips = record {
   reports = [];
   after = m;
@@ -178,6 +180,12 @@ line_gone shown {factory = factory} {s = s} {before = before} {p = p} {m = m} be
 line_gone shown beside (plays come) =
     let all = all_gone shown beside come in
     record { reports = all.reports; after = all.after; go = lets_come all.go; beside = all.beside }
+line_gone shown {p = p} beside (acts_on {b = b} {answer = answer} times silent last active some) =
+    let come : AllCome p.at (replicate (times + 1) (Goes Pass unharmed)) (answer_line answer) b = subst
+    (λ (hs : List Happening). AllCome p.at hs (answer_line answer) b) (sym (replicate_more times (Goes Pass unharmed)))
+    (then_comes silent last active) in
+    let all = all_gone shown beside come in
+    record { reports = all.reports; after = all.after; go = goes_on (lets_come all.go); beside = all.beside }
 line_gone shown {factory = factory} {s = s} {before = before} {p = p} {m = m} beside acts_shows = record {
   reports = [];
   after = m;

@@ -6,13 +6,13 @@ use Rattle.dfu_suffix.specs.Writing.{IsOutInPart}
 use Rattle.dfu_link.specs.Texts.{image_line}
 use Rattle.dfu_link.specs.Words.{lines_of}
 use Rattle.dfu_link.specs.Lines.{line_of}
-use Rattle.dfu_link.specs.ScriptRun.{Point, events_of}
+use Rattle.dfu_link.specs.ScriptRun.{Point}
 use Rattle.dfu_link.specs.Bench.{Nobody}
-use Rattle.dfu_link.specs.Said.{EventLine, Offer, Does}
-use Rattle.dfu_link.specs.Falls.{HasBroken, in_events, for_file, for_tear, LineFalls, NextFalls}
+use Rattle.dfu_link.specs.Said.{Said, Offer, Does}
+use Rattle.dfu_link.specs.Falls.{for_file, for_tear, LineFalls, NextFalls}
 use Rattle.dfu_link.specs.TextLimit.{GoesOver, IsStopped, GivesNone}
 use Rattle.dfu_link.specs.inside.Source.{SourceState, Takes, GivesLine, StopsSource}
-use Rattle.dfu_link.specs.inside.Moving.{Moves, MovesAndFalls, FindsNoRoom, FindsNoTear}
+use Rattle.dfu_link.specs.inside.Moving.{Moves, MovesAndFalls, HasStopped, FindsNoRoom, FindsNoTear}
 use Rattle.dfu_link.specs.declared.scripting.fault.ScriptFault.{ScriptFault}
 use Rattle.dfu_link.specs.declared.scripting.fault.ScriptFault.TheVariants.{BadLine, LateConfig, BadConfig, TooLarge, NoMemory, Read, Write}
 use Rattle.dfu_link.proofs.MoveLaws.{moves_trans}
@@ -114,19 +114,20 @@ pub falls_after : {p q : Point} {s t : SourceState} {old mid new : Option (List 
     → MovesAndFalls q t mid new f → MovesAndFalls p s old new f
 falls_after f m n = record { to = n.to; at = n.at; mid = n.mid; moves = moves_trans m n.moves; falls = n.falls }
 
--- The writer fails among the events of a line.
-pub line_breaks : (p : Point) (k : ℕ) (line : List ℕ) (old new : Option (List ℕ)) (d : EventLine) (f : ScriptFault)
-    → line_of line ≡ Some (Does d) → HasBroken p.at (events_of p.limits d) old new → f ≡ Write → LineFalls p k line old new f
-line_breaks p k line old new d f e broken is = subst (λ (g : ScriptFault). LineFalls p k line old new g) (sym is) (in_events e broken)
+-- The writer fails in what a line says.
+pub line_breaks : (p : Point) (k : ℕ) (line : List ℕ) (old new : Option (List ℕ)) (said : Said) (f : ScriptFault)
+    → line_of line ≡ Some said → HasStopped p said old new → f ≡ Write → LineFalls p k line old new f
+line_breaks p k line old new said f e broken is = subst (λ (g : ScriptFault). LineFalls p k line old new g) (sym is) (broken line e)
 
 -- There is no memory for the tear of a line.
-pub tear_falls : (p : Point) (k : ℕ) (line : List ℕ) (old : Option (List ℕ)) (d : EventLine) (f : ScriptFault)
-    → line_of line ≡ Some (Does d) → FindsNoTear d f → LineFalls p k line old old f
-tear_falls p k line old d f e (has, is) = subst (λ (g : ScriptFault). LineFalls p k line old old g) (sym is) (for_tear e has, refl)
+pub tear_falls : (p : Point) (k : ℕ) (line : List ℕ) (old : Option (List ℕ)) (said : Said) (f : ScriptFault)
+    → line_of line ≡ Some said → FindsNoTear said f → LineFalls p k line old old f
+tear_falls p k line old (Does d) f e (has, is) = subst (λ (g : ScriptFault). LineFalls p k line old old g) (sym is) (for_tear e has, refl)
+tear_falls p k line old said f e no_tear = elim no_tear [ ]
 
 -- There is no memory for the file that a line offers.
-pub offer_falls : (p : Point) (k : ℕ) (line : List ℕ) (old : Option (List ℕ)) (d : EventLine) (f : ScriptFault)
-    → line_of line ≡ Some (Does d) → p.at.session ≡ Nobody → FindsNoRoom d f → LineFalls p k line old old f
-offer_falls p k line old (Offer aim file) f e free is = subst (λ (g : ScriptFault). LineFalls p k line old old g) (sym is)
+pub offer_falls : (p : Point) (k : ℕ) (line : List ℕ) (old : Option (List ℕ)) (said : Said) (f : ScriptFault)
+    → line_of line ≡ Some said → p.at.session ≡ Nobody → FindsNoRoom said f → LineFalls p k line old old f
+offer_falls p k line old (Does (Offer aim file)) f e free is = subst (λ (g : ScriptFault). LineFalls p k line old old g) (sym is)
     (for_file (record { aim = aim; file = file; says = e }) free, refl)
-offer_falls p k line old d f e free is = elim is [ ]
+offer_falls p k line old said f e free is = elim is [ ]

@@ -13,12 +13,12 @@ use Rattle.dfu_link.specs.Agreement.{intake_of, pending_in, IsShutOffer}
 use Rattle.dfu_link.specs.Understood.{ImageShown}
 use Rattle.dfu_link.specs.Texts.{line_of_image, state_text}
 use Rattle.dfu_link.specs.ScriptRun.{Settings, at_rest, blank, Point, point, SetsUp, Starts, IsRun, WroteRun}
-use Rattle.dfu_link.specs.Falls.{BreaksIn, in_events as breaks_in_events, in_show as breaks_in_show, NextFalls, Falls, no_memory, in_setting, at_start, in_run}
+use Rattle.dfu_link.specs.Falls.{BreaksIn, in_events as breaks_in_events, in_passes as breaks_in_passes, in_show as breaks_in_show, NextFalls, Falls, no_memory, in_setting, at_start, in_run}
 use Rattle.dfu_link.specs.declared.scripting.fault.ScriptFault.{ScriptFault}
 use Rattle.dfu_link.specs.declared.scripting.fault.ScriptFault.TheVariants.{BadLine, LateConfig, BadConfig, TooLarge, NoMemory, Read, Write}
-use Rattle.dfu_link.specs.ScriptLegal.{begun_with, RunsLegally, IsLegal, OutOfNext, nothing_out, in_events, in_show, in_image, StopsLegally, before_start, after_start, WroteLegal}
+use Rattle.dfu_link.specs.ScriptLegal.{begun_with, RunsLegally, IsLegal, OutOfNext, nothing_out, in_events, in_passes, in_show, in_image, StopsLegally, before_start, after_start, WroteLegal}
 use Rattle.dfu_link.proofs.Steady.{rest_is_steady}
-use Rattle.dfu_link.proofs.Beside.{Beside, all_gone, cur_shown, LinesGone, lines_gone}
+use Rattle.dfu_link.proofs.Beside.{Beside, all_gone, cur_shown, line_gone, LinesGone, lines_gone}
 
 -- A device that starts stands beside the machine to which nothing was offered.
 starts_beside : {settings : Settings} {first : Shown} → Starts settings first
@@ -81,6 +81,7 @@ out_of_line : ImageShown → {factory : List ℕ} {s : Setting} {reports : List 
 out_of_line shows lines beside (breaks_in_events says broken) =
     let all = all_gone shows beside broken.plays in
     in_events broken.left says broken.split all.go broken.broke
+out_of_line shows lines beside (breaks_in_passes says acts broke) = in_passes says (line_gone shows beside acts).go broke
 out_of_line shows {p = p} {m = m} lines {old = old} {new = new} beside (breaks_in_show says broke) =
     in_show says (subst (λ (image : List ℕ). IsOutInPart old new (state_text p.at.device ++ line_of_image image))
     (sym (cur_shown shows p.at m beside.vouches)) broke)

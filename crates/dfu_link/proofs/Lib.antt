@@ -48,6 +48,8 @@ pub mod HexLaws
 pub mod SourceLaws
 pub mod GivenLaws
 pub mod MoveLaws
+pub mod Spending
+pub mod PassingOn
 pub mod FallLaws
 pub mod RestLaws
 pub mod WholeLaws

@@ -1,7 +1,7 @@
 -- Events, lines and runs put together.
 use Rattle.std.proofs.Common.{◌≡◌, ℕ, zero, suc, ◌+◌, List, [], ◌∷◌, ◌++◌, Option, Some, None, refl, sym, ap, ◌∙◌, subst, add-one, append_assoc, arith, ◌<◌}
 use Rattle.std.proofs.lemmas.List.{append-nil}
-use Rattle.std.specs.Prelude.{replicate, unwrap_or, Result, Ok, Err}
+use Rattle.std.specs.Prelude.{replicate, unwrap_or, Result, Ok, Err, OnOk, OnErr}
 use Rattle.std.specs.Io.KnownBytes.{Appends, IsAtEnd}
 use Rattle.dfu_host.specs.declared.limits.Limits.{Limits}
 use Rattle.dfu_host.specs.declared.report.Report.{Report}
@@ -18,14 +18,15 @@ use Rattle.dfu_link.specs.Refusing.{IsLive}
 use Rattle.dfu_link.specs.Comes.{Comes, refuses, shown_as, gave_of, ComesWith, GivesWithUploaded, HasCome}
 use Rattle.dfu_link.specs.declared.fault.LinkFault.{LinkFault}
 use Rattle.dfu_link.specs.declared.fault.LinkFault.TheVariants.{HostBusy}
+use Rattle.dfu_link.specs.declared.scripting.fault.ScriptFault.{ScriptFault}
 use Rattle.dfu_suffix.specs.Writing.{IsOutInPart}
 use Rattle.dfu_link.specs.Texts.{uploaded_line, told_line, answer_line, image_line, show_line}
 use Rattle.dfu_link.specs.Said.{Said, Blank, LimitsTo, Does, Show, EventLine}
 use Rattle.dfu_link.specs.Lines.{line_of}
 use Rattle.dfu_link.specs.ScriptRun.{Settings, nothing, then_prepares, prepared, at_rest, AllCome, none_comes, then_comes, Point, point, events_of, skips, limits_to, plays, shows, LinesRun, stays, then_runs}
-use Rattle.dfu_link.specs.Falls.{HasBroken}
+use Rattle.dfu_link.specs.Falls.{HasBroken, in_events}
 use Rattle.dfu_link.specs.inside.Source.{SourceState, GivesLine}
-use Rattle.dfu_link.specs.inside.Moving.{HasPlayed, Steps, Moves, Ends, IsUnarmed, Prepared}
+use Rattle.dfu_link.specs.inside.Moving.{HasPlayed, HasActed, HasStopped, Steps, Moves, Ends, IsUnarmed, Prepared}
 use Rattle.dfu_link.proofs.GivenLaws.{gives_none, gives_trans}
 use Rattle.dfu_link.proofs.WriteLaws.{appends_none, appends_more, broke_after}
 
@@ -50,14 +51,19 @@ told_same : (answer : Result Answered LinkFault) (up up' : List ℕ) → GivesWi
 told_same (Ok answer) up up' whole e = told_in answer.report answer.gave up up' whole e
 told_same (Err fault) up up' whole e = refl
 
+-- What is printed of what a caller was told is the line of what came.
+pub told_line_is : (c c' : LinkState) {e : Happening} (r : Result (Option Report) LinkFault) (h : HasCome c e c' r)
+    → told_line r c'.up ≡ answer_line h.answer
+told_line_is c c' r h = ap (λ (x : Result (Option Report) LinkFault). told_line x c'.up) h.told
+    ∙ told_same h.answer c.up c'.up h.whole h.up_is
+
 -- One event more.
 pub plays_one : (b : Bench) (c c' : LinkState) (events : List Happening) (e : Happening) (out : List ℕ)
     (r : Result (Option Report) LinkFault) → AllCome b events out c.bench → HasCome c e c' r → ShowsActive c'.bench
     → AllCome b (events ++ e ∷ []) (out ++ told_line r c'.up) c'.bench
 plays_one b c c' events e out r p h active =
-    let same : told_line r c'.up ≡ answer_line h.answer = ap (λ (x : Result (Option Report) LinkFault). told_line x c'.up) h.told
-    ∙ told_same h.answer c.up c'.up h.whole h.up_is in
-    subst (λ (text : List ℕ). AllCome b (events ++ e ∷ []) (out ++ text) c'.bench) (sym same) (then_comes p h.comes active)
+    subst (λ (text : List ℕ). AllCome b (events ++ e ∷ []) (out ++ text) c'.bench) (sym (told_line_is c c' r h))
+    (then_comes p h.comes active)
 
 -- An offer while a session is live.
 busy_offer : (b : Bench) (aim : Aim) (file : List ℕ) (limits : Limits) → IsLive b.session
@@ -123,10 +129,29 @@ pub step_limits : (p : Point) (line : List ℕ) (old : Option (List ℕ)) (a r :
     → Steps p line old (record p { limits = record { actions = a; restarts = r } }) old
 step_limits p line old a r e = record { said = LimitsTo a r; is = e; out = []; acts = limits_to; told = appends_none old }
 
--- An event line lets its events come.
-pub step_plays : (l : Limits) (b b' : Bench) (line : List ℕ) (old new : Option (List ℕ)) (d : EventLine) → line_of line ≡ Some (Does d)
-    → HasPlayed b (events_of l d) old b' new → Steps (point l b) line old (point l b') new
-step_plays l b b' line old new d e p = record { said = Does d; is = e; out = p.out; acts = plays p.plays; told = p.told }
+-- What an event line says was done.
+pub step_acts : (p p' : Point) (line : List ℕ) (old new : Option (List ℕ)) (said : Said) → line_of line ≡ Some said
+    → HasActed p said old p' new → Steps p line old p' new
+step_acts p p' line old new said e a = record { said = said; is = e; out = a.out; acts = a.acts; told = a.told }
+
+-- The events of an event line were played.
+pub line_acted : (r : Result Unit ScriptFault) (l : Limits) (b b' : Bench) (old new : Option (List ℕ)) {said : Said}
+    {events : List Happening} (d : EventLine) → said ≡ Does d → events ≡ events_of l d → OnOk r (HasPlayed b events old b' new)
+    → OnOk r (HasActed (point l b) said old (point l b') new)
+line_acted (Err f) l b b' old new d is same played = tt
+line_acted (Ok done) l b b' old new d is same played =
+    let p = subst (λ (events : List Happening). HasPlayed b events old b' new) same played in
+    subst (λ (x : Said). HasActed (point l b) x old (point l b') new) (sym is)
+    (record { out = p.out; acts = plays p.plays; told = p.told })
+
+-- So it is where the writer fails among them.
+pub line_stopped : (r : Result Unit ScriptFault) (l : Limits) (b : Bench) (old new : Option (List ℕ)) {said : Said}
+    {events : List Happening} (d : EventLine) → said ≡ Does d → events ≡ events_of l d → OnErr r (HasBroken b events old new)
+    → OnErr r (HasStopped (point l b) said old new)
+line_stopped (Ok done) l b old new d is same part = tt
+line_stopped (Err f) l b old new d is same part =
+    let broke = subst (λ (events : List Happening). HasBroken b events old new) same part in
+    subst (λ (x : Said). HasStopped (point l b) x old new) (sym is) (λ line e. in_events e broke)
 
 -- A line that shows prints the line of the device.
 pub step_shows : (l : Limits) (b : Bench) (line : List ℕ) (old new : Option (List ℕ)) → line_of line ≡ Some Show

@@ -5,16 +5,16 @@ use Rattle.dfu_host.specs.declared.limits.Limits.{Limits}
 use Rattle.dfu_suffix.specs.Writing.{IsOutInPart}
 use Rattle.dfu_device.specs.Shown.{Shown}
 use Rattle.dfu_link.specs.Bench.{Bench}
-use Rattle.dfu_link.specs.Said.{event_line_of}
+use Rattle.dfu_link.specs.Said.{said_by}
 use Rattle.dfu_link.specs.Texts.{image_line}
-use Rattle.dfu_link.specs.ScriptRun.{Point, point, at_rest, events_of}
-use Rattle.dfu_link.specs.Falls.{HasBroken, LineFalls}
+use Rattle.dfu_link.specs.ScriptRun.{Point, point, at_rest}
+use Rattle.dfu_link.specs.Falls.{LineFalls}
 use Rattle.dfu_link.specs.inside.Source.{SourceState, Next, GivesLine, StopsSource}
-use Rattle.dfu_link.specs.inside.Moving.{HasPlayed, Steps, Moves, Ends, LinesDone, Plainly, MovesAndFalls, FindsNoRoom, FindsNoTear}
+use Rattle.dfu_link.specs.inside.Moving.{HasActed, HasStopped, Steps, Moves, Ends, LinesDone, Plainly, MovesAndFalls, FindsNoRoom, FindsNoTear}
 use Rattle.dfu_link.specs.declared.scripting.line.EventLine.{EventLine}
 use Rattle.dfu_link.specs.declared.scripting.fault.ScriptFault.{ScriptFault}
 use Rattle.dfu_link.specs.declared.scripting.fault.ScriptFault.TheVariants.{Write}
-use Rattle.dfu_link.proofs.MoveLaws.{step_plays, moves_none, moves_then, moves_trans, ends_now, ends_after}
+use Rattle.dfu_link.proofs.MoveLaws.{step_acts, moves_none, moves_then, moves_trans, ends_now, ends_after}
 use Rattle.dfu_link.proofs.FallLaws.{line_breaks, tear_falls, offer_falls, given_falls, image_falls, source_falls, falls_after}
 
 -- From wherever the source was before it gave the first line, if it did, lines were done; and now it has given the next, or has none left.
@@ -117,37 +117,38 @@ moved_breaks f moved is broke = record { from = λ r next. image_falls f (moved.
 -- There is no memory for the file that they offer.
 pub no_room : (d : Shown) (l l' : Limits) (k : ℕ) (line : List ℕ) (old new : Option (List ℕ)) {plain : Option EventLine}
     (events : EventLine) (f : ScriptFault) → Plainly d l line old plain l' new → plain ≡ Some events
-    → FindsNoRoom (event_line_of events) f → LineFalls (point l (at_rest d)) k line old new f
+    → FindsNoRoom (said_by events) f → LineFalls (point l (at_rest d)) k line old new f
 no_room d l l' k line old new events f plainly is no_memory =
     let plain = subst (λ (x : Option EventLine). Plainly d l line old x l' new) is plainly in
     subst (λ (x : Option (List ℕ)). LineFalls (point l (at_rest d)) k line old x f) (sym plain.2)
-    (offer_falls (point l (at_rest d)) k line old (event_line_of events) f plain.0 refl no_memory)
+    (offer_falls (point l (at_rest d)) k line old (said_by events) f plain.0 refl no_memory)
 
 -- There is none for their tear.
 pub no_tear : (d : Shown) (l l' : Limits) (k : ℕ) (line : List ℕ) (old new : Option (List ℕ)) {plain : Option EventLine}
     (b : Bench) (events : EventLine) (f : ScriptFault) → Plainly d l line old plain l' new → plain ≡ Some events
-    → FindsNoTear (event_line_of events) f → LineFalls (point l b) k line old new f
+    → FindsNoTear (said_by events) f → LineFalls (point l b) k line old new f
 no_tear d l l' k line old new b events f plainly is no_memory =
     let plain = subst (λ (x : Option EventLine). Plainly d l line old x l' new) is plainly in
     subst (λ (x : Option (List ℕ)). LineFalls (point l b) k line old x f) (sym plain.2)
-    (tear_falls (point l b) k line old (event_line_of events) f plain.0 no_memory)
+    (tear_falls (point l b) k line old (said_by events) f plain.0 no_memory)
 
--- The writer fails among them.
+-- The writer fails in what it says.
 pub events_break : (d : Shown) (l l' : Limits) (k : ℕ) (line : List ℕ) (old : Option (List ℕ)) {mid new : Option (List ℕ)}
     {plain : Option EventLine} (b : Bench) (events : EventLine) (f : ScriptFault) → Plainly d l line old plain l' mid → plain ≡ Some events
-    → HasBroken b (events_of l' (event_line_of events)) mid new → f ≡ Write → LineFalls (point l b) k line old new f
+    → HasStopped (point l' b) (said_by events) mid new → f ≡ Write → LineFalls (point l b) k line old new f
 events_break d l l' k line old {mid = mid} {new = new} b events f plainly is broken e =
-    let x = event_line_of events in
+    let x = said_by events in
     let plain = subst (λ (y : Option EventLine). Plainly d l line old y l' mid) is plainly in
-    line_breaks (point l b) k line old new x f plain.0 (subst (λ (y : Limits). HasBroken b (events_of y x) old new) plain.1
-    (subst (λ (y : Option (List ℕ)). HasBroken b (events_of l' x) y new) plain.2 broken)) e
+    line_breaks (point l b) k line old new x f plain.0 (subst (λ (y : Limits). HasStopped (point y b) x old new) plain.1
+    (subst (λ (y : Option (List ℕ)). HasStopped (point l' b) x y new) plain.2 broken)) e
 
--- They are played.
+-- It is done.
 pub events_play : (d : Shown) (l l' : Limits) (line : List ℕ) (old : Option (List ℕ)) {mid new : Option (List ℕ)} {plain : Option EventLine}
     (b b' : Bench) (events : EventLine) → Plainly d l line old plain l' mid → plain ≡ Some events
-    → HasPlayed b (events_of l' (event_line_of events)) mid b' new → Steps (point l b) line old (point l' b') new
+    → HasActed (point l' b) (said_by events) mid (point l' b') new → Steps (point l b) line old (point l' b') new
 events_play d l l' line old {mid = mid} {new = new} b b' events plainly is played =
     let plain = subst (λ (y : Option EventLine). Plainly d l line old y l' mid) is plainly in
-    let step : Steps (point l' b) line mid (point l' b') new = step_plays l' b b' line mid new (event_line_of events) plain.0 played in
+    let step : Steps (point l' b) line mid (point l' b') new = step_acts (point l' b) (point l' b') line mid new (said_by events) plain.0
+    played in
     subst (λ (y : Limits). Steps (point y b) line old (point l' b') new) plain.1
     (subst (λ (y : Option (List ℕ)). Steps (point l' b) line y (point l' b') new) plain.2 step)

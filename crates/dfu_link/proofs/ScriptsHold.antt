@@ -13,7 +13,7 @@ use Rattle.dfu_link.specs.Said.{Said}
 use Rattle.dfu_link.specs.ScriptRun.{Settings, Point}
 use Rattle.dfu_link.specs.ScriptLegal as legal
 use Rattle.dfu_link.specs.Headline.{Begun}
-use Rattle.dfu_link.specs.ScriptHeadline.{begun_by, IsKnownImage, EventsHold, no_event, event_holds, event_refused, LineHolds, blank_line, limits_line, event_line, show_line, LinesHold, no_line, one_line, ScriptHolds, WroteHeadline, PartHolds, nothing_out, in_events, in_show, in_image, StopsWithHeadline, before_start, after_start}
+use Rattle.dfu_link.specs.ScriptHeadline.{begun_by, IsKnownImage, EventsHold, no_event, event_holds, event_refused, LineHolds, blank_line, limits_line, event_line, passes_line, show_line, LinesHold, no_line, one_line, ScriptHolds, WroteHeadline, PartHolds, nothing_out, in_events, in_passes, in_show, in_image, StopsWithHeadline, before_start, after_start}
 use Rattle.dfu_link.proofs.Saying.{step_up}
 use Rattle.dfu_link.proofs.Offered.{IsOfPast, past_on}
 use Rattle.dfu_link.proofs.HeadlineKept.{holds_by, holds_after}
@@ -77,7 +77,8 @@ events_vouch : {factory : List ℕ} {b b' : Bench} {m m' : Machine} {hs : List H
 events_vouch vouches legal.no_event = vouches
 events_vouch vouches (legal.one_event h told more goes after) = after
 
-line_held : {factory : List ℕ} {past : List Begun} {p p' : Point} {m m' : Machine} {said : Said} {reports : List Report} {out : List ℕ}
+line_held : {factory : List ℕ} {past : List Begun} {p : Point} {m : Machine} {p' : Point} {m' : Machine} {said : Said}
+    {reports : List Report} {out : List ℕ}
     → IsOfPast factory past m → legal.Vouches factory p.at m → legal.LineGoes factory p m said reports out p' m'
     → LineHeld factory past p said out p' m'
 line_held {past = past} of_past vouches legal.does_nothing =
@@ -87,6 +88,9 @@ line_held {past = past} of_past vouches legal.limits_to =
 line_held of_past vouches (legal.lets_come go) =
     let held = events_held of_past go in
     record { past' = held.past'; of_past = held.of_past; vouches = events_vouch vouches go; holds = event_line held.holds }
+line_held of_past vouches (legal.goes_on go) =
+    let held = line_held of_past vouches go in
+    record { past' = held.past'; of_past = held.of_past; vouches = held.vouches; holds = passes_line held.holds }
 line_held {past = past} of_past vouches legal.shows =
     record { past' = past; of_past = of_past; vouches = vouches; holds = show_line (known_by of_past vouches) }
 
@@ -140,11 +144,13 @@ run_held runs =
     }
 
 part_held : {factory : List ℕ} {past : List Begun} {p : Point} {m : Machine} {lines : List (List ℕ)} {old new : Option (List ℕ)}
-    → IsOfPast factory past m → legal.OutOfNext factory p m lines old new → PartHolds factory past p m.cur lines old new
-part_held of_past legal.nothing_out = nothing_out
-part_held of_past (legal.in_events left says split go out) = in_events left says split (events_held of_past go).holds out
-part_held of_past (legal.in_show says out) = in_show says out
-part_held of_past (legal.in_image out) = in_image out
+    → IsOfPast factory past m → legal.Vouches factory p.at m → legal.OutOfNext factory p m lines old new
+    → PartHolds factory past p m.cur lines old new
+part_held of_past vouches legal.nothing_out = nothing_out
+part_held of_past vouches (legal.in_events left says split go out) = in_events left says split (events_held of_past go).holds out
+part_held of_past vouches (legal.in_passes says go out) = in_passes says (line_held of_past vouches go).holds out
+part_held of_past vouches (legal.in_show says out) = in_show says out
+part_held of_past vouches (legal.in_image out) = in_image out
 
 -- A script that was written keeps the headline.
 pub wrote_headline : (given : Option (List ℕ)) (old new : Option (List ℕ)) (r : Result Unit ScriptFault)
@@ -168,7 +174,7 @@ stops_held (legal.before_start e) = before_start e
 stops_held {new = new} (legal.after_start {rest = rest} {end = end} {m = m} {mid = mid} runs split told out) =
     let held = run_held runs in
     after_start held.holds split told (subst (λ (s : Settings). PartHolds s.image held.past end m.cur rest mid new) (sym held.same)
-    (part_held held.of_past out))
+    (part_held held.of_past runs.vouches out))
 
 -- And so does one that stopped.
 pub stopped_headline : (given : Option (List ℕ)) (old new : Option (List ℕ)) (r : Result Unit ScriptFault)

@@ -4,7 +4,7 @@ use Rattle.std.specs.Prelude.{OnOk, IfErr, IfSome}
 use Rattle.std.specs.Io.KnownBytes.{Appends}
 use Rattle.dfu_suffix.specs.Writing.{IsOutInPart}
 use Rattle.dfu_link.specs.ScriptRun.{Point, WroteRun}
-use Rattle.dfu_link.specs.Falls.{BreaksIn, in_events, in_show, NextFalls, Falls, no_memory, in_setting, at_start, in_run}
+use Rattle.dfu_link.specs.Falls.{BreaksIn, in_events, in_passes, in_show, NextFalls, Falls, no_memory, in_setting, at_start, in_run}
 use Rattle.dfu_link.specs.KeptLines.{place_in, without_trace, is_same, untraced, seen_at}
 use Rattle.dfu_link.specs.declared.tracing.place.Place.{Place}
 use Rattle.dfu_link.specs.declared.tracing.place.Place.TheVariants.{Start}
@@ -25,6 +25,7 @@ part_known {new = new} known part =
 
 line_known : {p : Point} {line : List ℕ} {old new : Option (List ℕ)} → IsKnown old → BreaksIn p line old new → IsKnown new
 line_known known (in_events says broken) = part_known known broken.broke
+line_known known (in_passes says acts part) = part_known known part
 line_known known (in_show says part) = part_known known part
 
 next_known : (p : Point) (k : ℕ) (lines : List (List ℕ)) (old new : Option (List ℕ)) (fault : ScriptFault) → IsKnown old

@@ -11,10 +11,10 @@ use Rattle.dfu_link.specs.Happening.{Happening}
 use Rattle.dfu_suffix.specs.Writing.{IsOutInPart}
 use Rattle.dfu_link.specs.Texts.{image_line, show_line}
 use Rattle.dfu_link.specs.Words.{lines_of}
-use Rattle.dfu_link.specs.Said.{ConfigLine, EventLine, Offer, HasTear, Sets, Does, Show}
+use Rattle.dfu_link.specs.Said.{ConfigLine, EventLine, Offer, HasTear, Sets, Does, GoesOn, Show}
 use Rattle.dfu_link.specs.Lines.{line_of}
 use Rattle.dfu_link.specs.TextLimit.{GivesNone, StopsAfter}
-use Rattle.dfu_link.specs.ScriptRun.{Settings, beginning, Prepares, Starts, at_rest, AllCome, Point, point, events_of, LinesRun, SetsUp}
+use Rattle.dfu_link.specs.ScriptRun.{Settings, beginning, Prepares, Starts, at_rest, AllCome, Point, point, events_of, LineActs, LinesRun, SetsUp}
 use Rattle.dfu_link.specs.declared.scripting.fault.ScriptFault.{ScriptFault}
 use Rattle.dfu_link.specs.declared.scripting.fault.ScriptFault.TheVariants.{BadLine, LateConfig, BadConfig, TooLarge, NoMemory, Read, Write}
 
@@ -28,9 +28,11 @@ pub record HasBroken (b : Bench) (events : List Happening) (old new : Option (Li
   pub plays : AllCome b played out after
   pub broke : IsOutInPart old new out
 
--- The writer failed in a line: among its events, or in the line of `show`.
+-- The writer failed in a line: among its events, in what `go until report` prints, or in the line of `show`.
 pub data BreaksIn (p : Point) (line : List ℕ) (old new : Option (List ℕ)) : Type 0 where
   in_events : {events : EventLine} → line_of line ≡ Some (Does events) → HasBroken p.at (events_of p.limits events) old new
+      → BreaksIn p line old new
+  in_passes : {out : List ℕ} {q : Point} → line_of line ≡ Some GoesOn → LineActs p GoesOn out q → IsOutInPart old new out
       → BreaksIn p line old new
   in_show : line_of line ≡ Some Show → IsOutInPart old new (show_line p.at.device) → BreaksIn p line old new
 

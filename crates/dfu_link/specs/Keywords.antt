@@ -27,7 +27,7 @@ keyword_of w =
     else if bytes_eq w (codes "show") then Some key.Show
     else None
 
--- The word of a fate, after `go`.
+-- The word after `go`: that of a fate, or `until`.
 unfoldable pub fate_keyword_of : List ℕ → Option FateKeyword
 fate_keyword_of w =
     if bytes_eq w (codes "pass") then Some fate.Pass
@@ -39,4 +39,5 @@ fate_keyword_of w =
     else if bytes_eq w (codes "cut") then Some fate.Cut
     else if bytes_eq w (codes "fail") then Some fate.Fail
     else if bytes_eq w (codes "lie") then Some fate.Lie
+    else if bytes_eq w (codes "until") then Some fate.Until
     else None

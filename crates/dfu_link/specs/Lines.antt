@@ -1,5 +1,6 @@
 -- The grammar of a line: its fields, its forms, and what each form says.
-use Rattle.std.specs.Prelude.{ℕ, ◌%◌, Bool, false, length, ◌==◌, List, [], ◌∷◌, Option, Some, None, nat_le, if◌then◌else◌}
+use Rattle.std.specs.Prelude.{ℕ, ◌%◌, Bool, false, length, ◌==◌, List, [], ◌∷◌, Option, Some, None, nat_le, codes, if◌then◌else◌}
+use Rattle.std.specs.Str.{bytes_eq}
 use Rattle.dfu_wire.specs.Functional.{functional_of}
 use Rattle.dfu_slots.specs.declared.unit.Unit.{Unit as WriteUnit}
 use Rattle.dfu_slots.specs.declared.unit.Unit.TheVariants.{Byte, U16, U64, U256}
@@ -8,7 +9,7 @@ use Rattle.dfu_link.specs.declared.aim.Aim.{Aim}
 use Rattle.dfu_link.specs.declared.aim.Aim.TheVariants.{Install, Verify}
 use Rattle.dfu_link.specs.Words.{◌>>=◌, guard, bytes_of, number_of, pair_of, first, ends, words_of}
 use Rattle.dfu_link.specs.Happening.{Fate, Pass, LostOut, LostBack, Twice, TwiceLostBack, Slip, CutIn, Fail, Lie, unharmed, harmed}
-use Rattle.dfu_link.specs.Said.{Said, Blank, Sets, LimitsTo, Does, Show, TheIds, TheDevice, TheUnit, TheSector, TheCapacity, TheImage, Offer, Upload, Abort, Go, Time, Reset, Cut}
+use Rattle.dfu_link.specs.Said.{Said, Blank, Sets, LimitsTo, Does, GoesOn, Show, TheIds, TheDevice, TheUnit, TheSector, TheCapacity, TheImage, Offer, Upload, Abort, Go, Time, Reset, Cut}
 use Rattle.dfu_link.specs.Keywords.{keyword_of, fate_keyword_of}
 use Rattle.dfu_link.specs.declared.scripting.keywords.Keyword.{Keyword}
 use Rattle.dfu_link.specs.declared.scripting.keywords.Keyword.TheVariants as key
@@ -134,7 +135,13 @@ harmed_of f words = do
   tear ← hex_at writes.1
   ends (Does (Go f (harmed writes.0 tear.0) 1)) tear.1
 
--- After the word of a fate.
+-- After `go until`: the word `report`.
+unfoldable pub until_of : List (List ℕ) → Option Said
+until_of words = do
+  word ← first words
+  if bytes_eq word.0 (codes "report") then ends GoesOn word.1 else None
+
+-- After the word of a fate, or `until`.
 abbrev pub by_fate : FateKeyword → List (List ℕ) → Option Said
 by_fate fate.Pass words = pass_of words
 by_fate fate.LostOut words = ends (Does (Go LostOut unharmed 1)) words
@@ -145,8 +152,9 @@ by_fate fate.Slip words = slip_of words
 by_fate fate.Cut words = harmed_of CutIn words
 by_fate fate.Fail words = harmed_of Fail words
 by_fate fate.Lie words = harmed_of Lie words
+by_fate fate.Until words = until_of words
 
--- After `go`: a fate.
+-- After `go`: a fate, or `until`.
 unfoldable pub go_of : List (List ℕ) → Option Said
 go_of words = do
   word ← first words

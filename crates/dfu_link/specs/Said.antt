@@ -48,12 +48,14 @@ HasTear (Go Fail h times) = Unit {0}
 HasTear (Go Lie h times) = Unit {0}
 HasTear d = ⊥
 
--- What a line says: nothing, a setting, the limits of later sessions, events, or that the device is to be shown.
+-- What a line says: nothing, a setting, the limits of later sessions, events, that the host passes until it reports, or that the device
+-- is to be shown.
 pub data Said : Type 0 where
   Blank : Said
   Sets : ConfigLine → Said
   LimitsTo : (actions restarts : ℕ) → Said
   Does : EventLine → Said
+  GoesOn : Said
   Show : Said
 
 -- What a configuration line as the code has it sets.
@@ -71,16 +73,17 @@ harm_fate kind.Cut = CutIn
 harm_fate kind.Fail = Fail
 harm_fate kind.Lie = Lie
 
--- The events of a line as the code has it.
-abbrev pub event_line_of : event_lines.EventLine → EventLine
-event_line_of (events.Offer aim text) = Offer aim (hex_bytes text)
-event_line_of events.Upload = Upload
-event_line_of events.Abort = Abort
-event_line_of (events.Go f times) = Go (fate_of f) (harm_in f) times
-event_line_of (events.GoHarmed h writes text) = Go (harm_fate h) (harmed writes (hex_bytes text)) 1
-event_line_of (events.Time ms) = Time ms
-event_line_of events.Reset = Reset
-event_line_of events.Cut = Cut
+-- What an event line as the code has it says.
+abbrev pub said_by : event_lines.EventLine → Said
+said_by (events.Offer aim text) = Does (Offer aim (hex_bytes text))
+said_by events.Upload = Does Upload
+said_by events.Abort = Does Abort
+said_by (events.Go f times) = Does (Go (fate_of f) (harm_in f) times)
+said_by (events.GoHarmed h writes text) = Does (Go (harm_fate h) (harmed writes (hex_bytes text)) 1)
+said_by events.GoOn = GoesOn
+said_by (events.Time ms) = Does (Time ms)
+said_by events.Reset = Does Reset
+said_by events.Cut = Does Cut
 
 -- The tear that a line as the code has it brings; others bring none.
 abbrev pub tear_bytes : event_lines.EventLine → List ℕ
@@ -92,5 +95,5 @@ abbrev pub said_of : lines.Line → Said
 said_of line.Blank = Blank
 said_of (line.Set s) = Sets (config_line_of s)
 said_of (line.Limits actions restarts) = LimitsTo actions restarts
-said_of (line.Do d) = Does (event_line_of d)
+said_of (line.Do d) = said_by d
 said_of line.Show = Show

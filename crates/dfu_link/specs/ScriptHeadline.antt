@@ -6,12 +6,12 @@ use Rattle.dfu_slots.specs.Image.{Active}
 use Rattle.dfu_device.specs.Shown.{Shown}
 use Rattle.dfu_host.specs.declared.report.Report.{Report}
 use Rattle.dfu_link.specs.declared.fault.LinkFault.{LinkFault}
-use Rattle.dfu_link.specs.Happening.{Happening, Offers, Uploads, Aborts, Goes, Passes, Resets, Cuts}
+use Rattle.dfu_link.specs.Happening.{Happening, Offers, Uploads, Aborts, Goes, Passes, Resets, Cuts, Pass, unharmed}
 use Rattle.dfu_link.specs.Refusing.{IsRefused}
 use Rattle.dfu_link.specs.Bench.{Bench}
 use Rattle.dfu_link.specs.Headline.{Begun, WithOffer, AsUpload, WasOffered, HeadlineHolds}
 use Rattle.dfu_link.specs.Texts.{told_line, refusal_line, state_text, line_of_image}
-use Rattle.dfu_link.specs.Said.{EventLine, Said, Blank, LimitsTo, Does, Show}
+use Rattle.dfu_link.specs.Said.{EventLine, Said, Blank, LimitsTo, Does, Go, GoesOn, Show}
 use Rattle.dfu_link.specs.Lines.{line_of}
 use Rattle.dfu_link.specs.ScriptRun.{Settings, at_rest, Point, point, events_of, SetsUp}
 
@@ -42,7 +42,8 @@ pub data EventsHold (factory : List ℕ) (past : List Begun) (b : Bench) :
       → EventsHold factory past b hs printed mid c → IsRefused c h fault
       → EventsHold factory past b (hs ++ h ∷ []) (printed ++ refusal_line fault) mid c
 
--- What a line prints once the device is started: nothing, what its events print, or with `show` the device's state and a known image.
+-- What a line prints once the device is started: nothing, what its events print or some number of passes, or with `show` the device's
+-- state and a known image.
 pub data LineHolds (factory : List ℕ) (past : List Begun) (p : Point) : Said → (printed : List ℕ) → List Begun → Point → Type 0 where
   blank_line : LineHolds factory past p Blank [] past p
   limits_line : {actions restarts : ℕ}
@@ -51,6 +52,8 @@ pub data LineHolds (factory : List ℕ) (past : List Begun) (p : Point) : Said �
   event_line : {events : EventLine} {printed : List ℕ} {past' : List Begun} {b : Bench}
       → EventsHold factory past p.at (events_of p.limits events) printed past' b
       → LineHolds factory past p (Does events) printed past' (record p { at = b })
+  passes_line : {times : ℕ} {printed : List ℕ} {past' : List Begun} {q : Point}
+      → LineHolds factory past p (Does (Go Pass unharmed times)) printed past' q → LineHolds factory past p GoesOn printed past' q
   show_line : {image : List ℕ} → IsKnownImage factory past p.at image
       → LineHolds factory past p Show (state_text p.at.device ++ line_of_image image) past p
 
@@ -84,7 +87,7 @@ pub record WroteHeadline (text : List ℕ) (old new : Option (List ℕ)) : Type 
   pub told : Appends old new (printed ++ line_of_image image)
 
 -- Where a script stopped among these lines, what is out of the first of them, or where none is left of the line of the image: nothing; a
--- front of what some of its events print; or a front of a line that shows a known image.
+-- front of what some of its events print, or its passes; or a front of a line that shows a known image.
 pub data PartHolds (factory : List ℕ) (past : List Begun) (p : Point) (image : List ℕ) :
     List (List ℕ) → (old new : Option (List ℕ)) → Type 0 where
   nothing_out : {lines : List (List ℕ)} {old : Option (List ℕ)} → PartHolds factory past p image lines old old
@@ -92,6 +95,9 @@ pub data PartHolds (factory : List ℕ) (past : List Begun) (p : Point) (image :
       (left : List Happening) {printed : List ℕ} {past' : List Begun} {b : Bench}
       → line_of line ≡ Some (Does events) → events_of p.limits events ≡ played ++ left
       → EventsHold factory past p.at played printed past' b → IsOutInPart old new printed
+      → PartHolds factory past p image (line ∷ lines) old new
+  in_passes : {line : List ℕ} {lines : List (List ℕ)} {old new : Option (List ℕ)} {printed : List ℕ} {past' : List Begun} {q : Point}
+      → line_of line ≡ Some GoesOn → LineHolds factory past p GoesOn printed past' q → IsOutInPart old new printed
       → PartHolds factory past p image (line ∷ lines) old new
   in_show : {line : List ℕ} {lines : List (List ℕ)} {old new : Option (List ℕ)} → line_of line ≡ Some Show
       → IsOutInPart old new (state_text p.at.device ++ line_of_image image) → PartHolds factory past p image (line ∷ lines) old new

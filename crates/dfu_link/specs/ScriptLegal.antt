@@ -7,12 +7,12 @@ use Rattle.dfu_host.specs.declared.report.Report.{Report}
 use Rattle.dfu_link.specs.declared.fault.LinkFault.{LinkFault}
 use Rattle.dfu_link.specs.Session.{Machine, NoOne, IsOneOf, Kind, Legal, said}
 use Rattle.dfu_link.specs.Agreement.{AgreesOn}
-use Rattle.dfu_link.specs.Happening.{Happening}
+use Rattle.dfu_link.specs.Happening.{Happening, Pass, unharmed}
 use Rattle.dfu_link.specs.Refusing.{IsRefused}
 use Rattle.dfu_link.specs.Bench.{Bench, linked}
 use Rattle.dfu_link.specs.Following.{IsFollowed}
 use Rattle.dfu_link.specs.Texts.{told_line, state_text, line_of_image}
-use Rattle.dfu_link.specs.Said.{EventLine, Said, Blank, LimitsTo, Does, Show}
+use Rattle.dfu_link.specs.Said.{EventLine, Said, Blank, LimitsTo, Does, Go, GoesOn, Show}
 use Rattle.dfu_link.specs.Lines.{line_of}
 use Rattle.dfu_link.specs.ScriptRun.{Settings, at_rest, Point, point, events_of, SetsUp}
 
@@ -46,8 +46,8 @@ pub data EventsGo (factory : List ℕ) (b : Bench) (m : Machine) : List Happenin
       → EventsGo factory b m hs reports out c n → GoesWith c n h told c' n' → Vouches factory c' n'
       → EventsGo factory b m (hs ++ h ∷ []) (reports ++ reported told) (out ++ told_line told n'.up) c' n'
 
--- What a line does and prints once the device is started: nothing, the limits of later sessions, its events, or the line of the device with
--- the machine's active image.
+-- What a line does and prints once the device is started: nothing, the limits of later sessions, its events, what some number of passes
+-- does, or the line of the device with the machine's active image.
 pub data LineGoes (factory : List ℕ) (p : Point) (m : Machine) : Said → List Report → List ℕ → Point → Machine → Type 0 where
   does_nothing : LineGoes factory p m Blank [] [] p m
   limits_to : {actions restarts : ℕ}
@@ -55,6 +55,8 @@ pub data LineGoes (factory : List ℕ) (p : Point) (m : Machine) : Said → List
   lets_come : {events : EventLine} {reports : List Report} {out : List ℕ} {b : Bench} {m' : Machine}
       → EventsGo factory p.at m (events_of p.limits events) reports out b m'
       → LineGoes factory p m (Does events) reports out (record p { at = b }) m'
+  goes_on : {times : ℕ} {reports : List Report} {out : List ℕ} {q : Point} {m' : Machine}
+      → LineGoes factory p m (Does (Go Pass unharmed times)) reports out q m' → LineGoes factory p m GoesOn reports out q m'
   shows : LineGoes factory p m Show [] (state_text p.at.device ++ line_of_image m.cur) p m
 
 -- Lines one after the other.
@@ -88,13 +90,18 @@ pub record IsLegal (text out : List ℕ) : Type 0 where
   pub out_is : out ≡ shown ++ line_of_image machine.cur
 
 -- Where a script stopped among these lines, what is out of the first of them, or where none is left of the line of the image: nothing; a
--- front of what some of its events print, with which the machine went along; or a front of the line that shows the machine's active image.
+-- front of what some of its events print, or its passes, with which the machine went along; or a front of the line that shows the
+-- machine's active image.
 pub data OutOfNext (factory : List ℕ) (p : Point) (m : Machine) : List (List ℕ) → Option (List ℕ) → Option (List ℕ) → Type 0 where
   nothing_out : {lines : List (List ℕ)} {old : Option (List ℕ)} → OutOfNext factory p m lines old old
   in_events : {line : List ℕ} {lines : List (List ℕ)} {old new : Option (List ℕ)} {events : EventLine} {played : List Happening}
       (left : List Happening) {reports : List Report} {out : List ℕ} {b : Bench} {m' : Machine}
       → line_of line ≡ Some (Does events) → events_of p.limits events ≡ played ++ left
       → EventsGo factory p.at m played reports out b m' → IsOutInPart old new out → OutOfNext factory p m (line ∷ lines) old new
+  in_passes : {line : List ℕ} {lines : List (List ℕ)} {old new : Option (List ℕ)} {reports : List Report} {out : List ℕ} {q : Point}
+      {m' : Machine}
+      → line_of line ≡ Some GoesOn → LineGoes factory p m GoesOn reports out q m' → IsOutInPart old new out
+      → OutOfNext factory p m (line ∷ lines) old new
   in_show : {line : List ℕ} {lines : List (List ℕ)} {old new : Option (List ℕ)}
       → line_of line ≡ Some Show → IsOutInPart old new (state_text p.at.device ++ line_of_image m.cur)
       → OutOfNext factory p m (line ∷ lines) old new

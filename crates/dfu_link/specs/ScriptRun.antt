@@ -1,5 +1,5 @@
 -- What a script does, and what it prints.
-use Rattle.std.specs.Prelude.{◌≡◌, ℕ, ◌+◌, ◌*◌, ◌≤◌, List, [], ◌∷◌, ◌++◌, length, Option, Some, None, Result, replicate}
+use Rattle.std.specs.Prelude.{◌≡◌, ◌≢◌, ℕ, ◌+◌, ◌*◌, ◌≤◌, List, [], ◌∷◌, ◌++◌, length, Option, Some, None, Result, replicate}
 use Rattle.std.specs.Io.KnownBytes.{Appends}
 use Rattle.dfu_wire.specs.Functional.{functional_of}
 use Rattle.dfu_host.specs.declared.limits.Limits.{Limits}
@@ -13,12 +13,12 @@ use Rattle.dfu_device.specs.Setting.{Setting, IsAllowed, of_this_version}
 use Rattle.dfu_device.specs.Shown.{Shown}
 use Rattle.dfu_link.specs.Bench.{Nobody, Bench, ShowsActive}
 use Rattle.dfu_link.specs.Play.{Answered}
-use Rattle.dfu_link.specs.Happening.{Happening, Offers, Uploads, Aborts, Goes, Passes, Resets, Cuts}
+use Rattle.dfu_link.specs.Happening.{Happening, Offers, Uploads, Aborts, Goes, Passes, Resets, Cuts, Pass, unharmed}
 use Rattle.dfu_link.specs.Comes.{Comes}
 use Rattle.dfu_link.specs.declared.fault.LinkFault.{LinkFault}
 use Rattle.dfu_link.specs.Texts.{answer_line, image_line, show_line}
 use Rattle.dfu_link.specs.Words.{lines_of}
-use Rattle.dfu_link.specs.Said.{ConfigLine, TheIds, TheDevice, TheUnit, TheSector, TheCapacity, TheImage, EventLine, Offer, Upload, Abort, Go, Time, Reset, Cut, Said, Blank, Sets, LimitsTo, Does, Show}
+use Rattle.dfu_link.specs.Said.{ConfigLine, TheIds, TheDevice, TheUnit, TheSector, TheCapacity, TheImage, EventLine, Offer, Upload, Abort, Go, Time, Reset, Cut, Said, Blank, Sets, LimitsTo, Does, GoesOn, Show}
 use Rattle.dfu_link.specs.Lines.{line_of}
 
 -- What is set before the first event line or `show`: the device, how its medium is written and erased, how many bytes an image may have, the
@@ -72,6 +72,7 @@ pub data Prepares : Settings → List (List ℕ) → Settings → Type 0 where
 -- An event line or `show` is read.
 abbrev pub HasToAct : Option Said → Type 0
 HasToAct (Some (Does events)) = Unit {0}
+HasToAct (Some GoesOn) = Unit {0}
 HasToAct (Some Show) = Unit {0}
 HasToAct said = ⊥
 
@@ -125,13 +126,17 @@ events_of limits (Time ms) = Passes ms ∷ []
 events_of limits Reset = Resets ∷ []
 events_of limits Cut = Cuts ∷ []
 
--- What a line does once the device is started, and what it prints. A configuration line has no place there.
+-- What a line does once the device is started, and what it prints. A configuration line has no place there. `go until report` lets so many
+-- actions pass of which nothing is printed, and one of which something is.
 pub data LineActs : Point → Said → List ℕ → Point → Type 0 where
   skips : {p : Point} → LineActs p Blank [] p
   limits_to : {p : Point} {actions restarts : ℕ} → LineActs p (LimitsTo actions restarts) []
       (record p { limits = record { actions = actions; restarts = restarts } })
   plays : {p : Point} {events : EventLine} {b : Bench} {out : List ℕ} → AllCome p.at (events_of p.limits events) out b
       → LineActs p (Does events) out (record p { at = b })
+  goes_on : {p : Point} {mid b : Bench} {answer : Result Answered LinkFault} (times : ℕ)
+      → AllCome p.at (replicate times (Goes Pass unharmed)) [] mid → Comes mid (Goes Pass unharmed) b answer → ShowsActive b
+      → answer_line answer ≢ [] → LineActs p GoesOn (answer_line answer) (record p { at = b })
   shows : {p : Point} → LineActs p Show (show_line p.at.device) p
 
 -- Lines one after the other, with what they print.

@@ -1,17 +1,17 @@
 -- What lines do one after the other, as the loops of the code have it.
-use Rattle.std.specs.Prelude.{◌≡◌, ℕ, ◌+◌, List, [], ◌++◌, Bool, Option, Some, None, IfSome}
+use Rattle.std.specs.Prelude.{◌≡◌, ℕ, ◌+◌, List, [], ◌++◌, Bool, Option, Some, None, IfSome, replicate}
 use Rattle.std.specs.Io.KnownBytes.{Appends, IsAtEnd}
 use Rattle.dfu_host.specs.declared.limits.Limits.{Limits}
 use Rattle.dfu_slots.specs.Medium.Fuse.{Whole}
 use Rattle.dfu_device.specs.Shown.{Shown}
 use Rattle.dfu_link.specs.Bench.{Bench}
-use Rattle.dfu_link.specs.Happening.{Happening}
+use Rattle.dfu_link.specs.Happening.{Happening, Goes, Pass, unharmed}
 use Rattle.dfu_link.specs.Texts.{image_line}
 use Rattle.dfu_link.specs.Words.{lines_of}
-use Rattle.dfu_link.specs.Said.{EventLine, Offer, HasTear, Said, Does, event_line_of}
+use Rattle.dfu_link.specs.Said.{Offer, HasTear, Said, Does, said_by}
 use Rattle.dfu_link.specs.Lines.{line_of}
 use Rattle.dfu_link.specs.ScriptRun.{Settings, Prepares, IsReady, at_rest, AllCome, Point, point, LineActs, LinesRun}
-use Rattle.dfu_link.specs.Falls.{LineFalls, NextFalls}
+use Rattle.dfu_link.specs.Falls.{BreaksIn, LineFalls, NextFalls}
 use Rattle.dfu_link.specs.TextLimit.{GoesOver, IsStopped}
 use Rattle.dfu_link.specs.inside.Source.{SourceState, Gives, Next, StopsSource}
 use Rattle.dfu_link.specs.declared.scripting.line.EventLine.{EventLine as EventLineRead}
@@ -24,10 +24,26 @@ pub record HasPlayed (b : Bench) (events : List Happening) (old : Option (List �
   pub plays : AllCome b events out b'
   pub told : Appends old new out
 
--- The file of an offer; other events have none.
-abbrev pub file_bytes : EventLine → List ℕ
-file_bytes (Offer aim file) = file
-file_bytes events = []
+-- What a line says was done, and what it prints is out.
+pub record HasActed (p : Point) (said : Said) (old : Option (List ℕ)) (p' : Point) (new : Option (List ℕ)) : Type 0 where
+  pub out : List ℕ
+  pub acts : LineActs p said out p'
+  pub told : Appends old new out
+
+-- The writer failed in what a line says.
+abbrev pub HasStopped : Point → Said → Option (List ℕ) → Option (List ℕ) → Type 0
+HasStopped p said old new = (line : List ℕ) → line_of line ≡ Some said → BreaksIn p line old new
+
+-- The host passed so often that nothing was printed of it.
+pub record IsSilent (b : Bench) (old : Option (List ℕ)) (b' : Bench) (new : Option (List ℕ)) : Type 0 where
+  pub times : ℕ
+  pub plays : AllCome b (replicate times (Goes Pass unharmed)) [] b'
+  pub told : Appends old new []
+
+-- The file of an offer; other lines have none.
+abbrev pub file_bytes : Said → List ℕ
+file_bytes (Does (Offer aim file)) = file
+file_bytes said = []
 
 -- A line was done, and what it prints is out.
 pub record Steps (p : Point) (line : List ℕ) (old : Option (List ℕ)) (p' : Point) (new : Option (List ℕ)) : Type 0 where
@@ -82,7 +98,7 @@ LinesDone p s old (Some d) to s' new = IsUnarmed d × Moves p s old (to (at_rest
 -- A line was done but for its events, whatever the session: it said none, or these are left to play.
 abbrev pub Plainly : Shown → Limits → List ℕ → Option (List ℕ) → Option EventLineRead → Limits → Option (List ℕ) → Type 0
 Plainly d l line old None l' new = (b : Bench) → b.device ≡ d → Steps (point l b) line old (point l' b) new
-Plainly d l line old (Some events) l' new = (line_of line ≡ Some (Does (event_line_of events))) × (l' ≡ l) × (new ≡ old)
+Plainly d l line old (Some events) l' new = (line_of line ≡ Some (said_by events)) × (l' ≡ l) × (new ≡ old)
 
 -- A line falls but for its events, whatever the session.
 abbrev pub PlainlyFalls : Shown → Limits → ℕ → List ℕ → Option (List ℕ) → Option (List ℕ) → ScriptFault → Type 0
@@ -115,10 +131,11 @@ CannotConfigure x s NoMemory = Unit {0}
 CannotConfigure x s fault = StopsSetting x s fault
 
 -- There is no memory for the file that is offered.
-abbrev pub FindsNoRoom : EventLine → ScriptFault → Type 0
-FindsNoRoom (Offer aim file) fault = fault ≡ NoMemory
-FindsNoRoom events fault = ⊥
+abbrev pub FindsNoRoom : Said → ScriptFault → Type 0
+FindsNoRoom (Does (Offer aim file)) fault = fault ≡ NoMemory
+FindsNoRoom said fault = ⊥
 
 -- There is no memory for the tear that a line brings.
-abbrev pub FindsNoTear : EventLine → ScriptFault → Type 0
-FindsNoTear events fault = HasTear events × (fault ≡ NoMemory)
+abbrev pub FindsNoTear : Said → ScriptFault → Type 0
+FindsNoTear (Does events) fault = HasTear events × (fault ≡ NoMemory)
+FindsNoTear said fault = ⊥

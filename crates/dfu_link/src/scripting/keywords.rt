@@ -36,6 +36,7 @@ pub(crate) enum FateKeyword {
     Cut,
     Fail,
     Lie,
+    Until,
 }
 
 #[tactic(auto, unfolding(crate::specs::Keywords::keyword_of))]
@@ -101,6 +102,8 @@ pub(crate) fn read_fate(word: &[u8]) -> Option<FateKeyword>
         Some(FateKeyword::Fail)
     } else if word == b"lie".as_slice() {
         Some(FateKeyword::Lie)
+    } else if word == b"until".as_slice() {
+        Some(FateKeyword::Until)
     } else {
         None
     }

@@ -78,6 +78,8 @@ pub(crate) enum EventLine<'l> {
         writes: u32,
         tear: HexText<'l>,
     },
+    /// The host takes actions that pass until it reports, or one is refused.
+    GoOn,
     /// So many milliseconds pass.
     Time(u32),
     /// The bus is reset.

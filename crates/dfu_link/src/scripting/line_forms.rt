@@ -4,7 +4,7 @@ ghost use Rattle.std.specs.Prelude.{◌≡◌, None};
 ghost use Rattle.dfu_link.specs.Words.{Reads, words_of, ends};
 ghost use Rattle.dfu_link.specs.Happening.{fate_of, harm_in};
 ghost use Rattle.dfu_link.specs.Said.{said_of, Go, Does, harm_fate};
-ghost use Rattle.dfu_link.specs.Lines.{small_at, ids_of, device_of, unit_named, unit_of, erase_of, capacity_of, image_of, limits_of, offer_of, time_of, pass_of, slip_of, harmed_of, by_fate, go_of};
+ghost use Rattle.dfu_link.specs.Lines.{small_at, ids_of, device_of, unit_named, unit_of, erase_of, capacity_of, image_of, limits_of, offer_of, time_of, pass_of, slip_of, harmed_of, until_of, by_fate, go_of};
 
 use crate::aim::Aim;
 use crate::fate::Fate;
@@ -181,7 +181,20 @@ fn harmed(harm: HarmKind, line: &[u8]) -> Option<Line<'_>>
     ended(Line::Do(events), rest)
 }
 
-/// The fate of an action, by its word.
+/// `go until report`.
+#[tactic(auto, unfolding(crate::specs::Lines::until_of))]
+fn until(line: &[u8]) -> Option<Line<'_>>
+    ensures { Reads said_of result (until_of (words_of line.now)) }
+{
+    let (word, rest) = word_at(line)?;
+    if word == b"report".as_slice() {
+        ended(Line::Do(EventLine::GoOn), rest)
+    } else {
+        None
+    }
+}
+
+/// What stands after `go`, by its first word.
 fn by_fate(keyword: FateKeyword, rest: &[u8]) -> Option<Line<'_>>
     ensures { Reads said_of result (by_fate keyword (words_of rest.now)) }
 {
@@ -195,10 +208,11 @@ fn by_fate(keyword: FateKeyword, rest: &[u8]) -> Option<Line<'_>>
         FateKeyword::Cut => harmed(HarmKind::Cut, rest),
         FateKeyword::Fail => harmed(HarmKind::Fail, rest),
         FateKeyword::Lie => harmed(HarmKind::Lie, rest),
+        FateKeyword::Until => until(rest),
     }
 }
 
-/// `go` with a fate.
+/// `go` with a fate, or `until`.
 #[tactic(auto, unfolding(crate::specs::Lines::go_of))]
 pub(crate) fn go(line: &[u8]) -> Option<Line<'_>>
     ensures { Reads said_of result (go_of (words_of line.now)) }

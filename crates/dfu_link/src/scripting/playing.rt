@@ -1,14 +1,16 @@
 //! The events of an event line, played.
 
-ghost use Rattle.std.specs.Prelude.{◌≡◌, [], ◌∷◌, OnOk, OnErr, IfOk, IfErr, IfSome, replicate};
+ghost use Rattle.std.specs.Prelude.{◌≡◌, ◌≢◌, [], ◌∷◌, Ok, None, true, false, OnOk, OnErr, IfOk, IfErr, IfSome, replicate};
 ghost use Rattle.std.specs.Io.KnownBytes.{Keeps};
 ghost use Rattle.dfu_link.specs.Tracing.{IsOfPlay};
-ghost use Rattle.dfu_link.specs.Happening.{Offers, Goes, Passes, harmed, fate_of, harm_in, happening};
+ghost use Rattle.dfu_link.specs.Bench.{ShowsActive};
+ghost use Rattle.dfu_link.specs.Comes.{HasCome};
+ghost use Rattle.dfu_link.specs.Happening.{Offers, Goes, Passes, Pass, unharmed, harmed, fate_of, harm_in, happening};
 ghost use Rattle.dfu_link.specs.Refusing.{IsLive};
-ghost use Rattle.dfu_link.specs.Said.{EventLine, harm_fate, event_line_of, tear_bytes};
-ghost use Rattle.dfu_link.specs.ScriptRun.{events_of};
+ghost use Rattle.dfu_link.specs.Said.{GoesOn, harm_fate, said_by, tear_bytes};
+ghost use Rattle.dfu_link.specs.ScriptRun.{point};
 ghost use Rattle.dfu_link.specs.Falls.{HasBroken};
-ghost use Rattle.dfu_link.specs.inside.Moving.{HasPlayed, file_bytes, FindsNoRoom, FindsNoTear};
+ghost use Rattle.dfu_link.specs.inside.Moving.{HasPlayed, HasActed, HasStopped, file_bytes, FindsNoRoom, FindsNoTear};
 
 use crate::aim::Aim;
 use crate::event::Event;
@@ -23,7 +25,7 @@ use crate::tracing::telling::Telling;
 use crate::world::World;
 use arrayvec::ArrayVec;
 use dfu_device::Device;
-use dfu_host::Limits;
+use dfu_host::{Limits, Report};
 use dfu_slots::Faulty;
 use std::alloc::Global;
 use std::io::Write;
@@ -121,10 +123,61 @@ fn play_by<'f, T: Telling<M, W>, M: Faulty, W: Write>(
     }
 }
 
+/// Lets the host take an action that passes, and tells of it where that is wanted.
+fn pass<'f, T: Telling<M, W>, M: Faulty, W: Write>(
+    world: &mut World<'f, M>,
+    out: &mut ArrayVec<u8, 4096>,
+    writer: &mut W,
+) -> Result<Option<Report>, LinkFault>
+    ensures play { HasCome world.old (Goes Pass unharmed) world.new result }
+    ensures active { ShowsActive world.new.bench }
+    ensures kept { Keeps (W.contents writer.old) (W.contents writer.new) }
+{
+    if !T::is_on() {
+        return world.step(Event::Go(Fate::Pass));
+    }
+    let (answer, step) = world.take_action(Fate::Pass, out);
+    tell_step::<T, M, W>(writer, Fate::Pass, step, out.as_slice(), world.device());
+    answer
+}
+
+/// Whether nothing is printed of an event.
+fn is_silent(answer: Result<Option<Report>, LinkFault>) -> bool
+    ensures silent { result ≡ true → answer ≡ Ok None }
+    ensures told { result ≡ false → answer ≢ Ok None }
+{
+    match answer {
+        Ok(None) => true,
+        Ok(Some(_)) | Err(_) => false,
+    }
+}
+
+/// Lets the host take actions that pass until something is printed: the report of its session, or a
+/// refusal where none is live.
+fn pass_on<'f, T: Telling<M, W>, M: Faulty, W: Write>(
+    world: &mut World<'f, M>,
+    limits: Limits,
+    writer: &mut W,
+) -> Result<(), ScriptFault>
+    ensures ok { OnOk result (HasActed (point limits world.old.bench) GoesOn (W.contents writer.old) (point limits world.new.bench)
+        (W.contents writer.new)) }
+    ensures err { OnErr result (HasStopped (point limits world.old.bench) GoesOn (W.contents writer.old) (W.contents writer.new)) }
+    ensures fault { IfErr result (λ f. f ≡ ScriptFault.Write) }
+{
+    let mut out = ArrayVec::new();
+    'passes: loop {
+        let answer = pass::<T, M, W>(world, &mut out, writer);
+        say(writer, answer, world.uploaded())?;
+        if !is_silent(answer) {
+            return Ok(());
+        }
+    }
+}
+
 /// The file that is offered. Other events have none.
 pub(crate) fn file_of(alloc: Global, events: EventLine<'_>) -> Result<Vec<u8>, ScriptFault>
-    ensures ok { IfOk result (λ v. v.items ≡ file_bytes (event_line_of events.entry)) }
-    ensures fault { IfErr result (λ f. FindsNoRoom (event_line_of events.entry) f) }
+    ensures ok { IfOk result (λ v. v.items ≡ file_bytes (said_by events.entry)) }
+    ensures fault { IfErr result (λ f. FindsNoRoom (said_by events.entry) f) }
 {
     match events {
         EventLine::Offer { file, .. } => bytes_of(alloc, file),
@@ -135,7 +188,7 @@ pub(crate) fn file_of(alloc: Global, events: EventLine<'_>) -> Result<Vec<u8>, S
 /// The tear of a write that is harmed. Other events have none.
 pub(crate) fn tear_of(alloc: Global, events: EventLine<'_>) -> Result<Vec<u8>, ScriptFault>
     ensures ok { IfOk result (λ v. v.items ≡ tear_bytes events.entry) }
-    ensures fault { IfErr result (λ f. FindsNoTear (event_line_of events.entry) f) }
+    ensures fault { IfErr result (λ f. FindsNoTear (said_by events.entry) f) }
 {
     match events {
         EventLine::GoHarmed { tear, .. } => bytes_of(alloc, tear),
@@ -174,11 +227,11 @@ pub(crate) fn play_events<'f, T: Telling<M, W>, M: Faulty, W: Write>(
     limits: Limits,
     writer: &mut W,
 ) -> Result<(), ScriptFault>
-    requires file { file.now ≡ file_bytes (event_line_of events) }
+    requires file { file.now ≡ file_bytes (said_by events) }
     requires tear { torn.now ≡ tear_bytes events }
-    ensures ok { OnOk result (HasPlayed world.old.bench (events_of limits (event_line_of events.entry))
-        (W.contents writer.old) world.new.bench (W.contents writer.new)) }
-    ensures err { OnErr result (HasBroken world.old.bench (events_of limits (event_line_of events.entry)) (W.contents writer.old)
+    ensures ok { OnOk result (HasActed (point limits world.old.bench) (said_by events.entry) (W.contents writer.old)
+        (point limits world.new.bench) (W.contents writer.new)) }
+    ensures err { OnErr result (HasStopped (point limits world.old.bench) (said_by events.entry) (W.contents writer.old)
         (W.contents writer.new)) }
     ensures fault { IfErr result (λ f. f ≡ ScriptFault.Write) }
 {
@@ -192,6 +245,7 @@ pub(crate) fn play_events<'f, T: Telling<M, W>, M: Faulty, W: Write>(
         EventLine::GoHarmed { harm, writes, .. } => {
             play_by::<T, M, W>(world, Event::Go(harmed(harm, writes, torn)), 1, writer)
         }
+        EventLine::GoOn => pass_on::<T, M, W>(world, limits, writer),
         EventLine::Time(ms) => pass_time::<T, M, W>(world, ms, writer),
         EventLine::Reset => play(world, Event::Reset, 1, writer),
         EventLine::Cut => play(world, Event::Cut, 1, writer),
@@ -208,9 +262,9 @@ pub(crate) fn play_live<'f, T: Telling<M, W>, M: Faulty, W: Write>(
 ) -> Result<(), ScriptFault>
     requires live { IsLive world.old.bench.session }
     requires tear { torn.now ≡ tear_bytes events }
-    ensures ok { OnOk result (HasPlayed world.old.bench (events_of limits (event_line_of events.entry))
-        (W.contents writer.old) world.new.bench (W.contents writer.new)) }
-    ensures err { OnErr result (HasBroken world.old.bench (events_of limits (event_line_of events.entry)) (W.contents writer.old)
+    ensures ok { OnOk result (HasActed (point limits world.old.bench) (said_by events.entry) (W.contents writer.old)
+        (point limits world.new.bench) (W.contents writer.new)) }
+    ensures err { OnErr result (HasStopped (point limits world.old.bench) (said_by events.entry) (W.contents writer.old)
         (W.contents writer.new)) }
     ensures fault { IfErr result (λ f. f ≡ ScriptFault.Write) }
 {

@@ -37,7 +37,8 @@ image ffffffff
 
 #[test]
 fn clean_run_is_told(rt: HostRuntime) -> Result<(), Fail> {
-    traced(&rt, rt.alloc(), "offer W/go pass 13", CLEAN)
+    traced(&rt, rt.alloc(), "offer W/go pass 13", CLEAN)?;
+    traced(&rt, rt.alloc(), "offer W/go until report", CLEAN)
 }
 
 /// The answer to block 0 is lost, then time passes, then the first write of the block fails, and the host asks why.

@@ -1,10 +1,9 @@
 use Rattle.std.proofs.Common.{◌≡◌, ◌∙◌, ap, subst, refl, true, Option}
 use Rattle.std.proofs.lemmas.Result.{err_from_is_err_and}
 use Rattle.dfu_link.specs.Bench.{Bench, LinkState}
-use Rattle.dfu_link.specs.Said.{event_line_of}
-use Rattle.dfu_link.specs.ScriptRun.{point, at_rest, events_of}
-use Rattle.dfu_link.specs.Falls.{HasBroken}
-use Rattle.dfu_link.specs.inside.Moving.{HasPlayed, Plainly}
+use Rattle.dfu_link.specs.Said.{said_by}
+use Rattle.dfu_link.specs.ScriptRun.{point, at_rest}
+use Rattle.dfu_link.specs.inside.Moving.{HasActed, HasStopped, Plainly}
 use Rattle.dfu_link.specs.declared.scripting.line.EventLine.{EventLine}
 use Rattle.dfu_link.proofs.MoveLaws.{rest_starts}
 use Rattle.dfu_link.proofs.RestLaws.{moved_none, moved_falls, moved_then, went_to, went_and_fell, no_room, no_tear, events_break, events_play}
@@ -55,7 +54,7 @@ returns-in_err-play_events-clause-fault g c =
     let failed = err_from_is_err_and c.from_residual-in_err-play_events.result c.from_residual-in_err-play_events.ensures.1 in
     let l = c.args.limits.now in
     let l' = c.plain_line.new.limits in
-    let d = event_line_of c.in-Some.events in
+    let d = said_by c.in-Some.events in
     let old = g.W.Write.contents c.args.writer.now in
     let mid = g.W.Write.contents c.plain_line.new.writer in
     let new = g.W.Write.contents c.play_events.new.writer in
@@ -63,7 +62,7 @@ returns-in_err-play_events-clause-fault g c =
     let f = c.in_err-play_events.field-0.0 in
     let starts : c.new-world.result.bench ≡ at_rest c.args.device = ap (λ (x : LinkState). x.bench) c.new-world.ensures.link
     ∙ rest_starts c.args.device c.requires in
-    let broken : HasBroken (at_rest c.args.device) (events_of l' d) mid new = subst (λ (b : Bench). HasBroken b (events_of l' d) mid new)
+    let broken : HasStopped (point l' (at_rest c.args.device)) d mid new = subst (λ (b : Bench). HasStopped (point l' b) d mid new)
     starts c.in_err-play_events.ensures.err in
     rw (failed.1, failed.2) (moved_falls f moved c.number.ensures c.line.ensures
     (events_break c.args.device l l' c.number.result c.line.result.now old (at_rest c.args.device) c.in-Some.events f
@@ -74,7 +73,7 @@ returns-in_err-after-clause-fault g c =
     let failed = err_from_is_err_and c.from_residual-in_err-after.result c.from_residual-in_err-after.ensures.1 in
     let l = c.args.limits.now in
     let l' = c.plain_line.new.limits in
-    let d = event_line_of c.in-Some.events in
+    let d = said_by c.in-Some.events in
     let old = g.W.Write.contents c.args.writer.now in
     let mid = g.W.Write.contents c.plain_line.new.writer in
     let new = g.W.Write.contents c.play_events.new.writer in
@@ -82,8 +81,8 @@ returns-in_err-after-clause-fault g c =
     let moved = moved_none true c.args.source.now (point l (at_rest c.args.device)) old in
     let starts : c.new-world.result.bench ≡ at_rest c.args.device = ap (λ (x : LinkState). x.bench) c.new-world.ensures.link
     ∙ rest_starts c.args.device c.requires in
-    let played : HasPlayed (at_rest c.args.device) (events_of l' d) mid b' new = subst
-    (λ (b : Bench). HasPlayed b (events_of l' d) mid b' new) starts c.in_ok-play_events.ensures.ok in
+    let played : HasActed (point l' (at_rest c.args.device)) d mid (point l' b') new = subst
+    (λ (b : Bench). HasActed (point l' b) d mid (point l' b') new) starts c.in_ok-play_events.ensures.ok in
     let step = events_play c.args.device l l' c.line.result.now old (at_rest c.args.device) b' c.in-Some.events c.in_ok-plain.ensures.ok
     c.in-Some.is played in
     let went = moved_then moved c.line.ensures step in
@@ -93,7 +92,7 @@ pub returns-clause-ok : goal.returns-clause-ok
 returns-clause-ok g c =
     let l = c.args.limits.now in
     let l' = c.plain_line.new.limits in
-    let d = event_line_of c.in-Some.events in
+    let d = said_by c.in-Some.events in
     let old = g.W.Write.contents c.args.writer.now in
     let mid = g.W.Write.contents c.plain_line.new.writer in
     let new = g.W.Write.contents c.play_events.new.writer in
@@ -101,8 +100,8 @@ returns-clause-ok g c =
     let moved = moved_none true c.args.source.now (point l (at_rest c.args.device)) old in
     let starts : c.new-world.result.bench ≡ at_rest c.args.device = ap (λ (x : LinkState). x.bench) c.new-world.ensures.link
     ∙ rest_starts c.args.device c.requires in
-    let played : HasPlayed (at_rest c.args.device) (events_of l' d) mid b' new = subst
-    (λ (b : Bench). HasPlayed b (events_of l' d) mid b' new) starts c.in_ok-play_events.ensures.ok in
+    let played : HasActed (point l' (at_rest c.args.device)) d mid (point l' b') new = subst
+    (λ (b : Bench). HasActed (point l' b) d mid (point l' b') new) starts c.in_ok-play_events.ensures.ok in
     let step = events_play c.args.device l l' c.line.result.now old (at_rest c.args.device) b' c.in-Some.events c.in_ok-plain.ensures.ok
     c.in-Some.is played in
     went_to c.in_ok-after.after (point c.follow.new.limits) c.follow.new.source (g.W.Write.contents c.follow.new.writer)
