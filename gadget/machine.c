@@ -6,8 +6,10 @@
 #include <errno.h>
 #include <string.h>
 
-#define UNIT 1   /* a file is written byte by byte as far as its layout goes, */
-#define SECTOR 0 /* and written over in place */
+#define SECTOR 0 /* a file is written over in place */
+
+/* For what is asked of a medium alone: of a configuration, its unit counts there. */
+static const struct dfu_config layout = {.version = DFU_VERSION, .transfer = 1, .attributes = 4, .least = 1, .unit = MACHINE_UNIT};
 enum { WORK_INSTALL = 2 }; /* dfu_asking.work while an image is put in place */
 
 static int32_t note(struct machine *machine, int32_t answer)
@@ -34,7 +36,7 @@ static bool carry_out(const struct machine *machine, const struct dfu_ask *ask)
 static void look_for_image(struct machine *machine)
 {
     struct dfu_place place;
-    if (dfu_asking_image(UNIT, SECTOR, machine->medium->bytes, machine->medium->size, &place) != 0)
+    if (dfu_asking_image(&machine->config, SECTOR, machine->medium->bytes, machine->medium->size, &place) != 0)
         return;
     machine->is_installed = machine->is_installed || place.at != machine->place.at;
     machine->place = place;
@@ -66,7 +68,7 @@ int32_t machine_power_on(struct machine *machine, const struct medium *medium, b
     uint8_t out[MOST_TRANSFER];
     machine->medium = medium;
     machine->refusal = 0;
-    if (note(machine, dfu_asking_power_on(&machine->config, &machine->asking, UNIT, SECTOR, medium->bytes, medium->size)) == 0)
+    if (note(machine, dfu_asking_power_on(&machine->config, &machine->asking, SECTOR, medium->bytes, medium->size)) == 0)
         note(machine, machine_image(medium, &machine->place));
     if (machine->refusal == 0 && is_upgrade) {
         machine_handle(machine, detach, none, 0, out);
@@ -147,12 +149,12 @@ int32_t machine_functional(const struct machine *machine, uint8_t out[9])
 
 int32_t machine_image(const struct medium *medium, struct dfu_place *place)
 {
-    return dfu_asking_image(UNIT, SECTOR, medium->bytes, medium->size, place);
+    return dfu_asking_image(&layout, SECTOR, medium->bytes, medium->size, place);
 }
 
 int32_t machine_format(uint8_t *memory, size_t size, const uint8_t *image, size_t length)
 {
-    return dfu_asking_format(UNIT, SECTOR, memory, size, image, length);
+    return dfu_asking_format(&layout, SECTOR, memory, size, image, length);
 }
 
 const char *machine_words(int32_t refusal)

@@ -15,7 +15,7 @@ static bool take_numbers(struct dfu_config *config, const struct words *words)
 {
     *config = (struct dfu_config){.version = DFU_VERSION, .detach_ms = words->detach_ms, .transfer = words->transfer,
                                   .attributes = words->attributes, .busy_ms = words->busy_ms, .manifest_ms = words->manifest_ms,
-                                  .least = words->least};
+                                  .least = words->least, .unit = MACHINE_UNIT};
     return controller_number(words->upgrade, "idVendor", &config->vendor)
         && controller_number(words->upgrade, "idProduct", &config->product)
         && controller_number(words->upgrade, "bcdDevice", &config->device);

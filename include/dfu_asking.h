@@ -38,20 +38,17 @@ extern "C" {
 
 /* The record: what is kept of a device that asks between two calls. A program writes nothing in it.
  *
- * device: as dfu_device.h has it; its slot and header are 0. unit: how many bytes are written at a time, 1, 16, 64 or 256. sector: 0,
- * the flash is written over in place. work: 0 no writes are due, 1 those of a block, 2 those that put an image in place. spare, sum,
- * done: of what is due, where the spare slot begins, the image's register, and how many bytes are carried out. asked: 0, or 1 more
- * than wLength of the GETSTATUS that waits. held_length: how many bytes of held are held back until a unit is whole, 0 to 256.
- * generation, close: of what is due, the image's generation, and whether the gate is closed first, 1 or 0. */
+ * device: as dfu_device.h has it; its slot and header are 0. sector: 0, the flash is written over in place. work: 0 no writes are due,
+ * 1 those of a block, 2 those that put an image in place. spare, sum, done: of what is due, where the spare slot begins, the image's
+ * register, and how many bytes are carried out. asked: 0, or 1 more than wLength of the GETSTATUS that waits. generation, close: of
+ * what is due, the image's generation, and whether the gate is closed first, 1 or 0. */
 struct dfu_asking {
     struct dfu_device device;
-    uint32_t unit, sector;
+    uint32_t sector;
     uint32_t work;
     uint32_t spare, sum, done;
     uint32_t asked;
-    uint16_t held_length;
     uint8_t generation, close;
-    uint8_t held[256];
 };
 
 /* What the program is to do next. */
@@ -68,17 +65,16 @@ struct dfu_ask {
 enum {
     DFU_ASKS = -11,      /* writes are due: dfu_asking_next, carry it out, dfu_asking_took, until that answers otherwise */
     DFU_ASKED = -12,     /* writes are due, and come first */
-    DFU_WRONG_UNIT = -13 /* unit is none of 1, 16, 64 and 256, or sector is not 0 */
+    DFU_WRONG_UNIT = -13 /* sector is not 0; a unit that there isn't is DFU_NO_CONFIG */
 };
 
-/* Makes in memory what the flash of this unit and sector is to hold at first, as dfu_device_format: 0; or the first that holds of
- * DFU_WRONG_UNIT, DFU_NO_MEDIUM (2^32 bytes or more), DFU_WRONG_SIZE, DFU_TOO_LARGE. Flash for images of at most C bytes has
- * 2 * (2 * G + C) bytes, G being 16, or the unit where that is more. C is 1 to 16,777,216, and whole in the unit. */
-int32_t dfu_asking_format(uint32_t unit, uint32_t sector, uint8_t *memory, size_t size, const uint8_t *image, size_t length);
+/* Makes in memory what the flash is to hold at first, as dfu_device_format: 0; or the first that holds of DFU_NO_CONFIG,
+ * DFU_WRONG_UNIT, DFU_NO_MEDIUM (2^32 bytes or more), DFU_WRONG_SIZE, DFU_TOO_LARGE. */
+int32_t dfu_asking_format(const struct dfu_config *config, uint32_t sector, uint8_t *memory, size_t size, const uint8_t *image, size_t length);
 
 /* The device gets power: 0, and the record is that of a device in appIDLE, whatever it held; or the first that holds of
  * DFU_NO_CONFIG, DFU_WRONG_UNIT, DFU_NO_MEDIUM. Call it after each loss of power. */
-int32_t dfu_asking_power_on(const struct dfu_config *config, struct dfu_asking *device, uint32_t unit, uint32_t sector,
+int32_t dfu_asking_power_on(const struct dfu_config *config, struct dfu_asking *device, uint32_t sector,
                             const uint8_t *flash, size_t size);
 
 /* Answers a setup with its body, as dfu_device_handle: how many bytes of out are the answer; or DFU_STALL; or DFU_ASKS; or the
@@ -115,8 +111,8 @@ int32_t dfu_asking_would_stall(const struct dfu_config *config, const struct dfu
 /* As dfu_device_too_long: DFU_STALL; or the first that holds of DFU_NO_CONFIG, DFU_NO_DEVICE as above, DFU_ASKED, DFU_NOT_LONG. */
 int32_t dfu_asking_too_long(const struct dfu_config *config, struct dfu_asking *device, const uint8_t setup[8]);
 
-/* Where the active image stands: 0; or the first that holds of DFU_WRONG_UNIT, DFU_NO_MEDIUM, and place is as it was. */
-int32_t dfu_asking_image(uint32_t unit, uint32_t sector, const uint8_t *flash, size_t size, struct dfu_place *place);
+/* Where the active image stands: 0; or the first that holds of DFU_NO_CONFIG, DFU_WRONG_UNIT, DFU_NO_MEDIUM, and place is as it was. */
+int32_t dfu_asking_image(const struct dfu_config *config, uint32_t sector, const uint8_t *flash, size_t size, struct dfu_place *place);
 
 #ifdef __cplusplus
 }

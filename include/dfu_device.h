@@ -53,8 +53,9 @@
  *   twice. No other call reads an image, as long as the record is as the last call left it.
  * - The host waits for the poll time after the answer to GETSTATUS. Report busy_ms or manifest_ms right after that answer:
  *   the medium is then written while the host waits, and not when it asks again.
- * - Where a block device keeps the medium, choose C so that no sector has bytes of both slots: 32 + C is a multiple of the
- *   sector's size. */
+ * - Each write of the medium is whole units at multiples of the unit. Bytes that make no whole unit yet wait in the record.
+ * - Where a block device keeps the medium, choose C so that no sector has bytes of both slots: 2 * G + C (dfu_device_format)
+ *   is a multiple of the sector's size. */
 #ifndef DFU_DEVICE_H
 #define DFU_DEVICE_H
 
@@ -89,6 +90,7 @@ struct dfu_config {
     uint32_t busy_ms;     /* how long a block takes to be written, 0 to 16,777,215 ms */
     uint32_t manifest_ms; /* how long an image takes to be put in place, 0 to 16,777,215 ms; at least 1 without bit 2 */
     uint32_t least;       /* the fewest bytes of an image, 1 to 16,777,216: with more than a slot holds no download can end */
+    uint32_t unit;        /* how many bytes the medium is written at a time: 1, 16, 64 or 256 */
 };
 
 /* The record: what is kept of a device between two calls. A program reads it by dfu_device_state and dfu_device_code, and
@@ -112,11 +114,14 @@ struct dfu_config {
  * version: DFU_VERSION of the archive; a record of another one is none of a device. ms: how many milliseconds passed in the
  * state. put_end: how many bytes were put in the spare slot. length: in modes 3 and 5 so many bytes at the front of the
  * block's memory are the block that is not written yet. slot and header: which slot the last call found to be the
- * active one, 0 or 1, and the 16 bytes of its header, as they stood on the medium. */
+ * active one, 0 or 1, and the 16 bytes of its header, as they stood on the medium. held_length: so many bytes at the front
+ * of held were put and make no whole unit yet. */
 struct dfu_device {
     uint32_t version, mode, first, second, put_end, slot;
     uint16_t number, length;
     uint8_t header[16];
+    uint16_t held_length;
+    uint8_t held[256];
 };
 
 /* Where the active image stands: its first byte is medium[at]. */
@@ -131,17 +136,18 @@ enum {
     DFU_NO_MEDIUM = -3,  /* the medium has no active image, or 2^32 bytes or more */
     DFU_NO_DEVICE = -4,  /* the record is none of a device on that medium with that block, or of another version */
     DFU_NO_ROOM = -5,    /* out has less room than an answer may need: 6 bytes, or the transfer size where that is more */
-    DFU_WRONG_SIZE = -6, /* the medium has no length that two slots can have */
+    DFU_WRONG_SIZE = -6, /* the medium has no length that two slots of its unit can have */
     DFU_TOO_LARGE = -7,  /* the image is longer than a slot's data */
     DFU_NOT_LONG = -9,   /* the host sends no more bytes with this setup than a block may have */
     DFU_NO_BLOCK = -10   /* the block's memory has fewer bytes than the transfer size */
 };
 
 /* Writes an image into the first slot and makes it the active one, whatever stood on the medium: 0; or the first that
- * holds of DFU_NO_MEDIUM (2^32 bytes or more), DFU_WRONG_SIZE, DFU_TOO_LARGE. A medium for images of at most C bytes has
- * 2 * (32 + C) bytes, C from 1 to 16,777,216. It is for when a board is made: a loss of power within it may leave no image.
+ * holds of DFU_NO_CONFIG, DFU_NO_MEDIUM (2^32 bytes or more), DFU_WRONG_SIZE, DFU_TOO_LARGE. A medium for images of at most
+ * C bytes has 2 * (2 * G + C) bytes, G being 16, or the unit where that is more. C is 1 to 16,777,216, and whole in the unit.
+ * It is for when a board is made: a loss of power within it may leave no image.
  * An image of length 0 is allowed, and means that there is no application yet: dfu_device_image then gives length 0. */
-int32_t dfu_device_format(uint8_t *medium, size_t size, const uint8_t *image, size_t length);
+int32_t dfu_device_format(const struct dfu_config *config, uint8_t *medium, size_t size, const uint8_t *image, size_t length);
 
 /* The device gets power: 0, and the record is that of a device in appIDLE, whatever it held; or the first that holds of
  * DFU_NO_CONFIG, DFU_NO_MEDIUM. It writes nothing on the medium. Call it after each loss of power: only the medium has to
@@ -195,9 +201,10 @@ int32_t dfu_device_state(const struct dfu_device *device);
 /* The status code, bStatus: 0 to 15, and 0 in every state but dfuERROR; or DFU_NO_DEVICE as dfu_device_state. */
 int32_t dfu_device_code(const struct dfu_device *device);
 
-/* Where the active image stands, for a program that runs it in place: 0; or DFU_NO_MEDIUM, and place is as it was. It
- * writes nothing. The place holds until the next image is put in place. A length of 0 means that there is no application. */
-int32_t dfu_device_image(uint8_t *medium, size_t size, struct dfu_place *place);
+/* Where the active image stands, for a program that runs it in place: 0; or the first that holds of DFU_NO_CONFIG,
+ * DFU_NO_MEDIUM, and place is as it was. It writes nothing. The place holds until the next image is put in place. A length of
+ * 0 means that there is no application. */
+int32_t dfu_device_image(const struct dfu_config *config, uint8_t *medium, size_t size, struct dfu_place *place);
 
 /* The version of the archive: DFU_VERSION, where header and archive belong together. */
 int32_t dfu_device_version(void);

@@ -23,7 +23,7 @@ export class Device extends Library {
   // config: the fields of struct dfu_config. The medium is made for images of up to `capacity` bytes, all FFh but for `image`.
   constructor(module, config, capacity, image) {
     super(module)
-    this.config = this.record('dfu_config', config)
+    this.config = this.record('dfu_config', { unit: 1, ...config })
     this.device = this.record('dfu_device')
     this.block = this.reserve(MOST_BLOCK)
     this.size = this.sizeFor(capacity)
@@ -33,7 +33,8 @@ export class Device extends Library {
     this.body = this.reserve(MOST_BODY)
     this.out = this.reserve(MOST_ANSWER)
     this.place = this.record('dfu_place')
-    taken(this.calls.dfu_device_format(BigInt(this.medium), BigInt(this.size), BigInt(this.put(image)), BigInt(image.length)))
+    const words = [this.config, this.medium, this.size, this.put(image), image.length].map(BigInt)
+    taken(this.calls.dfu_device_format(...words))
     this.power()
   }
 
@@ -83,7 +84,7 @@ export class Device extends Library {
 
   // Where the active image stands on the medium.
   imagePlace() {
-    taken(this.calls.dfu_device_image(BigInt(this.medium), BigInt(this.size), BigInt(this.place)))
+    taken(this.calls.dfu_device_image(...[this.config, this.medium, this.size, this.place].map(BigInt)))
     return this.read('dfu_place', this.place)
   }
 

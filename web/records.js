@@ -10,8 +10,10 @@ export const RECORDS = {
   dfu_action: 'u32 what, u32 value, u64 from, u64 length, u32 code, u8[8] setup',
   dfu_config:
     'u32 version, u16 device, u16 product, u16 vendor, u16 detach_ms, u16 transfer, u8 attributes, u32 busy_ms, u32 manifest_ms, ' +
-    'u32 least',
-  dfu_device: 'u32 version, u32 mode, u32 first, u32 second, u32 put_end, u32 slot, u16 number, u16 length, u8[16] header',
+    'u32 least, u32 unit',
+  dfu_device:
+    'u32 version, u32 mode, u32 first, u32 second, u32 put_end, u32 slot, u16 number, u16 length, u8[16] header, ' +
+    'u16 held_length, u8[256] held',
   dfu_place: 'u32 at, u32 length',
 }
 

@@ -5,7 +5,7 @@
 
 #include "dfu_device.h"
 
-static const struct dfu_config config = {DFU_VERSION, 0x0100, 1, 0x1209, 255, 4096, 7, 5, 10, 1};
+static const struct dfu_config config = {DFU_VERSION, 0x0100, 1, 0x1209, 255, 4096, 7, 5, 10, 1, 1};
 static struct dfu_device device;
 static struct dfu_place place;
 static uint8_t medium[2 * (32 + (1 << 20))], image[1 << 20], out[4096], block[4096], pending[4096];
@@ -22,7 +22,7 @@ static void call(int which) {
     case 1: ask(0xa1, 5, 1); break;
     case 2: dfu_device_elapse(&config, &device, pending, sizeof pending, medium, sizeof medium, 0); break;
     case 3: dfu_device_usb_reset(&config, &device, pending, sizeof pending, medium, sizeof medium); break;
-    case 4: dfu_device_image(medium, sizeof medium, &place); break;
+    case 4: dfu_device_image(&config, medium, sizeof medium, &place); break;
     case 5: dfu_device_state(&device); break;
     }
 }
@@ -36,7 +36,7 @@ int main(void) {
         for (int size = 0; size < 3; size++) {
             struct timespec from, to;
             long turns = size == 0 ? 100000 : size == 1 ? 500 : 40;
-            if (dfu_device_format(medium, sizeof medium, image, sizes[size]) != 0
+            if (dfu_device_format(&config, medium, sizeof medium, image, sizes[size]) != 0
                 || dfu_device_power_on(&config, &device, medium, sizeof medium) != 0)
                 return 1;
             clock_gettime(CLOCK_MONOTONIC, &from);

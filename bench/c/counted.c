@@ -19,7 +19,16 @@
 static uint8_t pending[4096];
 #endif
 
-static struct dfu_config config = {VERSION 0x0100, 1, 0x1209, 255, 4096, 7, 5, 10, 1};
+/* And one of before the unit was in the configuration, with -DIN_BYTES. */
+#ifdef IN_BYTES
+#define UNIT
+#define CONFIG
+#else
+#define UNIT , 1
+#define CONFIG &config,
+#endif
+
+static struct dfu_config config = {VERSION 0x0100, 1, 0x1209, 255, 4096, 7, 5, 10, 1 UNIT};
 static struct dfu_device device;
 static uint8_t medium[2 * (32 + MOST)], image[MOST], out[4096];
 
@@ -59,7 +68,7 @@ int main(int count, char **words) {
         return 2;
     const char *what = words[1];
     size_t bytes = (size_t)atol(words[2]), turns = (size_t)atol(words[3]);
-    if (bytes < 1 || bytes > MOST || dfu_device_format(medium, sizeof medium, image, bytes) != 0)
+    if (bytes < 1 || bytes > MOST || dfu_device_format(CONFIG medium, sizeof medium, image, bytes) != 0)
         return 2;
     if (strcmp(what, "begin") == 0)
         return !begin();

@@ -11,7 +11,7 @@ enum { UNIT = 16, CAPACITY = 1024 };
 static const struct dfu_config config = {
     .version = DFU_VERSION, .device = 0x0100, .product = 1, .vendor = 0x1209,
     .detach_ms = 255, .transfer = 32, .attributes = 7,
-    .busy_ms = 5, .manifest_ms = 10, .least = 1,
+    .busy_ms = 5, .manifest_ms = 10, .least = 1, .unit = UNIT,
 };
 
 /* What lasts through a loss of power: the part. The library gets it to read; the driver alone writes it. */
@@ -46,7 +46,7 @@ static int32_t settle(int32_t answer) {
 static void show(const char *what, int32_t answer) {
     struct dfu_place place;
     printf("%-10s %2d state %d\n", what, (int)answer, (int)dfu_device_state(&device.device));
-    if (dfu_device_state(&device.device) == 0 && dfu_asking_image(UNIT, 0, flash, sizeof part, &place) == 0)
+    if (dfu_device_state(&device.device) == 0 && dfu_asking_image(&config, 0, flash, sizeof part, &place) == 0)
         printf("application of %u bytes, the first %02x\n", (unsigned)place.length, flash[place.at]);
 }
 
@@ -66,7 +66,7 @@ static void pass(uint32_t ms) {
 }
 
 static int32_t power_on(void) {
-    return dfu_asking_power_on(&config, &device, UNIT, 0, flash, sizeof part);
+    return dfu_asking_power_on(&config, &device, 0, flash, sizeof part);
 }
 
 static int32_t reset(void) {
@@ -75,7 +75,7 @@ static int32_t reset(void) {
 
 int main(void) {
     /* Once, where a board is made: what a programmer writes into the part. */
-    if (dfu_asking_format(UNIT, 0, part, sizeof part, (const uint8_t *)"\x11\x22", 2) != 0)
+    if (dfu_asking_format(&config, 0, part, sizeof part, (const uint8_t *)"\x11\x22", 2) != 0)
         return 1;
     show("power on", power_on());
     transfer("DETACH", 0x21, 0, 1000, "", 0);

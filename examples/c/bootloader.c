@@ -8,7 +8,7 @@
 static const struct dfu_config config = {
     .version = DFU_VERSION, .device = 0x0100, .product = 1, .vendor = 0x1209,
     .detach_ms = 255, .transfer = 64, .attributes = 7,
-    .busy_ms = 5, .manifest_ms = 10, .least = 1,
+    .busy_ms = 5, .manifest_ms = 10, .least = 1, .unit = 1,
 };
 
 /* What lasts through a loss of power, and what need not. */
@@ -20,7 +20,7 @@ static uint8_t pending[64];
 static void show(const char *what, int32_t answer) {
     struct dfu_place place;
     printf("%-10s %2d state %d\n", what, (int)answer, (int)dfu_device_state(&device));
-    if (dfu_device_state(&device) == 0 && dfu_device_image(medium, sizeof medium, &place) == 0)
+    if (dfu_device_state(&device) == 0 && dfu_device_image(&config, medium, sizeof medium, &place) == 0)
         printf("application of %u bytes, the first %02x\n", (unsigned)place.length, medium[place.at]);
 }
 
@@ -43,7 +43,7 @@ static void pass(uint32_t ms) {
 int main(void) {
     /* Once, where a board is made: it throws away what stands on the medium. Here that is memory, which is empty each time. A
      * bootloader begins with dfu_device_power_on. */
-    if (dfu_device_format(medium, sizeof medium, (const uint8_t *)"\x11\x22", 2) != 0)
+    if (dfu_device_format(&config, medium, sizeof medium, (const uint8_t *)"\x11\x22", 2) != 0)
         return 1;
     show("power on", dfu_device_power_on(&config, &device, medium, sizeof medium));
     transfer("DETACH", 0x21, 0, 1000, "", 0);

@@ -8,7 +8,7 @@
 static const struct dfu_config config = {
     .version = DFU_VERSION, .device = 0x0100, .product = 1, .vendor = 0x1209,
     .detach_ms = 255, .transfer = 64, .attributes = 7,
-    .busy_ms = 5, .manifest_ms = 10, .least = 1,
+    .busy_ms = 5, .manifest_ms = 10, .least = 1, .unit = 1,
 };
 static uint8_t medium[2 * (32 + 1024)];
 static struct dfu_device device;
@@ -47,7 +47,7 @@ static void get_status(void) {
 /* What runs: the application at its place, if there is one. */
 static void application(void) {
     struct dfu_place place;
-    if (dfu_device_image(medium, sizeof medium, &place) == 0 && place.length > 0)
+    if (dfu_device_image(&config, medium, sizeof medium, &place) == 0 && place.length > 0)
         printf("application of %u bytes, the first %02x\n", (unsigned)place.length, medium[place.at]);
     else
         printf("no application\n");
@@ -61,7 +61,7 @@ int main(void) {
     for (size_t at = 0; at < sizeof descriptor; at++)
         printf(" %02x", descriptor[at]);
     printf("\n");
-    if (dfu_device_format(medium, sizeof medium, endpoint, 0) != 0)
+    if (dfu_device_format(&config, medium, sizeof medium, endpoint, 0) != 0)
         return 1;
     show("begin", dfu_device_begin(&config, &device, medium, sizeof medium));
     application();

@@ -8,7 +8,7 @@
 
 static const struct dfu_config config = {
     .version = DFU_VERSION, .device = 0x0100, .product = 1, .vendor = 0x1209, .detach_ms = 255, .transfer = 64,
-    .attributes = 7, .busy_ms = 5, .manifest_ms = 10, .least = 1,
+    .attributes = 7, .busy_ms = 5, .manifest_ms = 10, .least = 1, .unit = 1,
 };
 static const uint8_t descriptor[9] = {9, 0x21, 7, 255, 0, 64, 0, 0x10, 1};
 static const struct dfu_ids ids = {0x0100, 1, 0x1209};
@@ -52,7 +52,7 @@ int main(int words, char **word) {
     struct dfu_action a = {0};
     uint8_t name[16];
     int steps = 0;
-    int32_t refusal = dfu_device_format(medium, sizeof medium, (const uint8_t *)"", 1);
+    int32_t refusal = dfu_device_format(&config, medium, sizeof medium, (const uint8_t *)"", 1);
     if (refusal == 0)
         refusal = dfu_device_power_on(&config, &device, medium, sizeof medium);
     if (refusal == 0)

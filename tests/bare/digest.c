@@ -12,7 +12,7 @@
 #define ANSWER 4096
 
 static uint64_t dice, sum = 14695981039346656037u;
-static uint8_t rooms[5][2 * (32 + MOST) + 8] __attribute__((aligned(8)));
+static uint8_t rooms[5][2 * (600 + MOST + 300) + 8] __attribute__((aligned(8)));
 static uint8_t *medium, *out, *body, *image, *pending;
 static struct dfu_device device;
 static struct dfu_config config;
@@ -55,8 +55,8 @@ static int32_t count(int32_t answer) {
 
 /* A board is made anew, with a configuration that is now and then none. */
 static void make_board(void) {
-    static const uint16_t sizes[] = {8, 64, 64, 512, ANSWER, 1, ANSWER + 1, 0};
-    size_t capacity = 1 + roll(roll(4) ? 300 : MOST), length = roll((uint32_t)capacity + 1);
+    static const uint16_t sizes[] = {8, 64, 64, 512, ANSWER, 1, ANSWER + 1, 0}, units[] = {1, 16, 64, 256};
+    size_t capacity = 1 + roll(roll(4) ? 300 : MOST);
     config.version = DFU_VERSION + (roll(64) == 0);
     config.device = (uint16_t)roll(65536), config.product = (uint16_t)roll(65536), config.vendor = (uint16_t)roll(65536);
     config.detach_ms = (uint16_t)roll(300);
@@ -65,13 +65,17 @@ static void make_board(void) {
     config.busy_ms = roll(3) ? roll(20) : 0;
     config.manifest_ms = roll(3) ? 1 + roll(20) : roll(16) ? 0 : 1u << 24;
     config.least = roll(16) ? 1 + roll(20) : roll(2) ? 0 : 1u << 24;
-    size = 2 * (32 + capacity);
+    config.unit = roll(32) ? units[roll(4)] : roll(300);
+    size_t gate = config.unit > 16 ? config.unit : 16, over = roll(16) ? capacity % (config.unit ? config.unit : 1) : 0;
+    capacity = capacity > over ? capacity - over : gate;
+    size = 2 * (2 * gate + capacity);
+    size_t length = roll((uint32_t)capacity + 1);
     fill(medium, size);
     fill(image, length);
     size_t given = roll(32) ? size : size - 1;
     if (roll(32) == 0)
         length = capacity + 1;
-    count(dfu_device_format(medium, given, image, length));
+    count(dfu_device_format(&config, medium, given, image, length));
     count(dfu_device_power_on(&config, &device, medium, size));
     block = part = 0;
 }
@@ -148,7 +152,7 @@ static void look(int32_t answer) {
     struct dfu_place place = {1, 2};
     add(&device, sizeof device), add(pending, ANSWER), add(medium, size), add(out, answer > 0 && answer <= ANSWER ? (size_t)answer : 0);
     count(dfu_device_state(&device)), count(dfu_device_code(&device));
-    count(dfu_device_image(medium, size, &place)), add(&place, sizeof place);
+    count(dfu_device_image(&config, medium, size, &place)), add(&place, sizeof place);
 }
 
 int main(int words, char **word) {

@@ -11,7 +11,7 @@
 
 static struct dfu_config config = {
     .version = DFU_VERSION, .device = 0x0100, .product = 1, .vendor = 0x1209, .detach_ms = 255, .transfer = 100,
-    .attributes = 7, .busy_ms = 5, .manifest_ms = 10, .least = 1,
+    .attributes = 7, .busy_ms = 5, .manifest_ms = 10, .least = 1, .unit = 1,
 };
 static struct dfu_device device;
 static uint8_t pending[100], medium[2 * (32 + 160)], last[sizeof medium];
@@ -59,7 +59,7 @@ static void install(const uint8_t image[IMAGE], void (*may_write)(void (*call)(v
 
 static int has(const uint8_t *bytes, uint32_t length) {
     struct dfu_place place;
-    return dfu_device_image(medium, sizeof medium, &place) == 0 && place.length == length
+    return dfu_device_image(&config, medium, sizeof medium, &place) == 0 && place.length == length
         && memcmp(medium + place.at, bytes, length) == 0;
 }
 
@@ -106,9 +106,10 @@ int main(void) {
     static uint8_t first[IMAGE], second[IMAGE];
     for (uint8_t at = 0; at < IMAGE; at++)
         first[at] = at, second[at] = (uint8_t)(0xff - at);
-    for (uint8_t attributes = 3; attributes <= 7; attributes += 4) {
-        config.attributes = attributes;
-        dfu_device_format(medium, sizeof medium, old, sizeof old);
+    for (int turn = 0; turn < 4; turn++) {
+        config.attributes = turn & 1 ? 7 : 3;
+        config.unit = turn & 2 ? 16 : 1;
+        dfu_device_format(&config, medium, sizeof medium, old, sizeof old);
         goes(old, sizeof old, first);
         goes(first, sizeof first, second);
     }

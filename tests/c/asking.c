@@ -8,7 +8,7 @@
 
 #define MODES 13
 
-static struct dfu_config config = {DFU_VERSION, 0x0100, 1, 0x1209, 255, 8, 7, 5, 10, 4};
+static struct dfu_config config = {DFU_VERSION, 0x0100, 1, 0x1209, 255, 8, 7, 5, 10, 4, 1};
 static struct dfu_device device, stations[MODES];
 static uint8_t pending[64], medium[2 * (32 + 16)], mediums[MODES][sizeof medium], out[16];
 static int wrong, stalls, others;
@@ -39,7 +39,7 @@ static void keep(void) {
 
 /* The way through every mode. */
 static void visit(void) {
-    dfu_device_format(medium, sizeof medium, (const uint8_t *)"0123456789", 10);
+    dfu_device_format(&config, medium, sizeof medium, (const uint8_t *)"0123456789", 10);
     dfu_device_power_on(&config, &device, medium, sizeof medium), keep();
     ask(0x21, 0, 100, 0), keep();
     dfu_device_usb_reset(&config, &device, pending, sizeof pending, medium, sizeof medium), keep();
@@ -145,11 +145,11 @@ static void rest(void) {
     device.mode = 13;
     expect("no mode", dfu_device_would_stall(&config, &device, sizeof medium, setup) == DFU_NO_DEVICE
         && dfu_device_due(&config, &device) == DFU_NO_DEVICE && dfu_device_too_long(&config, &device, setup) == DFU_NO_DEVICE);
-    expect("begin", dfu_device_format(medium, sizeof medium, setup, 0) == 0
+    expect("begin", dfu_device_format(&config, medium, sizeof medium, setup, 0) == 0
         && dfu_device_begin(&config, &device, medium, sizeof medium) == 0 && dfu_device_state(&device) == 2);
-    expect("no application", dfu_device_image(medium, sizeof medium, &place) == 0 && place.length == 0);
+    expect("no application", dfu_device_image(&config, medium, sizeof medium, &place) == 0 && place.length == 0);
     ask(0x21, 1, 0, 8), ask(0xa1, 3, 0, 6), pass(5), ask(0xa1, 3, 0, 6), ask(0x21, 1, 1, 0), ask(0xa1, 3, 0, 6), pass(10);
-    expect("application", dfu_device_image(medium, sizeof medium, &place) == 0 && place.length == 8);
+    expect("application", dfu_device_image(&config, medium, sizeof medium, &place) == 0 && place.length == 8);
     memset(medium, 0xff, sizeof medium);
     expect("no medium", dfu_device_begin(&config, &device, medium, sizeof medium) == DFU_NO_MEDIUM);
     expect("version", dfu_device_version() == DFU_VERSION);

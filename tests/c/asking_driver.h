@@ -11,7 +11,7 @@
 #define MOST_FLASH (2 * (512 + 1024))
 #define MOST_BLOCK 512
 
-static struct dfu_config config = {DFU_VERSION, 0x0100, 1, 0x1209, 20, 20, 7, 0, 0, 1};
+static struct dfu_config config = {DFU_VERSION, 0x0100, 1, 0x1209, 20, 20, 7, 0, 0, 1, 1};
 static uint32_t dice = 1;
 
 static inline uint32_t roll(uint32_t sides) {
@@ -109,7 +109,7 @@ static inline int32_t reset(struct board *board) {
 
 static inline int32_t power_on(struct board *board) {
     is_off = 0;
-    return dfu_asking_power_on(&config, &board->device, board->unit, 0, board->flash, board->size);
+    return dfu_asking_power_on(&config, &board->device, 0, board->flash, board->size);
 }
 
 /* A board with flash of this unit, for images of so many bytes at most, and with this image. */
@@ -117,7 +117,8 @@ static inline int32_t ship(struct board *board, uint32_t unit, size_t capacity, 
     memset(board, 0x5a, sizeof *board);
     board->unit = unit;
     board->size = 2 * (2 * gate(unit) + capacity);
-    int32_t made = dfu_asking_format(unit, 0, board->flash, board->size, image, length);
+    config.unit = unit;
+    int32_t made = dfu_asking_format(&config, 0, board->flash, board->size, image, length);
     return made != 0 ? made : power_on(board);
 }
 

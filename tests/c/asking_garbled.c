@@ -53,7 +53,7 @@ static int32_t one_call(const uint8_t setup[8], const uint8_t *body, uint32_t wh
     case 3: return dfu_asking_took(&config, &b->device, b->pending, most, b->flash, b->size, roll(4) == 0, b->out, room);
     case 5: return dfu_asking_would_stall(&config, &b->device, b->size, setup);
     case 6: return dfu_asking_too_long(&config, &b->device, setup);
-    case 4: return dfu_asking_power_on(&config, &b->device, b->unit, 0, b->flash, b->size);
+    case 4: return dfu_asking_power_on(&config, &b->device, 0, b->flash, b->size);
     default:
         return dfu_asking_handle(&config, &b->device, b->pending, most, b->flash, b->size, setup, body,
                                  setup[0] == 0x21 ? (size_t)(setup[6] | setup[7] << 8) : 0, b->out, room);
@@ -112,7 +112,7 @@ int main(int count, char **words) {
             pieces++;
             if (ask.kind != DFU_PROGRAM || ask.length < 1 || ask.length > 256 || memcmp(&kept, &board, sizeof kept) != 0)
                 stop("an ask that is none", call);
-            if (dfu_asking_image(board.device.unit, 0, board.flash, board.size, &place) == 0) {
+            if (dfu_asking_image(&config, 0, board.flash, board.size, &place) == 0) {
                 size_t spare = place.at < board.size / 2 ? board.size / 2 : 0;
                 if (ask.at < spare || ask.at + (size_t)ask.length > spare + board.size / 2)
                     stop("a write outside the spare slot", call);
@@ -121,7 +121,7 @@ int main(int count, char **words) {
         if (call % 16 > 12)
             carry_on(result);
         if (where == 6)
-            config = (struct dfu_config){DFU_VERSION, 0x0100, 1, 0x1209, 20, 20, 7, 0, 0, 1};
+            config = (struct dfu_config){DFU_VERSION, 0x0100, 1, 0x1209, 20, 20, 7, 0, 0, 1, board.unit};
     }
     printf("asking_garbled: %ld calls, %ld answers, %ld asks, %ld pieces; refused:", all, answers, asks, pieces);
     for (int i = 2; i < 14; i++)

@@ -53,7 +53,7 @@ static void download(const struct fate *fate, int calls) {
 
 static int has(const uint8_t *image, size_t length) {
     struct dfu_place place;
-    return dfu_asking_image(board.unit, 0, board.flash, board.size, &place) == 0 && place.length == length
+    return dfu_asking_image(&config, 0, board.flash, board.size, &place) == 0 && place.length == length
         && memcmp(board.flash + place.at, image, length) == 0;
 }
 

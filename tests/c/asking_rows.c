@@ -59,7 +59,7 @@ static void a_download(void) {
                         && dfu_asking_too_long(&config, &board.device, long_one) == DFU_ASKED);
     expect("it closes the gate only where it is open", board.flash[96] != 0xa5);
     write_is("the whole unit", 128, 16, 'a', 0);
-    expect("written", dfu_device_state(&board.device.device) == 3 && board.device.held_length == 4);
+    expect("written", dfu_device_state(&board.device.device) == 3 && board.device.device.held_length == 4);
     expect("GETSTATUS", handle(0xa1, 3, 0, 6, "") == 6 && board.out[4] == 5);
     expect("no more", handle(0x21, 1, 1, 0, "") == 0 && dfu_device_state(&board.device.device) == 6);
     expect("GETSTATUS asks", handle(0xa1, 3, 0, 6, "") == DFU_ASKS);
@@ -69,40 +69,42 @@ static void a_download(void) {
     write_is("the gate", 96, 16, 0xa5, 6);
     expect("installed", board.out[0] == 0 && board.out[4] == 2 && board.device.work == 0);
     struct dfu_place place;
-    expect("image", dfu_asking_image(16, 0, board.flash, board.size, &place) == 0 && place.at == 128 && place.length == 20);
+    expect("image", dfu_asking_image(&config, 0, board.flash, board.size, &place) == 0 && place.at == 128 && place.length == 20);
     expect("UPLOAD", handle(0xa1, 2, 0, 20, "") == 20 && memcmp(board.out, "abcdefghijklmnopqrst", 20) == 0);
     expect("the end", handle(0xa1, 2, 1, 20, "") == 0 && dfu_device_state(&board.device.device) == 2);
 }
 
 /* Refusals, in their order. */
 static void refusals(void) {
-    struct dfu_config other = config;
+    struct dfu_config other = config, three = config, large = config;
     struct dfu_asking device = board.device;
     struct dfu_place place;
     uint8_t setup[8] = {0xa1, 3, 0, 0, 0, 0, 6, 0}, out[20], none[192] = {0};
     other.version++;
-    expect("format", dfu_asking_format(2, 0, none, sizeof none, none, 0) == DFU_WRONG_UNIT
-                         && dfu_asking_format(16, 256, none, sizeof none, none, 0) == DFU_WRONG_UNIT
-                         && dfu_asking_format(16, 0, none, 66, none, 0) == DFU_WRONG_SIZE
-                         && dfu_asking_format(16, 0, none, sizeof none, none, 65) == DFU_TOO_LARGE && none[0] == 0);
-    expect("power on", dfu_asking_power_on(&other, &device, 3, 0, none, 192) == DFU_NO_CONFIG
-                           && dfu_asking_power_on(&config, &device, 3, 0, none, 192) == DFU_WRONG_UNIT
-                           && dfu_asking_power_on(&config, &device, 16, 4096, none, 192) == DFU_WRONG_UNIT
-                           && dfu_asking_power_on(&config, &device, 16, 0, none, 192) == DFU_NO_MEDIUM);
-    expect("image", dfu_asking_image(3, 0, none, 192, &place) == DFU_WRONG_UNIT && dfu_asking_image(64, 0, none, 192, &place) == DFU_NO_MEDIUM);
+    three.unit = 3;
+    large.unit = 64;
+    expect("format", dfu_asking_format(&three, 256, none, sizeof none, none, 0) == DFU_NO_CONFIG
+                         && dfu_asking_format(&config, 256, none, sizeof none, none, 0) == DFU_WRONG_UNIT
+                         && dfu_asking_format(&config, 0, none, 66, none, 0) == DFU_WRONG_SIZE
+                         && dfu_asking_format(&config, 0, none, sizeof none, none, 65) == DFU_TOO_LARGE && none[0] == 0);
+    expect("power on", dfu_asking_power_on(&other, &device, 4096, none, 192) == DFU_NO_CONFIG
+                           && dfu_asking_power_on(&three, &device, 4096, none, 192) == DFU_NO_CONFIG
+                           && dfu_asking_power_on(&config, &device, 4096, none, 192) == DFU_WRONG_UNIT
+                           && dfu_asking_power_on(&config, &device, 0, none, 192) == DFU_NO_MEDIUM);
+    expect("image", dfu_asking_image(&three, 4096, none, 192, &place) == DFU_NO_CONFIG
+                        && dfu_asking_image(&config, 4096, none, 192, &place) == DFU_WRONG_UNIT
+                        && dfu_asking_image(&large, 0, none, 192, &place) == DFU_NO_MEDIUM);
 #define HANDLE(config, device, most, flash, room) \
     dfu_asking_handle(config, device, board.pending, most, flash, 192, setup, (const uint8_t *)"", 0, out, room)
     expect("no room", HANDLE(&other, &device, 0, none, 19) == DFU_NO_ROOM);
     expect("no config", HANDLE(&other, &device, 0, none, 20) == DFU_NO_CONFIG);
     expect("no block", HANDLE(&config, &device, 19, none, 20) == DFU_NO_BLOCK);
     expect("no medium", HANDLE(&config, &device, 20, none, 20) == DFU_NO_MEDIUM);
-    device.unit = 64;
-    expect("another unit", HANDLE(&config, &device, 20, board.flash, 20) == DFU_NO_MEDIUM);
-    device.unit = 3;
-    expect("no unit", HANDLE(&config, &device, 20, none, 20) == DFU_NO_DEVICE);
+    expect("another unit", HANDLE(&large, &device, 20, board.flash, 20) == DFU_NO_MEDIUM);
+    expect("no unit", HANDLE(&three, &device, 20, board.flash, 20) == DFU_NO_CONFIG);
     device = board.device, device.sector = 256;
     expect("sectors", HANDLE(&config, &device, 20, none, 20) == DFU_NO_DEVICE);
-    device = board.device, device.held_length = 257;
+    device = board.device, device.device.held_length = 257;
     expect("held", HANDLE(&config, &device, 20, none, 20) == DFU_NO_DEVICE);
     device = board.device, device.device.length = 21;
     expect("length", HANDLE(&config, &device, 20, none, 20) == DFU_NO_DEVICE);

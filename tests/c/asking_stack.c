@@ -8,7 +8,7 @@
 
 #include "dfu_asking.h"
 
-static const struct dfu_config config = {DFU_VERSION, 0x0100, 1, 0x1209, 255, 4096, 7, 0, 10, 1};
+static const struct dfu_config config = {DFU_VERSION, 0x0100, 1, 0x1209, 255, 4096, 7, 0, 10, 1, 256};
 static struct dfu_asking device;
 static struct dfu_place place;
 static struct dfu_ask write;
@@ -33,8 +33,8 @@ static void took(void) {
 
 static void *run(void *word) {
     switch (*(int *)word) {
-    case 1: dfu_asking_format(256, 0, flash, sizeof flash, block, sizeof block); break;
-    case 2: dfu_asking_power_on(&config, &device, 256, 0, flash, sizeof flash); break;
+    case 1: dfu_asking_format(&config, 0, flash, sizeof flash, block, sizeof block); break;
+    case 2: dfu_asking_power_on(&config, &device, 0, flash, sizeof flash); break;
     case 3: ask(0x21, 0, 200, 0); break;
     case 4: dfu_asking_usb_reset(&config, &device, pending, sizeof pending, flash, sizeof flash); break;
     case 5: ask(0x21, 1, 0, 4000); break;
@@ -45,7 +45,7 @@ static void *run(void *word) {
     case 10: answer = dfu_asking_elapse(&config, &device, pending, sizeof pending, flash, sizeof flash, 10); break;
     case 11: while (answer == DFU_ASKS && next() == 0) took(); break;
     case 12: ask(0xa1, 3, 0, 6), ask(0xa1, 2, 0, 4096); break;
-    case 13: dfu_asking_image(256, 0, flash, sizeof flash, &place); break;
+    case 13: dfu_asking_image(&config, 0, flash, sizeof flash, &place); break;
     }
     return word;
 }

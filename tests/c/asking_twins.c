@@ -1,5 +1,5 @@
 /* Sessions by dice, each call made twice: of a device over plain memory, and of one that asks, whose driver writes. Both answer the
- * same, with the same bytes, and leave the same record and the same image; in bytes also the same medium. What each says of a setup
+ * same, with the same bytes, and leave the same record, the same image and the same medium, in each unit. What each says of a setup
  * before its body is there is the same too, and is so. */
 #include "asking_driver.h"
 
@@ -43,15 +43,16 @@ static int is_same(const struct board *board) {
     struct dfu_place one, two;
     if (device->version != plain.version || device->mode != plain.mode || device->first != plain.first || device->second != plain.second
         || device->number != plain.number || device->put_end != plain.put_end || device->length != plain.length
-        || board->device.work != 0)
+        || board->device.work != 0 || device->held_length != plain.held_length
+        || memcmp(device->held, plain.held, plain.held_length) != 0)
         return 0;
     if (memcmp(board->pending, pending, device->length) != 0 || memcmp(board->out, out, sizeof out) != 0)
         return 0;
-    if (dfu_device_image(medium, size, &one) != 0 || dfu_asking_image(board->unit, 0, board->flash, board->size, &two) != 0)
+    if (dfu_device_image(&config, medium, size, &one) != 0 || dfu_asking_image(&config, 0, board->flash, board->size, &two) != 0)
         return 0;
     if (one.length != two.length || memcmp(medium + one.at, board->flash + two.at, one.length) != 0)
         return 0;
-    return board->unit != 1 || memcmp(medium, board->flash, size) == 0;
+    return memcmp(medium, board->flash, size) == 0;
 }
 
 int main(int count, char **words) {
@@ -66,12 +67,11 @@ int main(int count, char **words) {
             config.transfer = (uint16_t)(roll(2) ? 20 : 1 + roll(MOST_BLOCK));
             for (size_t i = 0; i < sizeof image; i++)
                 image[i] = (uint8_t)roll(256);
-            size = 2 * (32 + capacity);
-            if (ship(&board, unit, capacity, image, length) != 0 || dfu_device_format(medium, size, image, length) != 0
+            size = 2 * (2 * gate(unit) + capacity);
+            if (ship(&board, unit, capacity, image, length) != 0 || dfu_device_format(&config, medium, size, image, length) != 0
                 || dfu_device_power_on(&config, &plain, medium, size) != 0)
                 return printf("asking_twins: nothing is made\n"), 1;
-            if (unit == 1)
-                memcpy(board.flash, medium, size);
+            memcpy(board.flash, medium, size);
             memset(pending, 0x5a, sizeof pending);
             memset(out, 0x5a, sizeof out);
         }

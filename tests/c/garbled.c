@@ -6,7 +6,7 @@
 
 #include "dfu_device.h"
 
-static const struct dfu_config config = {DFU_VERSION, 0x0100, 1, 0x1209, 255, 8, 7, 5, 10, 1};
+static const struct dfu_config config = {DFU_VERSION, 0x0100, 1, 0x1209, 255, 8, 7, 5, 10, 1, 1};
 static uint32_t dice = 1;
 
 static uint32_t roll(uint32_t sides) {
@@ -37,7 +37,7 @@ int main(int count, char **words) {
     struct dfu_device *record = &records[1];
     uint8_t *medium = field + 64, *out = given + 64, *block = held + 64;
     long answered = 0, refused = 0, all = count > 1 ? atol(words[1]) : 1000;
-    if (dfu_device_format(start, sizeof start, (const uint8_t *)"\x11\x22", 2) != 0)
+    if (dfu_device_format(&config, start, sizeof start, (const uint8_t *)"\x11\x22", 2) != 0)
         return 1;
     for (long call = 0; call < all; call++) {
         uint8_t body[8] = {1, 2, 3, 4, 5, 6, 7, 8};
@@ -52,21 +52,26 @@ int main(int count, char **words) {
         /* The spare's gate is closed in one of two, so that bytes may stand there. */
         if (roll(2))
             medium[96] = 0;
+        /* In bytes or in units of 16; what is held back goes with where the puts end in seven of eight. */
+        struct dfu_config used = config;
+        used.unit = roll(2) ? 1 : 16;
         *record = (struct dfu_device){DFU_VERSION + (roll(16) == 0), roll(14), roll(12), roll(20), roll(12), roll(3), (uint16_t)roll(18),
-                                      (uint16_t)roll(14), {0}};
+                                      (uint16_t)roll(14), {0}, 0, {1, 2, 3}};
+        record->held_length = (uint16_t)(roll(8) ? record->put_end % used.unit : roll(300));
         /* Two of three note a header that stands on the medium. */
         if (roll(3))
             memcpy(record->header, medium + (record->slot ? 96 : 0) + 16, 16);
         if (roll(4) == 0)
             ((uint8_t *)record)[roll(sizeof *record)] = (uint8_t)roll(256);
         /* One of sixteen is refused for the room, one for the configuration, one for both, and one for the block. */
-        struct dfu_config used = config;
         uint32_t fault = roll(16);
         size_t room = fault == 0 || fault == 2 ? roll(8) : 8;
         if (fault == 1 || fault == 2)
             used.busy_ms = 0x1000000;
         if (fault == 4)
             used.version++;
+        if (fault == 5)
+            used.unit = 17;
         size_t most = fault == 3 ? roll(8) : 8 + roll(5);
         memcpy(field_before, field, sizeof field);
         memcpy(given_before, given, sizeof given);

@@ -8,7 +8,7 @@
 
 #define SIZE (2 * (32 + 64))
 
-static struct dfu_config config = {DFU_VERSION, 0x0100, 1, 0x1209, 20, 16, 7, 0, 0, 1};
+static struct dfu_config config = {DFU_VERSION, 0x0100, 1, 0x1209, 20, 16, 7, 0, 0, 1, 1};
 static uint32_t dice = 1;
 
 static uint32_t roll(uint32_t sides) {
@@ -56,7 +56,8 @@ static int32_t make(struct made *made, uint32_t what, uint32_t ms, const uint8_t
 int main(int count, char **words) {
     static struct made noted, other;
     long all = count > 1 ? atol(words[1]) : 1000, installed = 0;
-    if (dfu_device_format(noted.medium, SIZE, (const uint8_t *)"\x11\x22", 2) != 0
+    config.unit = count > 2 ? (uint32_t)atol(words[2]) : 1;
+    if (dfu_device_format(&config, noted.medium, SIZE, (const uint8_t *)"\x11\x22", 2) != 0
         || dfu_device_power_on(&config, &noted.device, noted.medium, SIZE) != 0)
         return 1;
     for (long call = 0; call < all; call++) {

@@ -5,7 +5,7 @@
 
 #include "dfu_device.h"
 
-static struct dfu_config config = {DFU_VERSION, 0x0100, 1, 0x1209, 255, 8, 7, 5, 10, 1};
+static struct dfu_config config = {DFU_VERSION, 0x0100, 1, 0x1209, 255, 8, 7, 5, 10, 1, 1};
 static struct dfu_device device;
 static uint8_t medium[2 * (32 + 64)], pending[8], image[20];
 static const uint8_t old[3] = {1, 2, 3};
@@ -56,7 +56,7 @@ static void install(void) {
 
 static int has(const uint8_t *bytes, uint32_t length) {
     struct dfu_place place;
-    return dfu_device_image(medium, sizeof medium, &place) == 0 && place.length == length && memcmp(medium + place.at, bytes, length) == 0;
+    return dfu_device_image(&config, medium, sizeof medium, &place) == 0 && place.length == length && memcmp(medium + place.at, bytes, length) == 0;
 }
 
 int main(void) {
@@ -66,7 +66,7 @@ int main(void) {
     for (int tolerant = 0; tolerant < 2; tolerant++)
         for (calls = 0, last = 0; last == 0 || calls >= last; last++) {
             config.attributes = (uint8_t)(3 + 4 * tolerant);
-            if (dfu_device_format(medium, sizeof medium, old, sizeof old) != 0)
+            if (dfu_device_format(&config, medium, sizeof medium, old, sizeof old) != 0)
                 return 1;
             made = 0;
             install();

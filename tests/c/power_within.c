@@ -1,7 +1,7 @@
 /* Two images are installed, one after the other, and each call that may write is gone through instruction by instruction, on x86-64
  * by the processor's trap flag: after each instruction that changed the medium the power may have gone. On each medium that stood
  * there so a device gets power, its image is the one before or the one that is installed, whole, and never the one before again once
- * it was the new one; and an image can be installed on it. What caches and memory do behind the processor is not seen here. */
+ * it was the new one; and an image can be installed on it. So it is in units of a byte and of 16 bytes. What caches and memory do behind the processor is not seen here. */
 #define _POSIX_C_SOURCE 200809L
 #include <signal.h>
 #include <stdio.h>
@@ -13,9 +13,9 @@
 #define MOST 20000
 #define TRAP 0x100
 
-#define IMAGE 150 /* bytes, in blocks of 100 */
+#define IMAGE 150 /* bytes, in blocks of 100; in units of 16 some are held back after each */
 
-static struct dfu_config config = {DFU_VERSION, 0x0100, 1, 0x1209, 255, 100, 7, 5, 10, 1};
+static struct dfu_config config = {DFU_VERSION, 0x0100, 1, 0x1209, 255, 100, 7, 5, 10, 1, 1};
 static struct dfu_device device;
 static uint8_t pending[100], medium[2 * (32 + 160)], mediums[MOST][sizeof medium];
 static unsigned count;
@@ -67,7 +67,7 @@ static void install(const uint8_t image[IMAGE]) {
 
 static int has(const uint8_t *bytes, uint32_t length) {
     struct dfu_place place;
-    return dfu_device_image(medium, sizeof medium, &place) == 0 && place.length == length
+    return dfu_device_image(&config, medium, sizeof medium, &place) == 0 && place.length == length
         && memcmp(medium + place.at, bytes, length) == 0;
 }
 
@@ -114,9 +114,10 @@ int main(void) {
         second[at] = (uint8_t)(0xff - at);
     }
     sigaction(SIGTRAP, &action, NULL);
-    for (uint8_t attributes = 3; attributes <= 7; attributes += 4) {
-        config.attributes = attributes;
-        if (dfu_device_format(medium, sizeof medium, old, sizeof old) != 0 || !goes(old, sizeof old, first))
+    for (int turn = 0; turn < 4; turn++) {
+        config.attributes = turn & 1 ? 7 : 3;
+        config.unit = turn & 2 ? 16 : 1;
+        if (dfu_device_format(&config, medium, sizeof medium, old, sizeof old) != 0 || !goes(old, sizeof old, first))
             return 1;
         seen += count;
         if (!goes(first, sizeof first, second))

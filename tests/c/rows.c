@@ -4,7 +4,7 @@
 
 #include "dfu_device.h"
 
-static struct dfu_config config = {DFU_VERSION, 0x0100, 1, 0x1209, 255, 8, 7, 5, 10, 1};
+static struct dfu_config config = {DFU_VERSION, 0x0100, 1, 0x1209, 255, 8, 7, 5, 10, 1, 1};
 static struct dfu_device device;
 static uint8_t medium[2 * (32 + 64)], pending[16], out[16];
 static int wrong;
@@ -25,7 +25,7 @@ static void ask(const char *what, const char *setup, const void *body, size_t le
 
 static void image_is(const char *what, const char *bytes, uint32_t length) {
     struct dfu_place place = {0, 0};
-    expect(what, dfu_device_image(medium, sizeof medium, &place) == 0 && place.length == length
+    expect(what, dfu_device_image(&config, medium, sizeof medium, &place) == 0 && place.length == length
         && memcmp(medium + place.at, bytes, length) == 0);
 }
 
@@ -34,7 +34,7 @@ static void image_is(const char *what, const char *bytes, uint32_t length) {
 static void download(uint8_t attributes) {
     int tolerant = attributes & 4;
     config.attributes = attributes;
-    expect("format", dfu_device_format(medium, sizeof medium, (const uint8_t *)"\x11\x22", 2) == 0);
+    expect("format", dfu_device_format(&config, medium, sizeof medium, (const uint8_t *)"\x11\x22", 2) == 0);
     expect("power on", dfu_device_power_on(&config, &device, medium, sizeof medium) == 0 && dfu_device_state(&device) == 0);
     image_is("old image", "\x11\x22", 2);
     ask("DETACH", "\x21\0\xe8\x03\0\0\0\0", "", 0, 0, "", 1);
@@ -83,10 +83,10 @@ static void refusals(void) {
     expect("a block of the transfer size", dfu_device_elapse(&config, &device, pending, 8, medium, sizeof medium, 1) == 0);
     expect("NO_MEDIUM", dfu_device_elapse(&config, &device, pending, sizeof pending, none, sizeof none, 1) == DFU_NO_MEDIUM
         && dfu_device_power_on(&config, &device, none, sizeof none) == DFU_NO_MEDIUM
-        && dfu_device_image(none, sizeof none, &place) == DFU_NO_MEDIUM && place.at == 7 && place.length == 7);
+        && dfu_device_image(&config, none, sizeof none, &place) == DFU_NO_MEDIUM && place.at == 7 && place.length == 7);
     expect("NO_MEDIUM: unchanged", memcmp(none, zeros, sizeof none) == 0);
     memcpy(before, medium, sizeof medium);
-    expect("image", dfu_device_image(medium, sizeof medium, &place) == 0 && memcmp(before, medium, sizeof medium) == 0);
+    expect("image", dfu_device_image(&config, medium, sizeof medium, &place) == 0 && memcmp(before, medium, sizeof medium) == 0);
     place = (struct dfu_place){7, 7};
     kept.mode = 6;
     kept.first = 9;
@@ -100,13 +100,54 @@ static void refusals(void) {
     kept.mode = 13;
     expect("no mode", dfu_device_state(&kept) == DFU_NO_DEVICE && dfu_device_code(&kept) == DFU_NO_DEVICE);
     expect("medium unchanged", memcmp(before, medium, sizeof medium) == 0);
-    expect("WRONG_SIZE", dfu_device_format(medium, 65, none, 1) == DFU_WRONG_SIZE);
-    expect("TOO_LARGE", dfu_device_format(medium, sizeof medium, none, 65) == DFU_TOO_LARGE && memcmp(before, medium, sizeof medium) == 0);
+    expect("WRONG_SIZE", dfu_device_format(&config, medium, 65, none, 1) == DFU_WRONG_SIZE);
+    expect("TOO_LARGE", dfu_device_format(&config, medium, sizeof medium, none, 65) == DFU_TOO_LARGE && memcmp(before, medium, sizeof medium) == 0);
+}
+
+/* In units of 16: what makes no whole unit is held back, and a unit is written as soon as it is whole; what is left then is
+ * written, filled up with zeros, when the image is put in place. */
+static void units(void) {
+    uint8_t none[4] = {0};
+    const uint8_t *spare = medium + 96 + 32;
+    struct dfu_place place;
+    config.unit = 16, config.attributes = 7;
+    expect("format", dfu_device_format(&config, medium, sizeof medium, (const uint8_t *)"\x11\x22", 2) == 0);
+    memset(medium + 96, 0xee, 96);
+    expect("begin", dfu_device_begin(&config, &device, medium, sizeof medium) == 0);
+    ask("DNLOAD of 8", "\x21\x01\0\0\0\0\x08\0", "abcdefgh", 8, 0, "", 3);
+    ask("poll", STATUS, "", 0, 6, "\0\x05\0\0\x04\0", 4);
+    expect("busy", dfu_device_elapse(&config, &device, pending, sizeof pending, medium, sizeof medium, 5) == 0);
+    expect("8 bytes are held back", device.held_length == 8 && memcmp(device.held, "abcdefgh", 8) == 0 && spare[0] == 0xee);
+    ask("written", STATUS, "", 0, 6, "\0\0\0\0\x05\0", 5);
+    ask("DNLOAD of 4", "\x21\x01\x01\0\0\0\x04\0", "ijkl", 4, 0, "", 3);
+    ask("poll", STATUS, "", 0, 6, "\0\x05\0\0\x04\0", 4);
+    expect("busy", dfu_device_elapse(&config, &device, pending, sizeof pending, medium, sizeof medium, 5) == 0);
+    ask("written", STATUS, "", 0, 6, "\0\0\0\0\x05\0", 5);
+    ask("DNLOAD of 8", "\x21\x01\x02\0\0\0\x08\0", "mnopqrst", 8, 0, "", 3);
+    ask("poll", STATUS, "", 0, 6, "\0\x05\0\0\x04\0", 4);
+    expect("busy", dfu_device_elapse(&config, &device, pending, sizeof pending, medium, sizeof medium, 5) == 0);
+    expect("a unit is written, and 4 bytes are held back", device.held_length == 4 && memcmp(device.held, "qrst", 4) == 0
+        && memcmp(spare, "abcdefghijklmnop\xee", 17) == 0);
+    ask("written", STATUS, "", 0, 6, "\0\0\0\0\x05\0", 5);
+    ask("close", "\x21\x01\x03\0\0\0\0\0", "", 0, 0, "", 6);
+    ask("manifest", STATUS, "", 0, 6, "\0\x0a\0\0\x07\0", 7);
+    expect("manifested", dfu_device_elapse(&config, &device, pending, sizeof pending, medium, sizeof medium, 10) == 0);
+    image_is("20 bytes", "abcdefghijklmnopqrst", 20);
+    expect("whole units", device.held_length == 0 && memcmp(spare + 16, "qrst\0\0\0\0\0\0\0\0\0\0\0\0\xee", 17) == 0);
+    config.unit = 256;
+    expect("gates of 256", dfu_device_format(&config, medium, sizeof medium, none, 1) == DFU_WRONG_SIZE
+        && dfu_device_image(&config, medium, sizeof medium, &place) == DFU_NO_MEDIUM);
+    config.unit = 32;
+    expect("no unit", dfu_device_format(&config, medium, sizeof medium, none, 1) == DFU_NO_CONFIG
+        && dfu_device_image(&config, medium, sizeof medium, &place) == DFU_NO_CONFIG
+        && dfu_device_power_on(&config, &device, medium, sizeof medium) == DFU_NO_CONFIG
+        && dfu_device_due(&config, &device) == DFU_NO_CONFIG);
 }
 
 int main(void) {
     download(7);
     refusals();
     download(3);
+    units();
     return wrong;
 }

@@ -9,7 +9,7 @@
 
 static const struct dfu_config config = {
     .version = DFU_VERSION, .device = 0x0100, .product = 1, .vendor = 0x1209, .detach_ms = 255, .transfer = 8,
-    .attributes = 7, .busy_ms = 5, .manifest_ms = 10, .least = 1,
+    .attributes = 7, .busy_ms = 5, .manifest_ms = 10, .least = 1, .unit = 1,
 };
 static const uint8_t descriptor[9] = {9, 0x21, 7, 255, 0, 8, 0, 0x10, 1};
 static const struct dfu_ids ids = {0x0100, 1, 0x1209};
@@ -26,7 +26,7 @@ static void is(const char *what, long got, long wanted) {
 }
 
 static void start(const char *image, size_t length) {
-    is("format", dfu_device_format(medium, sizeof medium, (const uint8_t *)image, length), 0);
+    is("format", dfu_device_format(&config, medium, sizeof medium, (const uint8_t *)image, length), 0);
     is("power on", dfu_device_power_on(&config, &device, medium, sizeof medium), 0);
 }
 
@@ -90,7 +90,7 @@ static uint32_t run(struct dfu_session *s, size_t payload, size_t room, int lost
 
 static int has(const uint8_t *image, size_t length) {
     struct dfu_place place;
-    return dfu_device_image(medium, sizeof medium, &place) == 0 && place.length == length && !memcmp(medium + place.at, image, length);
+    return dfu_device_image(&config, medium, sizeof medium, &place) == 0 && place.length == length && !memcmp(medium + place.at, image, length);
 }
 
 static uint32_t upload(size_t room) {

@@ -29,6 +29,7 @@ static void power(void)
 static void configure(void)
 {
     config.version = DFU_VERSION;
+    config.unit = 1;
     config.device = settings.dfu.release;
     config.product = settings.dfu.product;
     config.vendor = settings.dfu.vendor;
@@ -87,7 +88,7 @@ static void make(void)
     medium = calloc(1, size);
     if (medium == NULL)
         fail_loudly("no memory for a medium of %zu bytes", size);
-    must(dfu_device_format(medium, size, image.at, image.size), "format");
+    must(dfu_device_format(&config, medium, size, image.at, image.size), "format");
     power();
     if (!settings.starts_in_app)
         enter_dfu_mode();
@@ -118,7 +119,7 @@ static bool is_app(void)
 static struct part image(void)
 {
     struct dfu_place place;
-    must(dfu_device_image(medium, size, &place), "image");
+    must(dfu_device_image(&config, medium, size, &place), "image");
     return (struct part){ medium + place.at, place.length };
 }
 

@@ -1,23 +1,24 @@
--- No call of a device that asks changes what it is set up with; so its record is kept for the same configuration.
+-- No call of a device that asks changes what it is set up with, nor its unit; so its record is kept for the same configuration.
 use Rattle.std.proofs.Common.{◌≡◌, ◌⊎◌, ◌≤◌, ℕ, ℤ, Bool, List, None, IsSome, Result, OnErr, length, take, sym, ◌∙◌, ap, subst, inl, inr, arith, refl}
 use Rattle.dfu_slots.specs.declared.fault.WriteFault.{WriteFault}
 use Rattle.std.specs.Borrow.{MutBor}
-use Rattle.dfu_slots.specs.Medium.{Write, Torn}
+use Rattle.dfu_slots.specs.Units.{Grain}
+use Rattle.dfu_slots.specs.Medium.{MediumState, Write, Torn}
+use Rattle.dfu_c_parts.proofs.SameConfig.{IsSetSame, done_same}
 use Rattle.dfu_slots.specs.Seen.{SlotsState}
 use Rattle.dfu_device.specs.declared.answer.Answer.{Answer}
 use Rattle.dfu_device.specs.declared.block.LentBlock.{LentBlock}
 use Rattle.dfu_device.specs.Table.{Plan, Sure, Writes, Commits}
 use Rattle.dfu_device.specs.Shown.{Shown}
-use Rattle.dfu_device.specs.Rows.{Done, Handles, handled_as}
 use Rattle.dfu_asks.specs.declared.asking.Asking.{Asking}
 use Rattle.dfu_asks.specs.declared.reply.Reply.{Reply}
 use Rattle.dfu_asks.specs.Due.{WorksOut, FailsOut}
 use Rattle.dfu_asks.specs.Carried.{IsPiece}
 use Rattle.dfu_asks.specs.Asks.{device_in, device_of, block_in, writes_in, IsDevice}
 use Rattle.dfu_asks.specs.Calls.{Asks, Called, called_ended, called_asks, Comes, comes_asks, comes_ended, Took, took_well, took_failed, took_lied}
-use Rattle.dfu_asks_c.specs.declared.config.DfuConfig.{DfuConfig}
+use Rattle.dfu_c_parts.specs.declared.config.DfuConfig.{DfuConfig}
 use Rattle.dfu_asks_c.specs.declared.asking.DfuAsking.{DfuAsking}
-use Rattle.dfu_asks_c.specs.Config.{setting_of, transfer_of, IsConfig}
+use Rattle.dfu_c_parts.specs.Config.{setting_of, transfer_of, unit_of, IsConfig}
 use Rattle.dfu_asks_c.specs.Asking.{IsKept, IsAsking, settled}
 use Rattle.dfu_asks_c.specs.declared.refusal.Refusal.{Refusal}
 use Rattle.dfu_asks_c.specs.declared.refusal.Refusal.TheVariants as refusal
@@ -25,55 +26,70 @@ use Rattle.dfu_asks_c.specs.Numbers.{refusal_number, reply_number}
 use Rattle.dfu_asks_c.specs.Calls.{Goes, Refuses, Replied, Went}
 use Rattle.dfu_asks_c.proofs.Found.{refused_cause}
 
--- A plan that was carried out leaves the configuration as it was.
-pub done_config : (plan : Plan) (len : ℕ) (d : Shown) (x : Answer) (out : List ℕ) (d' : Shown) → Done plan len d x out d' → d'.config ≡ d.config
-done_config (Sure reply stage) len d x out d' done = ap (λ (s : Shown). s.config) done.1
-done_config (Writes before block reply stage bad) len d x out d' (inl (says, done)) = done.config_is
-done_config (Writes before block reply stage bad) len d x out d' (inr (fault, says, done)) = done.config_is
-done_config (Commits taken reply stage bad) len d x out d' (inl (says, done)) = done.config_is
-done_config (Commits taken reply stage bad) len d x out d' (inr (fault, says, done)) = done.config_is
+-- A device is set up as another one, in flash of the same unit.
+pub record IsSetAs (a now : Asking) : Type 0 where
+  pub config : now.config ≡ a.config
+  pub unit : now.unit ≡ a.unit
 
--- So does the row of a setup.
-pub handled_config : (setup body : List ℕ) (d : Shown) (x : Answer) (out : List ℕ) (d' : Shown) → Handles setup body d x out d' → d'.config ≡ d.config
-handled_config setup body d x out d' (handled_as p q is asks done) = done_config _ _ d x out d' done
+-- So it is where a row of the device that it works for leaves both.
+from_row : (a : Asking) (s : SlotsState) (was : List ℕ) (len : ℕ) (now : Asking) (flash before : List ℕ) → Asks a len s was before
+    → IsSetSame (device_of a s) (device_in now flash) → IsSetAs a now
+from_row a s was len now flash before due same = record {
+  config = same.0;
+  unit = ap (λ (g : Grain). g.unit) same.1 ∙ ap (λ (m : MediumState). m.grain.unit) due.working.medium;
+}
 
--- So do the rows that write, once they are carried out.
-works_config : (plan : Plan) (len : ℕ) (d : Shown) (x : Answer) (out : List ℕ) (d' : Shown) → WorksOut plan len d x out d' → d'.config ≡ d.config
+-- The rows that write leave the configuration and the unit as they were, once they are carried out.
+works_config : (plan : Plan) (len : ℕ) (d : Shown) (x : Answer) (out : List ℕ) (d' : Shown) → WorksOut plan len d x out d' → IsSetSame d d'
 works_config (Sure reply stage) len d x out d' works = absurd works
-works_config (Writes before block reply stage bad) len d x out d' works = works.1.config_is
-works_config (Commits taken reply stage bad) len d x out d' works = works.1.config_is
+works_config (Writes before block reply stage bad) len d x out d' works = done_same (Writes before block reply stage bad) len d x out d'
+    (inl works)
+works_config (Commits taken reply stage bad) len d x out d' works = done_same (Commits taken reply stage bad) len d x out d' (inl works)
 
-fails_config : (fault : WriteFault) (plan : Plan) (len : ℕ) (d : Shown) (x : Answer) (out : List ℕ) (d' : Shown) → FailsOut fault plan len d x out d'
-    → d'.config ≡ d.config
+fails_config : (fault : WriteFault) (plan : Plan) (len : ℕ) (d : Shown) (x : Answer) (out : List ℕ) (d' : Shown)
+    → FailsOut fault plan len d x out d'
+    → IsSetSame d d'
 fails_config fault (Sure reply stage) len d x out d' fails = absurd fails
-fails_config fault (Writes before block reply stage bad) len d x out d' fails = fails.1.config_is
-fails_config fault (Commits taken reply stage bad) len d x out d' fails = fails.1.config_is
+fails_config fault (Writes before block reply stage bad) len d x out d' fails =
+    done_same (Writes before block reply stage bad) len d x out d' (inr (fault, fails.0, fails.1))
+fails_config fault (Commits taken reply stage bad) len d x out d' fails = done_same (Commits taken reply stage bad) len d x out d'
+    (inr (fault, fails.0, fails.1))
 
--- A call by rows that leave the configuration leaves it.
+-- A call by rows that leave them leaves them.
 pub called_config : (a now : Asking) (flash out out' : List ℕ) (Row : Answer → List ℕ → Shown → Type 0) (r : Reply)
-    → ((x : Answer) (sent : List ℕ) (d' : Shown) → Row x sent d' → d'.config ≡ a.config) → Called a flash out Row now out' r
-    → now.config ≡ a.config
-called_config a now flash out out' Row r leaves (called_ended x count ended) = leaves x ended.gave.sent (device_in now flash) ended.gave.row
-called_config a now flash out out' Row r leaves (called_asks len asks device due same) = ap (λ (d : Shown). d.config) device
+    → ((x : Answer) (sent : List ℕ) (d' : Shown) → Row x sent d' → IsSetSame (device_in a flash) d') → Called a flash out Row now out' r
+    → IsSetAs a now
+called_config a now flash out out' Row r leaves (called_ended x count ended) =
+    let same = leaves x ended.gave.sent (device_in now flash) ended.gave.row in
+    record { config = same.0; unit = ap (λ (g : Grain). g.unit) same.1 }
+called_config a now flash out out' Row r leaves (called_asks len asks device due same) = record {
+  config = ap (λ (d : Shown). d.config) device;
+  unit = ap (λ (m : MediumState). m.grain.unit) (sym asks.working.medium);
+}
 
-comes_config : (d : Shown) (len : ℕ) (s : SlotsState) (was flash out : List ℕ) (now : Asking) (out' : List ℕ) (r : Reply)
-    → Comes d len s was flash out now out' r → now.config ≡ d.config
-comes_config d len s was flash out now out' r (comes_asks asks device same) = ap (λ (w : Shown). w.config) device
-comes_config d len s was flash out now out' r (comes_ended x count ended) =
-    works_config _ len d x ended.gave.sent (device_in now flash) ended.gave.row
+comes_config : (a : Asking) (len : ℕ) (s : SlotsState) (was before flash out : List ℕ) (now : Asking) (out' : List ℕ) (r : Reply)
+    → Asks a len s was before → Comes (device_of a s) len s was flash out now out' r → IsSetAs a now
+comes_config a len s was before flash out now out' r due (comes_asks asks device same) = record {
+  config = ap (λ (w : Shown). w.config) device;
+  unit = ap (λ (m : MediumState). m.grain.unit) (sym asks.working.medium ∙ due.working.medium);
+}
+comes_config a len s was before flash out now out' r due (comes_ended x count ended) =
+    from_row a s was len now flash before due (works_config _ len (device_of a s) x ended.gave.sent (device_in now flash) ended.gave.row)
 
 -- So does the end of a piece.
-pub took_config : (d : Shown) (len : ℕ) (s : SlotsState) (was : List ℕ) (p : Write) (failed : Bool) (flash out : List ℕ) (now : Asking)
-    (out' : List ℕ) (r : Reply) → Took d len s was p failed flash out now out' r → now.config ≡ d.config
-took_config d len s was p failed flash out now out' r (took_well is stands comes) = comes_config d len s was flash out now out' r comes
-took_config d len s was p failed flash out now out' r (took_failed x count is reply ended) =
-    fails_config _ _ len d x ended.gave.sent (device_in now flash) ended.gave.row
-took_config d len s was p failed flash out now out' r (took_lied x count is other reply ended) =
-    fails_config _ _ len d x ended.gave.sent (device_in now flash) ended.gave.row
+pub took_config : (a : Asking) (len : ℕ) (s : SlotsState) (was before : List ℕ) (p : Write) (failed : Bool) (flash out : List ℕ)
+    (now : Asking)
+    (out' : List ℕ) (r : Reply) → Asks a len s was before → Took (device_of a s) len s was p failed flash out now out' r → IsSetAs a now
+took_config a len s was before p failed flash out now out' r due (took_well is stands comes) =
+    comes_config a len s was before flash out now out' r due comes
+took_config a len s was before p failed flash out now out' r due (took_failed x count is reply ended) =
+    from_row a s was len now flash before due (fails_config _ _ len (device_of a s) x ended.gave.sent (device_in now flash) ended.gave.row)
+took_config a len s was before p failed flash out now out' r due (took_lied x count is other reply ended) =
+    from_row a s was len now flash before due (fails_config _ _ len (device_of a s) x ended.gave.sent (device_in now flash) ended.gave.row)
 
--- A device that has this configuration is settled.
-pub is_settled : (c : DfuConfig) (a : Asking) → a.config ≡ setting_of c → a ≡ settled c a
-is_settled c a is = λ i. record a { config = is i }
+-- A device that has this configuration and its unit is settled.
+pub is_settled : (c : DfuConfig) (a : Asking) → a.config ≡ setting_of c → a.unit ≡ unit_of c → a ≡ settled c a
+is_settled c a is unit = λ i. record a { config = is i; unit = unit i }
 
 -- A record and the bytes of a block's memory are the device that the record is but for its block.
 pub with_block : (c : DfuConfig) (r : DfuAsking) (block : List ℕ) (a : Asking) → IsConfig c → IsKept c r a → r.device.length ≤ length block
@@ -159,32 +175,37 @@ refuses_lent c r memory a why result block' config kept fits most room none caus
     }
 
 -- What a call came to, of the device with its configuration.
-pub replied : (c : DfuConfig) (a a' : Asking) (flash out out' : List ℕ) (Row : Answer → List ℕ → Shown → Type 0) (number : Reply → ℤ) (result : ℤ)
+pub replied : (c : DfuConfig) (a a' : Asking) (flash out out' : List ℕ) (Row : Answer → List ℕ → Shown → Type 0) (number : Reply → ℤ)
+    (result : ℤ)
     (r : Reply) → a.config ≡ setting_of c
-    → ((x : Answer) (sent : List ℕ) (d' : Shown) → Row x sent d' → d'.config ≡ a.config) → IsDevice a flash → result ≡ number r
+    → a.unit ≡ unit_of c → ((x : Answer) (sent : List ℕ) (d' : Shown) → Row x sent d' → IsSetSame (device_in a flash) d') → IsDevice a flash
+    → result ≡ number r
     → Called a flash out Row a' out' r → Replied a flash out Row number result (settled c a') out'
-replied c a a' flash out out' Row number result r config leaves device is called = record {
-  reply = r;
-  number_is = is;
-  device = device;
-  called = subst (λ (x : Asking). Called a flash out Row x out' r)
-      (is_settled c a' (called_config a a' flash out out' Row r leaves called ∙ config)) called;
-}
+replied c a a' flash out out' Row number result r config unit leaves device is called =
+    let same = called_config a a' flash out out' Row r leaves called in record {
+      reply = r;
+      number_is = is;
+      device = device;
+      called = subst (λ (x : Asking). Called a flash out Row x out' r)
+          (is_settled c a' (same.config ∙ config) (same.unit ∙ unit)) called;
+    }
 
 -- What a piece came to, of the device with its configuration.
-pub went : (c : DfuConfig) (a a' : Asking) (flash : List ℕ) (failed : Bool) (out out' : List ℕ) (result : ℤ) (r : Reply) → a.config ≡ setting_of c
-    → result ≡ reply_number r
+pub went : (c : DfuConfig) (a a' : Asking) (flash : List ℕ) (failed : Bool) (out out' : List ℕ) (result : ℤ) (r : Reply)
+    → a.config ≡ setting_of c
+    → a.unit ≡ unit_of c → result ≡ reply_number r
     → ((len : ℕ) (s : SlotsState) (was before : List ℕ) (asks : Asks a len s was before) (p : Write)
     → IsPiece (writes_in a asks.work) asks.work.done p → Torn before p.at p.bytes flash
     → Took (device_of a s) len s was p failed flash out a' out' r)
     → Went a flash failed out result (settled c a') out'
-went c a a' flash failed out out' result r config is comes = record {
+went c a a' flash failed out out' result r config unit is comes = record {
   reply = r;
   number_is = is;
   took = λ len s was before asks p piece torn.
       let t = comes len s was before asks p piece torn in
+      let same = took_config a len s was before p failed flash out a' out' r asks t in
       subst (λ (x : Asking). Took (device_of a s) len s was p failed flash out x out' r)
-      (is_settled c a' (took_config (device_of a s) len s was p failed flash out a' out' r t ∙ config)) t;
+      (is_settled c a' (same.config ∙ config) (same.unit ∙ unit)) t;
 }
 
 -- The device that a record is but for its block is one with a block of the record's length in this memory.
@@ -208,9 +229,9 @@ with_this c r block a b config kept fits most len memory = record {
   block_is = λ i. take (len i) (memory i);
 }
 
--- What is so of a device that has this configuration is so of it with this configuration.
-pub settle : (c : DfuConfig) (a : Asking) (P : Asking → Type 0) → a.config ≡ setting_of c → P a → P (settled c a)
-settle c a P config p = subst P (is_settled c a config) p
+-- What is so of a device that has this configuration and its unit is so of it with them.
+pub settle : (c : DfuConfig) (a : Asking) (P : Asking → Type 0) → a.config ≡ setting_of c → a.unit ≡ unit_of c → P a → P (settled c a)
+settle c a P config unit p = subst P (is_settled c a config unit) p
 
 -- The device that a call which is refused leaves as it was.
 abbrev pub old_in : {T E : Type 0} (r : Result T E) (a' a : Asking) (out' out : List ℕ) → OnErr r ((a' ≡ a) × (out' ≡ out)) → Asking

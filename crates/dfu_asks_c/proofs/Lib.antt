@@ -3,6 +3,4 @@ pub mod Whole
 pub mod Idle
 pub mod Found
 pub mod Formatted
-pub mod StallPlans
-pub mod LongPlans
 pub mod Asked

@@ -15,7 +15,8 @@ pub called_as : {a : Asking} {flash out out' : List ℕ} {Row : Answer → List 
     → Called a flash out Row now out' r → Called a flash out Row now out' r'
 called_as {a} {flash} {out} {out'} {Row} {now} is called = subst (λ (r : Reply). Called a flash out Row now out' r) is called
 
-pub took_as : {d : Shown} {len : ℕ} {s : SlotsState} {was : List ℕ} {p : Write} {failed : Bool} {flash out : List ℕ} {now : Asking} {out' : List ℕ}
+pub took_as : {d : Shown} {len : ℕ} {s : SlotsState} {was : List ℕ} {p : Write} {failed : Bool} {flash out : List
+    ℕ} {now : Asking} {out' : List ℕ}
     {r r' : Reply} → r ≡ r' → Took d len s was p failed flash out now out' r → Took d len s was p failed flash out now out' r'
 took_as {d} {len} {s} {was} {p} {failed} {flash} {out} {now} {out'} is took =
     subst (λ (r : Reply). Took d len s was p failed flash out now out' r) is took
@@ -29,7 +30,8 @@ module _ (n : ℕ) (out front : List ℕ) (fits : n ≤ length out) (size : leng
   -- An answer has no more bytes than the front that it was given.
   pub gave_few : (x : Answer) (count : ℕ) (Row : Answer → List ℕ → Type 0) → Gave x count (take n out) front Row → count ≤ n
   gave_few x count Row gave =
-      let sum : length front ≡ length gave.sent + length (drop count (take n out)) = ap length gave.out_is ∙ length-append gave.sent (drop count (take n out)) in
+      let sum : length front ≡ length gave.sent + length (drop count (take n out)) = ap length gave.out_is
+      ∙ length-append gave.sent (drop count (take n out)) in
       omega (arith, sum, size, gave.count_is)
 
   -- So it stands at the front of the whole buffer.
@@ -66,7 +68,8 @@ module _ (n : ℕ) (out front : List ℕ) (fits : n ≤ length out) (size : leng
   comes_whole d len s was flash now r (comes_ended x count ended) = comes_ended x count (ended_whole flash x count now _ ended)
 
   -- What came of a piece is so of the whole buffer.
-  pub took_whole : (d : Shown) (len : ℕ) (s : SlotsState) (was : List ℕ) (p : Write) (failed : Bool) (flash : List ℕ) (now : Asking) (r : Reply)
+  pub took_whole : (d : Shown) (len : ℕ) (s : SlotsState) (was : List ℕ) (p : Write) (failed : Bool) (flash : List ℕ) (now : Asking)
+      (r : Reply)
       → Took d len s was p failed flash (take n out) now front r → Took d len s was p failed flash out now (front ++ drop n out) r
   took_whole d len s was p failed flash now r (took_well is stands comes) = took_well is stands (comes_whole d len s was flash now r comes)
   took_whole d len s was p failed flash now r (took_failed x count is reply ended) =
@@ -84,7 +87,8 @@ module _ (n : ℕ) (out front : List ℕ) (fits : n ≤ length out) (size : leng
   comes_few d len s was flash now x count (comes_ended y m ended) = gave_few y m _ ended.gave
 
   -- So of a piece.
-  pub took_few : (d : Shown) (len : ℕ) (s : SlotsState) (was : List ℕ) (p : Write) (failed : Bool) (flash : List ℕ) (now : Asking) (x : Answer)
+  pub took_few : (d : Shown) (len : ℕ) (s : SlotsState) (was : List ℕ) (p : Write) (failed : Bool) (flash : List ℕ) (now : Asking)
+      (x : Answer)
       (count : ℕ) → Took d len s was p failed flash (take n out) now front (reply.Answered x count) → count ≤ n
   took_few d len s was p failed flash now x count (took_well is stands comes) = comes_few d len s was flash now x count comes
   took_few d len s was p failed flash now x count (took_failed y m is reply_is ended) =

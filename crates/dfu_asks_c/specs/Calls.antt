@@ -9,11 +9,11 @@ use Rattle.dfu_asks.specs.declared.reply.Reply.{Reply}
 use Rattle.dfu_asks.specs.Carried.{IsPiece}
 use Rattle.dfu_asks.specs.Asks.{device_of, writes_in, IsDevice}
 use Rattle.dfu_asks.specs.Calls.{Called, Asks, Took}
-use Rattle.dfu_asks_c.specs.declared.config.DfuConfig.{DfuConfig}
+use Rattle.dfu_c_parts.specs.declared.config.DfuConfig.{DfuConfig}
 use Rattle.dfu_asks_c.specs.declared.asking.DfuAsking.{DfuAsking}
 use Rattle.dfu_asks_c.specs.declared.refusal.Refusal.{Refusal}
 use Rattle.dfu_asks_c.specs.declared.refusal.Refusal.TheVariants as refusal
-use Rattle.dfu_asks_c.specs.Config.{transfer_of, IsConfig}
+use Rattle.dfu_c_parts.specs.Config.{transfer_of, IsConfig}
 use Rattle.dfu_asks_c.specs.Asking.{IsAsking}
 use Rattle.dfu_asks_c.specs.Numbers.{refusal_number, reply_number, NO_ROOM}
 

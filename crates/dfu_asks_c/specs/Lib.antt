@@ -1,5 +1,3 @@
-pub mod Config
-pub mod Device
 pub mod Asking
 pub mod Numbers
 pub mod Calls

@@ -4,16 +4,16 @@ ghost use Rattle.dfu_device.specs.Rows.{Handles, Elapses};
 ghost use Rattle.dfu_device.specs.Table.{reset_stage};
 ghost use Rattle.dfu_device.specs.Lent.{answer_room};
 ghost use Rattle.dfu_asks.specs.Asks.{device_in, IsDevice};
-ghost use Rattle.dfu_asks_c.specs.Config.{setting_of};
+ghost use Rattle.dfu_c_parts.specs.Config.{setting_of};
 ghost use Rattle.dfu_asks_c.specs.Numbers.{reply_number, passed_number, NO_ROOM};
 ghost use Rattle.dfu_asks_c.specs.Calls.{Goes, Replied, Refuses, HasNoRoom};
 
 use crate::asking::DfuAsking;
-use crate::config::DfuConfig;
 use crate::keeping::{found, keep};
 use crate::numbers;
 use crate::refusal::Refusal;
 use dfu_asks::Reply;
+use dfu_c_parts::DfuConfig;
 use dfu_device::{Answer, LentBlock};
 
 // The refusal of a call of a device that asks, of which no writes are due.

@@ -6,7 +6,7 @@ ghost use Rattle.dfu_asks_c.specs.Numbers.{format_number};
 ghost use Rattle.dfu_asks_c.specs.Memory.{memory_of, IsFormatted, Formats, IsNoFormat};
 
 use crate::memory::{Memory, take};
-use crate::power::grain_of;
+use dfu_c_parts::{DfuConfig, is_allowed, unit_of};
 use dfu_slots::{FormatFault, Slots};
 
 // The number of a fault of `Slots::format`.
@@ -41,24 +41,32 @@ fn format(memory: &mut Memory<'_>, image: &[u8]) -> Result<(), FormatFault>
     }
 }
 
-/// Makes what flash of this unit is to hold at first, with an image in the first slot that is the active one, as `Slots::format`: 0.
+/// Makes what flash is to hold at first, with an image in the first slot that is the active one, as `Slots::format`: 0.
 ///
-/// Refused with -13 where `unit` is none of 1, 16, 64 and 256, or `sector` is not 0; -3 where there are 2^32 bytes or more; -6 where
-/// they are not as many as two slots can have; -7 where the image is too long.
+/// Refused with -2 where the configuration is not allowed; -13 where `sector` is not 0; -3 where there are 2^32 bytes or more; -6
+/// where they are not as many as two slots can have; -7 where the image is too long.
 #[unsafe(no_mangle)]
-pub extern "C" fn dfu_asking_format(unit: u32, sector: u32, memory: &mut [u8], image: &[u8]) -> i32
-    ensures outcome { Formats unit sector memory.old image.now result memory.new
-        ⊎ (IsNoFormat unit sector memory.old image.now result × (memory.new ≡ memory.old)) }
+pub extern "C" fn dfu_asking_format(
+    config: &DfuConfig,
+    sector: u32,
+    memory: &mut [u8],
+    image: &[u8],
+) -> i32
+    ensures outcome { Formats config.now sector memory.old image.now result memory.new
+        ⊎ (IsNoFormat config.now sector memory.old image.now result × (memory.new ≡ memory.old)) }
 {
-    let Some(grain) = grain_of(unit, sector) else {
+    if !is_allowed(config) {
+        return -2;
+    }
+    if sector != 0 {
         return -13;
-    };
+    }
     if memory.len() > 0xffff_ffff {
         return -3;
     }
     let mut medium = Memory {
         bytes: memory,
-        unit: grain,
+        unit: unit_of(config),
     };
     match format(&mut medium, image) {
         Ok(_) => 0,

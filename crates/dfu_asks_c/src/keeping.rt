@@ -1,33 +1,29 @@
 //! A device that asks is put together of its record, and kept in it again.
 ghost use Rattle.std.specs.Prelude.{◌≡◌, ◌≤◌, IfOk, IfErr, OnOk, IfSome, IfNone, ◌⊎◌, ◌<◌};
 ghost use Rattle.dfu_asks.specs.declared.asking.Asking.{Asking as Device};
-ghost use Rattle.dfu_asks_c.specs.declared.config.DfuConfig.{DfuConfig as Given};
-ghost use Rattle.dfu_asks_c.specs.Config.{setting_of, transfer_of, IsConfig};
+ghost use Rattle.dfu_c_parts.specs.declared.config.DfuConfig.{DfuConfig as Given};
+ghost use Rattle.dfu_c_parts.specs.Config.{setting_of, transfer_of, unit_of, IsConfig};
 ghost use Rattle.dfu_asks_c.specs.Asking.{IsKept, settled};
 ghost use Rattle.dfu_asks_c.specs.Calls.{IsUnfound};
 
 use crate::asking::DfuAsking;
-use crate::config::{DfuConfig, config_of};
-use crate::device::{mode_of, set_mode};
 use crate::refusal::Refusal;
-use crate::work::{set_work, unit_of, work_of};
-use arrayvec::ArrayVec;
+use crate::work::{set_work, work_of};
 use dfu_asks::Asking;
+use dfu_c_parts::{DfuConfig, config_of, held_of, mode_of, set_held, set_mode, unit_of};
 use dfu_device::{Config, LentBlock};
+use dfu_slots::Unit;
 
 // The device that asks which a record is, but for its block.
-fn asking_of<'b>(config: Config, kept: &DfuAsking) -> Option<Asking<'b>>
-    ensures some { IfSome result (λ a. (c : Given) → setting_of c ≡ config → IsKept c kept.now a) }
+fn asking_of<'b>(config: Config, unit: Unit, kept: &DfuAsking) -> Option<Asking<'b>>
+    ensures some { IfSome result (λ a. (c : Given) → setting_of c ≡ config → unit_of c ≡ unit → IsKept c kept.now a) }
     ensures none { IfNone result ((c : Given) (a : Device) → ¬ IsKept c kept.now a) }
 {
-    if kept.sector != 0 || kept.held_length > 256 {
+    if kept.sector != 0 || kept.device.held_length > 256 {
         return None;
     }
-    let unit = unit_of(kept.unit)?;
     let mode = mode_of(&kept.device)?;
     let work = work_of(kept)?;
-    let mut held = ArrayVec::new();
-    let _ = held.try_extend_from_slice(&kept.held[..usize::from(kept.held_length)]);
     Some(Asking {
         config,
         unit,
@@ -36,7 +32,7 @@ fn asking_of<'b>(config: Config, kept: &DfuAsking) -> Option<Asking<'b>>
             memory: &mut [],
             len: 0,
         },
-        held,
+        held: held_of(&kept.device),
         put_end: kept.device.put_end,
         work,
     })
@@ -66,7 +62,7 @@ pub(crate) fn found<'b>(
     if len > 4096 || len > room {
         return Err(Refusal::NoDevice);
     }
-    match asking_of(setting, kept) {
+    match asking_of(setting, unit_of(config), kept) {
         Some(asking) => Ok(asking),
         None => Err(Refusal::NoDevice),
     }
@@ -78,13 +74,10 @@ pub(crate) fn keep(asking: &Asking<'_>, kept: &mut DfuAsking)
     ensures kept { (c : Given) → IsKept c kept.new (settled c asking.now) }
     ensures length { kept.new.device.length ≡ asking.now.block.len }
 {
+    set_held(&mut kept.device, asking.held.as_slice());
     set_mode(&mut kept.device, asking.mode);
     set_work(kept, asking.work);
     kept.device.length = asking.block.len as u16;
     kept.device.put_end = asking.put_end;
-    kept.unit = asking.unit.size();
     kept.sector = 0;
-    let held = asking.held.as_slice();
-    kept.held_length = held.len() as u16;
-    kept.held[..held.len()].copy_from_slice(held);
 }

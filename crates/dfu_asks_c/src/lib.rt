@@ -4,18 +4,13 @@
 
 mod ask;
 mod asking;
-mod config;
-mod device;
 mod exports;
 mod format;
 mod keeping;
 mod memory;
 mod numbers;
-mod place;
 mod power;
 mod refusal;
 mod setups;
-mod stalls;
-mod version;
 mod work;
 mod writes;

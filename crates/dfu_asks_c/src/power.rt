@@ -1,35 +1,18 @@
 //! A device that asks gets power, and where the image stands that it is to run.
 ghost use Rattle.std.specs.Prelude.{◌≡◌, ◌⊎◌, ◌≤◌, ◌^◌, [], length, IfSome, IfNone, Some, None, if◌then◌else◌, ◌==◌};
-ghost use Rattle.dfu_slots.specs.declared.unit.Unit.{Unit as WriteUnit};
-ghost use Rattle.dfu_slots.specs.Units.{unit_size};
 ghost use Rattle.dfu_slots.specs.Image.{HasImage};
 ghost use Rattle.dfu_device.specs.Shown.{powered_on};
 ghost use Rattle.dfu_asks.specs.Mapped.{mapped};
 ghost use Rattle.dfu_asks.specs.Asks.{block_in, device_in, IsDevice};
-ghost use Rattle.dfu_asks_c.specs.Power.{IsGrain, IsThere, IsNoMedium, Powers, RefusesPower, Stands, RefusesPlace};
+ghost use Rattle.dfu_asks_c.specs.Power.{IsThere, IsNoMedium, Powers, RefusesPower, Stands, RefusesPlace};
 
 use crate::asking::DfuAsking;
-use crate::config::{DfuConfig, config_of};
-use crate::device::DfuDevice;
 use crate::keeping::keep;
-use crate::place::DfuPlace;
-use crate::version::VERSION;
-use crate::work::unit_of;
 use arrayvec::ArrayVec;
 use dfu_asks::{Asking, Mapped};
+use dfu_c_parts::{DfuConfig, DfuDevice, DfuPlace, VERSION, config_of, is_allowed, unit_of};
 use dfu_device::{Config, LentBlock, Mode};
 use dfu_slots::{Slots, Unit};
-
-/// The unit of flash that is written in so many bytes, and erased in so many, if it can be so.
-pub(crate) fn grain_of(size: u32, sector: u32) -> Option<Unit>
-    ensures some { IfSome result (λ u. IsGrain size sector u) }
-    ensures none { IfNone result ((u : WriteUnit) → ¬ IsGrain size sector u) }
-{
-    if sector != 0 {
-        return None;
-    }
-    unit_of(size)
-}
 
 // A device that gets power on flash with an active image, and has no block.
 fn powered<'b>(config: Config, unit: Unit, flash: &[u8]) -> Option<Asking<'b>>
@@ -70,43 +53,41 @@ fn blank() -> DfuAsking {
             number: 0,
             length: 0,
             header: [0; 16],
+            held_length: 0,
+            held: [0; 256],
         },
-        unit: 0,
         sector: 0,
         work: 0,
         spare: 0,
         sum: 0,
         done: 0,
         asked: 0,
-        held_length: 0,
         generation: 0,
         close: 0,
-        held: [0; 256],
     }
 }
 
 /// A device gets power, as `Asking::power_on`: 0, and `device` is in appIDLE. It may hold anything before.
 ///
-/// Refused with -2 where the configuration is not allowed; -13 where `unit` is none of 1, 16, 64 and 256, or `sector` is not 0; -3
-/// where the flash has no active image, or 2^32 bytes or more.
+/// Refused with -2 where the configuration is not allowed; -13 where `sector` is not 0; -3 where the flash has no active image, or
+/// 2^32 bytes or more.
 #[unsafe(no_mangle)]
 pub extern "C" fn dfu_asking_power_on(
     config: &DfuConfig,
     device: &mut DfuAsking,
-    unit: u32,
     sector: u32,
     flash: &[u8],
 ) -> i32
-    ensures outcome { Powers config.now unit sector flash.now result device.new
-        ⊎ (RefusesPower config.now unit sector flash.now result × (device.new ≡ device.old)) }
+    ensures outcome { Powers config.now sector flash.now result device.new
+        ⊎ (RefusesPower config.now sector flash.now result × (device.new ≡ device.old)) }
 {
     let Some(setting) = config_of(config) else {
         return -2;
     };
-    let Some(grain) = grain_of(unit, sector) else {
+    if sector != 0 {
         return -13;
-    };
-    match powered(setting, grain, flash) {
+    }
+    match powered(setting, unit_of(config), flash) {
         Some(asking) => {
             *device = blank();
             keep(&asking, device);
@@ -133,22 +114,25 @@ fn find(unit: Unit, flash: &[u8]) -> Option<DfuPlace>
 
 /// Where the active image stands in its flash: 0, and `place` has it.
 ///
-/// Refused with -13 where `unit` is none of 1, 16, 64 and 256, or `sector` is not 0; -3 where the flash has no active image, or 2^32
-/// bytes or more.
+/// Refused with -2 where the configuration is not allowed; -13 where `sector` is not 0; -3 where the flash has no active image, or
+/// 2^32 bytes or more.
 #[unsafe(no_mangle)]
 pub extern "C" fn dfu_asking_image(
-    unit: u32,
+    config: &DfuConfig,
     sector: u32,
     flash: &[u8],
     place: &mut DfuPlace,
 ) -> i32
-    ensures outcome { Stands unit sector flash.now result place.new
-        ⊎ (RefusesPlace unit sector flash.now result × (place.new ≡ place.old)) }
+    ensures outcome { Stands config.now sector flash.now result place.new
+        ⊎ (RefusesPlace config.now sector flash.now result × (place.new ≡ place.old)) }
 {
-    let Some(grain) = grain_of(unit, sector) else {
+    if !is_allowed(config) {
+        return -2;
+    }
+    if sector != 0 {
         return -13;
-    };
-    match find(grain, flash) {
+    }
+    match find(unit_of(config), flash) {
         Some(found) => {
             *place = found;
             0

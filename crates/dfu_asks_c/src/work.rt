@@ -1,28 +1,11 @@
 //! What is due of a record, by its numbers.
 ghost use Rattle.std.specs.Prelude.{◌≡◌, ℕ, Bool, IfSome, Option, Some};
-ghost use Rattle.dfu_slots.specs.Units.{unit_size};
 ghost use Rattle.dfu_asks.specs.declared.work.Work.{Work as Due};
 ghost use Rattle.dfu_asks.specs.declared.job.Job.{Job as Series};
-ghost use Rattle.dfu_slots.specs.declared.unit.Unit.{Unit as WriteUnit};
 ghost use Rattle.dfu_asks_c.specs.Asking.{IsFlag, HasJob, IsAsked, HasWork};
 
 use crate::asking::DfuAsking;
 use dfu_asks::{Job, Work};
-use dfu_slots::Unit;
-
-/// The unit of so many bytes, if there is one.
-pub(crate) fn unit_of(size: u32) -> Option<Unit>
-    ensures some { IfSome result (λ u. unit_size u ≡ size) }
-    ensures only { (u : WriteUnit) → unit_size u ≡ size → result ≡ Some u }
-{
-    match size {
-        1 => Some(Unit::Byte),
-        16 => Some(Unit::U16),
-        64 => Some(Unit::U64),
-        256 => Some(Unit::U256),
-        _ => None,
-    }
-}
 
 // wLength of the GETSTATUS that waits by this number, if one does; none where the number is no such.
 fn asked_of(number: u32) -> Option<Option<u16>>

@@ -5,11 +5,11 @@ ghost use Rattle.dfu_asks_c.specs.Writes.{HandsOut, RefusesPiece, IsAtWork};
 
 use crate::ask::DfuAsk;
 use crate::asking::DfuAsking;
-use crate::config::DfuConfig;
 use crate::keeping::{found, keep};
 use crate::numbers;
 use crate::refusal::Refusal;
 use dfu_asks::Reply;
+use dfu_c_parts::DfuConfig;
 use dfu_device::LentBlock;
 
 // DFU_PROGRAM.

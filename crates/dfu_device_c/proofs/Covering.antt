@@ -117,7 +117,8 @@ range_written l p x fits =
     let size = length_range (written l p x) p (p + length x) (omega (arith, lp)) in
     same_lists _ _ (size ∙ omega arith)
     (λ k d lt.
-    get_range (written l p x) p (p + length x) k d (omega (arith, size)) ∙ written_there l p x fits (p + k) d (omega arith) (omega (arith, size))
+    get_range (written l p x) p (p + length x) k d (omega (arith, size))
+    ∙ written_there l p x fits (p + k) d (omega arith) (omega (arith, size))
     ∙ ap (λ (n : ℕ). get_or x n d) (omega arith))
 
 -- A range that was written in part is what stood there with that part laid over it.
@@ -135,7 +136,14 @@ range_over l p x a n fits le low high =
     let lp = length_written l p x fits in
     let there = length_range (written l p x) a (a + n) (omega (arith, lp)) in
     let whole : length (take (p - a) o ++ mid ++ drop (p + length x - a) o) ≡ n =
-    omega (arith, length-append (take (p - a) o ++ mid) (drop (p + length x - a) o), both, mid_size, length-drop (p + length x - a) o, size) in
+    omega (
+      arith,
+      length-append (take (p - a) o ++ mid) (drop (p + length x - a) o),
+      both,
+      mid_size,
+      length-drop (p + length x - a) o,
+      size,
+    ) in
     same_lists _ _ (whole ∙ omega arith ∙ sym there)
     (λ k d lt.
     let in_range : k < a + n - a = omega (arith, whole) in

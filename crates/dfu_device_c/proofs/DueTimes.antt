@@ -10,10 +10,11 @@ use Rattle.dfu_device.specs.Table.{Plan, Writes, Commits, ack, time_plan}
 use Rattle.dfu_device.specs.Shown.{Shown, profile}
 use Rattle.dfu_device.specs.Parts.{stage_of}
 use Rattle.dfu_device.specs.Rows.{Done}
-use Rattle.dfu_device_c.specs.declared.config.DfuConfig.{DfuConfig}
-use Rattle.dfu_device_c.specs.declared.record.DfuDevice.{DfuDevice}
-use Rattle.dfu_device_c.specs.Config.{setting_of}
-use Rattle.dfu_device_c.specs.Record.{HasMode, block_in, store_in}
+use Rattle.dfu_c_parts.specs.declared.config.DfuConfig.{DfuConfig}
+use Rattle.dfu_c_parts.specs.declared.record.DfuDevice.{DfuDevice}
+use Rattle.dfu_c_parts.specs.Config.{unit_of, setting_of}
+use Rattle.dfu_c_parts.specs.Record.{HasMode}
+use Rattle.dfu_device_c.specs.Record.{block_in, store_in}
 use Rattle.dfu_device_c.specs.Due.{due_of, IsDue, ToldDue}
 
 -- Some time passed.
@@ -146,11 +147,12 @@ nat_of (pos n) = n
 nat_of (negsuc n) = 0
 
 -- So what is said of a record is so for its device.
-pub told_due : (c : DfuConfig) (r : DfuDevice) (m : Mode) (result : ℤ) → ((x : Mode) → HasMode r x → m ≡ x) → result ≡ pos (due_of (setting_of c) m)
+pub told_due : (c : DfuConfig) (r : DfuDevice) (m : Mode) (result : ℤ) → ((x : Mode) → HasMode r x → m ≡ x)
+    → result ≡ pos (due_of (setting_of c) m)
     → ToldDue c r result
 told_due c r m result the_mode says block bytes d device ms d' went n is =
     let same : m ≡ device.mode = the_mode device.mode device.has_mode in
-    let store = store_in r bytes in
+    let store = store_in (unit_of c) r bytes in
     let stage_is : d.stage ≡ stage_of device.mode (spare_of store) (block_in r block) = ap (λ (w : Shown). w.stage) device.device_is in
     let due_is : due_of d.config device.mode ≡ n =
     (λ i. due_of (ap (λ (w : Shown). w.config) device.device_is i) (sym same i)) ∙ ap nat_of (sym says ∙ is) in

@@ -1,13 +1,10 @@
 pub mod Covering
 pub mod CoverLaws
-pub mod SameConfig
 pub mod Plain
 pub mod Twins
 pub mod Spared
 pub mod Opening
 pub mod Standing
-pub mod StallPlans
-pub mod LongPlans
 pub mod LongTakes
 pub mod Asked
 pub mod DueTimes

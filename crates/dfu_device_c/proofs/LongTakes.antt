@@ -1,129 +1,60 @@
--- So it is for the device that a record is.
-use Rattle.std.proofs.Common.{◌≡◌, ◌≢◌, ◌⊎◌, ◌<◌, ◌==◌, nat_lt, Bool, true, false, ℕ, List, [], length, inl, inr, ⊎_elim, refl, sym, ap, ◌∙◌, subst, arith, if◌then◌else◌}
-use Rattle.std.proofs.lemmas.Bool.{eq-eqb, le-leb, leb-true}
-use Rattle.std.proofs.lemmas.Bool.Decides.{eqb_tells}
+-- A body that is too long takes the device that a record is where its row does.
+use Rattle.std.proofs.Common.{◌≡◌, ◌≢◌, ◌<◌, ℕ, List, [], length, sym, ap, ◌∙◌, subst, arith}
 use Rattle.dfu_wire.specs.declared.setups.Setup.{Setup}
-use Rattle.dfu_wire.specs.declared.requests.Request.{Request as Asked}
-use Rattle.dfu_wire.specs.declared.requests.Request.TheVariants as asked
 use Rattle.dfu_wire.specs.Setup.{IsSetup}
-use Rattle.dfu_wire.specs.Request.{IsNamed}
-use Rattle.dfu_slots.specs.Seen.{SlotsState, image_of, spare_of}
+use Rattle.dfu_slots.specs.Seen.{spare_of}
 use Rattle.dfu_device.specs.declared.answer.Answer.TheVariants as answer
 use Rattle.dfu_device.specs.declared.mode.Mode.{Mode}
-use Rattle.dfu_device.specs.declared.mode.Mode.TheVariants as mode
-use Rattle.dfu_device.specs.Stage.{Stage, Stall, OtherRequest, Dnload}
-use Rattle.dfu_device.specs.Table.{Plan, Sure, plan}
-use Rattle.dfu_device.specs.Shown.{Shown, profile}
-use Rattle.dfu_device.specs.Parts.{shows, stage_of, is_filled}
-use Rattle.dfu_device.specs.Rows.{Done, Handles, handled_as, body_length}
-use Rattle.dfu_device_c.specs.declared.config.DfuConfig.{DfuConfig}
-use Rattle.dfu_device_c.specs.declared.record.DfuDevice.{DfuDevice}
-use Rattle.dfu_device_c.specs.Config.{setting_of, transfer_of}
-use Rattle.dfu_device_c.specs.Record.{HasMode, block_in, store_in}
+use Rattle.dfu_device.specs.Shown.{Shown}
+use Rattle.dfu_device.specs.Parts.{shows, stage_of}
+use Rattle.dfu_device.specs.Rows.{Handles, body_length}
+use Rattle.dfu_c_parts.specs.declared.config.DfuConfig.{DfuConfig}
+use Rattle.dfu_c_parts.specs.declared.record.DfuDevice.{DfuDevice}
+use Rattle.dfu_c_parts.specs.Config.{unit_of, setting_of, transfer_of}
+use Rattle.dfu_c_parts.specs.Record.{HasMode, held_in}
+use Rattle.dfu_c_parts.specs.Long.{after_long}
+use Rattle.dfu_c_parts.proofs.LongSetups.{after_free, long_elsewhere, long_here}
+use Rattle.dfu_device_c.specs.Record.{block_in, store_in}
 use Rattle.dfu_device_c.specs.Device.{IsDevice, Takes}
-use Rattle.dfu_device_c.specs.Long.{after_long, IsLong, TakesLong}
-use Rattle.dfu_device_c.proofs.LongPlans.{plan_other, plan_long}
+use Rattle.dfu_device_c.specs.Long.{TakesLong}
 use Rattle.dfu_device_c.proofs.Standing.{moved_device}
-
--- Nothing is put in the modes that it leads to.
-after_free : (m : Mode) (n : ℕ) (x : SlotsState) → is_filled (after_long m) n x ≡ true
-after_free mode.AppIdle n x = refl
-after_free (mode.AppDetach timer passed) n x = refl
-after_free mode.DfuIdle n x = refl
-after_free (mode.DownloadSync written number) n x = refl
-after_free (mode.DownloadSyncWritten written number) n x = refl
-after_free (mode.DownloadBusy written number passed) n x = refl
-after_free (mode.DownloadIdle written number) n x = refl
-after_free (mode.ManifestSync written) n x = refl
-after_free mode.ManifestSyncComplete n x = refl
-after_free (mode.Manifest written passed) n x = refl
-after_free mode.ManifestWaitReset n x = refl
-after_free (mode.UploadIdle place number) n x = refl
-after_free (mode.Error code) n x = refl
-
--- A setup with which the host sends bytes is none of those with a length of 0.
-unnamed : (p : Setup) → p.kind ≡ 0x21 → 0 < p.length → p.request ≢ 1 → (q : Asked) → IsNamed p q → ⊥
-unnamed p out some not_one (asked.Detach timeout) named = omega (arith, some, named.1)
-unnamed p out some not_one (asked.Dnload block len) named = not_one named.0.request
-unnamed p out some not_one (asked.Upload block len) named = omega (arith, out, named.0.kind)
-unnamed p out some not_one (asked.GetStatus len) named = omega (arith, out, named.0.kind)
-unnamed p out some not_one asked.ClrStatus named = omega (arith, some, named.1)
-unnamed p out some not_one (asked.GetState len) named = omega (arith, out, named.0.kind)
-unnamed p out some not_one asked.Abort named = omega (arith, some, named.1)
-unnamed p out some not_one asked.OtherClass named = named
-unnamed p out some not_one asked.NotDfu named = named
-
--- A host that sends bytes sends with 21h.
-sends : (p : Setup) → 0 < body_length p → (p.kind ≡ 0x21) × (0 < p.length)
-sends p some = by_kind (eqb_tells p.kind 0x21)
-  where
-    by_kind : (((p.kind == 0x21) ≡ true) × (p.kind ≡ 0x21)) ⊎ (((p.kind == 0x21) ≡ false) × (p.kind ≢ 0x21)) → (p.kind ≡ 0x21) × (0 < p.length)
-    by_kind (inl (is, out)) = (out, subst (λ (b : Bool). 0 < (if b then p.length else 0)) is some)
-    by_kind (inr (is, other)) = absurd (omega (arith, subst (λ (b : Bool). 0 < (if b then p.length else 0)) is some))
-
--- With a setup that was found to be long the host sends more bytes than a block has.
-pub found_long : (c : DfuConfig) (setup : List ℕ) (p : Setup) (b : Bool) → ((x : Setup) → IsSetup x setup → p ≡ x)
-    → b ≡ nat_lt (transfer_of c) (body_length p) → b ≡ true → (transfer_of c < body_length p) × IsLong c setup
-found_long c setup p b only is found =
-    let long : transfer_of c < body_length p = omega (arith, leb-true _ (body_length p) (sym is ∙ found)) in
-    (long, λ x also. subst (λ (y : Setup). transfer_of c < body_length y) (only x also) long)
 
 module _ (c : DfuConfig) (r r' : DfuDevice) (setup : List ℕ) (p : Setup) (m : Mode) (is : IsSetup p setup)
     (long : transfer_of c < body_length p) (the_mode : (x : Mode) → HasMode r x → m ≡ x) where
-  -- The plan of a request for another interface.
-  pub long_elsewhere : p.index ≢ 0 → r' ≡ r → TakesLong c r setup r'
-  long_elsewhere other same block bytes d device body body_is = record {
+  -- A request for another interface.
+  pub takes_elsewhere : p.index ≢ 0 → r' ≡ r → TakesLong c r setup r'
+  takes_elsewhere other same block bytes d device body body_is = record {
     before = d;
     after = d;
     was = device;
     is = subst (λ x. IsDevice c x block bytes d) (sym same) device;
-    step = handled_as p asked.NotDfu is (λ us. other us.1) ((refl, refl), refl);
+    step = long_elsewhere setup p is d other body;
   }
 
-  -- The device goes where an unknown request takes it.
-  module _ (index : p.index ≡ 0) (moved : HasMode r' (after_long m)) (end : r'.put_end ≡ r.put_end) (size : r'.length ≡ r.length)
+  -- Another one.
+  module _ (index : p.index ≡ 0) (moved : HasMode r' (after_long m)) (held : held_in r' ≡ held_in r) (end : r'.put_end ≡ r.put_end)
+      (size : r'.length ≡ r.length)
       (block bytes : List ℕ) (d : Shown) (device : IsDevice c r block bytes d) (body : List ℕ)
       (fits : length body ≡ body_length p) where
-    abbrev after : Shown
-    after = shows (setting_of c) (store_in r bytes) (after_long m) (block_in r block)
-
-    stage_is : d.stage ≡ stage_of m (spare_of (store_in r bytes)) (block_in r block)
+    stage_is : d.stage ≡ stage_of m (spare_of (store_in (unit_of c) r bytes)) (block_in r block)
     stage_is = ap (λ (w : Shown). w.stage) device.device_is
-        ∙ (λ i. stage_of (sym (the_mode device.mode device.has_mode) i) (spare_of (store_in r bytes)) (block_in r block))
+        ∙ (λ i. stage_of (sym (the_mode device.mode device.has_mode) i) (spare_of (store_in (unit_of c) r bytes)) (block_in r block))
 
-    stalled : (w : Plan) → w ≡ Sure Stall (stage_of (after_long m) (spare_of (store_in r bytes)) (block_in r block)) → (len : ℕ)
-        → Done w len d answer.Stall [] after
-    stalled w is len = subst (λ (x : Plan). Done x len d answer.Stall [] after) (sym is) (
-      (refl, refl),
-      (λ i. record {
-        config = ap (λ (w : Shown). w.config) (sym device.device_is) i;
-        slots = ap (λ (w : Shown). w.slots) (sym device.device_is) i;
-        stage = stage_of (after_long m) (spare_of (store_in r bytes)) (block_in r block);
-      }),
-    )
+    shown_is : record d { stage = stage_of (after_long m) (spare_of (store_in (unit_of c) r bytes)) (block_in r block) }
+        ≡ shows (setting_of c) (store_in (unit_of c) r bytes) (after_long m) (block_in r block)
+    shown_is = λ i. record {
+      config = ap (λ (w : Shown). w.config) device.device_is i;
+      slots = ap (λ (w : Shown). w.slots) device.device_is i;
+      stage = stage_of (after_long m) (spare_of (store_in (unit_of c) r bytes)) (block_in r block);
+    }
 
-    served : (length body == body_length p) ≡ true
-    served = eq-eqb (length body) (body_length p) fits
-
-    named : p.request ≡ 1 → Handles setup body d answer.Stall [] after
-    named one = handled_as p (asked.Dnload p.value p.length) is
-        (record { kind = (sends p (omega (arith, long))).0; request = one; index = index }, refl, refl)
-        (stalled _ (rw served (ap (λ (x : Stage). plan (profile d) (image_of d.slots) x (Dnload p.value body)) stage_is
-        ∙ plan_long (profile d) (image_of d.slots) m _ _ p.value body
-        (le-leb _ _ (omega (arith, long, fits, ap (λ (w : Shown). w.config.functional.transfer) device.device_is))))) _)
-
-    other : p.request ≢ 1 → Handles setup body d answer.Stall [] after
-    other not_one =
-        let out = sends p (omega (arith, long)) in
-        handled_as p asked.OtherClass is ((inl out.0, index), unnamed p out.0 out.1 not_one)
-        (stalled _ (rw served (ap (λ (x : Stage). plan (profile d) (image_of d.slots) x OtherRequest) stage_is
-        ∙ plan_other (profile d) (image_of d.slots) m _ _)) _)
-
-    pub long_here : Takes c r block bytes (λ d d'. Handles setup body d answer.Stall [] d') r' block bytes
-    long_here = record {
+    pub takes_here : Takes c r block bytes (λ d d'. Handles setup body d answer.Stall [] d') r' block bytes
+    takes_here = record {
       before = d;
-      after = after;
+      after = shows (setting_of c) (store_in (unit_of c) r bytes) (after_long m) (block_in r block);
       was = device;
-      is = moved_device c r r' block bytes d (after_long m) device moved end size (after_free m);
-      step = ⊎_elim (λ one. named one.1) (λ not_one. other not_one.1) (eqb_tells p.request 1);
+      is = moved_device c r r' block bytes d (after_long m) device moved held end size (after_free m);
+      step = subst (λ (w : Shown). Handles setup body d answer.Stall [] w) shown_is
+          (long_here setup p is d m (spare_of (store_in (unit_of c) r bytes)) (block_in r block) stage_is
+          (omega (arith, long, ap (λ (w : Shown). w.config.functional.transfer) device.device_is)) index body fits);
     }

@@ -103,7 +103,8 @@ pub elapsed_plain : (ms : ℕ) (d d' : Shown) → d.slots.medium.fuse ≡ Whole 
     → Elapses ms (plain_device d) (plain_device d')
 elapsed_plain ms d d' whole done =
     subst (λ (w : Plan). Done w 0 (plain_device d) Ack [] (plain_device d'))
-    (λ i. time_plan (profile_of d.config (sym (room_tagged d.slots []) i)) d.stage ms) (done_plain (time_plan (profile d) d.stage ms) 0 d Ack [] d' whole done)
+    (λ i. time_plan (profile_of d.config (sym (room_tagged d.slots []) i)) d.stage ms)
+    (done_plain (time_plan (profile d) d.stage ms) 0 d Ack [] d' whole done)
 
 -- No row changes the tag.
 

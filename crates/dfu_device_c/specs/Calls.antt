@@ -5,11 +5,11 @@ use Rattle.dfu_device.specs.declared.answer.Answer.{Answer}
 use Rattle.dfu_device.specs.declared.mode.Mode.{Mode}
 use Rattle.dfu_device.specs.Shown.{Shown}
 use Rattle.dfu_device.specs.Lent.{answer_room}
-use Rattle.dfu_device_c.specs.declared.config.DfuConfig.{DfuConfig}
-use Rattle.dfu_device_c.specs.declared.record.DfuDevice.{DfuDevice}
+use Rattle.dfu_c_parts.specs.declared.config.DfuConfig.{DfuConfig}
+use Rattle.dfu_c_parts.specs.declared.record.DfuDevice.{DfuDevice}
 use Rattle.dfu_device_c.specs.declared.refusal.Refusal.{Refusal}
-use Rattle.dfu_device_c.specs.Config.{setting_of, transfer_of, IsConfig}
-use Rattle.dfu_device_c.specs.Record.{HasMode}
+use Rattle.dfu_c_parts.specs.Config.{setting_of, transfer_of, IsConfig}
+use Rattle.dfu_c_parts.specs.Record.{HasMode}
 use Rattle.dfu_device_c.specs.Device.{IsRefusedSeen, Takes}
 use Rattle.dfu_device_c.specs.Numbers.{refusal_number, answer_number, NO_CONFIG, NO_DEVICE, NO_ROOM, NO_BLOCK}
 

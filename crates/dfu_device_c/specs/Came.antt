@@ -3,10 +3,12 @@ use Rattle.std.specs.Prelude.{◌≡◌, ◌⊎◌, ◌==◌, ℕ, ℤ, List, []
 use Rattle.dfu_device.specs.Stage.{Stage}
 use Rattle.dfu_device.specs.Rows.{Handles, Elapses}
 use Rattle.dfu_device.specs.Table.{reset_stage}
-use Rattle.dfu_slots.specs.Layout.{slot, header_length, HasHeader}
+use Rattle.dfu_slots.specs.Layout.{Slot, slot, header_length, HasHeader}
 use Rattle.dfu_slots.specs.Known.{place_of}
-use Rattle.dfu_device_c.specs.declared.config.DfuConfig.{DfuConfig}
-use Rattle.dfu_device_c.specs.declared.record.DfuDevice.{DfuDevice}
+use Rattle.dfu_slots.specs.declared.unit.Unit.{Unit as WriteUnit}
+use Rattle.dfu_c_parts.specs.declared.config.DfuConfig.{DfuConfig}
+use Rattle.dfu_c_parts.specs.declared.record.DfuDevice.{DfuDevice}
+use Rattle.dfu_c_parts.specs.Config.{gate_in, unit_of}
 use Rattle.dfu_device_c.specs.Noted.{On}
 use Rattle.dfu_device_c.specs.Calls.{Goes, Answered}
 use Rattle.dfu_device_c.specs.Power.{Powers}
@@ -28,19 +30,20 @@ pub record WasAsked (c : DfuConfig) (h h' : Held) : Type 0 where
   pub out : List ℕ
   pub out' : List ℕ
   pub result : ℤ
-  pub on : On h.device h.medium h'.device h'.medium (λ b b'. Answered c h.device h.block b out
+  pub on : On (unit_of c) h.device h.medium h'.device h'.medium (λ b b'. Answered c h.device h.block b out
       (λ a sent d d'. Handles setup body d a sent d') result h'.device h'.block b' out')
 
 -- Time passed, as the clause of dfu_device_elapse says.
 pub record WasPassed (c : DfuConfig) (h h' : Held) : Type 0 where
   pub ms : ℕ
   pub result : ℤ
-  pub on : On h.device h.medium h'.device h'.medium (λ b b'. Goes c h.device h.block b (Elapses ms) result h'.device h'.block b')
+  pub on : On (unit_of c) h.device h.medium h'.device h'.medium
+      (λ b b'. Goes c h.device h.block b (Elapses ms) result h'.device h'.block b')
 
 -- The bus was reset, as the clause of dfu_device_usb_reset says.
 pub record WasReset (c : DfuConfig) (h h' : Held) : Type 0 where
   pub result : ℤ
-  pub on : On h.device h.medium h'.device h'.medium
+  pub on : On (unit_of c) h.device h.medium h'.device h'.medium
       (λ b b'. Goes c h.device h.block b (λ d d'. d' ≡ record d { stage = reset_stage d.stage }) result h'.device h'.block b')
 
 -- A call that was not refused took the one to the other.
@@ -53,6 +56,10 @@ Came c [] = ⊥
 Came c (h ∷ []) = Started c h
 Came c (h' ∷ h ∷ hs) = Went c h h' × Came c (h ∷ hs)
 
--- The slot that a record notes has a well-formed header on this medium, with the register of its image.
-abbrev pub IsTrueNote : DfuDevice → List ℕ → Type 0
-IsTrueNote r bytes = HasHeader (slot 16 bytes (place_of (r.slot == 0) bytes)) (header_length (slot 16 bytes (place_of (r.slot == 0) bytes)))
+-- A slot has a well-formed header, with the register of its image.
+abbrev pub IsTrueHeader : Slot → Type 0
+IsTrueHeader s = HasHeader s (header_length s)
+
+-- So has the slot of this medium that a record notes.
+abbrev pub IsTrueNote : WriteUnit → DfuDevice → List ℕ → Type 0
+IsTrueNote u r bytes = IsTrueHeader (slot (gate_in u) bytes (place_of (r.slot == 0) bytes))

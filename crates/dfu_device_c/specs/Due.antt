@@ -6,8 +6,8 @@ use Rattle.dfu_device.specs.Stage.{state_of}
 use Rattle.dfu_device.specs.Rows.{Elapses}
 use Rattle.dfu_device.specs.Setting.{Setting}
 use Rattle.dfu_device.specs.Shown.{Shown}
-use Rattle.dfu_device_c.specs.declared.config.DfuConfig.{DfuConfig}
-use Rattle.dfu_device_c.specs.declared.record.DfuDevice.{DfuDevice}
+use Rattle.dfu_c_parts.specs.declared.config.DfuConfig.{DfuConfig}
+use Rattle.dfu_c_parts.specs.declared.record.DfuDevice.{DfuDevice}
 use Rattle.dfu_device_c.specs.Device.{IsDevice}
 
 -- In how many milliseconds the state of this mode changes; 0 where no time changes it.

@@ -1,4 +1,3 @@
-pub mod Config
 pub mod Memory
 pub mod Record
 pub mod Noted

@@ -3,15 +3,15 @@ use Rattle.std.specs.Prelude.{ℕ, ◌+◌, ◌==◌, ◌&&◌, ◌||◌, not, n
 use Rattle.std.specs.Borrow.{MutBor}
 use Rattle.dfu_slots.specs.Medium.{MediumState, written}
 use Rattle.dfu_slots.specs.Medium.Fuse.{Whole}
-use Rattle.dfu_slots.specs.declared.unit.Unit.TheVariants.{Byte}
+use Rattle.dfu_slots.specs.declared.unit.Unit.{Unit as WriteUnit}
 use Rattle.dfu_slots.specs.Units.{in_place}
 use Rattle.dfu_slots.specs.Seen.{SlotsState}
 use Rattle.dfu_device.specs.Shown.{Shown}
 use Rattle.dfu_device_c.specs.declared.cover.Cover.{Cover}
 
--- The medium of these bytes: it is written in bytes, and no write of it fails.
-abbrev pub memory_of : List ℕ → MediumState
-memory_of bytes = record { bytes = bytes; failures = 0; fuse = Whole; grain = in_place Byte; tag = [] }
+-- The medium of these bytes: it is written in this unit, and no write of it fails.
+abbrev pub memory_of : WriteUnit → List ℕ → MediumState
+memory_of u bytes = record { bytes = bytes; failures = 0; fuse = Whole; grain = in_place u; tag = [] }
 
 -- A header is covered; at 0 there is none.
 abbrev pub is_on : Cover → Bool
@@ -31,12 +31,12 @@ is_within cover size = not (is_on cover) || (nat_le (cover.place + 16) size && (
 
 -- The medium that shows these bytes, in the memory of this name, with this behind a covered header. Both are its tag, by which the
 -- memory that comes back is known to be the one that was lent.
-abbrev pub lent : List ℕ → ℕ → List ℕ → MediumState
-lent seen name hidden = record { bytes = seen; failures = 0; fuse = Whole; grain = in_place Byte; tag = name ∷ hidden }
+abbrev pub lent : WriteUnit → List ℕ → ℕ → List ℕ → MediumState
+lent u seen name hidden = record { bytes = seen; failures = 0; fuse = Whole; grain = in_place u; tag = name ∷ hidden }
 
 -- The medium in this memory, with this cover.
-abbrev pub memory_at : MutBor (List ℕ) → Cover → MediumState
-memory_at memory cover = lent (seen_of memory.now cover) memory.ghost_name (hidden_of memory.now cover)
+abbrev pub memory_at : WriteUnit → MutBor (List ℕ) → Cover → MediumState
+memory_at u memory cover = lent u (seen_of memory.now cover) memory.ghost_name (hidden_of memory.now cover)
 
 -- A medium without its tag.
 abbrev pub plain_medium : MediumState → MediumState

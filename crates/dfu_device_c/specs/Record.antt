@@ -1,38 +1,15 @@
 -- What a program in C keeps of a device between two calls.
-use Rattle.std.specs.Prelude.{◌≡◌, ℕ, List, [], take}
-use Rattle.dfu_wire.specs.Code.{code_byte}
+use Rattle.std.specs.Prelude.{ℕ, List, take}
 use Rattle.dfu_slots.specs.Seen.{SlotsState, store_of}
-use Rattle.dfu_device.specs.declared.mode.Mode.{Mode}
-use Rattle.dfu_device.specs.declared.mode.Mode.TheVariants as mode
-use Rattle.dfu_device_c.specs.declared.record.DfuDevice.{DfuDevice}
-use Rattle.dfu_device_c.specs.Config.{version}
+use Rattle.dfu_slots.specs.declared.unit.Unit.{Unit as WriteUnit}
+use Rattle.dfu_c_parts.specs.declared.record.DfuDevice.{DfuDevice}
+use Rattle.dfu_c_parts.specs.Record.{held_in}
 use Rattle.dfu_device_c.specs.Memory.{memory_of}
-
--- The record has this mode's number, and the numbers that the mode keeps. Those it does not keep may be anything.
-abbrev pub HasNumbers : DfuDevice → Mode → Type 0
-HasNumbers r mode.AppIdle = r.mode ≡ 0
-HasNumbers r (mode.AppDetach timer passed) = (r.mode ≡ 1) × (timer ≡ r.first) × (passed ≡ r.second)
-HasNumbers r mode.DfuIdle = r.mode ≡ 2
-HasNumbers r (mode.DownloadSync written number) = (r.mode ≡ 3) × (written ≡ r.first) × (number ≡ r.number)
-HasNumbers r (mode.DownloadSyncWritten written number) = (r.mode ≡ 4) × (written ≡ r.first) × (number ≡ r.number)
-HasNumbers r (mode.DownloadBusy written number passed) = (r.mode ≡ 5) × (written ≡ r.first) × (number ≡ r.number) × (passed ≡ r.second)
-HasNumbers r (mode.DownloadIdle written number) = (r.mode ≡ 6) × (written ≡ r.first) × (number ≡ r.number)
-HasNumbers r (mode.ManifestSync written) = (r.mode ≡ 7) × (written ≡ r.first)
-HasNumbers r mode.ManifestSyncComplete = r.mode ≡ 8
-HasNumbers r (mode.Manifest written passed) = (r.mode ≡ 9) × (written ≡ r.first) × (passed ≡ r.second)
-HasNumbers r mode.ManifestWaitReset = r.mode ≡ 10
-HasNumbers r (mode.UploadIdle place number) = (r.mode ≡ 11) × (place ≡ r.first) × (number ≡ r.number)
-HasNumbers r (mode.Error code) = (r.mode ≡ 12) × (code_byte code ≡ r.number)
-
--- The record is of this version, and has this mode.
-pub record HasMode (r : DfuDevice) (m : Mode) : Type 0 where
-  pub version_is : r.version ≡ version
-  pub numbers : HasNumbers r m
 
 -- The block of a record that is not written, at the front of the memory of a block.
 abbrev pub block_in : DfuDevice → List ℕ → List ℕ
 block_in r block = take r.length block
 
 -- The slot store of a record over these bytes.
-abbrev pub store_in : DfuDevice → List ℕ → SlotsState
-store_in r bytes = store_of (memory_of bytes) [] r.put_end
+abbrev pub store_in : WriteUnit → DfuDevice → List ℕ → SlotsState
+store_in u r bytes = store_of (memory_of u bytes) (held_in r) r.put_end

@@ -1,15 +1,15 @@
 //! What a program in C asks of a device without its medium.
 ghost use Rattle.std.specs.Prelude.{◌≡◌, ◌⊎◌, ◌-◌, max, pos};
 ghost use Rattle.dfu_wire.specs.Functional.{IsFunctional};
-ghost use Rattle.dfu_device_c.specs.Config.{setting_of, IsConfig};
+ghost use Rattle.dfu_c_parts.specs.Config.{setting_of, IsConfig};
 ghost use Rattle.dfu_device_c.specs.Numbers.{NO_CONFIG};
 ghost use Rattle.dfu_device_c.specs.Calls.{RefusesAsking};
 ghost use Rattle.dfu_device_c.specs.Stalls.{ToldStall};
 ghost use Rattle.dfu_device_c.specs.Due.{due_of, ToldDue};
 
-use crate::config::{DfuConfig, functional_of, is_allowed};
-use crate::record::{DfuDevice, mode_of};
-use crate::stalls::{Limits, will_stall};
+use dfu_c_parts::{
+    DfuConfig, DfuDevice, Limits, functional_of, is_allowed, mode_of, room_of, unit_of, will_stall,
+};
 use dfu_device::Mode;
 use dfu_wire::Setup;
 
@@ -34,7 +34,7 @@ pub extern "C" fn dfu_device_would_stall(
     let limits = Limits {
         functional: functional_of(config),
         least: config.least,
-        room: (size as u64 / 2).saturating_sub(32),
+        room: room_of(unit_of(config), size),
     };
     i32::from(will_stall(&limits, mode, Setup::decode(setup).request()))
 }

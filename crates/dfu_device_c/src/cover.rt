@@ -3,7 +3,7 @@ ghost use Rattle.std.specs.Prelude.{◌≡◌, ◌⊎◌, ◌+◌, ◌-◌, ◌�
 ghost use Rattle.dfu_slots.specs.Medium.{written};
 ghost use Rattle.dfu_device_c.specs.Memory.{is_on, seen_of, hidden_of, is_within};
 
-use crate::record::copy;
+use crate::copy::copy;
 
 /// How many bytes a header has.
 pub(crate) const HEADER_SIZE: usize = 16;

@@ -3,17 +3,16 @@ ghost use Rattle.std.specs.Prelude.{◌≡◌, ◌≢◌, ◌⊎◌, ◌<◌, �
 ghost use Rattle.dfu_device.specs.Rows.{Handles, Elapses};
 ghost use Rattle.dfu_device.specs.Table.{reset_stage};
 ghost use Rattle.dfu_device.specs.Lent.{answer_room};
-ghost use Rattle.dfu_device_c.specs.declared.record.DfuDevice.{DfuDevice as Record};
-ghost use Rattle.dfu_device_c.specs.Config.{setting_of, transfer_of, IsConfig};
+ghost use Rattle.dfu_c_parts.specs.declared.record.DfuDevice.{DfuDevice as Record};
+ghost use Rattle.dfu_c_parts.specs.Config.{setting_of, transfer_of, unit_of, IsConfig};
 ghost use Rattle.dfu_device_c.specs.Noted.{On};
 ghost use Rattle.dfu_device_c.specs.Numbers.{answer_number, NO_ROOM};
 ghost use Rattle.dfu_device_c.specs.Calls.{IsCause, Refuses, Goes, Answered, HasNoRoom};
 
 use crate::calls;
-use crate::config::{DfuConfig, is_allowed};
 use crate::cover::Cover;
 use crate::memory::{Memory, is_short};
-use crate::record::DfuDevice;
+use dfu_c_parts::{DfuConfig, DfuDevice, is_allowed, unit_of};
 use dfu_device::{Answer, LentBlock};
 
 // The number of an answer with so many bytes: how many they are, or -1 for a stall.
@@ -68,7 +67,7 @@ pub extern "C" fn dfu_device_handle(
     out: &mut [u8],
 ) -> i32
     ensures outcome { let c = config.now in
-        On device.old medium.old device.new medium.new (λ b b'. Answered c device.old block.old b out.old
+        On (unit_of c) device.old medium.old device.new medium.new (λ b b'. Answered c device.old block.old b out.old
         (λ a sent d d'. Handles setup.now body.now d a sent d') result device.new block.new b' out.new)
         ⊎ (Refuses c device.old block.old medium.old result device.new block.new medium.new × (out.new ≡ out.old))
         ⊎ HasNoRoom c device.old block.old medium.old out.old result device.new block.new medium.new out.new }
@@ -87,6 +86,7 @@ pub extern "C" fn dfu_device_handle(
     };
     let mut memory = Memory {
         bytes: medium,
+        unit: unit_of(config),
         cover: Cover::NONE,
     };
     match calls::handle(config, device, &mut lent, &mut memory, setup, body, out) {
@@ -105,7 +105,7 @@ pub extern "C" fn dfu_device_elapse(
     ms: u32,
 ) -> i32
     ensures outcome { let c = config.now in
-        On device.old medium.old device.new medium.new
+        On (unit_of c) device.old medium.old device.new medium.new
         (λ b b'. Goes c device.old block.old b (Elapses ms) result device.new block.new b')
         ⊎ Refuses c device.old block.old medium.old result device.new block.new medium.new }
 {
@@ -119,6 +119,7 @@ pub extern "C" fn dfu_device_elapse(
     };
     let mut memory = Memory {
         bytes: medium,
+        unit: unit_of(config),
         cover: Cover::NONE,
     };
     match calls::elapse(config, device, &mut lent, &mut memory, ms) {
@@ -136,7 +137,7 @@ pub extern "C" fn dfu_device_usb_reset(
     medium: &mut [u8],
 ) -> i32
     ensures outcome { let c = config.now in
-        On device.old medium.old device.new medium.new (λ b b'. Goes c device.old block.old b
+        On (unit_of c) device.old medium.old device.new medium.new (λ b b'. Goes c device.old block.old b
         (λ d d'. d' ≡ record d { stage = reset_stage d.stage }) result device.new block.new b')
         ⊎ Refuses c device.old block.old medium.old result device.new block.new medium.new }
 {
@@ -150,6 +151,7 @@ pub extern "C" fn dfu_device_usb_reset(
     };
     let mut memory = Memory {
         bytes: medium,
+        unit: unit_of(config),
         cover: Cover::NONE,
     };
     match calls::usb_reset(config, device, &mut lent, &mut memory) {

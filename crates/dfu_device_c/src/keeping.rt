@@ -1,20 +1,19 @@
 //! A device is put together of what is kept of it, and kept again.
 ghost use Rattle.std.specs.Prelude.{◌≡◌, ◌≤◌, false, length, IfOk, IfErr, IfSome, IfNone, OnErr};
 ghost use Rattle.dfu_device.specs.declared.mode.Mode.{Mode as Stands};
-ghost use Rattle.dfu_device_c.specs.declared.config.DfuConfig.{DfuConfig as Given};
-ghost use Rattle.dfu_device_c.specs.Config.{setting_of, transfer_of, IsConfig};
+ghost use Rattle.dfu_c_parts.specs.declared.config.DfuConfig.{DfuConfig as Given};
+ghost use Rattle.dfu_c_parts.specs.Config.{setting_of, transfer_of, unit_of, IsConfig};
 ghost use Rattle.dfu_device_c.specs.Memory.{memory_at, is_on, seen_of, plain_device};
-ghost use Rattle.dfu_device_c.specs.Record.{HasMode};
+ghost use Rattle.dfu_c_parts.specs.Record.{HasMode};
 ghost use Rattle.dfu_device_c.specs.Noted.{Notes};
 ghost use Rattle.dfu_device_c.specs.Device.{IsDevice, IsRefusedSeen, IsMade};
 ghost use Rattle.dfu_device_c.specs.Calls.{IsBack};
 
-use crate::config::{DfuConfig, config_of};
 use crate::memory::Memory;
 use crate::noted::note;
 use crate::open::open;
-use crate::record::{DfuDevice, mode_of, set_mode};
 use crate::refusal::Refusal;
+use dfu_c_parts::{DfuConfig, DfuDevice, config_of, mode_of, set_held, set_mode};
 use dfu_device::{LentBlock, LentDevice, Mode};
 
 /// A device whose medium and block are in the memory of the caller.
@@ -61,6 +60,7 @@ pub(crate) fn made<'m, 'b>(
 ) -> Result<Kept<'m, 'b>, Refusal>
     requires config { IsConfig config.now }
     requires room { transfer_of config.now ≤ length block.old.memory.now }
+    requires unit { unit_of config.now ≡ memory.old.unit }
     requires plain { is_on memory.old.cover ≡ false }
     ensures ok { IfOk result (λ d. IsMade config.now kept.now block.old.memory memory.old.bytes d) }
     ensures err { IfErr result (λ e. IsRefusedSeen e config.now kept.now block.old.memory.now memory.old.bytes.now) }
@@ -95,17 +95,17 @@ pub(crate) fn keep<'m, 'b>(
     block: &mut LentBlock<'b>,
     memory: &mut Memory<'m>,
 )
-    ensures medium { memory_at memory.new.bytes memory.new.cover ≡ device.entry.device.slots.medium }
+    ensures medium { memory_at memory.new.unit memory.new.bytes memory.new.cover ≡ device.entry.device.slots.medium }
     ensures device { (c : Given) → IsConfig c → transfer_of c ≤ device.entry.memory.room → device.entry.device.config ≡ setting_of c
+        → memory.new.unit ≡ unit_of c
         → IsDevice c kept.new block.new.memory.now (seen_of memory.new.bytes.now memory.new.cover) (plain_device device.entry.device) }
-    ensures notes { Notes kept.new memory.new.bytes.now (seen_of memory.new.bytes.now memory.new.cover) }
+    ensures notes { Notes memory.new.unit kept.new memory.new.bytes.now (seen_of memory.new.bytes.now memory.new.cover) }
     ensures name { block.new.memory.ghost_name ≡ device.entry.memory.name }
 {
     let (slots, mode, taken) = device.into_parts();
     kept.length = taken.len as u16;
+    set_held(kept, slots.held());
     set_mode(kept, mode);
-    // Called for its clause `store`: since the medium is written in bytes, none is held back.
-    let _ = slots.held();
     kept.put_end = slots.put_end();
     let first = slots.is_first();
     *memory = slots.into_medium();

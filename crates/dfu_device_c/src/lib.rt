@@ -3,7 +3,7 @@
 
 mod asking;
 mod calls;
-mod config;
+mod copy;
 mod cover;
 mod exports;
 mod keeping;
@@ -12,10 +12,7 @@ mod long;
 mod memory;
 mod noted;
 mod open;
-mod place;
 mod power;
-mod record;
 mod refusal;
-mod stalls;
 mod tells;
 mod version;

@@ -1,36 +1,13 @@
 //! A body that is longer than a block may be: it needs no memory, since no byte of it is looked at.
-ghost use Rattle.std.specs.Prelude.{◌≡◌, ◌⊎◌, nat_lt};
-ghost use Rattle.dfu_device.specs.Rows.{body_length};
-ghost use Rattle.dfu_device_c.specs.Config.{IsConfig};
+ghost use Rattle.std.specs.Prelude.{◌≡◌, ◌⊎◌};
+ghost use Rattle.dfu_c_parts.specs.Config.{IsConfig};
 ghost use Rattle.dfu_device_c.specs.Numbers.{STALL, NOT_LONG};
 ghost use Rattle.dfu_device_c.specs.Calls.{RefusesAsking};
-ghost use Rattle.dfu_device_c.specs.Long.{after_long, IsLong, TakesLong};
+ghost use Rattle.dfu_c_parts.specs.Long.{IsLong};
+ghost use Rattle.dfu_device_c.specs.Long.{TakesLong};
 
-use crate::config::{DfuConfig, is_allowed};
-use crate::record::{DfuDevice, mode_of, set_mode};
-use dfu_device::Mode;
-use dfu_wire::{Code, Setup};
-
-// Where a device goes from this mode by such a body.
-fn after_long(mode: Mode) -> Mode
-    ensures { result ≡ after_long mode }
-{
-    match mode {
-        Mode::AppIdle | Mode::AppDetach { .. } => Mode::AppIdle,
-        Mode::ManifestWaitReset => Mode::ManifestWaitReset,
-        Mode::Error { code } => Mode::Error { code },
-        _ => Mode::Error {
-            code: Code::StalledPkt,
-        },
-    }
-}
-
-// Whether the host sends more bytes with this setup than a block has.
-fn is_long(setup: &Setup, transfer: u16) -> bool
-    ensures { result ≡ nat_lt transfer (body_length setup.now) }
-{
-    setup.kind == 0x21 && setup.length > transfer
-}
+use dfu_c_parts::{DfuConfig, DfuDevice, after_long, is_allowed, is_long, mode_of, set_mode};
+use dfu_wire::Setup;
 
 /// As `dfu_device_handle` with a body of wLength bytes, which are more than the transfer size: -1. Refused with -9 where
 /// they are not.

@@ -5,7 +5,7 @@ ghost use Rattle.dfu_device_c.specs.Memory.{memory_at, is_within};
 use crate::cover::{Cover, read_seen, write_seen};
 use dfu_slots::{Failed, Medium, Unit};
 
-/// A medium of bytes in memory, which is written in bytes. No write of it fails.
+/// A medium of bytes in memory, which is written in this unit. No write of it fails.
 ///
 /// A slot store takes its medium by value. That the caller's memory has the bytes that the store leaves is known by the
 /// name of the reference, which is in the medium's tag: so a call takes the memory out of its place (`take`), and puts back
@@ -15,6 +15,7 @@ use dfu_slots::{Failed, Medium, Unit};
 #[derive(Drop)]
 pub(crate) struct Memory<'m> {
     pub(crate) bytes: &'m mut [u8],
+    pub(crate) unit: Unit,
     pub(crate) cover: Cover,
     ghost short: { length bytes.now < 2 ^ 32 },
     ghost within: { IsTrue (is_within cover (length bytes.now)) },
@@ -31,27 +32,28 @@ pub(crate) fn is_short(bytes: &[u8]) -> bool
 /// Takes the memory out of its place, and leaves none there.
 pub(crate) fn take<'m>(place: &mut Memory<'m>) -> Memory<'m>
     ensures bytes { result.bytes ≡ place.old.bytes }
+    ensures unit { result.unit ≡ place.old.unit }
     ensures cover { result.cover ≡ place.old.cover }
 {
     std::mem::replace(
         place,
         Memory {
             bytes: &mut [],
+            unit: Unit::Byte,
             cover: Cover::NONE,
         },
     )
 }
 
 impl<'m> Medium for Memory<'m> {
-    ghost state = { λ m. memory_at m.bytes m.cover };
+    ghost state = { λ m. memory_at m.unit m.bytes m.cover };
 
     fn len(&self) -> u32 {
         self.bytes.len() as u32
     }
 
     fn unit(&self) -> Unit {
-        let _len = self.bytes.len();
-        Unit::Byte
+        self.unit
     }
 
     fn sector(&self) -> u32 {

@@ -1,7 +1,8 @@
 //! The slot store of a record, over the memory of its medium.
 ghost use Rattle.std.specs.Prelude.{◌≡◌, false, length, IfOk, IfErr, IfSome, IfNone, OnErr, IsTrue, List, ℕ};
 ghost use Rattle.dfu_slots.specs.Image.{HasImage};
-ghost use Rattle.dfu_device_c.specs.declared.config.DfuConfig.{DfuConfig};
+ghost use Rattle.dfu_c_parts.specs.declared.config.DfuConfig.{DfuConfig};
+ghost use Rattle.dfu_c_parts.specs.Config.{unit_of};
 ghost use Rattle.dfu_device_c.specs.Memory.{memory_at, is_on, is_within};
 ghost use Rattle.dfu_device_c.specs.Noted.{IsNoted};
 ghost use Rattle.dfu_device_c.specs.Device.{IsRefusedSeen, IsOpened};
@@ -10,16 +11,16 @@ ghost use Rattle.dfu_device_c.specs.Calls.{IsBack};
 use crate::cover::Cover;
 use crate::memory::{Memory, take};
 use crate::noted::{cover_of, is_first};
-use crate::record::DfuDevice;
 use crate::refusal::Refusal;
-use arrayvec::ArrayVec;
+use dfu_c_parts::{DfuDevice, held_of};
 use dfu_slots::Slots;
 
 // Why this memory, of which no store was made, is none of a device.
 fn refusal_of(memory: &mut Memory<'_>) -> Refusal
-    ensures medium { result ≡ Refusal.NoMedium → ¬ HasImage (memory_at memory.old.bytes memory.old.cover) }
-    ensures device { result ≡ Refusal.NoDevice → HasImage (memory_at memory.old.bytes memory.old.cover) }
-    ensures back { memory_at memory.new.bytes memory.new.cover ≡ memory_at memory.old.bytes memory.old.cover }
+    ensures medium { result ≡ Refusal.NoMedium → ¬ HasImage (memory_at memory.old.unit memory.old.bytes memory.old.cover) }
+    ensures device { result ≡ Refusal.NoDevice → HasImage (memory_at memory.old.unit memory.old.bytes memory.old.cover) }
+    ensures back { memory_at memory.new.unit memory.new.bytes memory.new.cover ≡ memory_at memory.old.unit memory.old.bytes
+        memory.old.cover }
 {
     match Slots::open(take(memory)) {
         Ok(slots) => {
@@ -38,18 +39,24 @@ fn refusal_of(memory: &mut Memory<'_>) -> Refusal
 fn covered<'m>(memory: &mut Memory<'m>, cover: Cover) -> Memory<'m>
     requires { IsTrue (is_within cover (length memory.old.bytes.now)) }
     ensures bytes { result.bytes ≡ memory.old.bytes }
+    ensures unit { result.unit ≡ memory.old.unit }
     ensures cover { result.cover ≡ cover }
 {
-    let Memory { bytes, cover: _ } = take(memory);
-    Memory { bytes, cover }
+    let Memory {
+        bytes,
+        unit,
+        cover: _,
+    } = take(memory);
+    Memory { bytes, unit, cover }
 }
 
 // The slot store by what a record notes, where that stands on the medium. No image is read.
 fn open_noted<'m>(kept: &DfuDevice, memory: &mut Memory<'m>) -> Option<Slots<Memory<'m>>>
     requires plain { is_on memory.old.cover ≡ false }
-    ensures some { IfSome result (λ slots. IsOpened kept.now memory.old.bytes slots) }
-    ensures none { IfNone result (¬ IsNoted kept.now memory.old.bytes.now) }
+    ensures some { IfSome result (λ slots. IsOpened memory.old.unit kept.now memory.old.bytes slots) }
+    ensures none { IfNone result (¬ IsNoted memory.old.unit kept.now memory.old.bytes.now) }
     ensures back { IfNone result (memory.new.bytes ≡ memory.old.bytes) }
+    ensures unit { IfNone result (memory.new.unit ≡ memory.old.unit) }
     ensures cover { IfNone result (is_on memory.new.cover ≡ false) }
 {
     let Some(cover) = cover_of(kept, memory) else {
@@ -57,7 +64,7 @@ fn open_noted<'m>(kept: &DfuDevice, memory: &mut Memory<'m>) -> Option<Slots<Mem
     };
     match Slots::from_known(
         covered(memory, cover),
-        ArrayVec::new(),
+        held_of(kept),
         kept.put_end,
         is_first(kept),
     ) {
@@ -73,12 +80,13 @@ fn open_noted<'m>(kept: &DfuDevice, memory: &mut Memory<'m>) -> Option<Slots<Mem
 #[inline(never)]
 fn open_plain<'m>(kept: &DfuDevice, memory: &mut Memory<'m>) -> Result<Slots<Memory<'m>>, Refusal>
     requires plain { is_on memory.old.cover ≡ false }
-    requires unnoted { ¬ IsNoted kept.now memory.old.bytes.now }
-    ensures ok { IfOk result (λ slots. IsOpened kept.now memory.old.bytes slots) }
-    ensures err { IfErr result (λ e. (c : DfuConfig) (block : List ℕ) → IsRefusedSeen e c kept.now block memory.old.bytes.now) }
+    requires unnoted { ¬ IsNoted memory.old.unit kept.now memory.old.bytes.now }
+    ensures ok { IfOk result (λ slots. IsOpened memory.old.unit kept.now memory.old.bytes slots) }
+    ensures err { IfErr result
+        (λ e. (c : DfuConfig) (block : List ℕ) → unit_of c ≡ memory.old.unit → IsRefusedSeen e c kept.now block memory.old.bytes.now) }
     ensures back { OnErr result (IsBack memory.old.bytes memory.new.bytes) }
 {
-    match Slots::from_parts(take(memory), ArrayVec::new(), kept.put_end) {
+    match Slots::from_parts(take(memory), held_of(kept), kept.put_end) {
         Ok(slots) => Ok(slots),
         Err(taken) => {
             *memory = taken;
@@ -94,8 +102,9 @@ pub(crate) fn open<'m>(
     memory: &mut Memory<'m>,
 ) -> Result<Slots<Memory<'m>>, Refusal>
     requires plain { is_on memory.old.cover ≡ false }
-    ensures ok { IfOk result (λ slots. IsOpened kept.now memory.old.bytes slots) }
-    ensures err { IfErr result (λ e. (c : DfuConfig) (block : List ℕ) → IsRefusedSeen e c kept.now block memory.old.bytes.now) }
+    ensures ok { IfOk result (λ slots. IsOpened memory.old.unit kept.now memory.old.bytes slots) }
+    ensures err { IfErr result
+        (λ e. (c : DfuConfig) (block : List ℕ) → unit_of c ≡ memory.old.unit → IsRefusedSeen e c kept.now block memory.old.bytes.now) }
     ensures back { OnErr result (IsBack memory.old.bytes memory.new.bytes) }
 {
     match open_noted(kept, memory) {

@@ -4,10 +4,10 @@ ghost use Rattle.dfu_wire.specs.Code.{code_byte};
 ghost use Rattle.dfu_wire.specs.State.{state_byte};
 ghost use Rattle.dfu_device.specs.Stage.{state_of, code_of};
 ghost use Rattle.dfu_device.specs.Parts.{stage_of};
-ghost use Rattle.dfu_device_c.specs.Record.{HasMode};
+ghost use Rattle.dfu_c_parts.specs.Record.{HasMode};
 ghost use Rattle.dfu_device_c.specs.Numbers.{NO_DEVICE};
 
-use crate::record::{DfuDevice, has_mode};
+use dfu_c_parts::{DfuDevice, has_mode};
 use dfu_device::Mode;
 
 /// The state of the device, bState: 0 to 10; -4 where the record has no mode.

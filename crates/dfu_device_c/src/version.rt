@@ -1,9 +1,8 @@
-//! The version of the library.
+//! The version of the library, as a program asks for it.
 ghost use Rattle.std.specs.Prelude.{◌≡◌, pos};
-ghost use Rattle.dfu_device_c.specs.Config.{version};
+ghost use Rattle.dfu_c_parts.specs.Config.{version};
 
-/// The version, 0.1.0: 10,000 for each major one, 100 for each minor one, and 1 for each patch.
-pub(crate) const VERSION: u32 = 100;
+use dfu_c_parts::VERSION;
 
 /// The version of the library, with which each configuration and each record begins.
 #[unsafe(no_mangle)]

@@ -5,7 +5,8 @@ use Rattle.dfu_device.specs.Rows.{Elapses}
 use Rattle.dfu_asks.specs.Asks.{device_in}
 use Rattle.dfu_asks_c.specs.Numbers.{passed_number}
 use Rattle.dfu_asks_c.specs.Calls.{Replied}
-use Rattle.dfu_asks_c.proofs.Kept.{done_config, refuses_asked, refuses_lent, goes, with_this, replied}
+use Rattle.dfu_c_parts.proofs.SameConfig.{done_same}
+use Rattle.dfu_asks_c.proofs.Kept.{refuses_asked, refuses_lent, goes, with_this, replied}
 use Rattle.dfu_asks_c.proofs.Found.{none_due}
 use Rattle.dfu_asks_c.proofs.exports.dfu_asking_elapse.Goals as goal
 
@@ -32,8 +33,9 @@ returns-in-Ok-Asks c =
           (with_this k c.args.device.now c.args.block.now c.in-Ok.asking _ found.config found.ok found.fits found.short c.from.ensures refl)
           (c.keep.ensures.kept k) c.keep.ensures.length (
             came.0,
-            replied k _ c.elapse.new.self flash (replicate 6 0) came.0 _ passed_number _ _ found.ok.config
-                (λ x sent d' row. done_config _ _ _ _ _ _ row.2) c.in-Ok-Asks.ensures.is (sym (ap passed_number c.in-Ok-Asks.field-0-is)) came.1,
+            replied k _ c.elapse.new.self flash (replicate 6 0) came.0 _ passed_number _ _ found.ok.config found.ok.unit
+                (λ x sent d' row. done_same _ _ _ _ _ _ row.2) c.in-Ok-Asks.ensures.is
+                (sym (ap passed_number c.in-Ok-Asks.field-0-is)) came.1,
           ));
     }
 
@@ -51,8 +53,9 @@ returns-in-Ok-Answered c =
           (with_this k c.args.device.now c.args.block.now c.in-Ok.asking _ found.config found.ok found.fits found.short c.from.ensures refl)
           (c.keep-in-Ok-Answered.ensures.kept k) c.keep-in-Ok-Answered.ensures.length (
             came.0,
-            replied k _ c.elapse.new.self flash (replicate 6 0) came.0 _ passed_number _ _ found.ok.config
-                (λ x sent d' row. done_config _ _ _ _ _ _ row.2) c.in-Ok-Answered.ensures.is (sym (ap passed_number c.in-Ok-Answered.field-0-is)) came.1,
+            replied k _ c.elapse.new.self flash (replicate 6 0) came.0 _ passed_number _ _ found.ok.config found.ok.unit
+                (λ x sent d' row. done_same _ _ _ _ _ _ row.2) c.in-Ok-Answered.ensures.is
+                (sym (ap passed_number c.in-Ok-Answered.field-0-is)) came.1,
           ));
     }
 
@@ -60,7 +63,8 @@ pub returns-in-Err-elapse : goal.returns-in-Err-elapse
 returns-in-Err-elapse c =
     let found = c.in-Ok.ensures in
     record {
-      outcome = inr (refuses_lent c.args.config.now c.args.device.now c.args.block c.in-Ok.asking c.refused.result _ _ found.config found.ok found.fits
+      outcome = inr (refuses_lent c.args.config.now c.args.device.now c.args.block c.in-Ok.asking c.refused.result _ _ found.config
+          found.ok found.fits
           found.short found.room (none_due c.in-Ok.asking.work (sym c.is_some.ensures ∙ c.if-is_some.false)) c.refused.ensures
           (to_z-of_z w32 _ (omega (arith, c.number-in-Err-elapse.type_inv)) ∙ c.number-in-Err-elapse.ensures));
     }

@@ -4,7 +4,8 @@ use Rattle.dfu_device.specs.Rows.{Handles}
 use Rattle.dfu_asks.specs.Asks.{device_in}
 use Rattle.dfu_asks_c.specs.Numbers.{reply_number, answer_number}
 use Rattle.dfu_asks_c.specs.Calls.{Replied}
-use Rattle.dfu_asks_c.proofs.Kept.{handled_config, refuses_asked, refuses_lent, goes, with_this, replied}
+use Rattle.dfu_c_parts.proofs.SameConfig.{handled_same}
+use Rattle.dfu_asks_c.proofs.Kept.{refuses_asked, refuses_lent, goes, with_this, replied}
 use Rattle.dfu_asks_c.proofs.Found.{none_due}
 use Rattle.dfu_asks_c.proofs.Whole.{called_as, called_few, called_whole, same_whole}
 use Rattle.dfu_asks_c.proofs.exports.dfu_asking_handle.Goals as goal
@@ -33,7 +34,8 @@ returns-in-Ok-Asks-clause-outcome c =
     found.room
     (with_this k c.args.device.now c.args.block.now c.in-Ok.asking _ found.config found.ok found.fits found.short c.from.ensures refl)
     (c.keep.ensures.kept k) c.keep.ensures.length
-    (replied k _ c.handle.new.self flash out _ _ reply_number _ _ found.ok.config (λ x sent d' row. handled_config _ _ _ _ _ _ row)
+    (replied k _ c.handle.new.self flash out _ _ reply_number _ _ found.ok.config found.ok.unit
+    (λ x sent d' row. handled_same _ _ _ _ _ _ row)
     c.in-Ok-Asks.ensures.is (sym (ap reply_number c.in-Ok-Asks.field-0-is)) came))
 
 pub returns-in-Ok-Answered-clause-outcome : goal.returns-in-Ok-Answered-clause-outcome
@@ -52,9 +54,11 @@ returns-in-Ok-Answered-clause-outcome c =
     found.room
     (with_this k c.args.device.now c.args.block.now c.in-Ok.asking _ found.config found.ok found.fits found.short c.from.ensures refl)
     (c.keep-in-Ok-Answered.ensures.kept k) c.keep-in-Ok-Answered.ensures.length
-    (replied k _ c.handle.new.self flash out _ _ reply_number _ _ found.ok.config (λ x sent d' row. handled_config _ _ _ _ _ _ row)
+    (replied k _ c.handle.new.self flash out _ _ reply_number _ _ found.ok.config found.ok.unit
+    (λ x sent d' row. handled_same _ _ _ _ _ _ row)
     c.in-Ok-Answered.ensures.is
-    (to_z-of_z w32 _ (omega (arith, c.number_of.type_inv)) ∙ c.number_of.ensures ∙ ap (λ (n : ℕ). answer_number c.in-Ok-Answered.answer n) same)
+    (to_z-of_z w32 _ (omega (arith, c.number_of.type_inv)) ∙ c.number_of.ensures
+    ∙ ap (λ (n : ℕ). answer_number c.in-Ok-Answered.answer n) same)
     (called_whole room out c.handle.new.out fits (search rules) _ flash _ c.handle.new.self _ came)))
 
 pub returns-in-Err-handle-clause-outcome : goal.returns-in-Err-handle-clause-outcome

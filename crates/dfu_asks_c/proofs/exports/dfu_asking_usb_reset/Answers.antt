@@ -27,12 +27,15 @@ returns-in-Ok-usb_reset c =
     let block = lend c.args.block c.from.result (omega (arith, found.fits, c.from.ensures)) (omega (arith, found.short, c.from.ensures)) in
     let was : Asking = record c.in-Ok.asking { block = block } in
     let Does : Asking → Asking → Type 0 =
-    λ a a'. (device_in a' flash ≡ record (device_in a flash) { stage = reset_stage (device_in a flash).stage }) × IsDevice a' flash × (pos 0 ≡ pos 0) in
+    λ a a'. (device_in a' flash ≡ record (device_in a flash) { stage = reset_stage (device_in a flash).stage }) × IsDevice a' flash
+    × (pos 0 ≡ pos 0) in
     record {
       outcome = inl (goes k c.args.device.now c.args.block.now c.keep.new.kept was now Does found.room
-          (with_this k c.args.device.now c.args.block.now c.in-Ok.asking block found.config found.ok found.fits found.short c.from.ensures refl)
+          (with_this k c.args.device.now c.args.block.now c.in-Ok.asking block found.config found.ok found.fits found.short c.from.ensures
+          refl)
           (c.keep.ensures.kept k) c.keep.ensures.length
-          (settle k now (Does was) (ap (λ (d : Shown). d.config) row ∙ found.ok.config) (row, c.in-Ok-usb_reset.ensures.is, refl)));
+          (settle k now (Does was) (ap (λ (d : Shown). d.config) row ∙ found.ok.config)
+          (ap (λ (d : Shown). d.slots.medium.grain.unit) row ∙ found.ok.unit) (row, c.in-Ok-usb_reset.ensures.is, refl)));
     }
 
 pub returns-in-Err-usb_reset : goal.returns-in-Err-usb_reset
@@ -40,7 +43,8 @@ returns-in-Err-usb_reset c =
     let found = c.in-Ok.ensures in
     let same = c.in-Err-usb_reset.ensures.unchanged in
     record {
-      outcome = inr (refuses_lent c.args.config.now c.args.device.now c.args.block c.in-Ok.asking c.refused.result _ _ found.config found.ok found.fits
+      outcome = inr (refuses_lent c.args.config.now c.args.device.now c.args.block c.in-Ok.asking c.refused.result _ _ found.config
+          found.ok found.fits
           found.short found.room (none_due c.in-Ok.asking.work (sym c.is_some.ensures ∙ c.if-is_some.false)) c.refused.ensures
           (to_z-of_z w32 _ (omega (arith, c.number-in-Err-usb_reset.type_inv)) ∙ c.number-in-Err-usb_reset.ensures));
     }

@@ -46,7 +46,8 @@ returns-then-piece-gt4294967295 c =
     record {
       outcome = inr (
         refuses_piece (record c.in-Ok.asking { block = lend c.args.block r.device.length found.fits found.short })
-            (to_z-of_z w32 _ (omega (arith, c.number-then-piece-gt4294967295.type_inv)) ∙ c.number-then-piece-gt4294967295.ensures) found.room
+            (to_z-of_z w32 _ (omega (arith, c.number-then-piece-gt4294967295.type_inv)) ∙ c.number-then-piece-gt4294967295.ensures)
+            found.room
             (with_lent c.args.config.now r c.args.block c.in-Ok.asking found.config found.ok found.fits found.short) tt,
         refl,
       );

@@ -51,9 +51,10 @@ returns-in-Ok-Asks c =
       outcome = inl (goes k c.args.device.now c.args.block.now c.keep.new.kept was c.took.new.self
           (λ a a'. Went a flash (not (c.args.failed == 0)) out _ a' _)
           found.room
-          (with_this k c.args.device.now c.args.block.now c.in-Ok.asking was.block found.config found.ok found.fits found.short c.from.ensures refl)
+          (with_this k c.args.device.now c.args.block.now c.in-Ok.asking was.block found.config found.ok found.fits found.short
+          c.from.ensures refl)
           (c.keep.ensures.kept k) c.keep.ensures.length
-          (went k was c.took.new.self flash _ out _ _ reply.Asks found.ok.config refl
+          (went k was c.took.new.self flash _ out _ _ reply.Asks found.ok.config found.ok.unit refl
           (λ len s was before asks p piece torn.
           took_whole 6 out c.took.new.out fits size _ len s was p _ flash c.took.new.self reply.Asks
           (took_as is (c.in-Ok-Asks.ensures.outcome len s was before asks p piece torn)))));
@@ -76,9 +77,10 @@ returns-in-Ok-Answered c =
       outcome = inl (goes k c.args.device.now c.args.block.now c.keep-in-Ok-Answered.new.kept was c.took.new.self
           (λ a a'. Went a flash (not (c.args.failed == 0)) out _ a' _)
           found.room
-          (with_this k c.args.device.now c.args.block.now c.in-Ok.asking was.block found.config found.ok found.fits found.short c.from.ensures refl)
+          (with_this k c.args.device.now c.args.block.now c.in-Ok.asking was.block found.config found.ok found.fits found.short
+          c.from.ensures refl)
           (c.keep-in-Ok-Answered.ensures.kept k) c.keep-in-Ok-Answered.ensures.length
-          (went k was c.took.new.self flash _ out _ _ (reply.Answered answer c.min.result) found.ok.config
+          (went k was c.took.new.self flash _ out _ _ (reply.Answered answer c.min.result) found.ok.config found.ok.unit
           (to_z-of_z w32 _ (omega (arith, c.number_of.type_inv)) ∙ c.number_of.ensures)
           (λ len s was before asks p piece torn.
           let t = took_as is (c.in-Ok-Answered.ensures.outcome len s was before asks p piece torn) in

@@ -1,6 +1,6 @@
 use Rattle.std.proofs.Common.{◌∙◌, inl, w64, arith}
 use Rattle.std.proofs.lemmas.Int.{to_z-of_z}
-use Rattle.dfu_device_c.proofs.Asked.{found_one}
+use Rattle.dfu_c_parts.proofs.Setups.{found_one}
 use Rattle.dfu_device_c.proofs.DueTimes.{told_due}
 use Rattle.dfu_device_c.proofs.asking.dfu_device_due.Goals as goal
 

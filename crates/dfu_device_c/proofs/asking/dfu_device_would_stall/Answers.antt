@@ -1,9 +1,12 @@
-use Rattle.std.proofs.Common.{◌≡◌, ap, ◌∙◌, Bool, pos, inl, inr, ⊎_elim, w32, arith}
+use Rattle.std.proofs.Common.{◌≡◌, ◌-◌, ◌*◌, ◌/◌, ap, ◌∙◌, Bool, pos, inl, inr, ⊎_elim, w32, arith}
 use Rattle.std.proofs.lemmas.Bool.{cases_Bool}
 use Rattle.std.proofs.lemmas.Int.{to_z-of_z}
 use Rattle.std.specs.Int.{from_bool, cast_signed, cast_unsigned}
-use Rattle.dfu_device_c.proofs.Asked.{found_one, same_limits, told_stall}
+use Rattle.dfu_c_parts.proofs.Setups.{found_one, same_limits}
+use Rattle.dfu_device_c.proofs.Asked.{told_stall}
 use Rattle.dfu_device_c.proofs.asking.dfu_device_would_stall.Goals as goal
+use Rattle.dfu_slots.specs.declared.unit.Unit.{Unit as WriteUnit}
+use Rattle.dfu_c_parts.specs.Config.{gate_in}
 
 pub returns : goal.returns
 returns c =
@@ -16,7 +19,8 @@ returns c =
             c.will_stall.result c.decode.ensures.only c.request.ensures.only
             (λ m has. found_one c.mode_of.result c.in-Some.mode m c.in-Some.is (c.mode_of.ensures.only m has))
             (λ p image spare unwritten body limits holds fits. c.will_stall.ensures p image spare unwritten body
-            (same_limits p c.functional_of.result _ _ _ _ c.functional_of.ensures c.saturating_sub.ensures limits) holds fits)
+            (same_limits p c.functional_of.result _ _ _ _ c.functional_of.ensures
+            (c.room_of.ensures ∙ ap (λ (u : WriteUnit). c.args.size / 2 - 2 * gate_in u) c.unit_of.ensures) limits) holds fits)
             _ (λ is. number _ is) (λ is. number _ is),
       );
     }

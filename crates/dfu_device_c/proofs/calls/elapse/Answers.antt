@@ -1,11 +1,15 @@
-use Rattle.std.proofs.Common.{◌∙◌, ap, arith}
+use Rattle.std.proofs.Common.{◌≡◌, ◌∙◌, ap, subst, arith}
 use Rattle.dfu_device.specs.Block.{BlockMemory}
 use Rattle.dfu_device.specs.Shown.{Shown}
 use Rattle.dfu_device_c.specs.Memory.{plain_device, seen_of}
-use Rattle.dfu_device_c.proofs.SameConfig.{done_config}
+use Rattle.dfu_c_parts.proofs.SameConfig.{done_config, done_grain}
 use Rattle.dfu_device_c.proofs.Plain.{elapsed_plain, done_tag}
-use Rattle.dfu_device_c.proofs.Standing.{made_device, made_tag, made_memory, back_name, back_sees}
+use Rattle.dfu_device_c.proofs.Standing.{made_device, made_unit, made_tag, back_unit, made_memory, back_name, back_sees}
 use Rattle.dfu_device_c.proofs.calls.elapse.Goals as goal
+use Rattle.dfu_slots.specs.declared.unit.Unit.{Unit as WriteUnit}
+use Rattle.dfu_c_parts.specs.Config.{unit_of}
+use Rattle.dfu_device_c.specs.Noted.{Notes}
+use Rattle.dfu_slots.specs.Units.{Grain}
 
 pub returns-clause-row : goal.returns-clause-row
 returns-clause-row c =
@@ -21,25 +25,32 @@ returns-clause-row c =
     let tag = done_tag _ _ _ _ _ _ row ∙ made_tag k r c.args.block.now.memory memory c.in_ok-device.device made in
     let room = made_memory k r c.args.block.now.memory memory c.in_ok-device.device c.requires.config c.requires.fits made in
     let config = ap (λ (d : Shown). d.config) made.device_is in
+    let whole = ap (λ (d : Shown). d.slots.medium.fuse) device.device_is in
+    let unit : back.unit ≡ unit_of k = back_unit back.unit back.bytes back.cover now.device.slots.medium c.keep.ensures.medium
+    ∙ ap (λ (g : Grain). g.unit) (done_grain _ _ _ _ _ _ row)
+    ∙ made_unit k r c.args.block.now.memory memory c.in_ok-device.device made in
     record {
       seen = o.seen;
       seen' = seen_of back.bytes.now back.cover;
-      sees = back_sees r memory.now o.seen o.hidden memory.ghost_name o.opens back.bytes back.cover now.device.slots.medium
+      sees = back_sees (unit_of k) back.unit r memory.now o.seen o.hidden memory.ghost_name o.opens back.bytes back.cover
+          now.device.slots.medium
           c.keep.ensures.medium tag back.within;
-      notes = c.keep.ensures.notes;
+      notes = subst (λ (u : WriteUnit). Notes u c.keep.new.kept back.bytes.now (seen_of back.bytes.now back.cover)) unit
+          c.keep.ensures.notes;
       does = record {
         before = plain_device c.in_ok-device.device.device;
         after = plain_device now.device;
         was = device;
         is = c.keep.ensures.device k c.requires.config
-            (omega (arith, room, ap (λ (b : BlockMemory). b.room) c.elapse.ensures.memory)) (done_config _ _ _ _ _ _ row ∙ config);
-        step = elapsed_plain c.args.ms c.in_ok-device.device.device now.device (ap (λ (d : Shown). d.slots.medium.fuse) device.device_is) row;
+            (omega (arith, room, ap (λ (b : BlockMemory). b.room) c.elapse.ensures.memory)) (done_config _ _ _ _ _ _ row ∙ config) unit;
+        step = elapsed_plain c.args.ms c.in_ok-device.device.device now.device whole row;
       };
     }
 
 pub returns-clause-name : goal.returns-clause-name
 returns-clause-name c =
     let made = c.in_ok-device.ensures.ok in
-    back_name c.args.memory.now.bytes c.keep.new.memory.bytes c.keep.new.memory.cover made.opened.hidden
+    back_name c.keep.new.memory.unit c.args.memory.now.bytes c.keep.new.memory.bytes c.keep.new.memory.cover made.opened.hidden
     c.elapse.new.self.device.slots.medium c.keep.ensures.medium
-    (done_tag _ _ _ _ _ _ c.elapse.ensures.row ∙ made_tag c.args.config.now c.args.kept.now c.args.block.now.memory c.args.memory.now.bytes c.in_ok-device.device made)
+    (done_tag _ _ _ _ _ _ c.elapse.ensures.row
+    ∙ made_tag c.args.config.now c.args.kept.now c.args.block.now.memory c.args.memory.now.bytes c.in_ok-device.device made)

@@ -7,6 +7,7 @@ use Rattle.dfu_device_c.specs.Device.{Takes}
 use Rattle.dfu_device_c.specs.Noted.{On}
 use Rattle.dfu_device_c.proofs.Standing.{on_map, both_same}
 use Rattle.dfu_device_c.proofs.exports.dfu_device_elapse.Goals as goal
+use Rattle.dfu_c_parts.specs.Config.{unit_of}
 
 pub returns-in-Ok : goal.returns-in-Ok
 returns-in-Ok c =
@@ -15,9 +16,10 @@ returns-in-Ok c =
     let Step : Shown → Shown → Type 0 = (Elapses c.args.ms) in
     let to = c.elapse.new.kept in
     record {
-      outcome = inl (both_same (λ bytes block. On r c.args.medium.now to bytes (λ b b'. Goes k r c.args.block.now b Step (pos 0) to block b'))
+      outcome = inl (both_same
+          (λ bytes block. On (unit_of k) r c.args.medium.now to bytes (λ b b'. Goes k r c.args.block.now b Step (pos 0) to block b'))
           c.elapse.new.memory.bytes.now _ c.elapse.new.block.memory.now _ (search rules) (search rules)
-          (on_map r c.args.medium.now to c.elapse.new.memory.bytes.now
+          (on_map (unit_of k) r c.args.medium.now to c.elapse.new.memory.bytes.now
           (λ b b'. Takes k r c.args.block.now b Step to c.elapse.new.block.memory.now b')
           (λ b b'. Goes k r c.args.block.now b Step (pos 0) to c.elapse.new.block.memory.now b')
           (λ b b' done. record { number_is = refl; takes = done }) c.in-Ok.ensures.row));

@@ -7,6 +7,7 @@ use Rattle.dfu_device_c.specs.Calls.{IsCause, Handled, Answered}
 use Rattle.dfu_device_c.specs.Noted.{On}
 use Rattle.dfu_device_c.proofs.Standing.{on_map, both_same}
 use Rattle.dfu_device_c.proofs.exports.dfu_device_handle.Goals as goal
+use Rattle.dfu_c_parts.specs.Config.{unit_of}
 
 pub returns-in-Ok-clause-outcome : goal.returns-in-Ok-clause-outcome
 returns-in-Ok-clause-outcome c =
@@ -16,10 +17,10 @@ returns-in-Ok-clause-outcome c =
     let block = c.args.block.now in
     let to = c.handle.new.kept in
     let number : ℤ = to_z w32 (of_z w32 c.number_of.result) in
-    inl (both_same (λ bytes left. On r c.args.medium.now to bytes
+    inl (both_same (λ bytes left. On (unit_of k) r c.args.medium.now to bytes
     (λ b b'. Answered k r block b c.args.out.now Row number to left b' c.handle.new.out))
     c.handle.new.memory.bytes.now _ c.handle.new.block.memory.now _ (search rules) (search rules)
-    (on_map r c.args.medium.now to c.handle.new.memory.bytes.now
+    (on_map (unit_of k) r c.args.medium.now to c.handle.new.memory.bytes.now
     (λ b b'. Handled k r block b c.args.out.now Row c.in-Ok.answer c.in-Ok.count to c.handle.new.block.memory.now b' c.handle.new.out)
     (λ b b'. Answered k r block b c.args.out.now Row number to c.handle.new.block.memory.now b' c.handle.new.out)
     (λ b b' done. record {

@@ -2,7 +2,8 @@ use Rattle.dfu_device_c.proofs.Spared.{handled_spared, elapsed_spared, reset_spa
 use Rattle.dfu_device_c.proofs.laws.noted_slot_stays.Goals as goal
 
 pub returns-clause-handled : goal.returns-clause-handled
-returns-clause-handled c = λ x r r' block block' bytes bytes' setup body sent a noted on. (handled_spared x r r' block block' bytes bytes' setup body sent a noted on).1
+returns-clause-handled c = λ x r r' block block' bytes bytes' setup body sent a noted on.
+    (handled_spared x r r' block block' bytes bytes' setup body sent a noted on).1
 
 pub returns-clause-elapsed : goal.returns-clause-elapsed
 returns-clause-elapsed c = λ x r r' block block' bytes bytes' ms noted on. (elapsed_spared x r r' block block' bytes bytes' ms noted on).1

@@ -1,9 +1,10 @@
 use Rattle.std.proofs.Common.{ap, subst, inl, refl}
 use Rattle.dfu_device.specs.declared.mode.Mode.{Mode}
-use Rattle.dfu_device_c.specs.declared.record.DfuDevice.{DfuDevice}
-use Rattle.dfu_device_c.specs.Record.{HasMode}
-use Rattle.dfu_device_c.proofs.Asked.{found_one}
-use Rattle.dfu_device_c.proofs.LongTakes.{found_long, long_elsewhere, long_here}
+use Rattle.dfu_c_parts.specs.declared.record.DfuDevice.{DfuDevice}
+use Rattle.dfu_c_parts.specs.Record.{HasMode, held_in}
+use Rattle.dfu_c_parts.proofs.Setups.{found_one}
+use Rattle.dfu_c_parts.proofs.LongSetups.{found_long}
+use Rattle.dfu_device_c.proofs.LongTakes.{takes_elsewhere, takes_here}
 use Rattle.dfu_device_c.proofs.long.dfu_device_too_long.Goals as goal
 
 pub returns-then-setup-eq0 : goal.returns-then-setup-eq0
@@ -18,10 +19,10 @@ returns-then-setup-eq0 c =
         long.1,
         λ block bytes d device body body_is.
             let set = c.set_mode.ensures.others in
-            long_here k c.args.device.now c.set_mode.new.kept c.args.setup.now p c.in-Some.mode is long.0
+            takes_here k c.args.device.now c.set_mode.new.kept c.args.setup.now p c.in-Some.mode is long.0
             (λ m has. found_one c.mode_of.result c.in-Some.mode m c.in-Some.is (c.mode_of.ensures.only m has)) c.if-setup-eq0.true
             (subst (λ (m : Mode). HasMode c.set_mode.new.kept m) c.after_long.ensures c.set_mode.ensures.mode)
-            (ap (λ (r : DfuDevice). r.put_end) set) (ap (λ (r : DfuDevice). r.length) set)
+            (ap held_in set) (ap (λ (r : DfuDevice). r.put_end) set) (ap (λ (r : DfuDevice). r.length) set)
             block bytes d device body (body_is p is),
       );
     }
@@ -35,7 +36,7 @@ returns-else-setup-eq0 c =
       outcome = inl (
         refl,
         long.1,
-        long_elsewhere k c.args.device.now c.args.device.now c.args.setup.now p c.in-Some.mode c.decode-setup.ensures.fields long.0
+        takes_elsewhere k c.args.device.now c.args.device.now c.args.setup.now p c.in-Some.mode c.decode-setup.ensures.fields long.0
             (λ m has. found_one c.mode_of.result c.in-Some.mode m c.in-Some.is (c.mode_of.ensures.only m has)) c.if-setup-eq0.false refl,
       );
     }

@@ -1,4 +1,0 @@
-//! The version of the library.
-
-/// The version, 0.1.0: 10,000 for each major one, 100 for each minor one, and 1 for each patch.
-pub(crate) const VERSION: u32 = 100;

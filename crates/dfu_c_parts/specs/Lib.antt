@@ -1,0 +1,4 @@
+pub mod Config
+pub mod Record
+pub mod Stalls
+pub mod Long
