@@ -25,7 +25,3 @@ over_unit U256 n = omega arith
 -- So a store holds back no more than a record has room for.
 pub few_held : (s : SlotsState) → IsStore s → length s.held ≤ 256
 few_held s store = omega (arith, store.puts.part, over_unit s.medium.grain.unit s.put_end)
-
--- Of media that are the same the units are.
-pub same_unit : (m : MediumState) (u v : WriteUnit) → m.grain ≡ in_place u → m.grain ≡ in_place v → u ≡ v
-same_unit m u v is also = ap (λ g. g.unit) (sym is ∙ also)

@@ -85,110 +85,110 @@ module _ (mine other : ℕ) (image : List ℕ) where
       (λ some. absurd (omega (arith, some, flat))) (omega (arith, place))
       (omega (arith, place, fits, before, length-append s.held new, a.sized.room))) (inl writes)
 
-  module _ (u : WriteUnit) (seen held : List ℕ) (end : ℕ) (a : ActiveAt (gate_in u) seen mine other image)
-      (store : IsStore (store_of (memory_of u seen) held end))
-    where
-      abbrev s : SlotsState
-      s = store_of (memory_of u seen) held end
+module _ (mine other : ℕ) (image : List ℕ) (u : WriteUnit) (seen held : List ℕ) (end : ℕ)
+    (a : ActiveAt (gate_in u) seen mine other image) (store : IsStore (store_of (memory_of u seen) held end))
+  where
+    abbrev s : SlotsState
+    s = store_of (memory_of u seen) held end
 
-      abbrev to : ℕ
-      to = other + slot_size seen
+    abbrev to : ℕ
+    to = other + slot_size seen
 
-      -- The writes of a `commit` lie in the spare, whatever the register is.
-      commit_inside : (len crc : ℕ)
-          → AllInside other to (part_writes (in_place u) (data_place s (held_at s)) held ++ commit_writes (in_place u) seen len crc)
-      commit_inside len crc =
-          let g : ℕ = gate_in u in
-          let place : other ≡ spare_at g seen = (places_are g seen mine other image a).1 in
-          let gen = next_generation (generation (slot g seen (active_at g seen))) in
-          let head = header_unit (gate_size u) gen len crc in
-          let gate = gate_unit (gate_size u) OPEN in
-          let head_size = length-header_unit (gate_size u) gen len crc (unit_wide u) in
-          let open_size = length-gate_unit (gate_size u) OPEN (unit_wide u) in
-          let room = held_fits s store.puts store.has_image.active.sized.whole.units in
-          let opening = inside_append other to (write_anew 0 (spare_at g seen + g) head) (write_anew 0 (spare_at g seen) gate)
-          (anew_inside 0 other to (spare_at g seen + g) head (λ some. absurd (omega (arith, some))) (omega (arith, place))
-          (omega (arith, place, a.sized.room, head_size)))
-          (anew_inside 0 other to (spare_at g seen) gate (λ some. absurd (omega (arith, some))) (omega (arith, place))
-          (omega (arith, place, a.sized.room, open_size))) in
-          inside_append other to (part_writes (in_place u) (data_place s (held_at s)) held) (commit_writes (in_place u) seen len crc)
-          (some_inside 0 other to (data_place s (held_at s)) (filled u held) (λ some. absurd (omega (arith, some))) (omega (arith, place))
-          (omega (arith, place, room, a.sized.room))) opening
+    -- The writes of a `commit` lie in the spare, whatever the register is.
+    commit_inside : (len crc : ℕ)
+        → AllInside other to (part_writes (in_place u) (data_place s (held_at s)) held ++ commit_writes (in_place u) seen len crc)
+    commit_inside len crc =
+        let g : ℕ = gate_in u in
+        let place : other ≡ spare_at g seen = (places_are g seen mine other image a).1 in
+        let gen = next_generation (generation (slot g seen (active_at g seen))) in
+        let head = header_unit (gate_size u) gen len crc in
+        let gate = gate_unit (gate_size u) OPEN in
+        let head_size = length-header_unit (gate_size u) gen len crc (unit_wide u) in
+        let open_size = length-gate_unit (gate_size u) OPEN (unit_wide u) in
+        let room = held_fits s store.puts store.has_image.active.sized.whole.units in
+        let opening = inside_append other to (write_anew 0 (spare_at g seen + g) head) (write_anew 0 (spare_at g seen) gate)
+        (anew_inside 0 other to (spare_at g seen + g) head (λ some. absurd (omega (arith, some))) (omega (arith, place))
+        (omega (arith, place, a.sized.room, head_size)))
+        (anew_inside 0 other to (spare_at g seen) gate (λ some. absurd (omega (arith, some))) (omega (arith, place))
+        (omega (arith, place, a.sized.room, open_size))) in
+        inside_append other to (part_writes (in_place u) (data_place s (held_at s)) held) (commit_writes (in_place u) seen len crc)
+        (some_inside 0 other to (data_place s (held_at s)) (filled u held) (λ some. absurd (omega (arith, some))) (omega (arith, place))
+        (omega (arith, place, room, a.sized.room))) opening
 
-      -- So a `commit` leaves all else.
-      commit_spares : (now : MediumState) (len : ℕ) → AllWrites (memory_of u seen) (writes_of s (Commit len)) now
-          → Spares other (slot_size seen) seen now.bytes
-      commit_spares now len writes = ends_keep other to (writes_of s (Commit len)) (memory_of u seen) now
-          (place_end (gate_in u) seen mine other a.sized a.places).1 (commit_inside len _) (inl writes)
+    -- So a `commit` leaves all else.
+    commit_spares : (now : MediumState) (len : ℕ) → AllWrites (memory_of u seen) (writes_of s (Commit len)) now
+        → Spares other (slot_size seen) seen now.bytes
+    commit_spares now len writes = ends_keep other to (writes_of s (Commit len)) (memory_of u seen) now
+        (place_end (gate_in u) seen mine other a.sized a.places).1 (commit_inside len _) (inl writes)
 
-      -- So do the calls of a block.
-      block_spares : (now : SlotsState) (before block : List ℕ) → IsStore now → capacity_of now.medium ≡ capacity_of (memory_of u seen)
-          → Called s (block_calls before block) AllWorked now → Spares other (slot_size seen) seen now.medium.bytes
-      block_spares now before block after room called = by_calls (length before == 0) called
-        where
-          few : length held < unit_size u
-          few = omega (arith, store.puts.part, over_less u end)
+    -- So do the calls of a block.
+    block_spares : (now : SlotsState) (before block : List ℕ) → IsStore now → capacity_of now.medium ≡ capacity_of (memory_of u seen)
+        → Called s (block_calls before block) AllWorked now → Spares other (slot_size seen) seen now.medium.bytes
+    block_spares now before block after room called = by_calls (length before == 0) called
+      where
+        few : length held < unit_size u
+        few = omega (arith, store.puts.part, over_less u end)
 
-          by_calls : (b : Bool) → Called s (if b then Begin ∷ Put 0 block ∷ [] else Put (length before) block ∷ [])
-              AllWorked now → Spares other (slot_size seen) seen now.medium.bytes
-          by_calls false (last, put, same) =
-              let grain : last.medium.grain ≡ in_place u =
-              all_grain (writes_of s (Put (length before) block)) (memory_of u seen) last.medium put.writes in
-              let own : IsStore last = subst (λ (x : SlotsState). IsStore x) same after in
-              let part : length last.held ≡ last.put_end % unit_size u =
-              subst (λ (w : Grain). length last.held ≡ last.put_end % unit_size w.unit) grain own.puts.part in
-              let left : length last.held ≡ (length held + length block) - whole_part u (length held + length block) =
-              ap length put.held_is ∙ rest_length (in_place u) held block
-              ∙ ap (λ (n : ℕ). n - whole_part u n) (length-append held block) in
-              subst (λ (x : SlotsState). Spares other (slot_size seen) seen x.medium.bytes) (sym same)
-              (put_spares s last a refl (length before)
-              (held_before u (length before) (length block) (length held) few
-              (ap (λ (n : ℕ). n % unit_size u) (sym put.end_is) ∙ sym part ∙ left)) block
-              (omega (arith, after.puts.fits, room, ap (λ (x : SlotsState). x.put_end) same, put.end_is)) put.writes)
-          by_calls true (mid, begun, (last, put, same)) =
-              let first = begin_spares s mid a begun.writes in
-              let grain : mid.medium.grain ≡ in_place u = all_grain (writes_of s Begin) (memory_of u seen) mid.medium begun.writes in
-              let second = put_spares mid last
-              (subst (λ (w : Grain). ActiveAt (gate_room w) mid.medium.bytes mine other image) (sym grain) first.1)
-              (ap (λ (w : Grain). w.sector) grain) 0
-              (omega (arith, ap length begun.held_is)) block
-              (omega (
-                arith,
-                after.puts.fits,
-                room,
-                ap (λ (x : SlotsState). x.put_end) same,
-                put.end_is,
-                ap gate_room grain,
-                first.0.size,
-                ap (λ (x : SlotsState). capacity_of x.medium) same,
-              )) put.writes in
-              let half : slot_size mid.medium.bytes ≡ slot_size seen = omega (arith, first.0.size) in
-              subst (λ (x : SlotsState). Spares other (slot_size seen) seen x.medium.bytes) (sym same)
-              (keeps_both other (other + slot_size seen) seen mid.medium.bytes last.medium.bytes first.0
-              (subst (λ (n : ℕ). KeepsOutside other (other + n) mid.medium.bytes last.medium.bytes) half second))
+        by_calls : (b : Bool) → Called s (if b then Begin ∷ Put 0 block ∷ [] else Put (length before) block ∷ [])
+            AllWorked now → Spares other (slot_size seen) seen now.medium.bytes
+        by_calls false (last, put, same) =
+            let grain : last.medium.grain ≡ in_place u =
+            all_grain (writes_of s (Put (length before) block)) (memory_of u seen) last.medium put.writes in
+            let own : IsStore last = subst (λ (x : SlotsState). IsStore x) same after in
+            let part : length last.held ≡ last.put_end % unit_size u =
+            subst (λ (w : Grain). length last.held ≡ last.put_end % unit_size w.unit) grain own.puts.part in
+            let left : length last.held ≡ (length held + length block) - whole_part u (length held + length block) =
+            ap length put.held_is ∙ rest_length (in_place u) held block
+            ∙ ap (λ (n : ℕ). n - whole_part u n) (length-append held block) in
+            subst (λ (x : SlotsState). Spares other (slot_size seen) seen x.medium.bytes) (sym same)
+            (put_spares mine other image s last a refl (length before)
+            (held_before u (length before) (length block) (length held) few
+            (ap (λ (n : ℕ). n % unit_size u) (sym put.end_is) ∙ sym part ∙ left)) block
+            (omega (arith, after.puts.fits, room, ap (λ (x : SlotsState). x.put_end) same, put.end_is)) put.writes)
+        by_calls true (mid, begun, (last, put, same)) =
+            let first = begin_spares mine other image s mid a begun.writes in
+            let grain : mid.medium.grain ≡ in_place u = all_grain (writes_of s Begin) (memory_of u seen) mid.medium begun.writes in
+            let second = put_spares mine other image mid last
+            (subst (λ (w : Grain). ActiveAt (gate_room w) mid.medium.bytes mine other image) (sym grain) first.1)
+            (ap (λ (w : Grain). w.sector) grain) 0
+            (omega (arith, ap length begun.held_is)) block
+            (omega (
+              arith,
+              after.puts.fits,
+              room,
+              ap (λ (x : SlotsState). x.put_end) same,
+              put.end_is,
+              ap gate_room grain,
+              first.0.size,
+              ap (λ (x : SlotsState). capacity_of x.medium) same,
+            )) put.writes in
+            let half : slot_size mid.medium.bytes ≡ slot_size seen = omega (arith, first.0.size) in
+            subst (λ (x : SlotsState). Spares other (slot_size seen) seen x.medium.bytes) (sym same)
+            (keeps_both other (other + slot_size seen) seen mid.medium.bytes last.medium.bytes first.0
+            (subst (λ (n : ℕ). KeepsOutside other (other + n) mid.medium.bytes last.medium.bytes) half second))
 
-      -- A plan that was carried out writes in the spare slot alone.
-      pub done_spares : (p : Plan) (len : ℕ) (d : Shown) (a : Answer) (out : List ℕ) (d' : Shown) → d.slots ≡ s → IsStore d'.slots
-          → Done p len d a out d' → Spares other (slot_size seen) seen d'.slots.medium.bytes
-      done_spares (Sure reply stage) len d a out d' is after done =
-          keeps_same other (other + slot_size seen) seen d'.slots.medium.bytes
-          (ap (λ (w : Shown). w.slots.medium.bytes) done.1 ∙ ap (λ (x : SlotsState). x.medium.bytes) is)
-      done_spares (Writes before block reply stage bad) len d a out d' is after (inl (says, done)) =
-          block_spares d'.slots before block after
-          (sym (room_capacity d'.slots) ∙ done.room ∙ room_capacity d.slots ∙ ap (λ (x : SlotsState). capacity_of x.medium) is)
-          (subst (λ (x : SlotsState). Called x (block_calls before block) AllWorked d'.slots) is done.calls)
-      done_spares (Writes before block reply stage bad) len d a out d' is after (inr (fault, says, done)) =
-          absurd (called_works fault d.slots d'.slots (block_calls before block) (ap (λ (x : SlotsState). x.medium.fuse) is) done.calls)
-      done_spares (Commits taken reply stage bad) len d a out d' is after (inl (says, done)) = by_commit done.calls
-        where
-          by_commit : Called d.slots (Commit (length taken) ∷ []) AllWorked d'.slots
-              → Spares other (slot_size seen) seen d'.slots.medium.bytes
-          by_commit (mid, worked, same) =
-              subst (λ (x : SlotsState). Spares other (slot_size seen) seen x.medium.bytes) (sym same)
-              (commit_spares mid.medium (length taken)
-              (subst (λ (x : SlotsState). AllWrites x.medium (writes_of x (Commit (length taken))) mid.medium) is worked.writes))
-      done_spares (Commits taken reply stage bad) len d a out d' is after (inr (fault, says, done)) =
-          absurd (called_works fault d.slots d'.slots (Commit (length taken) ∷ []) (ap (λ (x : SlotsState). x.medium.fuse) is) done.calls)
+    -- A plan that was carried out writes in the spare slot alone.
+    pub done_spares : (p : Plan) (len : ℕ) (d : Shown) (a : Answer) (out : List ℕ) (d' : Shown) → d.slots ≡ s → IsStore d'.slots
+        → Done p len d a out d' → Spares other (slot_size seen) seen d'.slots.medium.bytes
+    done_spares (Sure reply stage) len d a out d' is after done =
+        keeps_same other (other + slot_size seen) seen d'.slots.medium.bytes
+        (ap (λ (w : Shown). w.slots.medium.bytes) done.1 ∙ ap (λ (x : SlotsState). x.medium.bytes) is)
+    done_spares (Writes before block reply stage bad) len d a out d' is after (inl (says, done)) =
+        block_spares d'.slots before block after
+        (sym (room_capacity d'.slots) ∙ done.room ∙ room_capacity d.slots ∙ ap (λ (x : SlotsState). capacity_of x.medium) is)
+        (subst (λ (x : SlotsState). Called x (block_calls before block) AllWorked d'.slots) is done.calls)
+    done_spares (Writes before block reply stage bad) len d a out d' is after (inr (fault, says, done)) =
+        absurd (called_works fault d.slots d'.slots (block_calls before block) (ap (λ (x : SlotsState). x.medium.fuse) is) done.calls)
+    done_spares (Commits taken reply stage bad) len d a out d' is after (inl (says, done)) = by_commit done.calls
+      where
+        by_commit : Called d.slots (Commit (length taken) ∷ []) AllWorked d'.slots
+            → Spares other (slot_size seen) seen d'.slots.medium.bytes
+        by_commit (mid, worked, same) =
+            subst (λ (x : SlotsState). Spares other (slot_size seen) seen x.medium.bytes) (sym same)
+            (commit_spares mid.medium (length taken)
+            (subst (λ (x : SlotsState). AllWrites x.medium (writes_of x (Commit (length taken))) mid.medium) is worked.writes))
+    done_spares (Commits taken reply stage bad) len d a out d' is after (inr (fault, says, done)) =
+        absurd (called_works fault d.slots d'.slots (Commit (length taken) ∷ []) (ap (λ (x : SlotsState). x.medium.fuse) is) done.calls)
 
 module _ (g : ℕ) (wide : 16 ≤ g) (l : List ℕ) (q : ℕ) (x : List ℕ) (sixteen : length x ≡ 16) (room : q + g + 16 ≤ length l)
     (within : q + slot_size l ≤ length l)

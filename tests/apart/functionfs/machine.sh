@@ -102,7 +102,7 @@ programs() {
     "$compiler" -std=gnu11 -O2 -Wall -Wextra -Werror -o "$root/work/transfer" "$here/transfer.c"
     for program in dfu-gadget dfu-flash transfer; do
         mv "$root/work/$program" "$work/moved"
-        put "$work/moved" "/work/$program"
+        put "$work/moved" /work/"$program"
     done
 }
 
