@@ -8,7 +8,7 @@
  *         struct dfu_ask ask;
  *         if (dfu_asking_next(.., &ask) != 0)
  *             the record or the flash is not as it was left: begin again with dfu_asking_power_on
- *         failed = the driver could not write ask.bytes, ask.length bytes, at ask.at
+ *         failed = the driver could not erase the sector at ask.at, or write ask.length of ask.bytes there, as ask.kind says
  *         n = dfu_asking_took(.., failed, out, sizeof out);
  *     }
  *
@@ -19,7 +19,7 @@
  * What the program owes, beside what dfu_device.h says:
  * - The flash is mapped at flash, size bytes, and reads as it stands: caches are invalidated before dfu_asking_took.
  * - Between two calls the program writes what it is asked for, and nothing else in that flash.
- * - A write that a loss of power breaks off may leave any bytes in its range, and no other byte changed.
+ * - A write or an erase that a loss of power breaks off may leave any bytes in its range, and no other byte changed.
  * - The record, the block and the flash are as the last call left them. A record begins with dfu_asking_power_on.
  * Then each call is a row of Fustrelan's device table, and the old image or the whole new one is active, whenever power is lost.
  * No call fails in another way, whatever record, block and flash hold. Each call but dfu_asking_next and dfu_asking_took reads the
@@ -38,7 +38,7 @@ extern "C" {
 
 /* The record: what is kept of a device that asks between two calls. A program writes nothing in it.
  *
- * device: as dfu_device.h has it; its slot and header are 0. sector: 0, the flash is written over in place. work: 0 no writes are due,
+ * device: as dfu_device.h has it; its slot and header are 0. sector: as at dfu_asking_power_on. work: 0 no writes are due,
  * 1 those of a block, 2 those that put an image in place. spare, sum, done: of what is due, where the spare slot begins, the image's
  * register, and how many bytes are carried out. asked: 0, or 1 more than wLength of the GETSTATUS that waits. generation, close: of
  * what is due, the image's generation, and whether the gate is closed first, 1 or 0. */
@@ -53,11 +53,11 @@ struct dfu_asking {
 
 /* What the program is to do next. */
 enum {
-    DFU_ERASE = 1,  /* erase the sector at at; never today */
-    DFU_PROGRAM = 2 /* write the first length bytes of bytes at at; both are whole in the unit */
+    DFU_ERASE = 1,  /* erase the sector at at, of length bytes, to FFh; bytes says nothing */
+    DFU_PROGRAM = 2 /* write the first length bytes of bytes at at; both are whole in the unit. With sectors FFh is there, erased before */
 };
 struct dfu_ask {
-    uint32_t kind, at, length; /* length: 1 to 256 */
+    uint32_t kind, at, length; /* length: 1 to 256, or that of a sector */
     uint8_t bytes[256];
 };
 
@@ -65,7 +65,7 @@ struct dfu_ask {
 enum {
     DFU_ASKS = -11,      /* writes are due: dfu_asking_next, carry it out, dfu_asking_took, until that answers otherwise */
     DFU_ASKED = -12,     /* writes are due, and come first */
-    DFU_WRONG_UNIT = -13 /* sector is not 0; a unit that there isn't is DFU_NO_CONFIG */
+    DFU_WRONG_UNIT = -13 /* sector is none; a unit that there isn't is DFU_NO_CONFIG */
 };
 
 /* Makes in memory what the flash is to hold at first, as dfu_device_format: 0; or the first that holds of DFU_NO_CONFIG,
@@ -73,7 +73,8 @@ enum {
 int32_t dfu_asking_format(const struct dfu_config *config, uint32_t sector, uint8_t *memory, size_t size, const uint8_t *image, size_t length);
 
 /* The device gets power: 0, and the record is that of a device in appIDLE, whatever it held; or the first that holds of
- * DFU_NO_CONFIG, DFU_WRONG_UNIT, DFU_NO_MEDIUM. Call it after each loss of power. */
+ * DFU_NO_CONFIG, DFU_WRONG_UNIT, DFU_NO_MEDIUM. sector: how many bytes are erased at a time, a multiple of 256 up to 131072, in which a
+ * slot's gate, header and data are whole; or 0, and the flash is written over in place. Call it after each loss of power. */
 int32_t dfu_asking_power_on(const struct dfu_config *config, struct dfu_asking *device, uint32_t sector,
                             const uint8_t *flash, size_t size);
 

@@ -1,5 +1,6 @@
 /* What the programs that try the device that asks share: flash in memory with a driver that writes it, a device of either library,
- * and the loop of a program. */
+ * and the loop of a program. Flash with sectors is as NOR flash is: a program needs a range that was erased, and a sector is erased
+ * whole. */
 #ifndef ASKING_DRIVER_H
 #define ASKING_DRIVER_H
 #include <stdio.h>
@@ -8,7 +9,8 @@
 
 #include "dfu_asking.h"
 
-#define MOST_FLASH (2 * (512 + 1024))
+#define MOST_SECTOR 512
+#define MOST_FLASH (2 * (2 * MOST_SECTOR + 1024))
 #define MOST_BLOCK 512
 
 static struct dfu_config config = {DFU_VERSION, 0x0100, 1, 0x1209, 20, 20, 7, 0, 0, 1, 1};
@@ -24,7 +26,7 @@ struct board {
     struct dfu_asking device;
     uint8_t flash[MOST_FLASH], pending[MOST_BLOCK], out[MOST_BLOCK];
     size_t size;
-    uint32_t unit;
+    uint32_t unit, sector;
 };
 
 /* What happens to a write that is asked for: it is carried out; or this one of them fails, or lies, or is cut off behind so many
@@ -45,25 +47,40 @@ static inline size_t gate(uint32_t unit) {
     return unit > 16 ? unit : 16;
 }
 
+/* Whether an ask is one for this flash. */
+static inline int is_ask(const struct board *board, const struct dfu_ask *ask) {
+    uint32_t whole = ask->kind == DFU_ERASE ? board->sector : board->unit;
+    if (whole == 0 || ask->length < 1 || ask->at + (size_t)ask->length > board->size || ask->at % whole != 0 || ask->length % whole != 0)
+        return 0;
+    if (ask->kind == DFU_ERASE)
+        return ask->length == board->sector;
+    for (uint32_t i = 0; board->sector != 0 && i < ask->length; i++)
+        if (board->flash[ask->at + i] != 0xff)
+            return 0;
+    return ask->kind == DFU_PROGRAM && ask->length <= 256;
+}
+
 static inline int program(struct board *board, const struct dfu_ask *ask, const struct fate *fate) {
     int is_meant = fate->trouble != WELL && writes == fate->write;
-    uint8_t *to = board->flash + ask->at;
-    if (ask->kind != DFU_PROGRAM || ask->length < 1 || ask->length > 256 || ask->at + (size_t)ask->length > board->size
-        || ask->at % board->unit != 0 || ask->length % board->unit != 0) {
+    uint8_t *to = board->flash + ask->at, blank[MOST_SECTOR];
+    const uint8_t *from = ask->kind == DFU_ERASE ? blank : ask->bytes;
+    memset(blank, 0xff, sizeof blank);
+    if (!is_ask(board, ask)) {
         printf("an ask that is none: kind %u, at %u, length %u\n", (unsigned)ask->kind, (unsigned)ask->at, (unsigned)ask->length);
         exit(1);
     }
     writes++;
     last_length = ask->length;
     if (!is_meant) {
-        memcpy(to, ask->bytes, ask->length);
+        memcpy(to, from, ask->length);
         return 0;
     }
     if (fate->trouble == LIES) {
+        memcpy(to, from, ask->length);
         to[roll(ask->length)] ^= 1;
         return 0;
     }
-    memcpy(to, ask->bytes, fate->behind);
+    memcpy(to, from, fate->behind);
     for (uint32_t i = fate->behind; fate->torn && i < ask->length; i++)
         to[i] = (uint8_t)roll(256);
     is_off = fate->trouble == CUT;
@@ -109,17 +126,22 @@ static inline int32_t reset(struct board *board) {
 
 static inline int32_t power_on(struct board *board) {
     is_off = 0;
-    return dfu_asking_power_on(&config, &board->device, 0, board->flash, board->size);
+    return dfu_asking_power_on(&config, &board->device, board->sector, board->flash, board->size);
 }
 
-/* A board with flash of this unit, for images of so many bytes at most, and with this image. */
-static inline int32_t ship(struct board *board, uint32_t unit, size_t capacity, const uint8_t *image, size_t length) {
+/* A board with flash of this unit and sector, for images of so many bytes at most, and with this image. */
+static inline int32_t ship_sectors(struct board *board, uint32_t unit, uint32_t sector, size_t capacity, const uint8_t *image, size_t length) {
     memset(board, 0x5a, sizeof *board);
     board->unit = unit;
-    board->size = 2 * (2 * gate(unit) + capacity);
+    board->sector = sector;
+    board->size = 2 * (2 * (sector > gate(unit) ? sector : gate(unit)) + capacity);
     config.unit = unit;
-    int32_t made = dfu_asking_format(&config, 0, board->flash, board->size, image, length);
+    int32_t made = dfu_asking_format(&config, sector, board->flash, board->size, image, length);
     return made != 0 ? made : power_on(board);
+}
+
+static inline int32_t ship(struct board *board, uint32_t unit, size_t capacity, const uint8_t *image, size_t length) {
+    return ship_sectors(board, unit, 0, capacity, image, length);
 }
 
 /* The next request of a host that does it right, in most cases; else any. */

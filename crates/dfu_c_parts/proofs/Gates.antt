@@ -1,9 +1,8 @@
 -- How large a unit, a gate and what is held back are.
-use Rattle.std.proofs.Common.{◌≡◌, ◌≤◌, ◌%◌, ℕ, length, ap, sym, ◌∙◌, arith}
+use Rattle.std.proofs.Common.{◌≤◌, ◌%◌, ℕ, length, arith}
 use Rattle.dfu_slots.specs.declared.unit.Unit.{Unit as WriteUnit}
 use Rattle.dfu_slots.specs.declared.unit.Unit.TheVariants.{Byte, U16, U64, U256}
-use Rattle.dfu_slots.specs.Units.{unit_size, in_place}
-use Rattle.dfu_slots.specs.Medium.{MediumState}
+use Rattle.dfu_slots.specs.Units.{unit_size}
 use Rattle.dfu_slots.specs.Seen.{SlotsState}
 use Rattle.dfu_slots.specs.Store.{IsStore}
 use Rattle.dfu_c_parts.specs.Config.{gate_in}

@@ -82,7 +82,8 @@ archives() {
     asks=$asks/aarch64
 }
 
-# programs: dfu-gadget, dfu-flash and transfer, in $root/work.
+# programs: dfu-gadget, dfu-flash and transfer, in $root/work, which is the machine's folder `guest`.
+guest=work
 programs() {
     if [ "$processor" = x86-64 ]; then
         compiler=gcc
@@ -102,7 +103,7 @@ programs() {
     "$compiler" -std=gnu11 -O2 -Wall -Wextra -Werror -o "$root/work/transfer" "$here/transfer.c"
     for program in dfu-gadget dfu-flash transfer; do
         mv "$root/work/$program" "$work/moved"
-        put "$work/moved" /work/"$program"
+        put "$work/moved" "/$guest/$program"
     done
 }
 

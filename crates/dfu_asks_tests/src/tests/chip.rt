@@ -7,13 +7,13 @@ use std::alloc::Global;
 use std::process::Abort;
 use std::test::Fail;
 
-/// A kind of chip, the blocks of a download, and how many pieces it asks for before the commit and in all.
+/// A kind of chip, the blocks of a download, where 0 is none, and how many pieces it asks for before the commit and in all.
 #[derive(Clone, Copy)]
 pub struct Kind {
     pub unit: Unit,
     pub sector: u32,
     pub len: u32,
-    pub blocks: &'static [u16],
+    pub blocks: [u16; 3],
     pub before: u32,
     pub pieces: u32,
 }
@@ -23,9 +23,9 @@ pub struct Kind {
 /// of what was held back, and an erase and a program of the header and of the gate.
 #[rattlefmt::skip]
 pub static KINDS: [Kind; 3] = [
-    Kind { unit: Unit::U16, sector: 0, len: 192, blocks: &[20, 20, 8], before: 3, pieces: 5 },
-    Kind { unit: Unit::U16, sector: 1024, len: 8192, blocks: &[1500, 500], before: 11, pieces: 15 },
-    Kind { unit: Unit::U256, sector: 4096, len: 24_576, blocks: &[1500, 500], before: 8, pieces: 13 },
+    Kind { unit: Unit::U16, sector: 0, len: 192, blocks: [20, 20, 8], before: 3, pieces: 5 },
+    Kind { unit: Unit::U16, sector: 1024, len: 8192, blocks: [1500, 500, 0], before: 11, pieces: 15 },
+    Kind { unit: Unit::U256, sector: 4096, len: 24_576, blocks: [1500, 500, 0], before: 8, pieces: 13 },
 ];
 
 /// A chip: its bytes, and of each whether it was programmed since its sector was erased.
@@ -130,7 +130,7 @@ impl Chip {
     pub fn is_new(&self, rt: &impl Abort) -> bool {
         let mut size = 0;
         for len in self.kind.blocks {
-            size = u32::from(*len).saturating_add(size);
+            size = u32::from(len).saturating_add(size);
         }
         self.active(rt) == (size, 0x77)
     }

@@ -161,8 +161,11 @@ pub fn download(
     let image = [0x77; 1500];
     let mut number: u8 = 0;
     for len in kind.blocks {
-        let setup = dnload(number, *len);
-        let Some(body) = image.get(..usize::from(*len)) else {
+        if len == 0 {
+            break;
+        }
+        let setup = dnload(number, len);
+        let Some(body) = image.get(..usize::from(len)) else {
             panic!(rt; "a block is too long");
         };
         send(rt, &mut device, chip, (&setup, body), trouble, &mut went);
