@@ -14,11 +14,11 @@ static void stop(const char *what, long call) {
 /* A device on the way through a download, at a step by dice. */
 static void prepare(void) {
     static uint8_t body[MOST_BLOCK];
-    uint32_t unit = units[roll(4)];
+    uint32_t unit = units[roll(4)], sector = roll(2) * 256 << roll(2);
     config.transfer = (uint16_t)(1 + roll(MOST_BLOCK));
     config.busy_ms = roll(2) * 3;
     config.manifest_ms = roll(2) * 4;
-    if (ship(&board, unit, 256u << roll(3), (const uint8_t *)"0123456789", roll(11)) != 0)
+    if (ship_sectors(&board, unit, sector, 512u << roll(2), (const uint8_t *)"0123456789", roll(11)) != 0)
         stop("nothing is made", -1);
     for (uint32_t step = roll(12), i = 0; i < step; i++) {
         uint8_t setup[8];
@@ -53,7 +53,7 @@ static int32_t one_call(const uint8_t setup[8], const uint8_t *body, uint32_t wh
     case 3: return dfu_asking_took(&config, &b->device, b->pending, most, b->flash, b->size, roll(4) == 0, b->out, room);
     case 5: return dfu_asking_would_stall(&config, &b->device, b->size, setup);
     case 6: return dfu_asking_too_long(&config, &b->device, setup);
-    case 4: return dfu_asking_power_on(&config, &b->device, 0, b->flash, b->size);
+    case 4: return dfu_asking_power_on(&config, &b->device, roll(8) ? b->sector : roll(3) * 200, b->flash, b->size);
     default:
         return dfu_asking_handle(&config, &b->device, b->pending, most, b->flash, b->size, setup, body,
                                  setup[0] == 0x21 ? (size_t)(setup[6] | setup[7] << 8) : 0, b->out, room);
@@ -68,7 +68,9 @@ static void carry_on(int32_t answer) {
         if (dfu_asking_next(&config, &b->device, b->pending, sizeof b->pending, b->flash, b->size, &ask) != 0)
             return;
         uint32_t failed = ask.at + (size_t)ask.length > b->size;
-        if (!failed)
+        if (!failed && ask.kind == DFU_ERASE)
+            memset(b->flash + ask.at, 0xff, ask.length);
+        else if (!failed)
             memcpy(b->flash + ask.at, ask.bytes, ask.length);
         answer = dfu_asking_took(&config, &b->device, b->pending, sizeof b->pending, b->flash, b->size, failed, b->out, sizeof b->out);
     }
@@ -110,9 +112,12 @@ int main(int count, char **words) {
             stop("an answer that is none", call);
         if (what == 2 && result == 0) {
             pieces++;
-            if (ask.kind != DFU_PROGRAM || ask.length < 1 || ask.length > 256 || memcmp(&kept, &board, sizeof kept) != 0)
+            uint32_t sector = board.device.sector;
+            int is_erase = ask.kind == DFU_ERASE && sector != 0 && ask.length == sector && ask.at % sector == 0;
+            int is_program = ask.kind == DFU_PROGRAM && ask.length >= 1 && ask.length <= 256;
+            if ((!is_erase && !is_program) || memcmp(&kept, &board, sizeof kept) != 0)
                 stop("an ask that is none", call);
-            if (dfu_asking_image(&config, 0, board.flash, board.size, &place) == 0) {
+            if (dfu_asking_image(&config, sector, board.flash, board.size, &place) == 0) {
                 size_t spare = place.at < board.size / 2 ? board.size / 2 : 0;
                 if (ask.at < spare || ask.at + (size_t)ask.length > spare + board.size / 2)
                     stop("a write outside the spare slot", call);

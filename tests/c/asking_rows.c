@@ -84,15 +84,17 @@ static void refusals(void) {
     three.unit = 3;
     large.unit = 64;
     expect("format", dfu_asking_format(&three, 256, none, sizeof none, none, 0) == DFU_NO_CONFIG
-                         && dfu_asking_format(&config, 256, none, sizeof none, none, 0) == DFU_WRONG_UNIT
+                         && dfu_asking_format(&config, 100, none, sizeof none, none, 0) == DFU_WRONG_UNIT
                          && dfu_asking_format(&config, 0, none, 66, none, 0) == DFU_WRONG_SIZE
                          && dfu_asking_format(&config, 0, none, sizeof none, none, 65) == DFU_TOO_LARGE && none[0] == 0);
     expect("power on", dfu_asking_power_on(&other, &device, 4096, none, 192) == DFU_NO_CONFIG
                            && dfu_asking_power_on(&three, &device, 4096, none, 192) == DFU_NO_CONFIG
-                           && dfu_asking_power_on(&config, &device, 4096, none, 192) == DFU_WRONG_UNIT
+                           && dfu_asking_power_on(&config, &device, 100, none, 192) == DFU_WRONG_UNIT
+                           && dfu_asking_power_on(&config, &device, 256, none, 192) == DFU_NO_MEDIUM
                            && dfu_asking_power_on(&config, &device, 0, none, 192) == DFU_NO_MEDIUM);
     expect("image", dfu_asking_image(&three, 4096, none, 192, &place) == DFU_NO_CONFIG
-                        && dfu_asking_image(&config, 4096, none, 192, &place) == DFU_WRONG_UNIT
+                        && dfu_asking_image(&config, 131328, none, 192, &place) == DFU_WRONG_UNIT
+                        && dfu_asking_image(&config, 131072, none, 192, &place) == DFU_NO_MEDIUM
                         && dfu_asking_image(&large, 0, none, 192, &place) == DFU_NO_MEDIUM);
 #define HANDLE(config, device, most, flash, room) \
     dfu_asking_handle(config, device, board.pending, most, flash, 192, setup, (const uint8_t *)"", 0, out, room)
@@ -102,8 +104,10 @@ static void refusals(void) {
     expect("no medium", HANDLE(&config, &device, 20, none, 20) == DFU_NO_MEDIUM);
     expect("another unit", HANDLE(&large, &device, 20, board.flash, 20) == DFU_NO_MEDIUM);
     expect("no unit", HANDLE(&three, &device, 20, board.flash, 20) == DFU_NO_CONFIG);
+    device = board.device, device.sector = 100;
+    expect("no sectors", HANDLE(&config, &device, 20, none, 20) == DFU_NO_DEVICE);
     device = board.device, device.sector = 256;
-    expect("sectors", HANDLE(&config, &device, 20, none, 20) == DFU_NO_DEVICE);
+    expect("other sectors", HANDLE(&config, &device, 20, board.flash, 20) == DFU_NO_MEDIUM);
     device = board.device, device.device.held_length = 257;
     expect("held", HANDLE(&config, &device, 20, none, 20) == DFU_NO_DEVICE);
     device = board.device, device.device.length = 21;
