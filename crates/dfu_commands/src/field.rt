@@ -21,6 +21,8 @@ pub(crate) enum Field {
     Capacity,
     /// How often an action goes.
     Times,
+    /// The word `report`.
+    Report,
     /// Bytes.
     Hex,
 }
@@ -70,6 +72,7 @@ impl Field {
             Field::Sector => is_sector(word),
             Field::Capacity => is_number(word, 1, 1_048_576),
             Field::Times => is_number(word, 1, 1_000_000),
+            Field::Report => word == "report",
             Field::Hex => word == "-" || (bytes.len() % 2 == 0 && are_digits(bytes)),
         }
     }
@@ -85,6 +88,7 @@ impl Field {
             Field::Sector => "0 or a multiple of 256 up to 131,072",
             Field::Capacity => "a number from 1 to 1,048,576",
             Field::Times => "a number from 1 to 1,000,000",
+            Field::Report => "report",
             Field::Hex => "an even count of hexadecimal digits, or - for no bytes",
         }
     }

@@ -25,6 +25,8 @@ static TIMES: [Field; 1] = [Field::Times];
 
 static LIMITS: [Field; 2] = [Field::Number, Field::Short];
 
+static REPORT: [Field; 1] = [Field::Report];
+
 static HARM: [Field; 2] = [Field::Number, Field::Hex];
 
 static IDS: [Field; 3] = [Field::Four, Field::Four, Field::Four];
@@ -54,10 +56,11 @@ fn fields_of(keyword: &str) -> Option<&'static [Field]> {
     }
 }
 
-/// What stands behind `go` and a fate.
+/// What stands behind `go` and its word.
 fn fields_of_fate(fate: &str) -> Option<&'static [Field]> {
     match fate {
         "pass" => Some(&TIMES),
+        "until" => Some(&REPORT),
         "slip" => Some(&NUMBER),
         "cut" | "fail" | "lie" => Some(&HARM),
         "lostout" | "lostback" | "twice" | "twicelostback" => Some(&NONE),

@@ -6,12 +6,14 @@ use std::test::Fail;
 
 /// A line that is none of the language, and why.
 #[rattlefmt::skip]
-static LINES: [(&[u8], &str); 21] = [
+static LINES: [(&[u8], &str); 23] = [
     (b"bogus", "its first word is none of the language"),
     (b"go", "behind go a word is missing, as pass"),
     (b"go home", "the word behind go is none of the language"),
     (b"go pass 0", "its word 3 isn't a number from 1 to 1,000,000"),
     (b"go pass", "it has 2 words in place of 3"),
+    (b"go until", "it has 2 words in place of 3"),
+    (b"go until reports", "its word 3 isn't report"),
     (b"go cut 1 a5 0", "it has 5 words in place of 4"),
     (b"go slip 4294967296", "its word 3 isn't a number of 1 to 10 digits, at most 4,294,967,295"),
     (b"show # a", "a comment is a line of its own"),
