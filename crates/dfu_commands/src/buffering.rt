@@ -1,7 +1,8 @@
 //! `dfu run` through a buffer.
 
+ghost use Rattle.std.specs.Prelude.{◌≡◌, [], Some};
 ghost use Rattle.std.specs.Io.Buffered.{writer_contents};
-ghost use Rattle.dfu_commands.specs.Buffering.{RunsBuffered};
+ghost use Rattle.dfu_commands.specs.Buffering.{RunsBuffered, RunsTraced};
 
 use crate::running::{run_traced_with_fault, run_with_fault};
 use dfu_link::ScriptFault;
@@ -48,14 +49,16 @@ pub(crate) fn run_traced_buffered<R: Read + Drop, W: Write + Drop>(
     alloc: Global,
     reader: R,
     buffer: BufWriter<W>,
-) -> (Exit, Option<ScriptFault>) {
+) -> (Exit, Option<ScriptFault>, W)
+    ensures { writer_contents W.contents buffer ≡ Some [] → RunsTraced (R.remaining reader) (W.contents result.2) result.0 }
+{
     let (exit, fault, buffer) = run_traced_with_fault(alloc, reader, buffer);
     match buffer.into_inner() {
-        Ok(_) => (exit, fault),
+        Ok(writer) => (exit, fault, writer),
         Err(error) => {
             // Taken apart, since a buffer that is dropped is written once more.
-            let (_, _) = error.into_inner().into_parts();
-            (Exit::Fault, fault)
+            let (behind, _) = error.into_inner().into_parts();
+            (Exit::Fault, fault, behind)
         }
     }
 }

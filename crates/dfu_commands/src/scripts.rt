@@ -69,11 +69,10 @@ fn run_from<R: Print + AllocGlobal, S: Read + IsTerminal + Drop>(
     let alloc = rt.alloc();
     let room = if script.is_terminal() { 0 } else { BUFFER };
     let mut watched = Watched::new(alloc, script, explain);
-    let (exit, fault) = if trace {
+    let (exit, fault, _) = if trace {
         run_traced_buffered(alloc, &mut watched, buffer_of(rt, room))
     } else {
-        let (exit, fault, _) = run_buffered_with_fault(alloc, &mut watched, buffer_of(rt, room));
-        (exit, fault)
+        run_buffered_with_fault(alloc, &mut watched, buffer_of(rt, room))
     };
     let reason = match fault {
         Some(fault) if explain => stop_reason(alloc, name, fault, &mut watched),

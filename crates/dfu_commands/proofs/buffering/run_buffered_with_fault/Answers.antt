@@ -1,15 +1,8 @@
-use Rattle.std.proofs.Common.{ap, inl, inr, refl, subst, sym, ◌∙◌, ℕ, List, None, Option, Some, IfSome}
+use Rattle.std.proofs.Common.{ap, inl, inr, refl, subst, sym, ◌∙◌, IfSome}
 use Rattle.std.specs.Io.Buffered.{into_inner_error_writer, writer_buffer, writer_contents, writer_inner}
-use Rattle.std.specs.Io.KnownBytes.{Keeps, append_known}
 use Rattle.dfu_commands.specs.Buffering.{HasFront}
+use Rattle.dfu_commands.proofs.Fronts.{front_out}
 use Rattle.dfu_commands.proofs.buffering.run_buffered_with_fault.Goals as goal
-
--- What the writer behind a buffer has is a front of what was written, where that is known.
-front_out : (written behind : Option (List ℕ)) (buffer : List ℕ) → Keeps written (append_known behind buffer)
-    → IfSome written (λ w. HasFront w behind)
-front_out None behind buffer kept = tt
-front_out (Some w) None buffer kept = absurd kept
-front_out (Some w) (Some front) buffer kept = record { front = front; rest = buffer; whole = sym kept; out = refl }
 
 pub returns-in-Ok : goal.returns-in-Ok
 returns-in-Ok g c = record {

@@ -1,0 +1,26 @@
+use Rattle.std.proofs.Common.{ap, inl, inr, refl, subst, sym, ◌∙◌, IfSome}
+use Rattle.std.specs.Io.Buffered.{into_inner_error_writer, writer_buffer, writer_contents, writer_inner}
+use Rattle.dfu_commands.specs.Buffering.{HasFront}
+use Rattle.dfu_commands.proofs.Fronts.{front_out}
+use Rattle.dfu_commands.proofs.buffering.run_traced_buffered.Goals as goal
+
+pub returns-in-Ok : goal.returns-in-Ok
+returns-in-Ok g c = λ empty. record {
+  written = writer_contents g.W.Write.contents c.run_traced_with_fault-exit.result.2;
+  end = c.run_traced_with_fault-exit.result.0;
+  run = c.run_traced_with_fault-exit.ensures.run empty;
+  comes_out = inl (c.in-Ok.ensures.ok, refl);
+}
+
+pub returns-in-Err : goal.returns-in-Err
+returns-in-Err g c = λ empty.
+    let left = into_inner_error_writer c.in-Err.error in
+    let behind = c.into_parts-behind.ensures.inner ∙ ap writer_inner c.into_inner-in-Err.ensures in
+    let written = writer_contents g.W.Write.contents c.run_traced_with_fault-exit.result.2 in
+    let front = front_out written (g.W.Write.contents (writer_inner left)) (writer_buffer left) c.in-Err.ensures.err in
+    record {
+      written = written;
+      end = c.run_traced_with_fault-exit.result.0;
+      run = c.run_traced_with_fault-exit.ensures.run empty;
+      comes_out = inr (subst (λ x. IfSome written (λ w. HasFront w (g.W.Write.contents x))) (sym behind) front, refl);
+    }
