@@ -4,7 +4,7 @@ import subprocess
 import tempfile
 
 from counting import check, check_that
-from scripts import NOT_HERE, TOP, examples
+from scripts import TOP, examples
 from views import ENTER, SPACE, is_labelled, is_narrow, is_quiet, is_readable, open_page, shot, shown, tab_to
 
 PROGRAM = TOP / 'crates/dfu_cmd/out/dfu_cmd'
@@ -17,12 +17,9 @@ BUTTONS = """return Array.from(document.querySelectorAll('#play .buttons button'
 
 def menu(browser):
     for name, script, wanted in examples():
-        if '\nerase ' in script:
+        if '\nerase ' in script or '\nunit ' in script:
             continue
         browser.run(CHOOSE, name.removesuffix('.script'))
-        if NOT_HERE in shown(browser, '#play-refused'):
-            check(name, 'unit ' in script, True)
-            continue
         browser.run('if (!document.getElementById("rest").disabled) document.getElementById("rest").click()')
         check(f'{name}, from the menu', browser.run(PRINTED), wanted)
 

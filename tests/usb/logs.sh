@@ -31,8 +31,8 @@ expect 'a wrong answer in a log' test "$("$top/dfu" judge wrong.log | sed -n '1s
 row 3 old '' '' --verbose=session.log new.dfu
 says 'session.log can'\''t be made: it is there already'
 expect 'a log that is there: nothing is sent' is_silent
-ln -s elsewhere dangling
-row 3 old '' '' --verbose=dangling new.dfu
+ln -s elsewhere link-of-log
+row 3 old '' '' --verbose=link-of-log new.dfu
 expect 'a link to nothing is not followed' test ! -e elsewhere
 row 3 old '' '' --verbose=nowhere/log new.dfu
 row 3 old '' '' --verbose=. new.dfu
@@ -41,9 +41,9 @@ row 2 - '' '' --list --verbose=x.log
 expect 'no log of a list' test ! -e x.log
 row 0 old '' '' --dry-run --verbose=x.log new.dfu
 expect 'no log of a dry run' test ! -e x.log
-mkfifo pipe
-cat pipe > piped &
-row 0 new 'verified: ' '' --quiet --verbose=pipe new.dfu
+mkfifo log-pipe
+cat log-pipe > piped &
+row 0 new 'verified: ' '' --quiet --verbose=log-pipe new.dfu
 wait
 expect 'a pipe' grep -q '^# begin verified' piped
 row 0 new 'verified: ' '' --quiet --verbose=/dev/full new.dfu

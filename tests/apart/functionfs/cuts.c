@@ -30,6 +30,8 @@ struct write {
     const uint8_t *bytes;
 };
 
+/* The medium is dfu-gadget's: written byte by byte, of a configuration only that counts here. */
+static const struct dfu_config layout = {.version = DFU_VERSION, .transfer = 1, .attributes = 4, .least = 1, .unit = 1};
 static struct file disk, *images;
 static uint8_t *trial;
 static int many, now; /* images; the one whose download is under way, 0 before the first */
@@ -68,7 +70,7 @@ static bool is_active(const uint8_t *bytes, const struct dfu_place *place, int i
 static void look(const uint8_t *bytes)
 {
     struct dfu_place place;
-    bool is_image = dfu_asking_image(1, 0, bytes, disk.size, &place) == 0;
+    bool is_image = dfu_asking_image(&layout, 0, bytes, disk.size, &place) == 0;
     states++;
     if (is_image && is_active(bytes, &place, now > 0 ? now - 1 : 0))
         of_before++;
