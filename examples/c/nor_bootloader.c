@@ -1,8 +1,8 @@
 /* A bootloader on NOR flash, as an external QSPI part that is mapped for reading, or a microcontroller's own: it is programmed in pages of
  * 256 bytes, and erased before, in sectors of 4,096. The part is a model here: a program only clears bits, and refuses a page that was
- * programmed since its sector was erased. A host that stands in for the USB stack installs an image of 5,000 bytes; each transfer
- * prints its request, the answer and the state, each erase and each program its place. asking_bootloader.c is for parts that are
- * written in place. */
+ * programmed since its sector was erased. A board that was never written formats itself. Then a host that stands in for the USB stack
+ * installs an image of 5,000 bytes; each transfer prints its request, the answer and the state, each erase and each program its place.
+ * asking_bootloader.c is for parts that are written in place. */
 #include <stdio.h>
 #include <string.h>
 
@@ -55,6 +55,20 @@ static int32_t settle(int32_t answer) {
     return answer;
 }
 
+/* A new board: the same loop puts its first application into the part. */
+static int32_t make(const uint8_t *first, size_t length) {
+    int32_t answer = dfu_asking_format_start(&config, &device, SECTOR, flash, sizeof part, first, length);
+    while (answer == DFU_ASKS) {
+        struct dfu_ask ask;
+        int32_t refused = dfu_asking_format_next(&config, &device, flash, sizeof part, first, length, &ask);
+        if (refused != 0)
+            return refused;
+        uint32_t failed = ask.kind == DFU_ERASE ? erase(ask.at) : program(ask.at, ask.bytes, ask.length);
+        answer = dfu_asking_format_took(&config, &device, flash, sizeof part, first, length, failed);
+    }
+    return answer;
+}
+
 /* What runs now: the upgrade, or the application at its place in the part. */
 static void show(const char *what, int32_t answer) {
     struct dfu_place place;
@@ -83,8 +97,11 @@ static void reset(void) {
 int main(void) {
     for (size_t i = 0; i < sizeof image; i++)
         image[i] = (uint8_t)(i * 7);
-    /* Once, where a board is made: what a programmer writes into the part. */
-    if (dfu_asking_format(&config, SECTOR, part, sizeof part, image, 2) != 0)
+    /* A part as it comes: whatever it holds, there is no image in it. */
+    for (size_t i = 0; i < sizeof part; i++)
+        part[i] = (uint8_t)(i * 3);
+    memset(is_programmed, 1, sizeof is_programmed);
+    if (dfu_asking_power_on(&config, &device, SECTOR, flash, sizeof part) == DFU_NO_MEDIUM && make(image, 2) != 0)
         return 1;
     show("power on", dfu_asking_power_on(&config, &device, SECTOR, flash, sizeof part));
     transfer("DETACH", 0x21, 0, 1000, nothing, 0);

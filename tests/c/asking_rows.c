@@ -112,8 +112,10 @@ static void refusals(void) {
     expect("held", HANDLE(&config, &device, 20, none, 20) == DFU_NO_DEVICE);
     device = board.device, device.device.length = 21;
     expect("length", HANDLE(&config, &device, 20, none, 20) == DFU_NO_DEVICE);
-    device = board.device, device.work = 3;
+    device = board.device, device.work = 4;
     expect("work", HANDLE(&config, &device, 20, none, 20) == DFU_NO_DEVICE);
+    device.work = 3;
+    expect("a format is due", HANDLE(&other, &device, 0, none, 20) == DFU_ASKED);
     device = board.device, device.work = 1, device.close = 2;
     expect("close", HANDLE(&config, &device, 20, none, 20) == DFU_NO_DEVICE);
     device = board.device, device.work = 2, device.asked = 65537;

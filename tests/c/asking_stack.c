@@ -9,7 +9,7 @@
 #include "dfu_asking.h"
 
 static const struct dfu_config config = {DFU_VERSION, 0x0100, 1, 0x1209, 255, 4096, 7, 0, 10, 1, 256};
-static struct dfu_asking device;
+static struct dfu_asking device, formatting;
 static struct dfu_place place;
 static struct dfu_ask write;
 static uint8_t flash[2 * (512 + 256 * 400)], out[4096], block[4096], pending[4096];
@@ -46,15 +46,19 @@ static void *run(void *word) {
     case 11: while (answer == DFU_ASKS && next() == 0) took(); break;
     case 12: ask(0xa1, 3, 0, 6), ask(0xa1, 2, 0, 4096); break;
     case 13: dfu_asking_image(&config, 0, flash, sizeof flash, &place); break;
+    case 14: dfu_asking_format_start(&config, &formatting, 0, flash, sizeof flash, block, sizeof block); break;
+    case 15: dfu_asking_format_next(&config, &formatting, flash, sizeof flash, block, sizeof block, &write); break;
+    case 16: dfu_asking_format_took(&config, &formatting, flash, sizeof flash, block, sizeof block, 0); break;
     }
     return word;
 }
 
 int main(int count, char **words) {
     static const char *const names[] = {"nothing", "format", "power on", "DETACH", "bus reset", "DNLOAD of 4,000", "GETSTATUS, a block is due",
-        "next", "took", "GETSTATUS, to manifest", "pass, an image is due", "its writes", "UPLOAD of 4,096", "image"};
+        "next", "took", "GETSTATUS, to manifest", "pass, an image is due", "its writes", "UPLOAD of 4,096", "image", "format by asking: start",
+        "format by asking: next", "format by asking: took"};
     size_t empty = 0, most = 0, allowed = count > 1 ? (size_t)atol(words[1]) : 0;
-    for (int call = 0; call < 14; call++) {
+    for (int call = 0; call < 17; call++) {
         pthread_attr_t how;
         pthread_t thread;
         size_t untouched = 0;

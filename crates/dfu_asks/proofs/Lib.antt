@@ -17,3 +17,9 @@ mod Spared
 mod Partly
 mod Shut
 mod Started
+mod FormatParts
+mod Standing
+mod Formatted
+mod FormatInside
+mod FormatGoing
+mod FormatPieces

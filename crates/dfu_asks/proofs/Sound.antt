@@ -27,7 +27,7 @@ abbrev pub AreSound : ℕ → List Step → Type 0
 AreSound sector [] = Unit {0}
 AreSound sector (s ∷ ss) = IsSound sector s × AreSound sector ss
 
-sound_append : (sector : ℕ) (xs ys : List Step) → AreSound sector xs → AreSound sector ys → AreSound sector (xs ++ ys)
+pub sound_append : (sector : ℕ) (xs ys : List Step) → AreSound sector xs → AreSound sector ys → AreSound sector (xs ++ ys)
 sound_append sector [] ys a b = b
 sound_append sector (x ∷ xs) ys a b = (a.0, sound_append sector xs ys a.1 b)
 
@@ -40,7 +40,7 @@ erases_sound sector at (suc n) = by_test (at % sector == 0) refl (erases_sound s
     by_test true is more = (λ e. (length-replicate {A = ℕ} sector 255, eqb-true _ _ is), more)
     by_test false is more = more
 
-anew_sound : (sector at : ℕ) (bytes : List ℕ) → AreSound sector (anew_steps sector at bytes)
+pub anew_sound : (sector at : ℕ) (bytes : List ℕ) → AreSound sector (anew_steps sector at bytes)
 anew_sound sector at bytes = by_test (sector == 0)
   where
     by_test : (b : Bool) → AreSound sector (marked true (if b then [] else erases sector at (length bytes)) ++ program at bytes ∷ [])
@@ -48,14 +48,14 @@ anew_sound sector at bytes = by_test (sector == 0)
     by_test false = sound_append sector (marked true (erases sector at (length bytes))) (program at bytes ∷ []) (erases_sound sector at (length bytes))
         (λ e. absurd (false≢true e), tt)
 
-some_sound : (sector at : ℕ) (bytes : List ℕ) → AreSound sector (some_steps sector at bytes)
+pub some_sound : (sector at : ℕ) (bytes : List ℕ) → AreSound sector (some_steps sector at bytes)
 some_sound sector at bytes = by_test (length bytes == 0)
   where
     by_test : (b : Bool) → AreSound sector (if b then [] else anew_steps sector at bytes)
     by_test true = tt
     by_test false = anew_sound sector at bytes
 
-close_sound : (w : Grain) (at : ℕ) → IsEdge w.sector at → IsSound w.sector (close_step w at)
+pub close_sound : (w : Grain) (at : ℕ) → IsEdge w.sector at → IsSound w.sector (close_step w at)
 close_sound w at edge = by_test (w.sector == 0) refl
   where
     by_test : (b : Bool) → (w.sector == 0) ≡ b → IsSound w.sector (record {

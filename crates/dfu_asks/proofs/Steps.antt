@@ -51,7 +51,7 @@ put_writes_are w at held block =
     writes_append (some_steps w.sector at (take head all)) (some_steps w.sector (at + head) back)
     ∙ (λ i. some_writes w.sector at (take head all) i ++ some_writes w.sector (at + head) back i)
 
-open_writes_are : (w : Grain) (at gen len crc : ℕ) → step_writes (open_steps w at gen len crc) ≡ open_writes w at gen len crc
+pub open_writes_are : (w : Grain) (at gen len crc : ℕ) → step_writes (open_steps w at gen len crc) ≡ open_writes w at gen len crc
 open_writes_are w at gen len crc =
     let header = header_unit (gate_size w.unit) gen len crc in
     let gate = gate_unit (gate_size w.unit) OPEN in

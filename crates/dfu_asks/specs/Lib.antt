@@ -8,3 +8,5 @@ pub mod Due
 pub mod Asks
 pub mod Refused
 pub mod Calls
+pub mod Phases
+pub mod Formats

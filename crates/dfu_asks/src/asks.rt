@@ -32,8 +32,8 @@ fn is_blank(bytes: &[u8]) -> bool
     true
 }
 
-// Whether the bytes of a piece stand where it was to be programmed, or FFh where it was to erase.
-fn stands(flash: &[u8], piece: &Piece) -> bool
+/// Whether the bytes of a piece stand where it was to be programmed, or FFh where it was to erase.
+pub(crate) fn stands(flash: &[u8], piece: &Piece) -> bool
     requires some { 0 < piece.now.len }
     requires most { piece.now.erases ≡ false → piece.now.len ≤ 256 }
     requires small { piece.now.at < 2 ^ 43 }
@@ -77,8 +77,8 @@ fn is_spare(flash: &[u8], unit: Unit, sector: Sector, at: u64, len: u64) -> bool
     }
 }
 
-// Whether a piece programs, or erases one whole sector.
-fn is_sound(sector: Sector, piece: &Piece) -> bool
+/// Whether a piece programs, or erases one whole sector.
+pub(crate) fn is_sound(sector: Sector, piece: &Piece) -> bool
     requires { IsFit sector.size piece.now }
     ensures { IsTrue result ↔ IsSound sector.size (asked piece.now) }
 {

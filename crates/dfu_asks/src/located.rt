@@ -71,6 +71,7 @@ fn locate_write(len: usize, rest: usize) -> Located
 }
 
 /// Where so many bytes lead of a write of `len` bytes there, and of the erases of the sectors that begin in its range.
+#[inline(never)]
 pub(crate) fn locate(sector: Sector, at: u64, len: usize, done: usize) -> Located
     requires small { at < 2 ^ 41 }
     requires short { len ≤ 4608 }

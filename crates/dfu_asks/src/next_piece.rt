@@ -1,6 +1,8 @@
 //! The next piece of the writes of a job.
 ghost use Rattle.std.specs.Prelude.{◌≡◌, ◌+◌, ◌^◌, ◌<◌, ◌≤◌, ◌∷◌, [], length, IfSome, IfNone, IfOk, IfErr};
-ghost use Rattle.dfu_asks.specs.Steps.{step_writes, some_steps, put_steps, close_step};
+ghost use Rattle.dfu_slots.specs.Units.{gate_size, gate_room};
+ghost use Rattle.dfu_slots.specs.Layout.{OPEN, gate_unit, header_unit};
+ghost use Rattle.dfu_asks.specs.Steps.{step_writes, anew_steps, some_steps, put_steps, close_step};
 ghost use Rattle.dfu_asks.specs.Carried.{total, IsPiece};
 ghost use Rattle.dfu_asks.specs.Jobs.{grain_for, steps_for, asked, IsFit};
 
@@ -11,8 +13,8 @@ use crate::piece::{
 };
 use crate::{Job, Piece, Sector};
 
-// How many bytes are programmed at a time at most.
-const MOST: usize = 256;
+/// How many bytes are programmed at a time at most.
+pub(crate) const MOST: usize = 256;
 
 // The first byte of an open gate.
 const OPEN_GATE: u8 = 0xa5;
@@ -52,6 +54,7 @@ fn put_piece(at: u64, stock: &Stock<'_>, done: usize) -> Option<Piece>
 }
 
 // The next piece of a write of these bytes, with its erases, behind the first `done` bytes of all; or where those lead behind it.
+#[inline(never)]
 fn write_piece(sector: Sector, at: u64, bytes: &[u8], done: usize) -> Result<Piece, usize>
     requires most { length bytes.now ≤ 256 }
     requires small { at < 2 ^ 40 }
@@ -68,6 +71,47 @@ fn write_piece(sector: Sector, at: u64, bytes: &[u8], done: usize) -> Result<Pie
     }
 }
 
+/// The next piece of the header of the slot that begins there, with its erases, behind the first `done` bytes of all; or where
+/// those lead behind it.
+#[inline(never)]
+pub(crate) fn header_piece(
+    spare: u32,
+    generation: u8,
+    len: u32,
+    register: u32,
+    stock: &Stock<'_>,
+    done: usize,
+) -> Result<Piece, usize>
+    ensures ok { let w = grain_for stock.now in
+        IfOk result (λ p. IsPiece (anew_steps w.sector (spare + gate_room w) (header_unit (gate_size w.unit) generation len register)) done (asked p)) }
+    ensures fits { IfOk result (λ p. IsFit stock.now.sector.size p) }
+    ensures end { IfOk result (λ p. done + p.len ≤ 2 ^ 18) }
+    ensures behind { let w = grain_for stock.now in IfErr result (λ rest.
+        total (step_writes (anew_steps w.sector (spare + gate_room w) (header_unit (gate_size w.unit) generation len register))) + rest ≡ done) }
+    ensures past { IfErr result (λ rest. done ≤ rest + 2 ^ 18) }
+{
+    let gate = gate_size(stock.unit);
+    let unit = fill_up(&header(generation, len, register));
+    let at = u64::from(spare) + gate_room(stock.unit, stock.sector);
+    write_piece(stock.sector, at, &unit[..gate], done)
+}
+
+/// The next piece of what opens the gate of the slot that begins there, in the same way.
+#[inline(never)]
+pub(crate) fn gate_piece(spare: u32, stock: &Stock<'_>, done: usize) -> Result<Piece, usize>
+    ensures ok { let w = grain_for stock.now in
+        IfOk result (λ p. IsPiece (anew_steps w.sector spare (gate_unit (gate_size w.unit) OPEN)) done (asked p)) }
+    ensures fits { IfOk result (λ p. IsFit stock.now.sector.size p) }
+    ensures end { IfOk result (λ p. done + p.len ≤ 2 ^ 18) }
+    ensures behind { let w = grain_for stock.now in
+        IfErr result (λ rest. total (step_writes (anew_steps w.sector spare (gate_unit (gate_size w.unit) OPEN))) + rest ≡ done) }
+    ensures past { IfErr result (λ rest. done ≤ rest + 2 ^ 18) }
+{
+    let gate = gate_size(stock.unit);
+    let unit = fill_up(&[OPEN_GATE]);
+    write_piece(stock.sector, u64::from(spare), &unit[..gate], done)
+}
+
 // The next piece of what a commit writes, behind the first `done` bytes of it.
 fn commit_piece(
     spare: u32,
@@ -82,7 +126,6 @@ fn commit_piece(
     ensures end { IfSome result (λ p. done + p.len ≤ 2 ^ 21) }
     ensures none { IfNone result (total (step_writes (steps_for (Job.Commit spare generation register) stock.now)) ≤ done) }
 {
-    let gate = gate_size(stock.unit);
     let size = stock.held.len() + fill_size(stock.unit, stock.held.len());
     let part = fill_up(stock.held);
     let at = held_place(spare, stock);
@@ -90,21 +133,27 @@ fn commit_piece(
         Ok(piece) => return Some(piece),
         Err(rest) => rest,
     };
-    let unit = fill_up(&header(generation, stock.put_end, register));
-    let at = u64::from(spare) + gate_room(stock.unit, stock.sector);
-    let after_header = match write_piece(stock.sector, at, &unit[..gate], after_part) {
+    let header = header_piece(
+        spare,
+        generation,
+        stock.put_end,
+        register,
+        stock,
+        after_part,
+    );
+    let after_header = match header {
         Ok(piece) => return Some(piece),
         Err(rest) => rest,
     };
-    let open = fill_up(&[OPEN_GATE]);
-    match write_piece(stock.sector, u64::from(spare), &open[..gate], after_header) {
+    match gate_piece(spare, stock, after_header) {
         Ok(piece) => Some(piece),
         Err(_) => None,
     }
 }
 
-// The next piece of what closes the gate of the slot that begins there, behind its first `done` bytes; or where those lead behind it.
-fn close_piece(spare: u32, stock: &Stock<'_>, done: usize) -> Result<Piece, usize>
+/// The next piece of what closes the gate of the slot that begins there, behind its first `done` bytes; or where those lead behind it.
+#[inline(never)]
+pub(crate) fn close_piece(spare: u32, stock: &Stock<'_>, done: usize) -> Result<Piece, usize>
     ensures ok { IfOk result (λ p. IsPiece (close_step (grain_for stock.now) spare ∷ []) done (asked p)) }
     ensures fits { IfOk result (λ p. IsFit stock.now.sector.size p) }
     ensures end { IfOk result (λ p. done + p.len ≤ 2 ^ 17) }

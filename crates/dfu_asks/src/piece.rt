@@ -145,7 +145,32 @@ pub(crate) fn copy_joined(held: &[u8], block: &[u8], from: usize, out: &mut [u8]
     back.copy_from_slice(&block[..back.len()]);
 }
 
-/// So many bytes of those held and of the block behind them, from there on, where the first of all goes to `at`.
+/// So many bytes of two slices, of which one stands behind the other, from there on, where the first of all goes to `at`.
+#[inline(never)]
+pub(crate) fn two_piece(at: u64, front: &[u8], back: &[u8], done: usize, len: usize) -> Piece
+    requires small { at < 2 ^ 40 }
+    requires short { length front.now + length back.now < 2 ^ 32 }
+    requires within { done + len ≤ length front.now + length back.now }
+    requires some { 0 < len }
+    requires most { len ≤ 256 }
+    ensures kind { (asked result).erases ≡ false }
+    ensures place { (asked result).write.at ≡ at + done }
+    ensures count { length (asked result).write.bytes ≡ len }
+    ensures bytes { (asked result).write.bytes ≡ slice_range (front.now ++ back.now) done (done + len) }
+    ensures len { result.len ≡ len }
+    ensures fits { IsFit 0 result }
+{
+    let mut bytes = [0; 256];
+    copy_joined(front, back, done, &mut bytes[..len]);
+    Piece {
+        erases: false,
+        at: at + done as u64,
+        len,
+        bytes,
+    }
+}
+
+/// So many bytes of those held and of the block behind them, in the same way.
 pub(crate) fn joined_piece(at: u64, stock: &Stock<'_>, done: usize, len: usize) -> Piece
     requires small { at < 2 ^ 40 }
     requires held { length stock.now.held.now ≤ 256 }
@@ -160,14 +185,7 @@ pub(crate) fn joined_piece(at: u64, stock: &Stock<'_>, done: usize, len: usize) 
     ensures len { result.len ≡ len }
     ensures fits { IsFit 0 result }
 {
-    let mut bytes = [0; 256];
-    copy_joined(stock.held, stock.block, done, &mut bytes[..len]);
-    Piece {
-        erases: false,
-        at: at + done as u64,
-        len,
-        bytes,
-    }
+    two_piece(at, stock.held, stock.block, done, len)
 }
 
 /// How many bytes a `put` writes first, by themselves: of the unit that the held bytes begin.

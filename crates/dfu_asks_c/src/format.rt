@@ -11,8 +11,8 @@ use dfu_asks::Sector;
 use dfu_c_parts::{DfuConfig, is_allowed, unit_of};
 use dfu_slots::{FormatFault, Slots};
 
-// The number of a fault of `Slots::format`.
-fn number_of(fault: FormatFault) -> i32
+/// The number of a fault of `Slots::format`.
+pub(crate) fn number_of(fault: FormatFault) -> i32
     ensures { result ≡ format_number fault }
 {
     match fault {

@@ -7,6 +7,7 @@ ghost use Rattle.dfu_asks_c.specs.Asking.{IsKept, settled};
 ghost use Rattle.dfu_asks_c.specs.Calls.{IsUnfound};
 
 use crate::asking::DfuAsking;
+use crate::formatting::WORK;
 use crate::refusal::Refusal;
 use crate::work::{set_work, work_of};
 use dfu_asks::{Asking, Sector};
@@ -54,6 +55,9 @@ pub(crate) fn found<'b>(
     ensures short { OnOk result (kept.now.device.length ≤ 4096) }
     ensures err { IfErr result (λ e. IsUnfound e config.now kept.now room) }
 {
+    if kept.work == WORK {
+        return Err(Refusal::Asked);
+    }
     let Some(setting) = config_of(config) else {
         return Err(Refusal::NoConfig);
     };

@@ -6,6 +6,8 @@ mod ask;
 mod asking;
 mod exports;
 mod format;
+mod format_writes;
+mod formatting;
 mod keeping;
 mod memory;
 mod numbers;

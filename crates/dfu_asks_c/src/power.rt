@@ -42,8 +42,8 @@ fn powered<'b>(config: Config, unit: Unit, sector: Sector, flash: &[u8]) -> Opti
     }
 }
 
-// A record in which all is 0 but its version.
-fn blank() -> DfuAsking {
+/// A record in which all is 0 but its version.
+pub(crate) fn blank() -> DfuAsking {
     DfuAsking {
         device: DfuDevice {
             version: VERSION,

@@ -17,8 +17,8 @@ const ERASE: u32 = 1;
 
 const PROGRAM: u32 = 2;
 
-// The number of what a piece does.
-fn kind_of(erases: bool) -> u32
+/// The number of what a piece does.
+pub(crate) fn kind_of(erases: bool) -> u32
     ensures { result ≡ (if erases then 1 else 2) }
 {
     if erases { ERASE } else { PROGRAM }

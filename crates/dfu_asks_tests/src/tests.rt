@@ -2,6 +2,7 @@
 
 mod chip;
 mod cuts;
+mod formats;
 mod rows;
 
 use dfu_device::Config;

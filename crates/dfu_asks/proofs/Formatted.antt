@@ -1,0 +1,273 @@
+-- What the writes of a format leave.
+use Rattle.std.proofs.Common.{◌≡◌, ◌≢◌, inl, inr, ⊎_elim, ℕ, zero, suc, ◌+◌, ◌-◌, ◌*◌, ◌/◌, ◌^◌, ◌≤◌, ◌<◌, List, [], ◌∷◌, ◌++◌, length, take, drop, replicate, slice_index, slice_range, refl, sym, ◌∙◌, ap, subst, arith, length-drop, take-append-drop}
+use Rattle.std.proofs.lemmas.List.{length-take, take_all, take_at, drop_all, take-take}
+use Rattle.std.proofs.lemmas.Bool.{cases_lt}
+use Rattle.std.specs.Int.{w32, from_le_bytes}
+use Rattle.std.proofs.lemmas.Nat.{from_le_bytes-to_le_bytes_4}
+use Rattle.dfu_suffix.specs.Register.{register}
+use Rattle.dfu_slots.specs.Units.{Grain, gate_size, gate_room, IsWhole, fill_size, filled}
+use Rattle.dfu_slots.specs.Medium.{MediumState, Write, KeepsOutside, written, AllWrites}
+use Rattle.dfu_slots.specs.Layout.{slot_size, capacity, slot, OPEN, header_length, header, HasHeader, gate_unit, header_unit}
+use Rattle.dfu_slots.specs.Writes.{closed_gate, write_anew, piece_writes, image_writes, open_writes, format_writes}
+use Rattle.dfu_slots.proofs.Stands.{HasTwoSlots, ActiveAt}
+use Rattle.dfu_slots.proofs.Torn.{written_torn, range_outside, byte_outside, keeps_same, keeps_both, keeps_wider}
+use Rattle.dfu_slots.proofs.Parts.{length-gate_unit, length-header_unit, data_length}
+use Rattle.dfu_slots.proofs.Series.{all_parts}
+use Rattle.dfu_slots.proofs.Anew.{anew_keeps, anew_stands, anew_last}
+use Rattle.dfu_slots.proofs.Sectors.{IsEdge, unit_wide, gate_wide}
+use Rattle.dfu_slots.proofs.Edges.{half_edge, header_edge, data_edge}
+use Rattle.dfu_slots.proofs.Multiples.{length-filled, filled_within}
+use Rattle.dfu_slots.proofs.Begun.{closed_most, closed_written, gate_written}
+use Rattle.dfu_asks.proofs.Standing.{Stand, none_stand, both_stand, range_is, header_written}
+
+-- No bytes have no pieces.
+pub pieces_nil : (sector n at : ℕ) → piece_writes sector n at [] ≡ []
+pieces_nil sector zero at = refl
+pieces_nil sector (suc n) at = refl
+
+-- A piece, and what stands behind it.
+pieces_join : (to at : ℕ) (a c s mid now : List ℕ) → length a ≡ 4096 → at + length a + length c ≤ to → to ≤ length s
+    → KeepsOutside at to s mid → Stand mid at a → KeepsOutside (at + 4096) to mid now → Stand now (at + 4096) c
+    → KeepsOutside at to s now × Stand now at (a ++ c)
+pieces_join to at a c s mid now size fits room first stands second more = (
+  keeps_both at to s mid now first (keeps_wider (at + 4096) to at to mid now second (omega arith) (omega arith)),
+  both_stand now at a c
+      (range_outside (at + 4096) to mid now at (at + length a) second (inl (omega (arith, size))) ∙ stands)
+      (let there : at + 4096 ≡ at + length a = omega (arith, size) in subst (λ (p : ℕ). Stand now p c) there more),
+)
+
+-- What the pieces of these bytes leave there.
+abbrev Left : ℕ → ℕ → List ℕ → List ℕ → List ℕ → Type 0
+Left at to bytes old now = KeepsOutside at to old now × Stand now at bytes
+
+-- A piece lies in the range of the bytes.
+take_fits : (at to : ℕ) (bytes : List ℕ) → at + length bytes ≤ to → at + length (take 4096 bytes) ≤ to
+take_fits at to bytes fits = omega (arith, fits, length-take 4096 bytes)
+
+-- The only piece.
+pieces_short : (sector n at to : ℕ) (bytes : List ℕ) (s mid now : MediumState) → length bytes < 4096
+    → Left at to (take 4096 bytes) s.bytes mid.bytes → AllWrites mid (piece_writes sector n (at + 4096) (drop 4096 bytes)) now
+    → Left at to bytes s.bytes now.bytes
+pieces_short sector n at to bytes s mid now short left more =
+    let none : drop 4096 bytes ≡ [] = drop_all 4096 bytes (omega (arith, short)) in
+    let equal : take 4096 bytes ≡ bytes = take_all 4096 bytes (omega (arith, short)) in
+    let same : now ≡ mid = subst (λ (ws : List Write). AllWrites mid ws now)
+    (ap (λ (l : List ℕ). piece_writes sector n (at + 4096) l) none ∙ pieces_nil sector n (at + 4096)) more in
+    subst (λ (m : MediumState). Left at to bytes s.bytes m.bytes) (sym same)
+    (left.0, subst (λ (l : List ℕ). Stand mid.bytes at l) equal left.1)
+
+-- A piece, and others behind it.
+pieces_long : (n at to : ℕ) (bytes s mid now : List ℕ) → 4096 ≤ length bytes → length bytes ≤ suc n → at + length bytes ≤ to → to ≤ length s
+    → Left at to (take 4096 bytes) s mid
+    → (length (drop 4096 bytes) ≤ n → at + 4096 + length (drop 4096 bytes) ≤ to → to ≤ length mid
+    → Left (at + 4096) to (drop 4096 bytes) mid now)
+    → Left at to bytes s now
+pieces_long n at to bytes s mid now long le fits room left others =
+    let front = length-take 4096 bytes in
+    let back = length-drop 4096 bytes in
+    let more = others (omega (arith, back, le)) (omega (arith, back, fits, long)) (omega (arith, room, left.0.size)) in
+    subst (λ (l : List ℕ). Left at to l s now) (take-append-drop 4096 bytes)
+    (pieces_join to at (take 4096 bytes) (drop 4096 bytes) s mid now (omega (arith, front, long)) (omega (arith, front, back, fits, long)) room
+    left.0 left.1 more.0 more.1)
+
+-- The pieces stand there, and nothing changes in front of them, nor behind the sector in which they end.
+pub pieces_stand : (sector to : ℕ) → IsEdge sector to → (n at : ℕ) (bytes : List ℕ) (s now : MediumState) → length bytes ≤ n
+    → at + length bytes ≤ to → to ≤ length s.bytes → AllWrites s (piece_writes sector n at bytes) now
+    → KeepsOutside at to s.bytes now.bytes × Stand now.bytes at bytes
+pieces_stand sector to edge zero at [] s now le fits room same =
+    (keeps_same at to s.bytes now.bytes (ap (λ (m : MediumState). m.bytes) same), none_stand now.bytes at)
+pieces_stand sector to edge zero at (b ∷ bs) s now le fits room same = absurd (omega arith)
+pieces_stand sector to edge (suc n) at [] s now le fits room same =
+    (keeps_same at to s.bytes now.bytes (ap (λ (m : MediumState). m.bytes) same), none_stand now.bytes at)
+pieces_stand sector to edge (suc n) at (b ∷ bs) s now le fits room all =
+    let parts = all_parts (write_anew sector at (take 4096 (b ∷ bs))) (piece_writes sector n (at + 4096) (drop 4096 (b ∷ bs))) s now all in
+    let high = take_fits at to (b ∷ bs) fits in
+    let left : Left at to (take 4096 (b ∷ bs)) s.bytes parts.0.bytes = (
+      anew_keeps sector to at (take 4096 (b ∷ bs)) edge high s parts.0 room parts.1.first,
+      anew_stands sector to at (take 4096 (b ∷ bs)) edge high s parts.0 room parts.1.first,
+    ) in
+    ⊎_elim
+    (λ short. pieces_short sector n at to (b ∷ bs) s parts.0 now short left parts.1.second)
+    (λ long. pieces_long n at to (b ∷ bs) s.bytes parts.0.bytes now.bytes long le fits room left
+    (λ few lies kept. pieces_stand sector to edge n (at + 4096) (drop 4096 (b ∷ bs)) parts.0 now few lies kept parts.1.second))
+    (cases_lt (length (b ∷ bs)) 4096)
+
+-- Where the first slot has the image, and its gate is open and the other one's closed, the image is active.
+module _ (g : ℕ) (wide : 16 ≤ g) (now image units : List ℕ) (sized : HasTwoSlots g now) (room : 2 * g + length units ≤ slot_size now)
+    (front : take (length image) units ≡ image) (least : length image ≤ length units)
+    (shut : slice_index now (slot_size now) ≢ OPEN) (first_gate : slice_index now 0 ≡ OPEN)
+    (first_header : slice_range now (0 + g) (0 + g + 16) ≡ header 2 0 (length image) (register image))
+    (first_data : Stand now (0 + 2 * g) units) where
+  abbrev len : ℕ
+  len = length image
+
+  abbrev crc : ℕ
+  crc = register image
+
+  -- The image is the front of the slot's data.
+  image_front : image ≡ take len (slot g now 0).data_bytes
+  image_front =
+      sym front
+      ∙ ap (λ (l : List ℕ). take len l) (sym first_data ∙ range_is now (0 + 2 * g) (length units))
+      ∙ take-take len (length units) (drop (0 + 2 * g) now) least
+      ∙ sym (take-take len (0 + slot_size now - (0 + 2 * g)) (drop (0 + 2 * g) now) (omega (arith, room, least)))
+
+  format_active : ActiveAt g now 0 (slot_size now) image
+  format_active =
+      let room_is : length (slot g now 0).data_bytes ≡ capacity g now = data_length g now 0 (omega (arith, sized.even))
+      (omega (arith, sized.room)) in
+      let head : (slot g now 0).header ≡ header 2 0 len crc = first_header in
+      let fits : len ≤ length (slot g now 0).data_bytes = omega (arith, room_is, room, least) in
+      let whole : HasHeader (slot g now 0) len = record {
+        well_formed = inr (head ∙ (λ i. header 2 (slice_index (sym head i) 0) len (register (image_front i))));
+        fits = fits;
+      } in
+      let told : header_length (slot g now 0) ≡ len =
+      ap (λ (h : List ℕ). from_le_bytes w32 (take 4 (drop 4 h))) head
+      ∙ from_le_bytes-to_le_bytes_4 len (omega (arith, fits, room_is, sized.bound)) in
+      record {
+        sized = sized;
+        places = inl (refl, refl);
+        newest = record {
+          counts = record {
+            is_open = first_gate;
+            intact = λ two. subst (λ (n : ℕ). HasHeader (slot g now 0) n) (sym told) whole;
+          };
+          newer = inl (λ c. shut c.is_open);
+        };
+        header_is = whole;
+        image_is = image_front;
+      }
+
+-- A length that stays keeps the two slots.
+sized_on : (g : ℕ) (l m : List ℕ) → HasTwoSlots g l → length m ≡ length l → HasTwoSlots g m
+sized_on g l m sized same = record {
+  even = same ∙ sized.even ∙ ap (λ (n : ℕ). 2 * (n / 2)) (sym same);
+  room = subst (λ (n : ℕ). 2 * g < n / 2) (sym same) sized.room;
+  bound = subst (λ (n : ℕ). n / 2 - 2 * g ≤ 2 ^ 24) (sym same) sized.bound;
+}
+
+-- The steps of a format: both gates are closed, the pieces are written, then the header, and then the gate.
+module _ (w : Grain) (s m1 m2 m3 m4 now : MediumState) (image : List ℕ) (sized : HasTwoSlots (gate_room w) s.bytes)
+    (whole : IsWhole w (capacity (gate_room w) s.bytes)) (small : length image ≤ capacity (gate_room w) s.bytes)
+    (is_1 : m1.bytes ≡ written s.bytes (slot_size s.bytes) (closed_gate w)) (is_2 : m2.bytes ≡ written m1.bytes 0 (closed_gate w))
+    (all_3 : AllWrites m2 (image_writes w image) m3)
+    (all_4 : AllWrites m3 (write_anew w.sector (0 + gate_room w) (header_unit (gate_size w.unit) 0 (length image) (register image))) m4)
+    (all_5 : AllWrites m4 (write_anew w.sector 0 (gate_unit (gate_size w.unit) OPEN)) now) where
+  abbrev g : ℕ
+  g = gate_room w
+
+  abbrev k : ℕ
+  k = gate_size w.unit
+
+  abbrev h : ℕ
+  h = slot_size s.bytes
+
+  abbrev units : List ℕ
+  units = filled w.unit image
+
+  fits : length units ≤ capacity g s.bytes
+  fits = filled_within w.unit (capacity g s.bytes) image whole.units small
+
+  least : length image ≤ length units
+  least = omega (arith, length-filled w.unit image)
+
+  halves : length s.bytes ≡ h + h
+  halves = omega (arith, sized.even)
+
+  room : 2 * g + length units ≤ h
+  room = omega (arith, fits, sized.room)
+
+  size_1 : length m1.bytes ≡ h + h
+  size_1 = ap length is_1 ∙ (written_torn s.bytes h (closed_gate w) (omega (arith, closed_most w, halves, sized.room))).size ∙ halves
+
+  keeps_2 : KeepsOutside 0 g m1.bytes m2.bytes
+  keeps_2 =
+      let fits_2 : 0 + length (closed_gate w) ≤ length m1.bytes = omega (arith, closed_most w, size_1, sized.room) in
+      keeps_wider 0 (0 + length (closed_gate w)) 0 g m1.bytes m2.bytes
+      (subst (λ (l : List ℕ). KeepsOutside 0 (0 + length (closed_gate w)) m1.bytes l) (sym is_2) (written_torn m1.bytes 0 (closed_gate w) fits_2))
+      (omega arith) (omega (arith, closed_most w))
+
+  size_2 : length m2.bytes ≡ h + h
+  size_2 = keeps_2.size ∙ size_1
+
+  stand_3 : KeepsOutside (2 * g) h m2.bytes m3.bytes × Stand m3.bytes (2 * g) units
+  stand_3 = pieces_stand w.sector h (half_edge w s.bytes sized whole) (length units) (2 * g) units m2 m3 (omega arith) room
+      (omega (arith, size_2)) all_3
+
+  size_3 : length m3.bytes ≡ h + h
+  size_3 = stand_3.0.size ∙ size_2
+
+  abbrev head : List ℕ
+  head = header_unit k 0 (length image) (register image)
+
+  head_fits : 0 + g + length head ≤ 0 + 2 * g
+  head_fits = omega (arith, length-header_unit k 0 (length image) (register image) (unit_wide w.unit))
+
+  last_4 : (e : MediumState) × KeepsOutside (0 + g) (0 + 2 * g) m3.bytes e.bytes × (m4.bytes ≡ written e.bytes (0 + g) head)
+  last_4 = anew_last w.sector (0 + 2 * g) (0 + g) head (data_edge w s.bytes sized whole h 0 (inr (refl, refl))) head_fits m3 m4
+      (omega (arith, size_3, sized.room)) all_4
+
+  keeps_4 : KeepsOutside (0 + g) (0 + 2 * g) m3.bytes m4.bytes
+  keeps_4 = anew_keeps w.sector (0 + 2 * g) (0 + g) head (data_edge w s.bytes sized whole h 0 (inr (refl, refl))) head_fits m3 m4
+      (omega (arith, size_3, sized.room)) all_4
+
+  size_4 : length m4.bytes ≡ h + h
+  size_4 = keeps_4.size ∙ size_3
+
+  gate_fits : 0 + length (gate_unit k OPEN) ≤ 0 + g
+  gate_fits = omega (arith, length-gate_unit k OPEN (unit_wide w.unit))
+
+  last_5 : (e : MediumState) × KeepsOutside 0 (0 + g) m4.bytes e.bytes × (now.bytes ≡ written e.bytes 0 (gate_unit k OPEN))
+  last_5 = anew_last w.sector (0 + g) 0 (gate_unit k OPEN) (header_edge w s.bytes sized whole h 0 (inr (refl, refl))) gate_fits m4 now
+      (omega (arith, size_4, sized.room)) all_5
+
+  keeps_5 : KeepsOutside 0 (0 + g) m4.bytes now.bytes
+  keeps_5 = anew_keeps w.sector (0 + g) 0 (gate_unit k OPEN) (header_edge w s.bytes sized whole h 0 (inr (refl, refl))) gate_fits m4 now
+      (omega (arith, size_4, sized.room)) all_5
+
+  size_5 : length now.bytes ≡ h + h
+  size_5 = keeps_5.size ∙ size_4
+
+  -- The second gate stays as it was closed.
+  second_gate : slice_index now.bytes h ≡ slice_index (written s.bytes h (closed_gate w)) h
+  second_gate =
+      byte_outside 0 (0 + g) m4.bytes now.bytes h keeps_5 (inr (omega (arith, sized.room)))
+      ∙ byte_outside (0 + g) (0 + 2 * g) m3.bytes m4.bytes h keeps_4 (inr (omega (arith, sized.room)))
+      ∙ byte_outside (2 * g) h m2.bytes m3.bytes h stand_3.0 (inr (omega arith))
+      ∙ byte_outside 0 g m1.bytes m2.bytes h keeps_2 (inr (omega (arith, sized.room)))
+      ∙ ap (λ (l : List ℕ). slice_index l h) is_1
+
+  -- The image is active then.
+  format_made : ActiveAt g now.bytes 0 (slot_size now.bytes) image
+  format_made =
+      let size_is : slot_size now.bytes ≡ h = omega (arith, size_5) in
+      let at_2 : 2 * g ≡ 0 + 2 * g = omega arith in
+      let gate : slice_index now.bytes 0 ≡ OPEN =
+      ap (λ (l : List ℕ). slice_index l 0) last_5.2
+      ∙ gate_written k (unit_wide w.unit) last_5.0.bytes 0 OPEN (omega (arith, last_5.1.size, size_4, sized.room)) in
+      let header_is : slice_range now.bytes (0 + g) (0 + g + 16) ≡ header 2 0 (length image) (register image) =
+      range_outside 0 (0 + g) m4.bytes now.bytes (0 + g) (0 + g + 16) keeps_5 (inr (omega arith))
+      ∙ ap (λ (l : List ℕ). slice_range l (0 + g) (0 + g + 16)) last_4.2
+      ∙ header_written k (unit_wide w.unit) last_4.0.bytes (0 + g) 0 (length image) (register image)
+      (omega (arith, last_4.1.size, size_3, sized.room)) in
+      let stands : Stand now.bytes (0 + 2 * g) units =
+      range_outside 0 (0 + g) m4.bytes now.bytes (0 + 2 * g) (0 + 2 * g + length units) keeps_5 (inr (omega arith))
+      ∙ range_outside (0 + g) (0 + 2 * g) m3.bytes m4.bytes (0 + 2 * g) (0 + 2 * g + length units) keeps_4 (inr (omega arith))
+      ∙ subst (λ (p : ℕ). Stand m3.bytes p units) at_2 stand_3.1 in
+      format_active g (gate_wide w) now.bytes image units (sized_on g s.bytes now.bytes sized (size_5 ∙ sym halves))
+      (omega (arith, size_is, room)) (take_at image (replicate (fill_size w.unit (length image)) 0) (length image) refl) least
+      (λ e. closed_written w s.bytes h (omega (arith, halves, sized.room))
+      (sym second_gate ∙ ap (λ (p : ℕ). slice_index now.bytes p) (sym size_is) ∙ e))
+      gate header_is stands
+
+-- A format that is done leaves the image active in the first slot.
+pub format_done : (w : Grain) (s now : MediumState) (image : List ℕ) → HasTwoSlots (gate_room w) s.bytes
+    → IsWhole w (capacity (gate_room w) s.bytes) → length image ≤ capacity (gate_room w) s.bytes
+    → AllWrites s (format_writes w s.bytes image) now → ActiveAt (gate_room w) now.bytes 0 (slot_size now.bytes) image
+format_done w s now image sized whole small (m1, w1, (m2, w2, rest)) =
+    let head = write_anew w.sector (0 + gate_room w) (header_unit (gate_size w.unit) 0 (length image) (register image)) in
+    let gate = write_anew w.sector 0 (gate_unit (gate_size w.unit) OPEN) in
+    let parts = all_parts (image_writes w image) (open_writes w 0 0 (length image) (register image)) m2 now rest in
+    let opens = all_parts head gate parts.0 now parts.1.second in
+    format_made w s m1 m2 parts.0 opens.0 now image sized whole small w1.bytes w2.bytes parts.1.first opens.1.first opens.1.second

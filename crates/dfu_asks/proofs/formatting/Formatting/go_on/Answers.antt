@@ -1,0 +1,24 @@
+use Rattle.std.proofs.Common.{◌/◌, length, refl, subst}
+use Rattle.dfu_asks.specs.declared.phase.Phase.{Phase}
+use Rattle.dfu_asks.specs.Phases.{grain_within}
+use Rattle.dfu_asks.proofs.FormatParts.{IsFollowed}
+use Rattle.dfu_asks.proofs.FormatGoing.{way_next, way_done}
+use Rattle.dfu_asks.proofs.formatting.Formatting.go_on.Goals as goal
+
+pub returns-in-Ended-clause-outcome : goal.returns-in-Ended-clause-outcome
+returns-in-Ended-clause-outcome c = λ was flash way ended.
+    let f = c.args.self.now in
+    let image = c.args.image.now in
+    way_done f image was flash way ended
+    (subst (λ (p : Phase). IsFollowed (grain_within f) (length was / 2) image f.register f.phase p) c.in-Ended.is
+    (c.part_behind-behind.ensures.parts (grain_within f) (length was / 2) f.register image refl refl))
+
+pub returns-in_default-clause-outcome : goal.returns-in_default-clause-outcome
+returns-in_default-clause-outcome c = λ was flash way ended.
+    let f = c.args.self.now in
+    let image = c.args.image.now in
+    record {
+      way = way_next f image was flash way ended c.part_behind-behind.result
+          (c.part_behind-behind.ensures.parts (grain_within f) (length was / 2) f.register image refl refl);
+      left = c.part_behind-behind.ensures.some (grain_within f) (length was / 2) f.register image refl refl c.in_default.not-Ended;
+    }

@@ -1,0 +1,26 @@
+use Rattle.std.proofs.Common.{◌/◌, [], length, sym, arith}
+use Rattle.dfu_asks.specs.declared.phase.Phase.TheVariants.{CloseSecond}
+use Rattle.dfu_asks.specs.Mapped.{grain_of, mapped}
+use Rattle.dfu_asks.specs.Steps.{step_writes}
+use Rattle.dfu_asks.specs.Phases.{steps_from, format_steps}
+use Rattle.dfu_asks.proofs.Pieces.{reached_none}
+use Rattle.dfu_asks.proofs.Carrying.{carried_none}
+use Rattle.dfu_asks.proofs.FormatGoing.{close_some}
+use Rattle.dfu_asks.proofs.formatting.Formatting.start.Goals as goal
+
+pub returns-clause-asks : goal.returns-clause-asks
+returns-clause-asks c =
+    let w = grain_of c.args.unit c.args.sector in
+    let flash = c.args.flash.now in
+    let image = c.args.image.now in
+    record {
+      way = record {
+        can = record { sized = c.in_default.ensures.none.sized; fits = c.in_default.ensures.none.fits };
+        sum = c.register_of.ensures;
+        front = [];
+        series = λ i. steps_from w (length flash / 2) image (sym c.register_of.ensures i) CloseSecond;
+        reached = reached_none (steps_from w (length flash / 2) image c.register_of.result CloseSecond);
+        flash_is = sym (carried_none (step_writes (format_steps (mapped w flash) image)) flash);
+      };
+      left = omega (arith, close_some w (length flash / 2));
+    }

@@ -1,0 +1,213 @@
+//! The calls for a format that asks for its writes.
+ghost use Rattle.std.specs.Prelude.{◌≡◌, ◌≢◌, ◌+◌, ◌++◌, ◌≤◌, ◌^◌, ◌<◌, ℕ, List, length, IfOk, IfErr, OnOk, IfSome, IfNone};
+ghost use Rattle.dfu_suffix.specs.Register.{register};
+ghost use Rattle.dfu_slots.specs.Units.{Grain};
+ghost use Rattle.dfu_slots.specs.Medium.{Torn};
+ghost use Rattle.dfu_slots.specs.Changes.{CanFormat, IsFormatFault};
+ghost use Rattle.dfu_asks.specs.Mapped.{grain_of, mapped};
+ghost use Rattle.dfu_asks.specs.Steps.{Step, step_writes};
+ghost use Rattle.dfu_asks.specs.Carried.{total, IsPiece, IsSound};
+ghost use Rattle.dfu_asks.specs.Jobs.{asked, IsFit};
+ghost use Rattle.dfu_asks.specs.Phases.{grain_within, part_left, steps_left, part_steps, steps_from};
+ghost use Rattle.dfu_asks.specs.Formats.{IsUnderWay, AsksFormat, ComesTo, TookPiece, IsSameFormat};
+
+use crate::asks::{is_sound, stands};
+use crate::format_piece::{filled_len, part_piece};
+use crate::{Formatting, Mapped, Phase, Piece, Progress, Sector};
+use dfu_slots::{FormatFault, Slots, Unit, WriteFault};
+use dfu_suffix::Crc;
+
+// No image has more bytes.
+const MOST_IMAGE: usize = 0x100_0000;
+
+// How many bytes of the image are written at a time.
+const PART: usize = 4096;
+
+// The register over an image.
+fn register_of(image: &[u8]) -> u32
+    ensures { result ≡ register image.now }
+{
+    let mut crc = Crc::new();
+    crc.update_small(image);
+    crc.value()
+}
+
+// The first thing that is wrong with flash and an image, if anything is.
+fn fault_of(flash: &[u8], unit: Unit, sector: Sector, image: &[u8]) -> Option<FormatFault>
+    ensures some { IfSome result (λ e. (e ≢ FormatFault.Failed) × IsFormatFault e (mapped (grain_of unit sector) flash.now) image.now) }
+    ensures none { IfNone result (CanFormat (mapped (grain_of unit sector) flash.now) image.now) }
+{
+    let Some(medium) = Mapped::with_sector(flash, unit, sector) else {
+        return Some(FormatFault::WrongSize);
+    };
+    // No write of a mapped medium works, so this changes nothing. It looks for the other faults first.
+    match Slots::format(medium, image) {
+        Ok(_) => None,
+        Err(refused) => match refused.0 {
+            FormatFault::Failed => None,
+            fault => Some(fault),
+        },
+    }
+}
+
+// The part behind this one of a format of an image of so many bytes.
+fn part_behind(phase: Phase, unit: Unit, len: usize) -> Phase
+    requires { len ≤ 2 ^ 24 }
+    ensures parts { (w : Grain) (size crc : ℕ) (image : List ℕ) → w.unit ≡ unit → length image ≡ len →
+        steps_from w size image crc phase ≡ part_steps w size image crc phase ++ steps_from w size image crc result }
+    ensures some { (w : Grain) (size crc : ℕ) (image : List ℕ) → w.unit ≡ unit → length image ≡ len → result ≢ Phase.Ended →
+        0 < total (step_writes (part_steps w size image crc result)) }
+{
+    match phase {
+        Phase::CloseSecond => Phase::CloseFirst,
+        Phase::CloseFirst => {
+            if len == 0 {
+                Phase::Header
+            } else {
+                Phase::Image { from: 0 }
+            }
+        }
+        Phase::Image { from } => {
+            let next = from as usize + PART;
+            if next < filled_len(unit, len) {
+                Phase::Image { from: next as u32 }
+            } else {
+                Phase::Header
+            }
+        }
+        Phase::Header => Phase::Gate,
+        Phase::Gate => Phase::Ended,
+        Phase::Ended => Phase::Ended,
+    }
+}
+
+impl Formatting {
+    /// Begins a format that puts this image into the first slot of a flash and makes it the active one, whatever stood there.
+    ///
+    /// # Errors
+    ///
+    /// `WrongSize` where the flash is not two slots, as `Slots::format` has it, or has 2^32 bytes or more; `TooLarge` where the image
+    /// has more bytes than a slot's data. They are looked for in this order.
+    pub fn start(
+        flash: &[u8],
+        unit: Unit,
+        sector: Sector,
+        image: &[u8],
+    ) -> Result<Formatting, FormatFault>
+        ensures asks { IfOk result (λ f. AsksFormat f image.now flash.now flash.now) }
+        ensures set { IfOk result (λ f. (f.unit ≡ unit) × (f.sector ≡ sector)) }
+        ensures fault { IfErr result (λ e. (e ≢ FormatFault.Failed) × IsFormatFault e (mapped (grain_of unit sector) flash.now) image.now) }
+    {
+        if let Some(fault) = fault_of(flash, unit, sector, image) {
+            return Err(fault);
+        }
+        Ok(Formatting {
+            unit,
+            sector,
+            register: register_of(image),
+            phase: Phase::CloseSecond,
+            done: 0,
+        })
+    }
+
+    // The next piece of the part that is being carried out.
+    fn due(&self, flash: &[u8], image: &[u8]) -> Option<Piece>
+        ensures some { IfSome result (λ p. IsPiece (part_left self.now (length flash.now) image.now) self.now.done (asked p)) }
+        ensures fits { IfSome result (λ p. IsFit self.now.sector.size p) }
+        ensures end { IfSome result (λ p. self.now.done + p.len ≤ 2 ^ 20) }
+        ensures flash { IfSome result (λ p. length flash.now < 2 ^ 32) }
+        ensures image { IfSome result (λ p. length image.now ≤ 2 ^ 24) }
+        ensures none { IfNone result (length flash.now < 2 ^ 32 → length image.now ≤ 2 ^ 24 →
+            total (step_writes (part_left self.now (length flash.now) image.now)) ≤ self.now.done) }
+    {
+        if flash.len() > 0xffff_ffff || image.len() > MOST_IMAGE {
+            return None;
+        }
+        part_piece(self, flash.len(), image)
+    }
+
+    /// The next piece that is asked for: at most 256 bytes to be programmed, or one sector to be erased. Whatever is kept, it lies
+    /// within the flash. The image is the one that the format began with.
+    ///
+    /// None where no write is due, or its range does not lie so, or what is kept would erase less than a sector. It is Some where
+    /// `start` or `took` asked, and the pieces before this one stand on the flash.
+    pub fn next(&self, flash: &[u8], image: &[u8]) -> Option<Piece>
+        ensures piece { IfSome result (λ p. IsPiece (steps_left self.now (length flash.now) image.now) self.now.done (asked p)) }
+        ensures most { IfSome result (λ p. IsFit self.now.sector.size p) }
+        ensures sector { IfSome result (λ p. IsSound self.now.sector.size (asked p)) }
+        ensures within { IfSome result (λ p. (p.at + p.len ≤ length flash.now) × (length flash.now < 2 ^ 32)) }
+        ensures goes { IfNone result ((was : List ℕ) → ¬ AsksFormat self.now image.now was flash.now) }
+    {
+        let Some(piece) = self.due(flash, image) else {
+            return None;
+        };
+        if !is_sound(self.sector, &piece) {
+            return None;
+        }
+        if piece.at + piece.len as u64 > flash.len() as u64 {
+            return None;
+        }
+        Some(piece)
+    }
+
+    /// The piece that `next` gave was carried out, or it failed. It is read back on the flash: of an erase the whole sector, as FFh.
+    ///
+    /// None where no write is due. Nothing changed then.
+    pub fn took(&mut self, flash: &[u8], image: &[u8], failed: bool) -> Option<Progress>
+        ensures outcome { IfSome result (λ r. (was before : List ℕ) → AsksFormat self.old image.now was before → (p : Step) →
+            IsPiece (steps_left self.old (length was) image.now) self.old.done p → Torn before p.write.at p.write.bytes flash.now →
+            TookPiece self.old self.new image.now was flash.now p.write failed r) }
+        ensures same { IfSome result (λ r. IsSameFormat self.old self.new) }
+        ensures ended { IfSome result (λ r. r ≢ Progress.Asks → self.new.phase ≡ Phase.Ended) }
+        ensures taken { IfNone result ((was before : List ℕ) → length before ≡ length flash.now → ¬ AsksFormat self.old image.now was before) }
+        ensures unchanged { IfNone result (self.new ≡ self.old) }
+    {
+        let Some(piece) = self.due(flash, image) else {
+            return None;
+        };
+        if failed {
+            self.phase = Phase::Ended;
+            return Some(Progress::Broken(WriteFault::Failed));
+        }
+        if !stands(flash, &piece) {
+            self.phase = Phase::Ended;
+            return Some(Progress::Broken(WriteFault::NotVerified));
+        }
+        self.done += piece.len as u32;
+        Some(self.advance(flash.len(), image))
+    }
+
+    // Asks for the next piece, or comes to the end. The flash has so many bytes.
+    fn advance(&mut self, size: usize, image: &[u8]) -> Progress
+        requires flash { size < 2 ^ 32 }
+        requires image { length image.now ≤ 2 ^ 24 }
+        ensures outcome { (was flash : List ℕ) → length was ≡ size → IsUnderWay self.old image.now was flash →
+            self.old.done ≤ total (step_writes (part_left self.old (length was) image.now)) →
+            ComesTo (grain_within self.old) self.new image.now was flash result }
+        ensures same { IsSameFormat self.old self.new }
+        ensures ended { result ≢ Progress.Asks → self.new.phase ≡ Phase.Ended }
+    {
+        match part_piece(self, size, image) {
+            Some(_) => Progress::Asks,
+            None => self.go_on(image),
+        }
+    }
+
+    // A part is carried out: goes on with the one behind it, if there is one.
+    fn go_on(&mut self, image: &[u8]) -> Progress
+        requires { length image.now ≤ 2 ^ 24 }
+        ensures outcome { (was flash : List ℕ) → IsUnderWay self.old image.now was flash →
+            self.old.done ≡ total (step_writes (part_left self.old (length was) image.now)) →
+            ComesTo (grain_within self.old) self.new image.now was flash result }
+        ensures same { IsSameFormat self.old self.new }
+        ensures ended { result ≢ Progress.Asks → self.new.phase ≡ Phase.Ended }
+    {
+        let behind = part_behind(self.phase, self.unit, image.len());
+        self.phase = behind;
+        self.done = 0;
+        match behind {
+            Phase::Ended => Progress::Formatted,
+            _ => Progress::Asks,
+        }
+    }
+}
