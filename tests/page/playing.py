@@ -17,7 +17,7 @@ BUTTONS = """return Array.from(document.querySelectorAll('#play .buttons button'
 
 def menu(browser):
     for name, script, wanted in examples():
-        if '\nerase ' in script or '\nunit ' in script:
+        if '\nerase ' in script or '\nunit ' in script or '\nexpect ' in script:
             continue
         browser.run(CHOOSE, name.removesuffix('.script'))
         browser.run('if (!document.getElementById("rest").disabled) document.getElementById("rest").click()')

@@ -2,7 +2,7 @@
 use Rattle.std.specs.Prelude.{◌≡◌, ℕ, List, [], Option, Some, IfSome, codes}
 use Rattle.dfu_suffix.specs.declared.fault.SuffixFault.TheVariants as suffix
 use Rattle.dfu_link.specs.declared.scripting.fault.ScriptFault.{ScriptFault}
-use Rattle.dfu_link.specs.declared.scripting.fault.ScriptFault.TheVariants.{BadLine, LateConfig, BadConfig, TooLarge, NoMemory, Read, Write}
+use Rattle.dfu_link.specs.declared.scripting.fault.ScriptFault.TheVariants.{BadLine, LateConfig, BadConfig, Expected, NonePrinted, TooLarge, NoMemory, Read, Write}
 use Rattle.dfu_link.specs.ScriptRun.{WroteRun}
 use Rattle.dfu_link.specs.Falls.{Falls}
 use Rattle.dfu_link.specs.KeptLines.{untraced}
@@ -15,11 +15,13 @@ use Rattle.dfu_text.specs.Output.{Wrote}
 use Rattle.dfu_commands.specs.NumberText.{WritesNumber}
 
 -- What is written of a script that stopped, behind what it wrote, is the line of its fault, and nothing more where the
--- writer failed.
+-- writer failed. A line that was printed in place of an expected one ends before it.
 abbrev pub WritesStop : ScriptFault → Option (List ℕ) → Option (List ℕ) → Exit → Type 0
 WritesStop (BadLine n) old new result = WritesNumber (codes "refused BadLine ") n old new result
 WritesStop (LateConfig n) old new result = WritesNumber (codes "refused LateConfig ") n old new result
 WritesStop BadConfig old new result = Wrote old new (codes "refused BadConfig\n") Refused result
+WritesStop (Expected n) old new result = WritesNumber (codes "\nrefused Expected ") n old new result
+WritesStop (NonePrinted n) old new result = WritesNumber (codes "refused Expected ") n old new result
 WritesStop TooLarge old new result = Wrote old new (fault_line suffix.TooLarge) Refused result
 WritesStop NoMemory old new result = Wrote old new (fault_line suffix.NoMemory) Refused result
 WritesStop Read old new result = Wrote old new (fault_line suffix.Read) Fault result

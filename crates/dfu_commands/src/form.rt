@@ -86,6 +86,9 @@ pub(crate) fn form_of(words: &[&str]) -> Result<Form, &'static str> {
     if *keyword == "go" {
         return form_of_fate(words);
     }
+    if *keyword == "expect" {
+        return Err("behind expect and a space the line is missing");
+    }
     match fields_of(keyword) {
         Some(fields) => Ok(Form { lead: 1, fields }),
         None => Err("its first word is none of the language"),

@@ -20,6 +20,13 @@ fn stop_text<W: Write>(alloc: Global, fault: ScriptFault, writer: &mut W) -> Exi
             number_text(alloc, "refused LateConfig ", number, writer)
         }
         ScriptFault::BadConfig => write_out(writer, b"refused BadConfig\n", Exit::Refused),
+        // The line that was printed in its place has no line feed yet.
+        ScriptFault::Expected(number) => {
+            number_text(alloc, "\nrefused Expected ", number, writer)
+        }
+        ScriptFault::NonePrinted(number) => {
+            number_text(alloc, "refused Expected ", number, writer)
+        }
         ScriptFault::TooLarge => fault_text(SuffixFault::TooLarge, writer),
         ScriptFault::NoMemory => fault_text(SuffixFault::NoMemory, writer),
         ScriptFault::Read => fault_text(SuffixFault::Read, writer),
@@ -29,7 +36,7 @@ fn stop_text<W: Write>(alloc: Global, fault: ScriptFault, writer: &mut W) -> Exi
 
 /// Runs the script that the reader gives, and writes what it prints; with Done the last line is
 /// that of the active image. For a script that stopped the line is `refused NAME` with Refused, for
-/// BadLine and LateConfig with the number of the line behind it, or `fault Read` with Fault; what
+/// BadLine, LateConfig and Expected with the number of the line behind it, or `fault Read` with Fault; what
 /// the lines before printed stands before it. Where the line with a number finds no memory it is
 /// `refused NoMemory`.
 ///

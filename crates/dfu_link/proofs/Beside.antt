@@ -19,8 +19,8 @@ use Rattle.dfu_link.specs.Comes.{Comes, refuses, happens, shown_as}
 use Rattle.dfu_link.specs.Standing.{IsSteady}
 use Rattle.dfu_link.specs.Texts.{uploaded_line, told_line, answer_line, line_of_image, state_text}
 use Rattle.dfu_link.specs.Said.{Said, Show}
-use Rattle.dfu_link.specs.ScriptRun.{AllCome, none_comes, then_comes, Point, LineActs, skips, limits_to as acts_limits, plays, goes_on as acts_on, shows as acts_shows, LinesRun, stays, then_runs}
-use Rattle.dfu_link.specs.ScriptLegal.{begun_with, Vouches, GoesWith, reported, EventsGo, no_event, one_event, LineGoes, does_nothing, limits_to, lets_come, goes_on, shows, LinesGo, no_line, one_line}
+use Rattle.dfu_link.specs.ScriptRun.{AllCome, none_comes, then_comes, Point, LineActs, skips, limits_to as acts_limits, plays, goes_on as acts_on, shows as acts_shows, expects as acts_expects, point, LinesRun, stays, then_runs}
+use Rattle.dfu_link.specs.ScriptLegal.{begun_with, Vouches, GoesWith, reported, EventsGo, no_event, one_event, LineGoes, does_nothing, limits_to, lets_come, goes_on, shows, expects, LinesGo, no_line, one_line}
 use Rattle.dfu_link.proofs.MoveLaws.{replicate_more}
 use Rattle.dfu_link.proofs.Saying.{only_offered}
 use Rattle.dfu_link.proofs.Steady.{comes_follow, comes_sure, uploads_give}
@@ -154,6 +154,10 @@ all_gone shown {factory = factory} {s = s} {before = before} {b = b} {m = m} bes
 pub cur_shown : ImageShown → {factory : List ℕ} (b : Bench) (m : Machine) → Vouches factory b m → m.cur ≡ image_of b.device.slots
 cur_shown shown b m vouches = (shown b).1 m.cur vouches.agrees.active
 
+-- Where a script is, whatever is expected.
+abbrev pub bare : Point → Point
+bare p = point p.limits p.at
+
 -- A line that was done, with which the machine went along.
 pub record LineGone (factory : List ℕ) (s : Setting) (before : List Report) (p : Point) (m : Machine) (said : Said) (out : List ℕ)
     (p' : Point) : Type 0 where
@@ -163,8 +167,8 @@ pub record LineGone (factory : List ℕ) (s : Setting) (before : List Report) (p
   pub beside : Beside factory s (before ++ reports) p'.at after
 
 -- The machine goes along with a line.
-pub line_gone : ImageShown → {factory : List ℕ} {s : Setting} {before : List Report} {p p' : Point} {m : Machine} {said : Said}
-    {out : List ℕ} → Beside factory s before p.at m → LineActs p said out p' → LineGone factory s before p m said out p'
+pub line_gone : ImageShown → {factory : List ℕ} {s : Setting} {before : List Report} {k : ℕ} {p p' : Point} {m : Machine} {said : Said}
+    {out : List ℕ} → Beside factory s before p.at m → LineActs k p said out p' → LineGone factory s before (bare p) m said out (bare p')
 line_gone shown {factory = factory} {s = s} {before = before} {p = p} {m = m} beside skips = record {
   reports = [];
   after = m;
@@ -177,20 +181,26 @@ line_gone shown {factory = factory} {s = s} {before = before} {p = p} {m = m} be
   go = limits_to;
   beside = subst (λ (rs : List Report). Beside factory s rs p.at m) (sym (append-nil before)) beside;
 }
-line_gone shown beside (plays come) =
+line_gone shown beside (plays come meets) =
     let all = all_gone shown beside come in
     record { reports = all.reports; after = all.after; go = lets_come all.go; beside = all.beside }
-line_gone shown {p = p} beside (acts_on {b = b} {answer = answer} times silent last active some) =
+line_gone shown {p = p} beside (acts_on {b = b} {answer = answer} times silent last active some meets) =
     let come : AllCome p.at (replicate (times + 1) (Goes Pass unharmed)) (answer_line answer) b = subst
     (λ (hs : List Happening). AllCome p.at hs (answer_line answer) b) (sym (replicate_more times (Goes Pass unharmed)))
     (then_comes silent last active) in
     let all = all_gone shown beside come in
     record { reports = all.reports; after = all.after; go = goes_on (lets_come all.go); beside = all.beside }
-line_gone shown {factory = factory} {s = s} {before = before} {p = p} {m = m} beside acts_shows = record {
+line_gone shown {factory = factory} {s = s} {before = before} {p = p} {m = m} beside (acts_shows meets) = record {
   reports = [];
   after = m;
-  go = subst (λ (image : List ℕ). LineGoes factory p m Show [] (state_text p.at.device ++ line_of_image image) p m)
+  go = subst (λ (image : List ℕ). LineGoes factory (bare p) m Show [] (state_text p.at.device ++ line_of_image image) (bare p) m)
       (cur_shown shown p.at m beside.vouches) shows;
+  beside = subst (λ (rs : List Report). Beside factory s rs p.at m) (sym (append-nil before)) beside;
+}
+line_gone shown {factory = factory} {s = s} {before = before} {p = p} {m = m} beside (acts_expects free) = record {
+  reports = [];
+  after = m;
+  go = expects;
   beside = subst (λ (rs : List Report). Beside factory s rs p.at m) (sym (append-nil before)) beside;
 }
 
@@ -203,9 +213,9 @@ pub record LinesGone (factory : List ℕ) (s : Setting) (before : List Report) (
   pub beside : Beside factory s (before ++ reports) p'.at after
 
 -- The machine goes along with lines.
-pub lines_gone : ImageShown → {factory : List ℕ} {s : Setting} {before : List Report} {p p' : Point} {m : Machine}
+pub lines_gone : ImageShown → {factory : List ℕ} {s : Setting} {before : List Report} {k : ℕ} {p p' : Point} {m : Machine}
     {lines : List (List ℕ)} {out : List ℕ}
-    → Beside factory s before p.at m → LinesRun p lines out p' → LinesGone factory s before p m lines out p'
+    → Beside factory s before p.at m → LinesRun k p lines out p' → LinesGone factory s before (bare p) m lines out (bare p')
 lines_gone shown {factory = factory} {s = s} {before = before} {p = p} {m = m} beside stays = record {
   reports = [];
   after = m;

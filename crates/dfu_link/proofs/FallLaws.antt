@@ -1,5 +1,5 @@
 -- Where lines fall after others were done.
-use Rattle.std.proofs.Common.{◌≡◌, ℕ, ◌+◌, List, [], ◌∷◌, Option, Some, None, refl, sym, subst, arith}
+use Rattle.std.proofs.Common.{◌≡◌, ℕ, ◌+◌, List, [], ◌∷◌, Option, Some, None, inl, inr, refl, sym, subst, arith}
 use Rattle.std.specs.Prelude.{IfSome}
 use Rattle.std.specs.Io.KnownBytes.{IsAtEnd}
 use Rattle.dfu_suffix.specs.Writing.{IsOutInPart}
@@ -9,12 +9,13 @@ use Rattle.dfu_link.specs.Lines.{line_of}
 use Rattle.dfu_link.specs.ScriptRun.{Point}
 use Rattle.dfu_link.specs.Bench.{Nobody}
 use Rattle.dfu_link.specs.Said.{Said, Offer, Does}
-use Rattle.dfu_link.specs.Falls.{for_file, for_tear, LineFalls, NextFalls}
+use Rattle.dfu_link.specs.Expecting.{Expectation, Fails}
+use Rattle.dfu_link.specs.Falls.{BreaksIn, in_events, in_passes, in_show, for_file, for_tear, LineFalls, NextFalls}
 use Rattle.dfu_link.specs.TextLimit.{GoesOver, IsStopped, GivesNone}
 use Rattle.dfu_link.specs.inside.Source.{SourceState, Takes, GivesLine, StopsSource}
 use Rattle.dfu_link.specs.inside.Moving.{Moves, MovesAndFalls, HasStopped, FindsNoRoom, FindsNoTear}
 use Rattle.dfu_link.specs.declared.scripting.fault.ScriptFault.{ScriptFault}
-use Rattle.dfu_link.specs.declared.scripting.fault.ScriptFault.TheVariants.{BadLine, LateConfig, BadConfig, TooLarge, NoMemory, Read, Write}
+use Rattle.dfu_link.specs.declared.scripting.fault.ScriptFault.TheVariants.{BadLine, LateConfig, BadConfig, Expected, NonePrinted, TooLarge, NoMemory, Read, Write}
 use Rattle.dfu_link.proofs.MoveLaws.{moves_trans}
 
 -- A line that falls is within the limit of the text.
@@ -24,6 +25,8 @@ line_stops p k room line left old new (BadLine n) ends falls = ends
 line_stops p k room line left old new (LateConfig n) ends falls = ends
 line_stops p k room line left old new NoMemory ends falls = ends
 line_stops p k room line left old new Write ends falls = ends
+line_stops p k room line left old new (Expected n) ends falls = ends
+line_stops p k room line left old new (NonePrinted n) ends falls = ends
 line_stops p k room line left old new BadConfig ends falls = absurd falls
 line_stops p k room line left old new TooLarge ends falls = absurd falls
 line_stops p k room line left old new Read ends falls = absurd falls
@@ -34,6 +37,8 @@ line_is_next p k line lines old new (BadLine n) falls = falls
 line_is_next p k line lines old new (LateConfig n) falls = falls
 line_is_next p k line lines old new NoMemory falls = falls
 line_is_next p k line lines old new Write falls = falls
+line_is_next p k line lines old new (Expected n) falls = falls
+line_is_next p k line lines old new (NonePrinted n) falls = falls
 line_is_next p k line lines old new BadConfig falls = absurd falls
 line_is_next p k line lines old new TooLarge falls = absurd falls
 line_is_next p k line lines old new Read falls = absurd falls
@@ -60,25 +65,47 @@ given_falls {q = q} {t = t} {u = u} {mid = mid} {new = new} f m given falls = re
       falls;
 }
 
+none_over : (room : ℕ) → ¬ GoesOver room []
+none_over room over = absurd (omega (arith, over.over))
+
+no_such : (e : Option Expectation) (text : List ℕ) (old new : Option (List ℕ)) → Fails e text old new TooLarge → ⊥
+no_such None text old new fails = fails
+no_such (Some e) text old new fails = fails
+
+no_read : (e : Option Expectation) (text : List ℕ) (old new : Option (List ℕ)) → Fails e text old new Read → ⊥
+no_read None text old new fails = fails
+no_read (Some e) text old new fails = fails
+
+image_stops : (p : Point) (k : ℕ) (old new : Option (List ℕ)) (f : ScriptFault) → Fails p.next (image_line p.at.device) old new f
+    → IsOutInPart old new (image_line p.at.device) → (room : ℕ) → IsStopped room [] f × NextFalls p k [] old new f
+image_stops p k old new Write fails broke room = (none_over room, (fails, broke))
+image_stops p k old new (Expected n) fails broke room = (none_over room, (fails, broke))
+image_stops p k old new NoMemory fails broke room = (none_over room, (fails, broke))
+image_stops p k old new (BadLine n) fails broke room = (none_over room, (fails, broke))
+image_stops p k old new (LateConfig n) fails broke room = (none_over room, (fails, broke))
+image_stops p k old new (NonePrinted n) fails broke room = (none_over room, (fails, broke))
+image_stops p k old new BadConfig fails broke room = (none_over room, (fails, broke))
+image_stops p k old new TooLarge fails broke room = absurd (no_such p.next (image_line p.at.device) old new fails)
+image_stops p k old new Read fails broke room = absurd (no_read p.next (image_line p.at.device) old new fails)
+
 image_breaks : (p : Point) (a : Option (List ℕ)) (room k : ℕ) (old new : Option (List ℕ)) (f : ScriptFault) → IsAtEnd a
-    → f ≡ Write → IsOutInPart old new (image_line p.at.device)
+    → Fails p.next (image_line p.at.device) old new f → IsOutInPart old new (image_line p.at.device)
     → IfSome a (λ left. IsStopped room left f × NextFalls p k (lines_of left) old new f)
-image_breaks p None room k old new f ended is broke = tt
-image_breaks p (Some left) room k old new f ended is broke =
-    let short : (o : GoesOver room []) → ⊥ = λ o. absurd (omega (arith, o.over)) in
-    let there : IsStopped room [] Write × NextFalls p k [] old new Write = (short, (refl, broke)) in
+image_breaks p None room k old new f ended fails broke = tt
+image_breaks p (Some left) room k old new f ended fails broke =
     subst (λ (xs : List ℕ). IsStopped room xs f × NextFalls p k (lines_of xs) old new f) (sym ended)
-    (subst (λ (g : ScriptFault). IsStopped room [] g × NextFalls p k [] old new g) (sym is) there)
+    (image_stops p k old new f fails broke room)
 
 -- No line is left, and the line of the image falls.
 pub image_falls : {p q : Point} {s t : SourceState} {old mid new : Option (List ℕ)} (f : ScriptFault) → Moves p s old q t mid
-    → IsAtEnd t.left → f ≡ Write → IsOutInPart mid new (image_line q.at.device) → MovesAndFalls p s old new f
-image_falls {q = q} {t = t} {mid = mid} {new = new} f m ended is broke = record {
+    → IsAtEnd t.left → Fails q.next (image_line q.at.device) mid new f → IsOutInPart mid new (image_line q.at.device)
+    → MovesAndFalls p s old new f
+image_falls {q = q} {t = t} {mid = mid} {new = new} f m ended fails broke = record {
   to = q;
   at = t;
   mid = mid;
   moves = m;
-  falls = image_breaks q t.left t.room (t.number + 1) mid new f ended is broke;
+  falls = image_breaks q t.left t.room (t.number + 1) mid new f ended fails broke;
 }
 
 none_falls : (p : Point) (k : ℕ) (lines : List (List ℕ)) (old : Option (List ℕ)) (f : ScriptFault) → GivesNone k lines f
@@ -91,6 +118,8 @@ none_falls p k lines old (LateConfig n) h = absurd h
 none_falls p k lines old NoMemory h = absurd h
 none_falls p k lines old BadConfig h = absurd h
 none_falls p k lines old Write h = absurd h
+none_falls p k lines old (Expected n) h = absurd h
+none_falls p k lines old (NonePrinted n) h = absurd h
 
 stops_here : (p : Point) (a : Option (List ℕ)) (room k : ℕ) (old : Option (List ℕ)) (f : ScriptFault)
     → IfSome a (λ left. IsStopped room left f × GivesNone k (lines_of left) f)
@@ -114,20 +143,50 @@ pub falls_after : {p q : Point} {s t : SourceState} {old mid new : Option (List 
     → MovesAndFalls q t mid new f → MovesAndFalls p s old new f
 falls_after f m n = record { to = n.to; at = n.at; mid = n.mid; moves = moves_trans m n.moves; falls = n.falls }
 
--- The writer fails in what a line says.
+-- The faults at which a text stops.
+abbrev IsStop : ScriptFault → Type 0
+IsStop Write = Unit {0}
+IsStop (Expected n) = Unit {0}
+IsStop NoMemory = Unit {0}
+IsStop fault = ⊥
+
+fault_of : (next : Option Expectation) (text : List ℕ) (old new : Option (List ℕ)) (f : ScriptFault) → Fails next text old new f → IsStop f
+fault_of next text old new Write fails = tt
+fault_of next text old new (Expected n) fails = tt
+fault_of next text old new NoMemory fails = tt
+fault_of next text old new (BadLine n) fails = absurd fails
+fault_of next text old new (LateConfig n) fails = absurd fails
+fault_of next text old new BadConfig fails = absurd fails
+fault_of next text old new (NonePrinted n) fails = absurd fails
+fault_of next text old new TooLarge fails = absurd fails
+fault_of next text old new Read fails = absurd fails
+
+break_of : {p : Point} {line : List ℕ} {old new : Option (List ℕ)} (f : ScriptFault) → BreaksIn p line old new f → IsStop f
+break_of f (in_events says broken) = fault_of _ _ _ _ f broken.fails
+break_of f (in_passes says acts broke fails) = fault_of _ _ _ _ f fails
+break_of f (in_show says broke fails) = fault_of _ _ _ _ f fails
+
+break_falls : (p : Point) (k : ℕ) (line : List ℕ) (old new : Option (List ℕ)) (f : ScriptFault) → IsStop f → BreaksIn p line old new f
+    → LineFalls p k line old new f
+break_falls p k line old new Write stop breaks = breaks
+break_falls p k line old new (Expected n) stop breaks = breaks
+break_falls p k line old new NoMemory stop breaks = inr breaks
+break_falls p k line old new f stop breaks = elim stop [ ]
+
+-- It stops in what a line prints.
 pub line_breaks : (p : Point) (k : ℕ) (line : List ℕ) (old new : Option (List ℕ)) (said : Said) (f : ScriptFault)
-    → line_of line ≡ Some said → HasStopped p said old new → f ≡ Write → LineFalls p k line old new f
-line_breaks p k line old new said f e broken is = subst (λ (g : ScriptFault). LineFalls p k line old new g) (sym is) (broken line e)
+    → line_of line ≡ Some said → HasStopped p said old new f → LineFalls p k line old new f
+line_breaks p k line old new said f e broken = break_falls p k line old new f (break_of f (broken line e)) (broken line e)
 
 -- There is no memory for the tear of a line.
 pub tear_falls : (p : Point) (k : ℕ) (line : List ℕ) (old : Option (List ℕ)) (said : Said) (f : ScriptFault)
     → line_of line ≡ Some said → FindsNoTear said f → LineFalls p k line old old f
-tear_falls p k line old (Does d) f e (has, is) = subst (λ (g : ScriptFault). LineFalls p k line old old g) (sym is) (for_tear e has, refl)
+tear_falls p k line old (Does d) f e (has, is) = subst (λ (g : ScriptFault). LineFalls p k line old old g) (sym is) (inl (for_tear e has, refl))
 tear_falls p k line old said f e no_tear = elim no_tear [ ]
 
 -- There is no memory for the file that a line offers.
 pub offer_falls : (p : Point) (k : ℕ) (line : List ℕ) (old : Option (List ℕ)) (said : Said) (f : ScriptFault)
     → line_of line ≡ Some said → p.at.session ≡ Nobody → FindsNoRoom said f → LineFalls p k line old old f
 offer_falls p k line old (Does (Offer aim file)) f e free is = subst (λ (g : ScriptFault). LineFalls p k line old old g) (sym is)
-    (for_file (record { aim = aim; file = file; says = e }) free, refl)
+    (inl (for_file (record { aim = aim; file = file; says = e }) free, refl))
 offer_falls p k line old said f e free is = elim is [ ]

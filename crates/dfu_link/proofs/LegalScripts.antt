@@ -1,5 +1,5 @@
 -- The session machine goes along with a whole script, to its end or to where it stopped.
-use Rattle.std.proofs.Common.{◌≡◌, inl, ℕ, List, [], ◌∷◌, ◌++◌, Option, Some, None, Result, Ok, Err, refl, sym, ap, ◌∙◌, subst}
+use Rattle.std.proofs.Common.{◌≡◌, inl, inr, ℕ, List, [], ◌∷◌, ◌++◌, Option, Some, None, Result, Ok, Err, refl, sym, ap, ◌∙◌, subst}
 use Rattle.std.specs.Prelude.{OnOk, OnErr, IfErr, IfSome}
 use Rattle.dfu_slots.specs.Seen.{format_series}
 use Rattle.dfu_slots.specs.Unarmed.{all_whole}
@@ -11,14 +11,14 @@ use Rattle.dfu_host.specs.declared.report.Report.{Report}
 use Rattle.dfu_link.specs.Session.{Machine, Legal, stops}
 use Rattle.dfu_link.specs.Agreement.{intake_of, pending_in, IsShutOffer}
 use Rattle.dfu_link.specs.Understood.{ImageShown}
-use Rattle.dfu_link.specs.Texts.{line_of_image, state_text}
+use Rattle.dfu_link.specs.Texts.{line_of_image, image_line, state_text}
 use Rattle.dfu_link.specs.ScriptRun.{Settings, at_rest, blank, Point, point, SetsUp, Starts, IsRun, WroteRun}
 use Rattle.dfu_link.specs.Falls.{BreaksIn, in_events as breaks_in_events, in_passes as breaks_in_passes, in_show as breaks_in_show, NextFalls, Falls, no_memory, in_setting, at_start, in_run}
 use Rattle.dfu_link.specs.declared.scripting.fault.ScriptFault.{ScriptFault}
-use Rattle.dfu_link.specs.declared.scripting.fault.ScriptFault.TheVariants.{BadLine, LateConfig, BadConfig, TooLarge, NoMemory, Read, Write}
-use Rattle.dfu_link.specs.ScriptLegal.{begun_with, RunsLegally, IsLegal, OutOfNext, nothing_out, in_events, in_passes, in_show, in_image, StopsLegally, before_start, after_start, WroteLegal}
+use Rattle.dfu_link.specs.declared.scripting.fault.ScriptFault.TheVariants.{BadLine, LateConfig, BadConfig, Expected, NonePrinted, TooLarge, NoMemory, Read, Write}
+use Rattle.dfu_link.specs.ScriptLegal.{begun_with, Vouches, RunsLegally, IsLegal, OutOfNext, nothing_out, in_events, in_passes, in_show, in_image, StopsLegally, before_start, after_start, WroteLegal}
 use Rattle.dfu_link.proofs.Steady.{rest_is_steady}
-use Rattle.dfu_link.proofs.Beside.{Beside, all_gone, cur_shown, line_gone, LinesGone, lines_gone}
+use Rattle.dfu_link.proofs.Beside.{Beside, bare, all_gone, cur_shown, line_gone, LinesGone, lines_gone}
 
 -- A device that starts stands beside the machine to which nothing was offered.
 starts_beside : {settings : Settings} {first : Shown} → Starts settings first
@@ -67,7 +67,7 @@ run_legal shows run =
     record {
       after = run.after;
       shown = run.shown;
-      end = run.end;
+      end = bare run.end;
       machine = all.after;
       runs = runs_legally run.sets_up run.starts all;
       out_is = run.out_is ∙ ap (λ (image : List ℕ). run.shown ++ line_of_image image)
@@ -76,13 +76,13 @@ run_legal shows run =
 
 -- What is out of a line in which the writer fails.
 out_of_line : ImageShown → {factory : List ℕ} {s : Setting} {reports : List Report} {p : Point} {m : Machine} {line : List ℕ}
-    (lines : List (List ℕ)) {old new : Option (List ℕ)}
-    → Beside factory s reports p.at m → BreaksIn p line old new → OutOfNext factory p m (line ∷ lines) old new
+    (lines : List (List ℕ)) {old new : Option (List ℕ)} {fault : ScriptFault}
+    → Beside factory s reports p.at m → BreaksIn p line old new fault → OutOfNext factory (bare p) m (line ∷ lines) old new
 out_of_line shows lines beside (breaks_in_events says broken) =
     let all = all_gone shows beside broken.plays in
     in_events broken.left says broken.split all.go broken.broke
-out_of_line shows lines beside (breaks_in_passes says acts broke) = in_passes says (line_gone shows beside acts).go broke
-out_of_line shows {p = p} {m = m} lines {old = old} {new = new} beside (breaks_in_show says broke) =
+out_of_line shows lines beside (breaks_in_passes says acts broke fails) = in_passes says (line_gone shows beside acts).go broke
+out_of_line shows {p = p} {m = m} lines {old = old} {new = new} beside (breaks_in_show says broke fails) =
     in_show says (subst (λ (image : List ℕ). IsOutInPart old new (state_text p.at.device ++ line_of_image image))
     (sym (cur_shown shows p.at m beside.vouches)) broke)
 
@@ -92,23 +92,33 @@ none_out : {factory : List ℕ} {p : Point} {m : Machine} {lines : List (List �
 none_out {factory = factory} {p = p} {m = m} {lines = lines} {old = old} e =
     subst (λ (x : Option (List ℕ)). OutOfNext factory p m lines old x) (sym e) nothing_out
 
+-- What is out of the line of the image.
+out_of_image : ImageShown → {factory : List ℕ} (p : Point) (m : Machine) {old new : Option (List ℕ)} → Vouches factory p.at m
+    → IsOutInPart old new (image_line p.at.device) → OutOfNext factory (bare p) m [] old new
+out_of_image shows p m {old = old} {new = new} vouches broke =
+    in_image (subst (λ (image : List ℕ). IsOutInPart old new (line_of_image image)) (sym (cur_shown shows p.at m vouches)) broke)
+
 -- What is out of what falls next.
 out_of_next : ImageShown → {factory : List ℕ} {s : Setting} {reports : List Report} (p : Point) (m : Machine) (k : ℕ)
     (lines : List (List ℕ)) (old new : Option (List ℕ)) (fault : ScriptFault)
-    → Beside factory s reports p.at m → NextFalls p k lines old new fault → OutOfNext factory p m lines old new
+    → Beside factory s reports p.at m → NextFalls p k lines old new fault → OutOfNext factory (bare p) m lines old new
 out_of_next shows p m k lines old new TooLarge beside e = none_out e
 out_of_next shows p m k lines old new Read beside e = none_out e
 out_of_next shows p m k (line ∷ lines) old new (BadLine n) beside (is, none, e) = none_out e
 out_of_next shows p m k (line ∷ lines) old new (LateConfig n) beside (is, late, e) = none_out e
-out_of_next shows p m k (line ∷ lines) old new NoMemory beside (needs, e) = none_out e
+out_of_next shows p m k (line ∷ lines) old new (NonePrinted n) beside (second, e) = none_out e
+out_of_next shows p m k (line ∷ lines) old new NoMemory beside (inl needs) = none_out needs.1
+out_of_next shows p m k (line ∷ lines) old new NoMemory beside (inr breaks) = out_of_line shows lines beside breaks
 out_of_next shows p m k (line ∷ lines) old new Write beside breaks = out_of_line shows lines beside breaks
+out_of_next shows p m k (line ∷ lines) old new (Expected n) beside breaks = out_of_line shows lines beside breaks
 out_of_next shows p m k (line ∷ lines) old new BadConfig beside falls = absurd falls
-out_of_next shows p m k [] old new Write beside (is, broke) =
-    in_image (subst (λ (image : List ℕ). IsOutInPart old new (line_of_image image)) (sym (cur_shown shows p.at m beside.vouches)) broke)
-out_of_next shows p m k [] old new (BadLine n) beside (is, broke) = cc
-out_of_next shows p m k [] old new (LateConfig n) beside (is, broke) = cc
-out_of_next shows p m k [] old new NoMemory beside (is, broke) = cc
-out_of_next shows p m k [] old new BadConfig beside (is, broke) = cc
+out_of_next shows p m k [] old new Write beside (fails, broke) = out_of_image shows p m beside.vouches broke
+out_of_next shows p m k [] old new (Expected n) beside (fails, broke) = out_of_image shows p m beside.vouches broke
+out_of_next shows p m k [] old new NoMemory beside (fails, broke) = out_of_image shows p m beside.vouches broke
+out_of_next shows p m k [] old new (BadLine n) beside (fails, broke) = out_of_image shows p m beside.vouches broke
+out_of_next shows p m k [] old new (LateConfig n) beside (fails, broke) = out_of_image shows p m beside.vouches broke
+out_of_next shows p m k [] old new (NonePrinted n) beside (fails, broke) = out_of_image shows p m beside.vouches broke
+out_of_next shows p m k [] old new BadConfig beside (fails, broke) = out_of_image shows p m beside.vouches broke
 
 -- The machine goes along with a script that stops.
 falls_legal : ImageShown → {text : List ℕ} {old new : Option (List ℕ)} {fault : ScriptFault} → Falls text old new fault

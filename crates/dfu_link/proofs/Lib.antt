@@ -44,6 +44,7 @@ pub mod CleanStops
 pub mod WordLaws
 pub mod LineLaws
 pub mod WriteLaws
+pub mod ExpectLaws
 pub mod HexLaws
 pub mod SourceLaws
 pub mod GivenLaws
@@ -56,6 +57,9 @@ pub mod WholeLaws
 pub mod Beside
 pub mod LegalScripts
 pub mod ScriptsHold
+pub mod LineBrings
+pub mod PrintedTexts
+pub mod Printing
 pub mod TracedScripts
 mod DoneOnce
 mod Harmed

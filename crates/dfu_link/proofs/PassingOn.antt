@@ -1,7 +1,7 @@
 -- The host passes until it reports: what the turns of the loop are.
 use Rattle.std.proofs.Common.{◌≡◌, ◌≢◌, ℕ, ◌+◌, ◌<◌, List, [], ◌∷◌, ◌++◌, length, Option, Some, None, Result, Ok, Err, refl, sym, ap, ◌∙◌, subst, arith}
 use Rattle.std.specs.Prelude.{replicate}
-use Rattle.std.specs.Io.KnownBytes.{Appends, Keeps}
+use Rattle.std.specs.Io.KnownBytes.{Keeps}
 use Rattle.dfu_suffix.specs.Writing.{IsOutInPart}
 use Rattle.dfu_host.specs.declared.limits.Limits.{Limits}
 use Rattle.dfu_host.specs.declared.report.Report.{Report}
@@ -13,25 +13,29 @@ use Rattle.dfu_link.specs.Happening.{Happening, Goes, Pass, unharmed}
 use Rattle.dfu_link.specs.Comes.{HasCome}
 use Rattle.dfu_link.specs.Texts.{told_line, answer_line}
 use Rattle.dfu_link.specs.Said.{GoesOn}
-use Rattle.dfu_link.specs.ScriptRun.{AllCome, none_comes, point, LineActs, goes_on}
+use Rattle.dfu_link.specs.ScriptRun.{AllCome, none_comes, LineActs, goes_on}
+use Rattle.dfu_link.specs.Expecting.{Expectation, Meets, still, Fails}
+use Rattle.dfu_link.specs.inside.Expected.{point_at, Prints}
+use Rattle.dfu_link.specs.declared.scripting.fault.ScriptFault.{ScriptFault}
 use Rattle.dfu_link.specs.Falls.{in_passes}
 use Rattle.dfu_link.specs.inside.Moving.{IsSilent, HasActed, HasStopped}
-use Rattle.dfu_link.proofs.WriteLaws.{appends_none, appends_more, appends_kept, broke_after}
+use Rattle.dfu_link.proofs.WriteLaws.{broke_after}
+use Rattle.dfu_link.proofs.ExpectLaws.{prints_none, prints_more, prints_kept, fails_after}
 use Rattle.dfu_link.proofs.MoveLaws.{replicate_more, plays_one, told_line_is}
 
 abbrev passes : Happening
 passes = Goes Pass unharmed
 
 -- At first it has not passed.
-pub silent_none : (b : Bench) (old : Option (List ℕ)) → IsSilent b old b old
-silent_none b old = record { times = 0; plays = none_comes; told = appends_none old }
+pub silent_none : (b : Bench) (e : Option Expectation) (old : Option (List ℕ)) → IsSilent b e old b e old
+silent_none b e old = record { times = 0; plays = none_comes; prints = prints_none e old }
 
 -- It passed once more, and again nothing is printed.
 pub silent_more : {b : Bench} {c c' : LinkState} (r : Result (Option Report) LinkFault) {old mid : Option (List ℕ)}
-    (kept new : Option (List ℕ)) → IsSilent b old c.bench mid → HasCome c (Goes Pass unharmed) c' r → ShowsActive c'.bench
-    → Keeps mid kept → r ≡ Ok None
-    → Appends kept new (told_line r c'.up) → IsSilent b old c'.bench new
-silent_more {b = b} {c = c} {c' = c'} r {old = old} {mid = mid} kept new before come active keeps e told =
+    (kept new : Option (List ℕ)) {x y z : Option Expectation} → IsSilent b x old c.bench y mid → HasCome c (Goes Pass unharmed) c' r
+    → ShowsActive c'.bench → Keeps mid kept → r ≡ Ok None
+    → Prints y kept (told_line r c'.up) z new → IsSilent b x old c'.bench z new
+silent_more {b = b} {c = c} {c' = c'} r {old = old} {mid = mid} kept new {y = y} {z = z} before come active keeps e prints =
     let more : AllCome b (replicate before.times passes ++ passes ∷ []) (told_line r c'.up) c'.bench = plays_one b c c'
     (replicate before.times passes) passes [] r before.plays come active in
     let text : told_line r c'.up ≡ [] = ap (λ (x : Result (Option Report) LinkFault). told_line x c'.up) e in
@@ -39,28 +43,27 @@ silent_more {b = b} {c = c} {c' = c'} r {old = old} {mid = mid} kept new before 
       times = before.times + 1;
       plays = subst (λ (hs : List Happening). AllCome b hs [] c'.bench) (sym (replicate_more before.times passes))
           (subst (λ (out : List ℕ). AllCome b (replicate before.times passes ++ passes ∷ []) out c'.bench) text more);
-      told = appends_more old kept new [] [] (appends_kept old mid kept [] before.told keeps)
-          (subst (λ (out : List ℕ). Appends kept new out) text told);
+      prints = prints_more (prints_kept before.prints keeps) (subst (λ (out : List ℕ). Prints y kept out z new) text prints);
     }
 
 -- Of a report and of a refusal something is printed.
-pub prints : (r : Result (Option Report) LinkFault) (up : List ℕ) → r ≢ Ok None → told_line r up ≢ []
-prints (Ok None) up other = absurd (other refl)
-prints (Ok (Some report.Installed)) up other = λ e. cc
-prints (Ok (Some report.Unconfirmed)) up other = λ e. cc
-prints (Ok (Some report.Aborted)) up other = λ e. cc
-prints (Ok (Some report.GaveUp)) up other = λ e. cc
-prints (Ok (Some (report.Refused code))) up other = λ e. cc
-prints (Ok (Some report.RestartsSpent)) up other = λ e. cc
-prints (Ok (Some report.Uploaded)) up other = λ e. cc
-prints (Ok (Some report.TooManyBlocks)) up other = λ e. cc
-prints (Ok (Some report.NoMemory)) up other = λ e. cc
-prints (Ok (Some report.Verified)) up other = λ e. cc
-prints (Ok (Some report.Different)) up other = λ e. cc
-prints (Err link.HostBusy) up other = λ e. cc
-prints (Err link.NoHost) up other = λ e. cc
-prints (Err (link.BadOffer fault)) up other = λ e. cc
-prints (Err link.NoMemory) up other = λ e. cc
+something : (r : Result (Option Report) LinkFault) (up : List ℕ) → r ≢ Ok None → told_line r up ≢ []
+something (Ok None) up other = absurd (other refl)
+something (Ok (Some report.Installed)) up other = λ e. cc
+something (Ok (Some report.Unconfirmed)) up other = λ e. cc
+something (Ok (Some report.Aborted)) up other = λ e. cc
+something (Ok (Some report.GaveUp)) up other = λ e. cc
+something (Ok (Some (report.Refused code))) up other = λ e. cc
+something (Ok (Some report.RestartsSpent)) up other = λ e. cc
+something (Ok (Some report.Uploaded)) up other = λ e. cc
+something (Ok (Some report.TooManyBlocks)) up other = λ e. cc
+something (Ok (Some report.NoMemory)) up other = λ e. cc
+something (Ok (Some report.Verified)) up other = λ e. cc
+something (Ok (Some report.Different)) up other = λ e. cc
+something (Err link.HostBusy) up other = λ e. cc
+something (Err link.NoHost) up other = λ e. cc
+something (Err (link.BadOffer fault)) up other = λ e. cc
+something (Err link.NoMemory) up other = λ e. cc
 
 part_none : (front rest : List ℕ) → front ++ rest ≡ [] → 0 < length rest → ⊥
 part_none [] [] e some = absurd (omega (arith, some))
@@ -71,30 +74,36 @@ part_none (x ∷ xs) rest e some = absurd cc
 part_some : {old new : Option (List ℕ)} {text : List ℕ} → IsOutInPart old new text → text ≢ []
 part_some part = λ e. absurd (part_none part.front part.rest (sym part.whole ∙ e) part.left)
 
--- Something is printed of one action more.
+-- Something is printed of one action more, which is as expected.
 goes_on_by : {b : Bench} {c c' : LinkState} (limits : Limits) (r : Result (Option Report) LinkFault) {old mid : Option (List ℕ)}
-    → IsSilent b old c.bench mid → HasCome c (Goes Pass unharmed) c' r → ShowsActive c'.bench → told_line r c'.up ≢ []
-    → LineActs (point limits b) GoesOn (told_line r c'.up) (point limits c'.bench)
-goes_on_by {b = b} {c = c} {c' = c'} limits r silent come active some =
+    {x y : Option Expectation} (k : ℕ) (next : Option Expectation) → Meets next (told_line r c'.up)
+    → IsSilent b x old c.bench y mid → HasCome c (Goes Pass unharmed) c' r → ShowsActive c'.bench → told_line r c'.up ≢ []
+    → LineActs k (point_at limits next b) GoesOn (told_line r c'.up) (point_at limits (still next (told_line r c'.up)) c'.bench)
+goes_on_by {b = b} {c = c} {c' = c'} limits r k next meets silent come active some =
     let same : told_line r c'.up ≡ answer_line come.answer = told_line_is c c' r come in
-    subst (λ (text : List ℕ). LineActs (point limits b) GoesOn text (point limits c'.bench)) (sym same)
-    (goes_on silent.times silent.plays come.comes active (λ e. some (same ∙ e)))
+    subst (λ (text : List ℕ). LineActs k (point_at limits next b) GoesOn text (point_at limits (still next text) c'.bench)) (sym same)
+    (goes_on silent.times silent.plays come.comes active (λ e. some (same ∙ e)) (subst (λ (text : List ℕ). Meets next text) same meets))
 
 -- It is out.
 pub passed_on : {b : Bench} {c c' : LinkState} (limits : Limits) (r : Result (Option Report) LinkFault)
-    {old mid : Option (List ℕ)} (kept new : Option (List ℕ)) → IsSilent b old c.bench mid → HasCome c (Goes Pass unharmed) c' r
-    → ShowsActive c'.bench → Keeps mid kept → r ≢ Ok None → Appends kept new (told_line r c'.up)
-    → HasActed (point limits b) GoesOn old (point limits c'.bench) new
-passed_on {c' = c'} limits r {old = old} {mid = mid} kept new silent come active keeps other told = record {
-  out = told_line r c'.up;
-  acts = goes_on_by limits r silent come active (prints r c'.up other);
-  told = appends_more old kept new [] (told_line r c'.up) (appends_kept old mid kept [] silent.told keeps) told;
-}
+    {old mid : Option (List ℕ)} (kept new : Option (List ℕ)) {x y z : Option Expectation} → IsSilent b x old c.bench y mid
+    → HasCome c (Goes Pass unharmed) c' r → ShowsActive c'.bench → Keeps mid kept → r ≢ Ok None
+    → Prints y kept (told_line r c'.up) z new → HasActed (point_at limits x b) GoesOn old (point_at limits z c'.bench) new
+passed_on {b = b} {c' = c'} limits r {old = old} {mid = mid} kept new {x = x} {z = z} silent come active keeps other prints =
+    let all = prints_more (prints_kept silent.prints keeps) prints in
+    record {
+      out = told_line r c'.up;
+      acts = λ k. subst (λ (e : Option Expectation). LineActs k (point_at limits x b) GoesOn (told_line r c'.up) (point_at limits e c'.bench))
+          (sym all.left) (goes_on_by limits r k x all.meets silent come active (something r c'.up other));
+      told = all.told;
+    }
 
--- Or the writer failed in it.
+-- Or it stopped in it.
 pub stopped_on : {b : Bench} {c c' : LinkState} (limits : Limits) (r : Result (Option Report) LinkFault)
-    {old mid : Option (List ℕ)} (kept new : Option (List ℕ)) → IsSilent b old c.bench mid → HasCome c (Goes Pass unharmed) c' r
-    → ShowsActive c'.bench → Keeps mid kept → IsOutInPart kept new (told_line r c'.up) → HasStopped (point limits b) GoesOn old new
-stopped_on {c' = c'} limits r {old = old} {mid = mid} kept new silent come active keeps broke line e =
-    in_passes e (goes_on_by limits r silent come active (part_some broke))
-    (broke_after old kept new [] (told_line r c'.up) (appends_kept old mid kept [] silent.told keeps) broke)
+    {old mid : Option (List ℕ)} (kept new : Option (List ℕ)) {x y : Option Expectation} (f : ScriptFault) → IsSilent b x old c.bench y mid
+    → HasCome c (Goes Pass unharmed) c' r → ShowsActive c'.bench → Keeps mid kept → IsOutInPart kept new (told_line r c'.up)
+    → Fails y (told_line r c'.up) kept new f → HasStopped (point_at limits x b) GoesOn old new f
+stopped_on {c' = c'} limits r {old = old} {mid = mid} kept new f silent come active keeps broke fails line e =
+    let before = prints_kept silent.prints keeps in
+    in_passes e (goes_on_by limits r 0 None tt silent come active (part_some broke))
+    (broke_after old kept new [] (told_line r c'.up) before.told broke) (fails_after (told_line r c'.up) new f before fails)

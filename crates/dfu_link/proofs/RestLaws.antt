@@ -1,19 +1,19 @@
 -- Lines that are done while no session is live.
 use Rattle.std.proofs.Common.{◌≡◌, ℕ, List, Option, Some, None, Bool, true, false, refl, sym, subst}
-use Rattle.std.specs.Io.KnownBytes.{Appends}
-use Rattle.dfu_host.specs.declared.limits.Limits.{Limits}
 use Rattle.dfu_suffix.specs.Writing.{IsOutInPart}
 use Rattle.dfu_device.specs.Shown.{Shown}
 use Rattle.dfu_link.specs.Bench.{Bench}
 use Rattle.dfu_link.specs.Said.{said_by}
 use Rattle.dfu_link.specs.Texts.{image_line}
-use Rattle.dfu_link.specs.ScriptRun.{Point, point, at_rest}
+use Rattle.dfu_link.specs.ScriptRun.{Point, at_rest}
+use Rattle.dfu_link.specs.Expecting.{Expectation, Fails}
+use Rattle.dfu_link.specs.inside.Expected.{at_point, Prints}
+use Rattle.dfu_link.specs.declared.scripting.expectation.Ahead.{Ahead}
 use Rattle.dfu_link.specs.Falls.{LineFalls}
 use Rattle.dfu_link.specs.inside.Source.{SourceState, Next, GivesLine, StopsSource}
 use Rattle.dfu_link.specs.inside.Moving.{HasActed, HasStopped, Steps, Moves, Ends, LinesDone, Plainly, MovesAndFalls, FindsNoRoom, FindsNoTear}
 use Rattle.dfu_link.specs.declared.scripting.line.EventLine.{EventLine}
 use Rattle.dfu_link.specs.declared.scripting.fault.ScriptFault.{ScriptFault}
-use Rattle.dfu_link.specs.declared.scripting.fault.ScriptFault.TheVariants.{Write}
 use Rattle.dfu_link.proofs.MoveLaws.{step_acts, moves_none, moves_then, moves_trans, ends_now, ends_after}
 use Rattle.dfu_link.proofs.FallLaws.{line_breaks, tear_falls, offer_falls, given_falls, image_falls, source_falls, falls_after}
 
@@ -45,10 +45,11 @@ moved_falls {s = s} {q = q} {mid = mid} {new = new} {line = line} f moved number
     record { from = λ r next. given_falls f (moved.from r next).1 (moved.from r next).2 there }
 
 -- It was done.
-pub moved_then : {given : Bool} {first s : SourceState} {p q t : Point} {old mid new : Option (List ℕ)} {line : List ℕ}
-    → HasMoved given first p old q true s mid → line ≡ s.line → Steps q line mid t new → Went given first p old t s new
-moved_then {s = s} {q = q} {t = t} {mid = mid} {new = new} moved is step =
-    let there : Steps q s.line mid t new = subst (λ (xs : List ℕ). Steps q xs mid t new) is step in
+pub moved_then : {given : Bool} {first s : SourceState} {p q t : Point} {old mid new : Option (List ℕ)} {line : List ℕ} {n : ℕ}
+    → HasMoved given first p old q true s mid → n ≡ s.number → line ≡ s.line → Steps n q line mid t new → Went given first p old t s new
+moved_then {s = s} {q = q} {t = t} {mid = mid} {new = new} {line = line} moved number is step =
+    let there : Steps s.number q s.line mid t new = subst (λ (xs : List ℕ). Steps s.number q xs mid t new) is
+    (subst (λ (k : ℕ). Steps k q line mid t new) number step) in
     record { from = λ r next. moves_then (moved.from r next).1 (moved.from r next).2 there }
 
 -- And then lines until no session was live, or all that were left.
@@ -103,52 +104,52 @@ went_next {s = s} more t went n = record { from = λ r next. (s, went.from r nex
 
 -- No line is left, and the line of the image is out.
 pub moved_ends : {given : Bool} {first s : SourceState} {p q : Point} {old mid new : Option (List ℕ)}
-    → HasMoved given first p old q false s mid → Appends mid new (image_line q.at.device) → (r : SourceState) → Next r given first
-    → Ends p r old new
-moved_ends moved told = λ r next. ends_now (moved.from r next).1 (moved.from r next).2 told
+    {x : Option Expectation} → HasMoved given first p old q false s mid → Prints q.next mid (image_line q.at.device) x new
+    → (r : SourceState) → Next r given first → Ends p r old new
+moved_ends moved prints = λ r next. ends_now (moved.from r next).1 (moved.from r next).2 prints
 
--- Or the writer failed in it.
+-- Or it stopped in it.
 pub moved_breaks : {given : Bool} {first s : SourceState} {p q : Point} {old mid new : Option (List ℕ)} (f : ScriptFault)
-    → HasMoved given first p old q false s mid → f ≡ Write → IsOutInPart mid new (image_line q.at.device) → Fell given first p old new f
-moved_breaks f moved is broke = record { from = λ r next. image_falls f (moved.from r next).1 (moved.from r next).2 is broke }
+    → HasMoved given first p old q false s mid → Fails q.next (image_line q.at.device) mid new f
+    → IsOutInPart mid new (image_line q.at.device) → Fell given first p old new f
+moved_breaks f moved fails broke = record { from = λ r next. image_falls f (moved.from r next).1 (moved.from r next).2 fails broke }
 
 -- The events of a line.
 
 -- There is no memory for the file that they offer.
-pub no_room : (d : Shown) (l l' : Limits) (k : ℕ) (line : List ℕ) (old new : Option (List ℕ)) {plain : Option EventLine}
-    (events : EventLine) (f : ScriptFault) → Plainly d l line old plain l' new → plain ≡ Some events
-    → FindsNoRoom (said_by events) f → LineFalls (point l (at_rest d)) k line old new f
+pub no_room : (d : Shown) (l l' : Ahead) (k : ℕ) (line : List ℕ) (old new : Option (List ℕ)) {plain : Option EventLine}
+    (events : EventLine) (f : ScriptFault) → Plainly d l k line old plain l' new → plain ≡ Some events
+    → FindsNoRoom (said_by events) f → LineFalls (at_point l (at_rest d)) k line old new f
 no_room d l l' k line old new events f plainly is no_memory =
-    let plain = subst (λ (x : Option EventLine). Plainly d l line old x l' new) is plainly in
-    subst (λ (x : Option (List ℕ)). LineFalls (point l (at_rest d)) k line old x f) (sym plain.2)
-    (offer_falls (point l (at_rest d)) k line old (said_by events) f plain.0 refl no_memory)
+    let plain = subst (λ (x : Option EventLine). Plainly d l k line old x l' new) is plainly in
+    subst (λ (x : Option (List ℕ)). LineFalls (at_point l (at_rest d)) k line old x f) (sym plain.2)
+    (offer_falls (at_point l (at_rest d)) k line old (said_by events) f plain.0 refl no_memory)
 
 -- There is none for their tear.
-pub no_tear : (d : Shown) (l l' : Limits) (k : ℕ) (line : List ℕ) (old new : Option (List ℕ)) {plain : Option EventLine}
-    (b : Bench) (events : EventLine) (f : ScriptFault) → Plainly d l line old plain l' new → plain ≡ Some events
-    → FindsNoTear (said_by events) f → LineFalls (point l b) k line old new f
+pub no_tear : (d : Shown) (l l' : Ahead) (k : ℕ) (line : List ℕ) (old new : Option (List ℕ)) {plain : Option EventLine}
+    (b : Bench) (events : EventLine) (f : ScriptFault) → Plainly d l k line old plain l' new → plain ≡ Some events
+    → FindsNoTear (said_by events) f → LineFalls (at_point l b) k line old new f
 no_tear d l l' k line old new b events f plainly is no_memory =
-    let plain = subst (λ (x : Option EventLine). Plainly d l line old x l' new) is plainly in
-    subst (λ (x : Option (List ℕ)). LineFalls (point l b) k line old x f) (sym plain.2)
-    (tear_falls (point l b) k line old (said_by events) f plain.0 no_memory)
+    let plain = subst (λ (x : Option EventLine). Plainly d l k line old x l' new) is plainly in
+    subst (λ (x : Option (List ℕ)). LineFalls (at_point l b) k line old x f) (sym plain.2)
+    (tear_falls (at_point l b) k line old (said_by events) f plain.0 no_memory)
 
--- The writer fails in what it says.
-pub events_break : (d : Shown) (l l' : Limits) (k : ℕ) (line : List ℕ) (old : Option (List ℕ)) {mid new : Option (List ℕ)}
-    {plain : Option EventLine} (b : Bench) (events : EventLine) (f : ScriptFault) → Plainly d l line old plain l' mid → plain ≡ Some events
-    → HasStopped (point l' b) (said_by events) mid new → f ≡ Write → LineFalls (point l b) k line old new f
-events_break d l l' k line old {mid = mid} {new = new} b events f plainly is broken e =
+-- It stops in what it says.
+pub events_break : (d : Shown) (l l' : Ahead) (k : ℕ) (line : List ℕ) (old : Option (List ℕ)) {mid new : Option (List ℕ)}
+    {plain : Option EventLine} (b : Bench) (events : EventLine) (f : ScriptFault) → Plainly d l k line old plain l' mid → plain ≡ Some events
+    → HasStopped (at_point l' b) (said_by events) mid new f → LineFalls (at_point l b) k line old new f
+events_break d l l' k line old {mid = mid} {new = new} b events f plainly is broken =
     let x = said_by events in
-    let plain = subst (λ (y : Option EventLine). Plainly d l line old y l' mid) is plainly in
-    line_breaks (point l b) k line old new x f plain.0 (subst (λ (y : Limits). HasStopped (point y b) x old new) plain.1
-    (subst (λ (y : Option (List ℕ)). HasStopped (point l' b) x y new) plain.2 broken)) e
+    let plain = subst (λ (y : Option EventLine). Plainly d l k line old y l' mid) is plainly in
+    line_breaks (at_point l b) k line old new x f plain.0 (subst (λ (y : Ahead). HasStopped (at_point y b) x old new f) plain.1
+    (subst (λ (y : Option (List ℕ)). HasStopped (at_point l' b) x y new f) plain.2 broken))
 
 -- It is done.
-pub events_play : (d : Shown) (l l' : Limits) (line : List ℕ) (old : Option (List ℕ)) {mid new : Option (List ℕ)} {plain : Option EventLine}
-    (b b' : Bench) (events : EventLine) → Plainly d l line old plain l' mid → plain ≡ Some events
-    → HasActed (point l' b) (said_by events) mid (point l' b') new → Steps (point l b) line old (point l' b') new
-events_play d l l' line old {mid = mid} {new = new} b b' events plainly is played =
-    let plain = subst (λ (y : Option EventLine). Plainly d l line old y l' mid) is plainly in
-    let step : Steps (point l' b) line mid (point l' b') new = step_acts (point l' b) (point l' b') line mid new (said_by events) plain.0
-    played in
-    subst (λ (y : Limits). Steps (point y b) line old (point l' b') new) plain.1
-    (subst (λ (y : Option (List ℕ)). Steps (point l' b) line y (point l' b') new) plain.2 step)
+pub events_play : (d : Shown) (l l' : Ahead) (k : ℕ) (line : List ℕ) (old : Option (List ℕ)) {mid new : Option (List ℕ)}
+    {plain : Option EventLine} (b : Bench) {q : Point} (events : EventLine) → Plainly d l k line old plain l' mid → plain ≡ Some events
+    → HasActed (at_point l' b) (said_by events) mid q new → Steps k (at_point l b) line old q new
+events_play d l l' k line old {mid = mid} {new = new} b {q = q} events plainly is played =
+    let plain = subst (λ (y : Option EventLine). Plainly d l k line old y l' mid) is plainly in
+    let step : Steps k (at_point l' b) line mid q new = step_acts k (at_point l' b) q line mid new (said_by events) plain.0 played in
+    subst (λ (y : Ahead). Steps k (at_point y b) line old q new) plain.1
+    (subst (λ (y : Option (List ℕ)). Steps k (at_point l' b) line y q new) plain.2 step)

@@ -13,7 +13,7 @@ use Rattle.dfu_link.specs.Said.{Said}
 use Rattle.dfu_link.specs.ScriptRun.{Settings, Point}
 use Rattle.dfu_link.specs.ScriptLegal as legal
 use Rattle.dfu_link.specs.Headline.{Begun}
-use Rattle.dfu_link.specs.ScriptHeadline.{begun_by, IsKnownImage, EventsHold, no_event, event_holds, event_refused, LineHolds, blank_line, limits_line, event_line, passes_line, show_line, LinesHold, no_line, one_line, ScriptHolds, WroteHeadline, PartHolds, nothing_out, in_events, in_passes, in_show, in_image, StopsWithHeadline, before_start, after_start}
+use Rattle.dfu_link.specs.ScriptHeadline.{begun_by, IsKnownImage, EventsHold, no_event, event_holds, event_refused, LineHolds, blank_line, limits_line, expect_line, event_line, passes_line, show_line, LinesHold, no_line, one_line, ScriptHolds, WroteHeadline, PartHolds, nothing_out, in_events, in_passes, in_show, in_image, StopsWithHeadline, before_start, after_start}
 use Rattle.dfu_link.proofs.Saying.{step_up}
 use Rattle.dfu_link.proofs.Offered.{IsOfPast, past_on}
 use Rattle.dfu_link.proofs.HeadlineKept.{holds_by, holds_after}
@@ -85,6 +85,8 @@ line_held {past = past} of_past vouches legal.does_nothing =
     record { past' = past; of_past = of_past; vouches = vouches; holds = blank_line }
 line_held {past = past} of_past vouches legal.limits_to =
     record { past' = past; of_past = of_past; vouches = vouches; holds = limits_line }
+line_held {past = past} of_past vouches legal.expects =
+    record { past' = past; of_past = of_past; vouches = vouches; holds = expect_line }
 line_held of_past vouches (legal.lets_come go) =
     let held = events_held of_past go in
     record { past' = held.past'; of_past = held.of_past; vouches = events_vouch vouches go; holds = event_line held.holds }

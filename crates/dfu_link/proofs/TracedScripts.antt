@@ -1,5 +1,5 @@
 -- What a script with a trace writes, without the lines of the trace.
-use Rattle.std.proofs.Common.{◌≡◌, ℕ, Bool, true, false, if◌then◌else◌, List, [], ◌∷◌, Option, Some, None, Result, Ok, Err, refl, sym, ◌∙◌, subst}
+use Rattle.std.proofs.Common.{◌≡◌, ℕ, Bool, true, false, if◌then◌else◌, List, [], ◌∷◌, Option, Some, None, Result, Ok, Err, inl, inr, refl, sym, ◌∙◌, subst}
 use Rattle.std.specs.Prelude.{OnOk, IfErr, IfSome}
 use Rattle.std.specs.Io.KnownBytes.{Appends}
 use Rattle.dfu_suffix.specs.Writing.{IsOutInPart}
@@ -9,7 +9,7 @@ use Rattle.dfu_link.specs.KeptLines.{place_in, without_trace, is_same, untraced,
 use Rattle.dfu_link.specs.declared.tracing.place.Place.{Place}
 use Rattle.dfu_link.specs.declared.tracing.place.Place.TheVariants.{Start}
 use Rattle.dfu_link.specs.declared.scripting.fault.ScriptFault.{ScriptFault}
-use Rattle.dfu_link.specs.declared.scripting.fault.ScriptFault.TheVariants.{BadLine, LateConfig, BadConfig, TooLarge, NoMemory, Read, Write}
+use Rattle.dfu_link.specs.declared.scripting.fault.ScriptFault.TheVariants.{BadLine, LateConfig, BadConfig, Expected, NonePrinted, TooLarge, NoMemory, Read, Write}
 
 -- What a writer holds is known.
 abbrev IsKnown : Option (List ℕ) → Type 0
@@ -23,10 +23,11 @@ part_known : {old new : Option (List ℕ)} {text : List ℕ} → IsKnown old →
 part_known {new = new} known part =
     appends_known known.0 new part.front (subst (λ (x : Option (List ℕ)). Appends x new part.front) known.1 part.told)
 
-line_known : {p : Point} {line : List ℕ} {old new : Option (List ℕ)} → IsKnown old → BreaksIn p line old new → IsKnown new
+line_known : {p : Point} {line : List ℕ} {old new : Option (List ℕ)} {fault : ScriptFault} → IsKnown old → BreaksIn p line old new fault
+    → IsKnown new
 line_known known (in_events says broken) = part_known known broken.broke
-line_known known (in_passes says acts part) = part_known known part
-line_known known (in_show says part) = part_known known part
+line_known known (in_passes says acts part fails) = part_known known part
+line_known known (in_show says part fails) = part_known known part
 
 next_known : (p : Point) (k : ℕ) (lines : List (List ℕ)) (old new : Option (List ℕ)) (fault : ScriptFault) → IsKnown old
     → NextFalls p k lines old new fault → IsKnown new
@@ -34,14 +35,19 @@ next_known p k lines old new TooLarge known e = (known.0, e ∙ known.1)
 next_known p k lines old new Read known e = (known.0, e ∙ known.1)
 next_known p k (line ∷ lines) old new (BadLine n) known (is, none, e) = (known.0, e ∙ known.1)
 next_known p k (line ∷ lines) old new (LateConfig n) known (is, late, e) = (known.0, e ∙ known.1)
-next_known p k (line ∷ lines) old new NoMemory known (needs, e) = (known.0, e ∙ known.1)
+next_known p k (line ∷ lines) old new (NonePrinted n) known (second, e) = (known.0, e ∙ known.1)
+next_known p k (line ∷ lines) old new NoMemory known (inl needs) = (known.0, needs.1 ∙ known.1)
+next_known p k (line ∷ lines) old new NoMemory known (inr breaks) = line_known known breaks
 next_known p k (line ∷ lines) old new Write known breaks = line_known known breaks
+next_known p k (line ∷ lines) old new (Expected n) known breaks = line_known known breaks
 next_known p k (line ∷ lines) old new BadConfig known falls = absurd falls
-next_known p k [] old new Write known (is, broke) = part_known known broke
-next_known p k [] old new (BadLine n) known (is, broke) = cc
-next_known p k [] old new (LateConfig n) known (is, broke) = cc
-next_known p k [] old new NoMemory known (is, broke) = cc
-next_known p k [] old new BadConfig known (is, broke) = cc
+next_known p k [] old new Write known (fails, broke) = part_known known broke
+next_known p k [] old new (Expected n) known (fails, broke) = part_known known broke
+next_known p k [] old new NoMemory known (fails, broke) = part_known known broke
+next_known p k [] old new (BadLine n) known (fails, broke) = part_known known broke
+next_known p k [] old new (LateConfig n) known (fails, broke) = part_known known broke
+next_known p k [] old new (NonePrinted n) known (fails, broke) = part_known known broke
+next_known p k [] old new BadConfig known (fails, broke) = part_known known broke
 
 falls_known : {text a : List ℕ} {new : Option (List ℕ)} {fault : ScriptFault} → Falls text (Some a) new fault → IsKnown new
 falls_known {a = a} (no_memory e) = (a, e)

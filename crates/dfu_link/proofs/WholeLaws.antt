@@ -12,7 +12,7 @@ use Rattle.dfu_link.specs.Falls.{NextFalls, RunFalls, StartFalls, Falls, no_memo
 use Rattle.dfu_link.specs.inside.Source.{SourceState, Took, Gives}
 use Rattle.dfu_link.specs.inside.Moving.{Ends, MovesAndFalls, Configured, StopsSetting, CannotConfigure}
 use Rattle.dfu_link.specs.declared.scripting.fault.ScriptFault.{ScriptFault}
-use Rattle.dfu_link.specs.declared.scripting.fault.ScriptFault.TheVariants.{BadLine, LateConfig, BadConfig, TooLarge, NoMemory, Read, Write}
+use Rattle.dfu_link.specs.declared.scripting.fault.ScriptFault.TheVariants.{BadLine, LateConfig, BadConfig, Expected, NonePrinted, TooLarge, NoMemory, Read, Write}
 use Rattle.dfu_link.proofs.GivenLaws.{of_some, took, took_trans, stops_after}
 
 -- Nothing was taken of a text.
@@ -65,6 +65,8 @@ configure_ends old BadConfig fresh e falls = setting_ends old BadConfig fresh e 
 configure_ends old TooLarge fresh e falls = setting_ends old TooLarge fresh e falls
 configure_ends old Read fresh e falls = setting_ends old Read fresh e falls
 configure_ends old Write fresh e falls = setting_ends old Write fresh e falls
+configure_ends old (Expected n) fresh e falls = setting_ends old (Expected n) fresh e falls
+configure_ends old (NonePrinted n) fresh e falls = setting_ends old (NonePrinted n) fresh e falls
 
 -- The device has to start.
 abbrev sets_up : {text : List ℕ} {s s' : SourceState} {x y : Settings} {more : Bool} → (fresh : IsFresh text s) → x ≡ beginning
@@ -91,6 +93,8 @@ start_ends old (LateConfig n) fresh e c falls = absurd falls
 start_ends old TooLarge fresh e c falls = absurd falls
 start_ends old Read fresh e c falls = absurd falls
 start_ends old Write fresh e c falls = absurd falls
+start_ends old (Expected n) fresh e c falls = absurd falls
+start_ends old (NonePrinted n) fresh e c falls = absurd falls
 
 at_end : (a : Option (List ℕ)) → IsAtEnd a → IfSome a (λ left. left ≡ [])
 at_end None h = tt
@@ -103,6 +107,7 @@ pub run_ends : {text : List ℕ} {s s' : SourceState} {x y : Settings} {more : B
 run_ends {text = text} {y = y} d fresh e c starts ends =
     let t = fresh_took fresh c.prepared.gives in
     let u = took c.at ends.last ends.done ends.gives t.1 in
+    let number : c.at.number + 1 ≡ 1 + length c.prepared.done = omega (arith, c.prepared.gives.count, fresh.number) in
     let empty : u.0 ≡ [] = of_some ends.last.left (λ left. left ≡ []) u.0 u.1 (at_end ends.last.left ends.ended) in
     let all = took_trans t.2 u.2 in
     let whole : text ≡ all.front = all.split ∙ (ap (λ (zs : List ℕ). all.front ++ zs) empty ∙ append-nil all.front) in
@@ -118,7 +123,9 @@ run_ends {text = text} {y = y} d fresh e c starts ends =
         starts = starts;
         shown = ends.shown;
         end = ends.end;
-        runs = subst (λ (ls : List (List ℕ)). LinesRun (point y.limits (at_rest d)) ls ends.shown ends.end) lines ends.runs;
+        runs = subst (λ (ls : List (List ℕ)). LinesRun (1 + length c.prepared.done) (point y.limits (at_rest d)) ls ends.shown ends.end) lines
+            (subst (λ (k : ℕ). LinesRun k (point y.limits (at_rest d)) ends.done ends.shown ends.end) number ends.runs);
+        meets = ends.meets;
         out_is = refl;
       };
       told = ends.told;
@@ -134,13 +141,14 @@ run_falls {y = y} {new = new} d f fresh e c starts falls =
     let u = took c.at falls.at m.done m.gives t.1 in
     let here = of_some falls.at.left (λ left. IsStopped falls.at.room left f × NextFalls falls.to (falls.at.number + 1) (lines_of left)
     falls.mid new f) u.0 u.1 falls.falls in
+    let number : c.at.number + 1 ≡ 1 + length c.prepared.done = omega (arith, c.prepared.gives.count, fresh.number) in
     let runs : RunFalls (point y.limits (at_rest d)) (1 + length c.prepared.done) (lines_of t.0) _ new f = record {
       done = m.done;
       rest = lines_of u.0;
       split = u.2.are;
       shown = m.shown;
       end = falls.to;
-      runs = m.runs;
+      runs = subst (λ (k : ℕ). LinesRun k (point y.limits (at_rest d)) m.done m.shown falls.to) number m.runs;
       mid = falls.mid;
       told = m.told;
       falls = subst (λ (n : ℕ). NextFalls falls.to n (lines_of u.0) falls.mid new f)

@@ -1,5 +1,5 @@
 -- How a script ends with a fault, and what is out then.
-use Rattle.std.specs.Prelude.{◌≡◌, ◌≢◌, ℕ, ◌+◌, ◌%◌, ◌<◌, List, [], ◌∷◌, ◌++◌, length, Option, Some, None}
+use Rattle.std.specs.Prelude.{◌≡◌, ◌≢◌, ◌⊎◌, ℕ, ◌+◌, ◌%◌, ◌<◌, List, [], ◌∷◌, ◌++◌, length, Option, Some, None}
 use Rattle.std.specs.Io.KnownBytes.{Appends}
 use Rattle.dfu_slots.specs.Units.{IsMultiple}
 use Rattle.dfu_device.specs.declared.fault.ConfigFault.{ConfigFault}
@@ -11,15 +11,17 @@ use Rattle.dfu_link.specs.Happening.{Happening}
 use Rattle.dfu_suffix.specs.Writing.{IsOutInPart}
 use Rattle.dfu_link.specs.Texts.{image_line, show_line}
 use Rattle.dfu_link.specs.Words.{lines_of}
-use Rattle.dfu_link.specs.Said.{ConfigLine, EventLine, Offer, HasTear, Sets, Does, GoesOn, Show}
+use Rattle.dfu_link.specs.Said.{ConfigLine, EventLine, Offer, HasTear, Sets, Does, GoesOn, Show, Expects}
 use Rattle.dfu_link.specs.Lines.{line_of}
+use Rattle.dfu_link.specs.Expecting.{Expectation, Fails}
 use Rattle.dfu_link.specs.TextLimit.{GivesNone, StopsAfter}
 use Rattle.dfu_link.specs.ScriptRun.{Settings, beginning, Prepares, Starts, at_rest, AllCome, Point, point, events_of, LineActs, LinesRun, SetsUp}
 use Rattle.dfu_link.specs.declared.scripting.fault.ScriptFault.{ScriptFault}
-use Rattle.dfu_link.specs.declared.scripting.fault.ScriptFault.TheVariants.{BadLine, LateConfig, BadConfig, TooLarge, NoMemory, Read, Write}
+use Rattle.dfu_link.specs.declared.scripting.fault.ScriptFault.TheVariants.{BadLine, LateConfig, BadConfig, Expected, NonePrinted, TooLarge, NoMemory, Read, Write}
 
--- The writer failed among events: some were played, and a front of their text is out, and not all of it.
-pub record HasBroken (b : Bench) (events : List Happening) (old new : Option (List ℕ)) : Type 0 where
+-- It stopped among events, where this is expected: some were played, and a front of their text is out, and not all of it.
+pub record HasBroken (b : Bench) (next : Option Expectation) (events : List Happening) (old new : Option (List ℕ)) (fault : ScriptFault)
+    : Type 0 where
   pub played : List Happening
   pub left : List Happening
   pub split : events ≡ played ++ left
@@ -27,14 +29,16 @@ pub record HasBroken (b : Bench) (events : List Happening) (old new : Option (Li
   pub out : List ℕ
   pub plays : AllCome b played out after
   pub broke : IsOutInPart old new out
+  pub fails : Fails next out old new fault
 
--- The writer failed in a line: among its events, in what `go until report` prints, or in the line of `show`.
-pub data BreaksIn (p : Point) (line : List ℕ) (old new : Option (List ℕ)) : Type 0 where
-  in_events : {events : EventLine} → line_of line ≡ Some (Does events) → HasBroken p.at (events_of p.limits events) old new
-      → BreaksIn p line old new
-  in_passes : {out : List ℕ} {q : Point} → line_of line ≡ Some GoesOn → LineActs p GoesOn out q → IsOutInPart old new out
-      → BreaksIn p line old new
-  in_show : line_of line ≡ Some Show → IsOutInPart old new (show_line p.at.device) → BreaksIn p line old new
+-- It stopped in what a line prints: among its events, in what `go until report` prints, or in the line of `show`.
+pub data BreaksIn (p : Point) (line : List ℕ) (old new : Option (List ℕ)) (fault : ScriptFault) : Type 0 where
+  in_events : {events : EventLine} → line_of line ≡ Some (Does events) → HasBroken p.at p.next (events_of p.limits events) old new fault
+      → BreaksIn p line old new fault
+  in_passes : {out : List ℕ} {q : Point} → line_of line ≡ Some GoesOn → LineActs 0 (point p.limits p.at) GoesOn out q
+      → IsOutInPart old new out → Fails p.next out old new fault → BreaksIn p line old new fault
+  in_show : line_of line ≡ Some Show → IsOutInPart old new (show_line p.at.device) → Fails p.next (show_line p.at.device) old new fault
+      → BreaksIn p line old new fault
 
 -- A line sets something about the device.
 pub record IsSetting (line : List ℕ) : Type 0 where
@@ -47,18 +51,33 @@ pub record IsOffer (line : List ℕ) : Type 0 where
   pub file : List ℕ
   pub says : line_of line ≡ Some (Does (Offer aim file))
 
--- A line needs memory: for the file that it offers while no session is live, or for the tear that it brings.
+-- A line says which line is printed next.
+pub record IsExpect (line : List ℕ) : Type 0 where
+  pub text : List ℕ
+  pub says : line_of line ≡ Some (Expects text)
+
+-- A line needs memory: for the file that it offers while no session is live, for the tear that it brings, or for the line that it expects.
 pub data NeedsMemory (p : Point) (line : List ℕ) : Type 0 where
   for_file : IsOffer line → p.at.session ≡ Nobody → NeedsMemory p line
   for_tear : {events : EventLine} → line_of line ≡ Some (Does events) → HasTear events → NeedsMemory p line
+  for_text : IsExpect line → NeedsMemory p line
+
+-- A line comes that is expected, before this line, which expects one too.
+pub record IsSecond (p : Point) (line : List ℕ) (n : ℕ) : Type 0 where
+  pub first : Expectation
+  pub is : p.next ≡ Some first
+  pub number : n ≡ first.number
+  pub second : IsExpect line
 
 -- How line k falls once the device is started: it is none of the language, or a configuration line, or finds no memory that it needs, and
--- then nothing of it is out; or the writer fails in it.
+-- then nothing of it is out; or it expects a line before one that is expected was printed; or it stops in what the line prints.
 abbrev pub LineFalls : Point → ℕ → List ℕ → Option (List ℕ) → Option (List ℕ) → ScriptFault → Type 0
 LineFalls p k line old new (BadLine n) = (n ≡ k) × (line_of line ≡ None) × (new ≡ old)
 LineFalls p k line old new (LateConfig n) = (n ≡ k) × IsSetting line × (new ≡ old)
-LineFalls p k line old new NoMemory = NeedsMemory p line × (new ≡ old)
-LineFalls p k line old new Write = BreaksIn p line old new
+LineFalls p k line old new NoMemory = (NeedsMemory p line × (new ≡ old)) ⊎ BreaksIn p line old new NoMemory
+LineFalls p k line old new Write = BreaksIn p line old new Write
+LineFalls p k line old new (Expected n) = BreaksIn p line old new (Expected n)
+LineFalls p k line old new (NonePrinted n) = IsSecond p line n × (new ≡ old)
 LineFalls p k line old new fault = ⊥
 
 -- What falls where these lines are left, the first of them line k: the text goes over its limit or the reader fails, and nothing more is
@@ -66,7 +85,7 @@ LineFalls p k line old new fault = ⊥
 abbrev pub NextFalls : Point → ℕ → List (List ℕ) → Option (List ℕ) → Option (List ℕ) → ScriptFault → Type 0
 NextFalls p k lines old new TooLarge = new ≡ old
 NextFalls p k lines old new Read = new ≡ old
-NextFalls p k [] old new fault = (fault ≡ Write) × IsOutInPart old new (image_line p.at.device)
+NextFalls p k [] old new fault = Fails p.next (image_line p.at.device) old new fault × IsOutInPart old new (image_line p.at.device)
 NextFalls p k (line ∷ lines) old new fault = LineFalls p k line old new fault
 
 -- Lines fall, the first of them line k: some run, and what they print is out; then the next falls.
@@ -76,7 +95,7 @@ pub record RunFalls (p : Point) (k : ℕ) (lines : List (List ℕ)) (old new : O
   pub split : lines ≡ done ++ rest
   pub shown : List ℕ
   pub end : Point
-  pub runs : LinesRun p done shown end
+  pub runs : LinesRun k p done shown end
   pub mid : Option (List ℕ)
   pub told : Appends old mid shown
   pub falls : NextFalls end (k + length done) rest mid new fault

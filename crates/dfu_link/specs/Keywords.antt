@@ -25,6 +25,7 @@ keyword_of w =
     else if bytes_eq w (codes "reset") then Some key.Reset
     else if bytes_eq w (codes "cut") then Some key.Cut
     else if bytes_eq w (codes "show") then Some key.Show
+    else if bytes_eq w (codes "expect") then Some key.Expect
     else None
 
 -- The word after `go`: that of a fate, or `until`.

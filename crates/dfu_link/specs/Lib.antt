@@ -31,10 +31,12 @@ pub mod Keywords
 pub mod Lines
 pub mod Texts
 pub mod TextLimit
+pub mod Expecting
 pub mod ScriptRun
 pub mod Falls
 pub mod ScriptLegal
 pub mod ScriptHeadline
+pub mod Printed
 pub mod NextSession
 pub mod CleanSteps
 pub mod OneResult

@@ -7,9 +7,9 @@ use Rattle.dfu_slots.specs.declared.unit.Unit.TheVariants.{Byte, U16, U64, U256}
 use Rattle.dfu_wire.specs.Identifier.{identifier_in}
 use Rattle.dfu_link.specs.declared.aim.Aim.{Aim}
 use Rattle.dfu_link.specs.declared.aim.Aim.TheVariants.{Install, Verify}
-use Rattle.dfu_link.specs.Words.{◌>>=◌, guard, bytes_of, number_of, pair_of, first, ends, words_of}
+use Rattle.dfu_link.specs.Words.{◌>>=◌, guard, bytes_of, number_of, pair_of, first, text_behind, ends, words_of}
 use Rattle.dfu_link.specs.Happening.{Fate, Pass, LostOut, LostBack, Twice, TwiceLostBack, Slip, CutIn, Fail, Lie, unharmed, harmed}
-use Rattle.dfu_link.specs.Said.{Said, Blank, Sets, LimitsTo, Does, GoesOn, Show, TheIds, TheDevice, TheUnit, TheSector, TheCapacity, TheImage, Offer, Upload, Abort, Go, Time, Reset, Cut}
+use Rattle.dfu_link.specs.Said.{Said, Blank, Sets, LimitsTo, Does, GoesOn, Show, Expects, TheIds, TheDevice, TheUnit, TheSector, TheCapacity, TheImage, Offer, Upload, Abort, Go, Time, Reset, Cut}
 use Rattle.dfu_link.specs.Keywords.{keyword_of, fate_keyword_of}
 use Rattle.dfu_link.specs.declared.scripting.keywords.Keyword.{Keyword}
 use Rattle.dfu_link.specs.declared.scripting.keywords.Keyword.TheVariants as key
@@ -161,24 +161,31 @@ go_of words = do
   k ← fate_keyword_of word.0
   by_fate k word.1
 
--- After the first word of a line.
-abbrev pub by_keyword : Keyword → List (List ℕ) → Option Said
-by_keyword key.Ids words = ids_of words
-by_keyword key.Device words = device_of words
-by_keyword key.Unit words = unit_of words
-by_keyword key.Erase words = erase_of words
-by_keyword key.Capacity words = capacity_of words
-by_keyword key.Image words = image_of words
-by_keyword key.Limits words = limits_of words
-by_keyword key.Offer words = offer_of Install words
-by_keyword key.Verify words = offer_of Verify words
-by_keyword key.Upload words = ends (Does Upload) words
-by_keyword key.Abort words = ends (Does Abort) words
-by_keyword key.Go words = go_of words
-by_keyword key.Time words = time_of words
-by_keyword key.Reset words = ends (Does Reset) words
-by_keyword key.Cut words = ends (Does Cut) words
-by_keyword key.Show words = ends Show words
+-- `expect`: the line that is to be printed next, which has a byte.
+unfoldable pub expect_of : List ℕ → Option Said
+expect_of line = do
+  text ← text_behind line
+  if length text == 0 then None else Some (Expects text)
+
+-- After the first word of a line, or with all of it.
+abbrev pub by_keyword : Keyword → (line : List ℕ) → List (List ℕ) → Option Said
+by_keyword key.Ids line words = ids_of words
+by_keyword key.Device line words = device_of words
+by_keyword key.Unit line words = unit_of words
+by_keyword key.Erase line words = erase_of words
+by_keyword key.Capacity line words = capacity_of words
+by_keyword key.Image line words = image_of words
+by_keyword key.Limits line words = limits_of words
+by_keyword key.Offer line words = offer_of Install words
+by_keyword key.Verify line words = offer_of Verify words
+by_keyword key.Upload line words = ends (Does Upload) words
+by_keyword key.Abort line words = ends (Does Abort) words
+by_keyword key.Go line words = go_of words
+by_keyword key.Time line words = time_of words
+by_keyword key.Reset line words = ends (Does Reset) words
+by_keyword key.Cut line words = ends (Does Cut) words
+by_keyword key.Show line words = ends Show words
+by_keyword key.Expect line words = expect_of line
 
 -- A line is a comment where its first word begins with `#`.
 abbrev pub is_comment : List ℕ → Bool
@@ -186,10 +193,10 @@ is_comment [] = false
 is_comment (byte ∷ bytes) = byte == 35
 
 -- What the words of a line say: nothing where there are none, or where they are a comment.
-abbrev pub says : List (List ℕ) → Option Said
-says [] = Some Blank
-says (word ∷ words) = if is_comment word then Some Blank else (keyword_of word >>= λ k. by_keyword k words)
+abbrev pub says : (line : List ℕ) → List (List ℕ) → Option Said
+says line [] = Some Blank
+says line (word ∷ words) = if is_comment word then Some Blank else (keyword_of word >>= λ k. by_keyword k line words)
 
 -- What a line says, if it is one of the language: a line over 65,536 bytes is none.
 unfoldable pub line_of : List ℕ → Option Said
-line_of line = if nat_le (length line) 65536 then says (words_of line) else None
+line_of line = if nat_le (length line) 65536 then says line (words_of line) else None

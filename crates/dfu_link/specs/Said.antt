@@ -48,8 +48,8 @@ HasTear (Go Fail h times) = Unit {0}
 HasTear (Go Lie h times) = Unit {0}
 HasTear d = ⊥
 
--- What a line says: nothing, a setting, the limits of later sessions, events, that the host passes until it reports, or that the device
--- is to be shown.
+-- What a line says: nothing, a setting, the limits of later sessions, events, that the host passes until it reports, that the device is to
+-- be shown, or which line is to be printed next.
 pub data Said : Type 0 where
   Blank : Said
   Sets : ConfigLine → Said
@@ -57,6 +57,7 @@ pub data Said : Type 0 where
   Does : EventLine → Said
   GoesOn : Said
   Show : Said
+  Expects : (text : List ℕ) → Said
 
 -- What a configuration line as the code has it sets.
 abbrev pub config_line_of : config_lines.ConfigLine → ConfigLine
@@ -97,3 +98,4 @@ said_of (line.Set s) = Sets (config_line_of s)
 said_of (line.Limits actions restarts) = LimitsTo actions restarts
 said_of (line.Do d) = said_by d
 said_of line.Show = Show
+said_of (line.Expect text) = Expects text.now

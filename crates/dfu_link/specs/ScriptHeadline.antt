@@ -11,7 +11,7 @@ use Rattle.dfu_link.specs.Refusing.{IsRefused}
 use Rattle.dfu_link.specs.Bench.{Bench}
 use Rattle.dfu_link.specs.Headline.{Begun, WithOffer, AsUpload, WasOffered, HeadlineHolds}
 use Rattle.dfu_link.specs.Texts.{told_line, refusal_line, state_text, line_of_image}
-use Rattle.dfu_link.specs.Said.{EventLine, Said, Blank, LimitsTo, Does, Go, GoesOn, Show}
+use Rattle.dfu_link.specs.Said.{EventLine, Said, Blank, LimitsTo, Does, Go, GoesOn, Show, Expects}
 use Rattle.dfu_link.specs.Lines.{line_of}
 use Rattle.dfu_link.specs.ScriptRun.{Settings, at_rest, Point, point, events_of, SetsUp}
 
@@ -54,6 +54,7 @@ pub data LineHolds (factory : List ℕ) (past : List Begun) (p : Point) : Said �
       → LineHolds factory past p (Does events) printed past' (record p { at = b })
   passes_line : {times : ℕ} {printed : List ℕ} {past' : List Begun} {q : Point}
       → LineHolds factory past p (Does (Go Pass unharmed times)) printed past' q → LineHolds factory past p GoesOn printed past' q
+  expect_line : {text : List ℕ} → LineHolds factory past p (Expects text) [] past p
   show_line : {image : List ℕ} → IsKnownImage factory past p.at image
       → LineHolds factory past p Show (state_text p.at.device ++ line_of_image image) past p
 

@@ -12,7 +12,7 @@ use Rattle.dfu_link.specs.Refusing.{IsRefused}
 use Rattle.dfu_link.specs.Bench.{Bench, linked}
 use Rattle.dfu_link.specs.Following.{IsFollowed}
 use Rattle.dfu_link.specs.Texts.{told_line, state_text, line_of_image}
-use Rattle.dfu_link.specs.Said.{EventLine, Said, Blank, LimitsTo, Does, Go, GoesOn, Show}
+use Rattle.dfu_link.specs.Said.{EventLine, Said, Blank, LimitsTo, Does, Go, GoesOn, Show, Expects}
 use Rattle.dfu_link.specs.Lines.{line_of}
 use Rattle.dfu_link.specs.ScriptRun.{Settings, at_rest, Point, point, events_of, SetsUp}
 
@@ -57,6 +57,7 @@ pub data LineGoes (factory : List ℕ) (p : Point) (m : Machine) : Said → List
       → LineGoes factory p m (Does events) reports out (record p { at = b }) m'
   goes_on : {times : ℕ} {reports : List Report} {out : List ℕ} {q : Point} {m' : Machine}
       → LineGoes factory p m (Does (Go Pass unharmed times)) reports out q m' → LineGoes factory p m GoesOn reports out q m'
+  expects : {text : List ℕ} → LineGoes factory p m (Expects text) [] [] p m
   shows : LineGoes factory p m Show [] (state_text p.at.device ++ line_of_image m.cur) p m
 
 -- Lines one after the other.

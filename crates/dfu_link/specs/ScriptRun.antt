@@ -18,8 +18,9 @@ use Rattle.dfu_link.specs.Comes.{Comes}
 use Rattle.dfu_link.specs.declared.fault.LinkFault.{LinkFault}
 use Rattle.dfu_link.specs.Texts.{answer_line, image_line, show_line}
 use Rattle.dfu_link.specs.Words.{lines_of}
-use Rattle.dfu_link.specs.Said.{ConfigLine, TheIds, TheDevice, TheUnit, TheSector, TheCapacity, TheImage, EventLine, Offer, Upload, Abort, Go, Time, Reset, Cut, Said, Blank, Sets, LimitsTo, Does, GoesOn, Show}
+use Rattle.dfu_link.specs.Said.{ConfigLine, TheIds, TheDevice, TheUnit, TheSector, TheCapacity, TheImage, EventLine, Offer, Upload, Abort, Go, Time, Reset, Cut, Said, Blank, Sets, LimitsTo, Does, GoesOn, Show, Expects}
 use Rattle.dfu_link.specs.Lines.{line_of}
+use Rattle.dfu_link.specs.Expecting.{Expectation, Meets, still}
 
 -- What is set before the first event line or `show`: the device, how its medium is written and erased, how many bytes an image may have, the
 -- image at first, and the limits of sessions.
@@ -69,11 +70,12 @@ pub data Prepares : Settings → List (List ℕ) → Settings → Type 0 where
   then_prepares : {s t t' : Settings} {lines : List (List ℕ)} (line : List ℕ) {said : Said} →
       Prepares s lines t → line_of line ≡ Some said → prepared t said ≡ Some t' → Prepares s (lines ++ line ∷ []) t'
 
--- An event line or `show` is read.
+-- An event line, `show` or `expect` is read.
 abbrev pub HasToAct : Option Said → Type 0
 HasToAct (Some (Does events)) = Unit {0}
 HasToAct (Some GoesOn) = Unit {0}
 HasToAct (Some Show) = Unit {0}
+HasToAct (Some (Expects text)) = Unit {0}
 HasToAct said = ⊥
 
 -- The device has to start before the next line, or where none is left.
@@ -107,14 +109,19 @@ pub data AllCome : Bench → List Happening → List ℕ → Bench → Type 0 wh
   then_comes : {b c c' : Bench} {events : List Happening} {event : Happening} {out : List ℕ} {answer : Result Answered LinkFault} →
       AllCome b events out c → Comes c event c' answer → ShowsActive c' → AllCome b (events ++ event ∷ []) (out ++ answer_line answer) c'
 
--- Where a script is once the device is started: the limits of the next session, and the link.
+-- Where a script is once the device is started: the limits of the next session, which line is expected next, and the link.
 pub record Point : Type 0 where
   pub limits : Limits
+  pub next : Option Expectation
   pub at : Bench
 
--- These limits, and this link.
+-- These limits, and this link, and no line is expected.
 abbrev pub point : Limits → Bench → Point
-point limits at = record { limits = limits; at = at }
+point limits at = record { limits = limits; next = None; at = at }
+
+-- This was printed, and the link is this now.
+abbrev pub printed : Point → (text : List ℕ) → Bench → Point
+printed p text at = record p { next = still p.next text; at = at }
 
 -- The events of an event line.
 abbrev pub events_of : Limits → EventLine → List Happening
@@ -126,24 +133,28 @@ events_of limits (Time ms) = Passes ms ∷ []
 events_of limits Reset = Resets ∷ []
 events_of limits Cut = Cuts ∷ []
 
--- What a line does once the device is started, and what it prints. A configuration line has no place there. `go until report` lets so many
--- actions pass of which nothing is printed, and one of which something is.
-pub data LineActs : Point → Said → List ℕ → Point → Type 0 where
-  skips : {p : Point} → LineActs p Blank [] p
-  limits_to : {p : Point} {actions restarts : ℕ} → LineActs p (LimitsTo actions restarts) []
+-- What line k does once the device is started, and what it prints, which is as expected. A configuration line has no place there.
+-- `go until report` lets so many actions pass of which nothing is printed, and one of which something is. `expect` has no place where a
+-- line is expected already.
+pub data LineActs (k : ℕ) : Point → Said → List ℕ → Point → Type 0 where
+  skips : {p : Point} → LineActs k p Blank [] p
+  limits_to : {p : Point} {actions restarts : ℕ} → LineActs k p (LimitsTo actions restarts) []
       (record p { limits = record { actions = actions; restarts = restarts } })
   plays : {p : Point} {events : EventLine} {b : Bench} {out : List ℕ} → AllCome p.at (events_of p.limits events) out b
-      → LineActs p (Does events) out (record p { at = b })
+      → Meets p.next out → LineActs k p (Does events) out (printed p out b)
   goes_on : {p : Point} {mid b : Bench} {answer : Result Answered LinkFault} (times : ℕ)
       → AllCome p.at (replicate times (Goes Pass unharmed)) [] mid → Comes mid (Goes Pass unharmed) b answer → ShowsActive b
-      → answer_line answer ≢ [] → LineActs p GoesOn (answer_line answer) (record p { at = b })
-  shows : {p : Point} → LineActs p Show (show_line p.at.device) p
+      → answer_line answer ≢ [] → Meets p.next (answer_line answer) → LineActs k p GoesOn (answer_line answer) (printed p (answer_line answer) b)
+  shows : {p : Point} → Meets p.next (show_line p.at.device) → LineActs k p Show (show_line p.at.device) (printed p (show_line p.at.device) p.at)
+  expects : {p : Point} {text : List ℕ} → p.next ≡ None → LineActs k p (Expects text) []
+      (record p { next = Some (record { number = k; text = text }) })
 
--- Lines one after the other, with what they print.
-pub data LinesRun : Point → List (List ℕ) → List ℕ → Point → Type 0 where
-  stays : {p : Point} → LinesRun p [] [] p
+-- Lines one after the other, the first of them line k, with what they print.
+pub data LinesRun (k : ℕ) : Point → List (List ℕ) → List ℕ → Point → Type 0 where
+  stays : {p : Point} → LinesRun k p [] [] p
   then_runs : {p q q' : Point} {lines : List (List ℕ)} (line : List ℕ) {said : Said} {out more : List ℕ} →
-      LinesRun p lines out q → line_of line ≡ Some said → LineActs q said more q' → LinesRun p (lines ++ line ∷ []) (out ++ more) q'
+      LinesRun k p lines out q → line_of line ≡ Some said → LineActs (k + length lines) q said more q'
+      → LinesRun k p (lines ++ line ∷ []) (out ++ more) q'
 
 -- The text is set up like this, and these lines are left: the lines before set, and now the device has to start.
 pub record SetsUp (text : List ℕ) (settings : Settings) (after : List (List ℕ)) : Type 0 where
@@ -152,7 +163,8 @@ pub record SetsUp (text : List ℕ) (settings : Settings) (after : List (List �
   pub prepares : Prepares beginning before settings
   pub ready : IsReady after
 
--- A whole script of at most 16,777,216 bytes: lines that set, the device started, lines that act, and last the line of the image.
+-- A whole script of at most 16,777,216 bytes: lines that set, the device started, lines that act, and last the line of the image, which is
+-- as expected.
 pub record IsRun (text out : List ℕ) : Type 0 where
   pub small : length text ≤ 16777216
   pub settings : Settings
@@ -162,7 +174,8 @@ pub record IsRun (text out : List ℕ) : Type 0 where
   pub starts : Starts settings first
   pub shown : List ℕ
   pub end : Point
-  pub runs : LinesRun (point settings.limits (at_rest first)) after shown end
+  pub runs : LinesRun (1 + length sets_up.before) (point settings.limits (at_rest first)) after shown end
+  pub meets : Meets end.next (image_line end.at.device)
   pub out_is : out ≡ shown ++ image_line end.at.device
 
 -- A run of the text was written.

@@ -1,6 +1,6 @@
 -- Lines of a text, words of a line, numbers and hexadecimal text.
-use Rattle.std.specs.Prelude.{◌≡◌, ℕ, ◌+◌, ◌-◌, ◌*◌, ◌==◌, ◌&&◌, nat_le, Bool, true, false, not, if◌then◌else◌, List, [], ◌∷◌, length, slice_index, filter, codes, Option, Some, None, Result, Ok, Err}
-use Rattle.std.specs.List.{slice_split, onto_first}
+use Rattle.std.specs.Prelude.{◌≡◌, ℕ, ◌+◌, ◌-◌, ◌*◌, ◌==◌, ◌&&◌, nat_le, Bool, true, false, not, if◌then◌else◌, List, [], ◌∷◌, length, drop, slice_index, filter, codes, Option, Some, None, Result, Ok, Err}
+use Rattle.std.specs.List.{position, slice_split, onto_first}
 use Rattle.std.specs.Str.{bytes_eq}
 use Rattle.std.specs.Char.{is_ascii_digit}
 use Rattle.hex.specs.Hex.{decode_of, decode_sized}
@@ -56,6 +56,10 @@ words_of line = filter is_word (slice_split is_space line)
 abbrev pub first : List (List ℕ) → Option (List ℕ × List (List ℕ))
 first [] = None
 first (word ∷ words) = Some (word, words)
+
+-- What stands behind the first word of a line and one space, where there is such a space.
+unfoldable pub text_behind : List ℕ → Option (List ℕ)
+text_behind line = position is_no_space line >>= λ start. position is_space (drop start line) >>= λ end. Some (drop (end + 1) (drop start line))
 
 -- This, where no further word is left.
 abbrev pub ends : {A : Type 0} → A → List (List ℕ) → Option A

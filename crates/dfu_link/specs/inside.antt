@@ -1,5 +1,6 @@
 pub mod Acting
 pub mod Source
 pub mod SetupView
+pub mod Expected
 pub mod Moving
 pub mod Forming

@@ -3,6 +3,7 @@
 
 mod after_start;
 mod digits;
+mod expectation;
 mod fault;
 mod fields;
 mod hex_text;

@@ -6,7 +6,7 @@ use std::test::Fail;
 
 /// A line that is none of the language, and why.
 #[rattlefmt::skip]
-static LINES: [(&[u8], &str); 23] = [
+static LINES: [(&[u8], &str); 25] = [
     (b"bogus", "its first word is none of the language"),
     (b"go", "behind go a word is missing, as pass"),
     (b"go home", "the word behind go is none of the language"),
@@ -17,6 +17,8 @@ static LINES: [(&[u8], &str); 23] = [
     (b"go cut 1 a5 0", "it has 5 words in place of 4"),
     (b"go slip 4294967296", "its word 3 isn't a number of 1 to 10 digits, at most 4,294,967,295"),
     (b"show # a", "a comment is a line of its own"),
+    (b"expect", "behind expect and a space the line is missing"),
+    (b" expect ", "behind expect and a space the line is missing"),
     (b"ids 1209 0001 010", "its word 4 isn't four hexadecimal digits"),
     (b"unit 32", "its word 2 isn't 1, 16, 64 or 256"),
     (b"erase 4095", "its word 2 isn't 0 or a multiple of 256 up to 131,072"),

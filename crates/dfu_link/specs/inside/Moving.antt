@@ -1,7 +1,6 @@
 -- What lines do one after the other, as the loops of the code have it.
 use Rattle.std.specs.Prelude.{◌≡◌, ℕ, ◌+◌, List, [], ◌++◌, Bool, Option, Some, None, IfSome, replicate}
 use Rattle.std.specs.Io.KnownBytes.{Appends, IsAtEnd}
-use Rattle.dfu_host.specs.declared.limits.Limits.{Limits}
 use Rattle.dfu_slots.specs.Medium.Fuse.{Whole}
 use Rattle.dfu_device.specs.Shown.{Shown}
 use Rattle.dfu_link.specs.Bench.{Bench}
@@ -10,47 +9,52 @@ use Rattle.dfu_link.specs.Texts.{image_line}
 use Rattle.dfu_link.specs.Words.{lines_of}
 use Rattle.dfu_link.specs.Said.{Offer, HasTear, Said, Does, said_by}
 use Rattle.dfu_link.specs.Lines.{line_of}
-use Rattle.dfu_link.specs.ScriptRun.{Settings, Prepares, IsReady, at_rest, AllCome, Point, point, LineActs, LinesRun}
+use Rattle.dfu_link.specs.ScriptRun.{Settings, Prepares, IsReady, at_rest, AllCome, Point, LineActs, LinesRun}
 use Rattle.dfu_link.specs.Falls.{BreaksIn, LineFalls, NextFalls}
 use Rattle.dfu_link.specs.TextLimit.{GoesOver, IsStopped}
+use Rattle.dfu_link.specs.Expecting.{Expectation, Meets}
+use Rattle.dfu_link.specs.inside.Expected.{at_point, Prints}
+use Rattle.dfu_link.specs.declared.scripting.expectation.Ahead.{Ahead}
 use Rattle.dfu_link.specs.inside.Source.{SourceState, Gives, Next, StopsSource}
 use Rattle.dfu_link.specs.declared.scripting.line.EventLine.{EventLine as EventLineRead}
 use Rattle.dfu_link.specs.declared.scripting.fault.ScriptFault.{ScriptFault}
 use Rattle.dfu_link.specs.declared.scripting.fault.ScriptFault.TheVariants.{NoMemory}
 
--- Events were played, and what they print is out.
-pub record HasPlayed (b : Bench) (events : List Happening) (old : Option (List ℕ)) (b' : Bench) (new : Option (List ℕ)) : Type 0 where
+-- Events were played, and what they print is out, as expected.
+pub record HasPlayed (b : Bench) (e : Option Expectation) (events : List Happening) (old : Option (List ℕ)) (b' : Bench)
+    (e' : Option Expectation) (new : Option (List ℕ)) : Type 0 where
   pub out : List ℕ
   pub plays : AllCome b events out b'
-  pub told : Appends old new out
+  pub prints : Prints e old out e' new
 
 -- What a line says was done, and what it prints is out.
 pub record HasActed (p : Point) (said : Said) (old : Option (List ℕ)) (p' : Point) (new : Option (List ℕ)) : Type 0 where
   pub out : List ℕ
-  pub acts : LineActs p said out p'
+  pub acts : (k : ℕ) → LineActs k p said out p'
   pub told : Appends old new out
 
--- The writer failed in what a line says.
-abbrev pub HasStopped : Point → Said → Option (List ℕ) → Option (List ℕ) → Type 0
-HasStopped p said old new = (line : List ℕ) → line_of line ≡ Some said → BreaksIn p line old new
+-- It stopped in what a line prints.
+abbrev pub HasStopped : Point → Said → Option (List ℕ) → Option (List ℕ) → ScriptFault → Type 0
+HasStopped p said old new fault = (line : List ℕ) → line_of line ≡ Some said → BreaksIn p line old new fault
 
 -- The host passed so often that nothing was printed of it.
-pub record IsSilent (b : Bench) (old : Option (List ℕ)) (b' : Bench) (new : Option (List ℕ)) : Type 0 where
+pub record IsSilent (b : Bench) (e : Option Expectation) (old : Option (List ℕ)) (b' : Bench) (e' : Option Expectation)
+    (new : Option (List ℕ)) : Type 0 where
   pub times : ℕ
   pub plays : AllCome b (replicate times (Goes Pass unharmed)) [] b'
-  pub told : Appends old new []
+  pub prints : Prints e old [] e' new
 
 -- The file of an offer; other lines have none.
 abbrev pub file_bytes : Said → List ℕ
 file_bytes (Does (Offer aim file)) = file
 file_bytes said = []
 
--- A line was done, and what it prints is out.
-pub record Steps (p : Point) (line : List ℕ) (old : Option (List ℕ)) (p' : Point) (new : Option (List ℕ)) : Type 0 where
+-- Line k was done, and what it prints is out.
+pub record Steps (k : ℕ) (p : Point) (line : List ℕ) (old : Option (List ℕ)) (p' : Point) (new : Option (List ℕ)) : Type 0 where
   pub said : Said
   pub is : line_of line ≡ Some said
   pub out : List ℕ
-  pub acts : LineActs p said out p'
+  pub acts : LineActs k p said out p'
   pub told : Appends old new out
 
 -- The lines that a source gave were done, and what they print is out.
@@ -59,7 +63,7 @@ pub record Moves (p : Point) (s : SourceState) (old : Option (List ℕ)) (p' : P
   pub done : List (List ℕ)
   pub shown : List ℕ
   pub gives : Gives s done s'
-  pub runs : LinesRun p done shown p'
+  pub runs : LinesRun (s.number + 1) p done shown p'
   pub told : Appends old new shown
 
 -- All lines that a source has were done, and last the line of the image is out.
@@ -70,7 +74,8 @@ pub record Ends (p : Point) (s : SourceState) (old new : Option (List ℕ)) : Ty
   pub ended : IsAtEnd last.left
   pub shown : List ℕ
   pub end : Point
-  pub runs : LinesRun p done shown end
+  pub runs : LinesRun (s.number + 1) p done shown end
+  pub meets : Meets end.next (image_line end.at.device)
   pub told : Appends old new (shown ++ image_line end.at.device)
 
 -- What falls where a source stands here, if its reader tells the text.
@@ -96,13 +101,13 @@ LinesDone p s old None to s' new = Ends p s old new
 LinesDone p s old (Some d) to s' new = IsUnarmed d × Moves p s old (to (at_rest d)) s' new
 
 -- A line was done but for its events, whatever the session: it said none, or these are left to play.
-abbrev pub Plainly : Shown → Limits → List ℕ → Option (List ℕ) → Option EventLineRead → Limits → Option (List ℕ) → Type 0
-Plainly d l line old None l' new = (b : Bench) → b.device ≡ d → Steps (point l b) line old (point l' b) new
-Plainly d l line old (Some events) l' new = (line_of line ≡ Some (said_by events)) × (l' ≡ l) × (new ≡ old)
+abbrev pub Plainly : Shown → Ahead → ℕ → List ℕ → Option (List ℕ) → Option EventLineRead → Ahead → Option (List ℕ) → Type 0
+Plainly d l k line old None l' new = (b : Bench) → b.device ≡ d → Steps k (at_point l b) line old (at_point l' b) new
+Plainly d l k line old (Some events) l' new = (line_of line ≡ Some (said_by events)) × (l' ≡ l) × (new ≡ old)
 
 -- A line falls but for its events, whatever the session.
-abbrev pub PlainlyFalls : Shown → Limits → ℕ → List ℕ → Option (List ℕ) → Option (List ℕ) → ScriptFault → Type 0
-PlainlyFalls d l k line old new fault = (b : Bench) → b.device ≡ d → LineFalls (point l b) k line old new fault
+abbrev pub PlainlyFalls : Shown → Ahead → ℕ → List ℕ → Option (List ℕ) → Option (List ℕ) → ScriptFault → Type 0
+PlainlyFalls d l k line old new fault = (b : Bench) → b.device ≡ d → LineFalls (at_point l b) k line old new fault
 
 -- Lines that a source gave have set something.
 pub record Prepared (x : Settings) (s : SourceState) (x' : Settings) (s' : SourceState) : Type 0 where

@@ -6,15 +6,17 @@
 ghost use Rattle.std.specs.Prelude.{◌≡◌, ◌≤◌, OnOk, IfOk, IfErr, IfSome};
 ghost use Rattle.dfu_link.specs.Refusing.{IsLive};
 ghost use Rattle.dfu_link.specs.ScriptRun.{at_rest, point};
+ghost use Rattle.dfu_link.specs.inside.Expected.{at_point};
 ghost use Rattle.dfu_link.specs.Falls.{LineFalls};
 ghost use Rattle.dfu_link.specs.inside.Source.{Next, GivesLine, SourceState};
 ghost use Rattle.dfu_link.specs.inside.Moving.{Steps, Ends, LinesDone, IsUnarmed, Plainly, PlainlyFalls, MovesAndFalls};
 
+use crate::scripting::expectation::{Ahead, expect};
 use crate::scripting::fault::ScriptFault;
 use crate::scripting::line::{EventLine, Line};
 use crate::scripting::playing::{file_of, play_events, play_live, tear_of};
 use crate::scripting::reading::parse;
-use crate::scripting::showing::{write_image, write_show};
+use crate::scripting::showing::{image_next, show_next};
 use crate::scripting::source::Source;
 use crate::tracing::telling::Telling;
 use crate::world::World;
@@ -26,15 +28,16 @@ use std::io::{Read, Write};
 
 /// Does a line but for its events, which it gives.
 fn plain_line<'l, M: Medium, W: Write>(
+    alloc: Global,
     device: &Device<M>,
     line: &'l [u8],
     number: u32,
-    limits: &mut Limits,
+    ahead: &mut Ahead,
     writer: &mut W,
 ) -> Result<Option<EventLine<'l>>, ScriptFault>
-    ensures ok { IfOk result (λ events. Plainly device.now limits.old line.now (W.contents writer.old) events limits.new
+    ensures ok { IfOk result (λ events. Plainly device.now ahead.old number line.now (W.contents writer.old) events ahead.new
         (W.contents writer.new)) }
-    ensures fault { IfErr result (λ f. PlainlyFalls device.now limits.old number line.now (W.contents writer.old)
+    ensures fault { IfErr result (λ f. PlainlyFalls device.now ahead.old number line.now (W.contents writer.old)
         (W.contents writer.new) f) }
 {
     match parse(line) {
@@ -42,11 +45,15 @@ fn plain_line<'l, M: Medium, W: Write>(
         Some(Line::Blank) => Ok(None),
         Some(Line::Set(_)) => Err(ScriptFault::LateConfig(number)),
         Some(Line::Limits { actions, restarts }) => {
-            *limits = Limits { actions, restarts };
+            ahead.limits = Limits { actions, restarts };
             Ok(None)
         }
         Some(Line::Show) => {
-            write_show(writer, device)?;
+            show_next(writer, &mut ahead.next, device)?;
+            Ok(None)
+        }
+        Some(Line::Expect(text)) => {
+            expect(alloc, &mut ahead.next, number, text)?;
             Ok(None)
         }
         Some(Line::Do(events)) => Ok(Some(events)),
@@ -59,19 +66,19 @@ fn live_line<'f, T: Telling<M, W>, M: Faulty, W: Write>(
     world: &mut World<'f, M>,
     line: &[u8],
     number: u32,
-    limits: &mut Limits,
+    ahead: &mut Ahead,
     writer: &mut W,
 ) -> Result<(), ScriptFault>
     requires { IsLive world.old.bench.session }
-    ensures ok { OnOk result (Steps (point limits.old world.old.bench) line.now (W.contents writer.old) (point limits.new world.new.bench)
+    ensures ok { OnOk result (Steps number (at_point ahead.old world.old.bench) line.now (W.contents writer.old) (at_point ahead.new world.new.bench)
         (W.contents writer.new)) }
-    ensures fault { IfErr result (λ f. LineFalls (point limits.old world.old.bench) number line.now (W.contents writer.old)
+    ensures fault { IfErr result (λ f. LineFalls (at_point ahead.old world.old.bench) number line.now (W.contents writer.old)
         (W.contents writer.new) f) }
 {
-    let plain = plain_line(world.device(), line, number, limits, writer)?;
+    let plain = plain_line(alloc, world.device(), line, number, ahead, writer)?;
     if let Some(events) = plain {
         let torn = tear_of(alloc, events)?;
-        play_live::<T, M, W>(world, events, &torn, *limits, writer)?;
+        play_live::<T, M, W>(world, events, &torn, ahead.limits, &mut ahead.next, writer)?;
     }
     Ok(())
 }
@@ -82,14 +89,14 @@ fn follow<'f, T: Telling<M, W>, R: Read + Drop, M: Faulty, W: Write>(
     alloc: Global,
     world: World<'f, M>,
     source: &mut Source<R>,
-    limits: &mut Limits,
+    ahead: &mut Ahead,
     writer: &mut W,
 ) -> Result<Option<Device<M>>, ScriptFault>
     ensures room { source.new.room ≤ source.old.room }
     ensures unarmed { IfOk result (λ d. IfSome d (λ d. IsUnarmed d)) }
-    ensures ok { IfOk result (λ d. LinesDone (point limits.old world.entry.bench) source.old (W.contents writer.old) d (point limits.new)
+    ensures ok { IfOk result (λ d. LinesDone (at_point ahead.old world.entry.bench) source.old (W.contents writer.old) d (at_point ahead.new)
         source.new (W.contents writer.new)) }
-    ensures fault { IfErr result (λ f. MovesAndFalls (point limits.old world.entry.bench) source.old (W.contents writer.old)
+    ensures fault { IfErr result (λ f. MovesAndFalls (at_point ahead.old world.entry.bench) source.old (W.contents writer.old)
         (W.contents writer.new) f) }
 {
     let mut world = world;
@@ -99,7 +106,7 @@ fn follow<'f, T: Telling<M, W>, R: Read + Drop, M: Faulty, W: Write>(
             Err(live) => world = live,
         }
         if !source.next()? {
-            write_image(writer, world.device())?;
+            image_next(writer, &mut ahead.next, world.device())?;
             return Ok(None);
         }
         live_line::<T, M, W>(
@@ -107,7 +114,7 @@ fn follow<'f, T: Telling<M, W>, R: Read + Drop, M: Faulty, W: Write>(
             &mut world,
             source.line(),
             source.number(),
-            limits,
+            ahead,
             writer,
         )?;
     }
@@ -119,26 +126,41 @@ fn act<T: Telling<M, W>, R: Read + Drop, M: Faulty, W: Write>(
     alloc: Global,
     device: Device<M>,
     source: &mut Source<R>,
-    limits: &mut Limits,
+    ahead: &mut Ahead,
     writer: &mut W,
 ) -> Result<Option<Device<M>>, ScriptFault>
     requires { IsUnarmed device }
     ensures room { source.new.room ≤ source.old.room }
     ensures unarmed { IfOk result (λ d. IfSome d (λ d. IsUnarmed d)) }
-    ensures ok { IfOk result (λ d. (s : SourceState) → GivesLine s source.old → LinesDone (point limits.old (at_rest device)) s
-        (W.contents writer.old) d (point limits.new) source.new (W.contents writer.new)) }
-    ensures fault { IfErr result (λ f. (s : SourceState) → GivesLine s source.old → MovesAndFalls (point limits.old (at_rest device)) s
+    ensures ok { IfOk result (λ d. (s : SourceState) → GivesLine s source.old → LinesDone (at_point ahead.old (at_rest device)) s
+        (W.contents writer.old) d (at_point ahead.new) source.new (W.contents writer.new)) }
+    ensures fault { IfErr result (λ f. (s : SourceState) → GivesLine s source.old → MovesAndFalls (at_point ahead.old (at_rest device)) s
         (W.contents writer.old) (W.contents writer.new) f) }
 {
-    let plain = plain_line(&device, source.line(), source.number(), limits, writer)?;
+    let plain = plain_line(
+        alloc,
+        &device,
+        source.line(),
+        source.number(),
+        ahead,
+        writer,
+    )?;
     let Some(events) = plain else {
         return Ok(Some(device));
     };
     let file = file_of(alloc, events)?;
     let torn = tear_of(alloc, events)?;
     let mut world = World::new(alloc, device);
-    play_events::<T, M, W>(&mut world, events, &file, &torn, *limits, writer)?;
-    let after = follow::<T, R, M, W>(alloc, world, source, limits, writer)?;
+    play_events::<T, M, W>(
+        &mut world,
+        events,
+        &file,
+        &torn,
+        ahead.limits,
+        &mut ahead.next,
+        writer,
+    )?;
+    let after = follow::<T, R, M, W>(alloc, world, source, ahead, writer)?;
     Ok(after)
 }
 
@@ -159,14 +181,14 @@ pub(crate) fn run_on<T: Telling<M, W>, R: Read + Drop, M: Faulty, W: Write>(
         (W.contents writer.old) (W.contents writer.new) f) }
 {
     let mut device = device;
-    let mut limits = limits;
+    let mut ahead = Ahead { limits, next: None };
     let mut more = given;
     while more {
-        match act::<T, R, M, W>(alloc, device, source, &mut limits, writer)? {
+        match act::<T, R, M, W>(alloc, device, source, &mut ahead, writer)? {
             Some(after) => device = after,
             None => return Ok(()),
         }
         more = source.next()?;
     }
-    write_image(writer, &device)
+    image_next(writer, &mut ahead.next, &device)
 }

@@ -18,6 +18,13 @@ pub enum ScriptFault {
     /// event line or `show`, or at the end.
     #[error("no device can be set up like this")]
     BadConfig,
+    /// This line expects another line to be printed than the one that came next. That one is out but
+    /// for its line feed.
+    #[error("line {0} expects another line than the one that is printed next")]
+    Expected(u32),
+    /// This line expects a line, and the next `expect` came before any was printed.
+    #[error("no line is printed that line {0} could expect")]
+    NonePrinted(u32),
     /// The text has over 16,777,216 bytes.
     #[error("the script has over 16777216 bytes")]
     TooLarge,

@@ -22,6 +22,7 @@ pub(crate) enum Keyword {
     Reset,
     Cut,
     Show,
+    Expect,
 }
 
 /// The word after `go`.
@@ -75,6 +76,8 @@ pub(crate) fn read_keyword(word: &[u8]) -> Option<Keyword>
         Some(Keyword::Cut)
     } else if word == b"show".as_slice() {
         Some(Keyword::Show)
+    } else if word == b"expect".as_slice() {
+        Some(Keyword::Expect)
     } else {
         None
     }

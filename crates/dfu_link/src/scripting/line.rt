@@ -101,4 +101,6 @@ pub(crate) enum Line<'l> {
     Do(EventLine<'l>),
     /// `show`.
     Show,
+    /// The next line that is printed is this text.
+    Expect(&'l [u8]),
 }

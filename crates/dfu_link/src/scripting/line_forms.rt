@@ -4,7 +4,7 @@ ghost use Rattle.std.specs.Prelude.{◌≡◌, None};
 ghost use Rattle.dfu_link.specs.Words.{Reads, words_of, ends};
 ghost use Rattle.dfu_link.specs.Happening.{fate_of, harm_in};
 ghost use Rattle.dfu_link.specs.Said.{said_of, Go, Does, harm_fate};
-ghost use Rattle.dfu_link.specs.Lines.{small_at, ids_of, device_of, unit_named, unit_of, erase_of, capacity_of, image_of, limits_of, offer_of, time_of, pass_of, slip_of, harmed_of, until_of, by_fate, go_of};
+ghost use Rattle.dfu_link.specs.Lines.{small_at, ids_of, device_of, unit_named, unit_of, erase_of, capacity_of, image_of, limits_of, offer_of, time_of, pass_of, slip_of, harmed_of, until_of, by_fate, go_of, expect_of};
 
 use crate::aim::Aim;
 use crate::fate::Fate;
@@ -13,7 +13,7 @@ use crate::scripting::fields::{
 };
 use crate::scripting::keywords::{FateKeyword, read_fate};
 use crate::scripting::line::{ConfigLine, EventLine, HarmKind, Line, Room, Sector};
-use crate::scripting::words::word_at;
+use crate::scripting::words::{text_behind, word_at};
 use dfu_slots::Unit;
 use dfu_wire::{Functional, Ids};
 
@@ -220,4 +220,17 @@ pub(crate) fn go(line: &[u8]) -> Option<Line<'_>>
     let (word, rest) = word_at(line)?;
     let keyword = read_fate(word)?;
     by_fate(keyword, rest)
+}
+
+/// `expect TEXT`: the text is all that stands behind one space.
+#[tactic(auto, unfolding(crate::specs::Lines::expect_of), using(std::proofs::lemmas::Bool::Decides::nat_tests))]
+pub(crate) fn expect(line: &[u8]) -> Option<Line<'_>>
+    ensures { Reads said_of result (expect_of line.now) }
+{
+    let text = text_behind(line)?;
+    if text.is_empty() {
+        None
+    } else {
+        Some(Line::Expect(text))
+    }
 }

@@ -8,7 +8,7 @@ ghost use Rattle.dfu_link.specs.Comes.{HasCome};
 ghost use Rattle.dfu_link.specs.Happening.{Offers, Goes, Passes, Pass, unharmed, harmed, fate_of, harm_in, happening};
 ghost use Rattle.dfu_link.specs.Refusing.{IsLive};
 ghost use Rattle.dfu_link.specs.Said.{GoesOn, harm_fate, said_by, tear_bytes};
-ghost use Rattle.dfu_link.specs.ScriptRun.{point};
+ghost use Rattle.dfu_link.specs.inside.Expected.{expectation_of, point_at};
 ghost use Rattle.dfu_link.specs.Falls.{HasBroken};
 ghost use Rattle.dfu_link.specs.inside.Moving.{HasPlayed, HasActed, HasStopped, file_bytes, FindsNoRoom, FindsNoTear};
 
@@ -16,9 +16,10 @@ use crate::aim::Aim;
 use crate::event::Event;
 use crate::fate::Fate;
 use crate::fault::LinkFault;
+use crate::scripting::expectation::Expectation;
 use crate::scripting::fault::ScriptFault;
 use crate::scripting::line::{EventLine, HarmKind};
-use crate::scripting::saying::say;
+use crate::scripting::saying::say_next;
 use crate::scripting::starting::bytes_of;
 use crate::tracing::step::Step;
 use crate::tracing::telling::Telling;
@@ -35,17 +36,17 @@ fn play<'f, M: Faulty, W: Write>(
     world: &mut World<'f, M>,
     event: Event<'f, '_>,
     times: u32,
+    next: &mut Option<Expectation>,
     writer: &mut W,
 ) -> Result<(), ScriptFault>
-    ensures ok { OnOk result (HasPlayed world.old.bench (replicate times (happening event.entry)) (W.contents writer.old) world.new.bench
-        (W.contents writer.new)) }
-    ensures err { OnErr result (HasBroken world.old.bench (replicate times (happening event.entry)) (W.contents writer.old)
-        (W.contents writer.new)) }
-    ensures fault { IfErr result (λ f. f ≡ ScriptFault.Write) }
+    ensures ok { OnOk result (HasPlayed world.old.bench (expectation_of next.old) (replicate times (happening event.entry)) (W.contents writer.old)
+        world.new.bench (expectation_of next.new) (W.contents writer.new)) }
+    ensures fault { IfErr result (λ f. HasBroken world.old.bench (expectation_of next.old) (replicate times (happening event.entry)) (W.contents writer.old)
+        (W.contents writer.new) f) }
 {
     for turn in 0..times {
         let answer = world.step(event);
-        say(writer, answer, world.uploaded())?;
+        say_next(writer, next, answer, world.uploaded())?;
     }
     Ok(())
 }
@@ -55,19 +56,20 @@ fn play_told<'f, T: Telling<M, W>, M: Faulty, W: Write>(
     world: &mut World<'f, M>,
     fate: Fate<'_>,
     times: u32,
+    next: &mut Option<Expectation>,
     writer: &mut W,
 ) -> Result<(), ScriptFault>
-    ensures ok { OnOk result (HasPlayed world.old.bench (replicate times (Goes (fate_of fate.entry) (harm_in fate.entry)))
-        (W.contents writer.old) world.new.bench (W.contents writer.new)) }
-    ensures err { OnErr result (HasBroken world.old.bench (replicate times (Goes (fate_of fate.entry) (harm_in fate.entry)))
-        (W.contents writer.old) (W.contents writer.new)) }
-    ensures fault { IfErr result (λ f. f ≡ ScriptFault.Write) }
+    ensures ok { OnOk result (HasPlayed world.old.bench (expectation_of next.old) (replicate times (Goes (fate_of fate.entry) (harm_in fate.entry)))
+        (W.contents writer.old)
+        world.new.bench (expectation_of next.new) (W.contents writer.new)) }
+    ensures fault { IfErr result (λ f. HasBroken world.old.bench (expectation_of next.old) (replicate times (Goes (fate_of fate.entry) (harm_in fate.entry)))
+        (W.contents writer.old) (W.contents writer.new) f) }
 {
     let mut out = ArrayVec::new();
     for turn in 0..times {
         let (answer, step) = world.take_action(fate, &mut out);
         tell_step::<T, M, W>(writer, fate, step, out.as_slice(), world.device());
-        say(writer, answer, world.uploaded())?;
+        say_next(writer, next, answer, world.uploaded())?;
     }
     Ok(())
 }
@@ -92,13 +94,14 @@ fn tell_step<T: Telling<M, W>, M: Faulty, W: Write>(
 fn pass_time<'f, T: Telling<M, W>, M: Faulty, W: Write>(
     world: &mut World<'f, M>,
     ms: u32,
+    next: &mut Option<Expectation>,
     writer: &mut W,
 ) -> Result<(), ScriptFault>
-    ensures ok { OnOk result (HasPlayed world.old.bench (Passes ms ∷ []) (W.contents writer.old) world.new.bench (W.contents writer.new)) }
-    ensures err { OnErr result (HasBroken world.old.bench (Passes ms ∷ []) (W.contents writer.old) (W.contents writer.new)) }
-    ensures fault { IfErr result (λ f. f ≡ ScriptFault.Write) }
+    ensures ok { OnOk result (HasPlayed world.old.bench (expectation_of next.old) (Passes ms ∷ []) (W.contents writer.old)
+        world.new.bench (expectation_of next.new) (W.contents writer.new)) }
+    ensures fault { IfErr result (λ f. HasBroken world.old.bench (expectation_of next.old) (Passes ms ∷ []) (W.contents writer.old) (W.contents writer.new) f) }
 {
-    play(world, Event::Time(ms), 1, writer)?;
+    play(world, Event::Time(ms), 1, next, writer)?;
     T::pass(writer, ms, world.device());
     Ok(())
 }
@@ -109,17 +112,17 @@ fn play_by<'f, T: Telling<M, W>, M: Faulty, W: Write>(
     world: &mut World<'f, M>,
     event: Event<'f, '_>,
     times: u32,
+    next: &mut Option<Expectation>,
     writer: &mut W,
 ) -> Result<(), ScriptFault>
-    ensures ok { OnOk result (HasPlayed world.old.bench (replicate times (happening event.entry)) (W.contents writer.old) world.new.bench
-        (W.contents writer.new)) }
-    ensures err { OnErr result (HasBroken world.old.bench (replicate times (happening event.entry)) (W.contents writer.old)
-        (W.contents writer.new)) }
-    ensures fault { IfErr result (λ f. f ≡ ScriptFault.Write) }
+    ensures ok { OnOk result (HasPlayed world.old.bench (expectation_of next.old) (replicate times (happening event.entry)) (W.contents writer.old)
+        world.new.bench (expectation_of next.new) (W.contents writer.new)) }
+    ensures fault { IfErr result (λ f. HasBroken world.old.bench (expectation_of next.old) (replicate times (happening event.entry)) (W.contents writer.old)
+        (W.contents writer.new) f) }
 {
     match event {
-        Event::Go(fate) if T::is_on() => play_told::<T, M, W>(world, fate, times, writer),
-        _ => play(world, event, times, writer),
+        Event::Go(fate) if T::is_on() => play_told::<T, M, W>(world, fate, times, next, writer),
+        _ => play(world, event, times, next, writer),
     }
 }
 
@@ -157,17 +160,17 @@ fn is_silent(answer: Result<Option<Report>, LinkFault>) -> bool
 fn pass_on<'f, T: Telling<M, W>, M: Faulty, W: Write>(
     world: &mut World<'f, M>,
     limits: Limits,
+    next: &mut Option<Expectation>,
     writer: &mut W,
 ) -> Result<(), ScriptFault>
-    ensures ok { OnOk result (HasActed (point limits world.old.bench) GoesOn (W.contents writer.old) (point limits world.new.bench)
+    ensures ok { OnOk result (HasActed (point_at limits (expectation_of next.old) world.old.bench) GoesOn (W.contents writer.old) (point_at limits (expectation_of next.new) world.new.bench)
         (W.contents writer.new)) }
-    ensures err { OnErr result (HasStopped (point limits world.old.bench) GoesOn (W.contents writer.old) (W.contents writer.new)) }
-    ensures fault { IfErr result (λ f. f ≡ ScriptFault.Write) }
+    ensures fault { IfErr result (λ f. HasStopped (point_at limits (expectation_of next.old) world.old.bench) GoesOn (W.contents writer.old) (W.contents writer.new) f) }
 {
     let mut out = ArrayVec::new();
     'passes: loop {
         let answer = pass::<T, M, W>(world, &mut out, writer);
-        say(writer, answer, world.uploaded())?;
+        say_next(writer, next, answer, world.uploaded())?;
         if !is_silent(answer) {
             return Ok(());
         }
@@ -225,30 +228,36 @@ pub(crate) fn play_events<'f, T: Telling<M, W>, M: Faulty, W: Write>(
     file: &'f [u8],
     torn: &[u8],
     limits: Limits,
+    next: &mut Option<Expectation>,
     writer: &mut W,
 ) -> Result<(), ScriptFault>
     requires file { file.now ≡ file_bytes (said_by events) }
     requires tear { torn.now ≡ tear_bytes events }
-    ensures ok { OnOk result (HasActed (point limits world.old.bench) (said_by events.entry) (W.contents writer.old)
-        (point limits world.new.bench) (W.contents writer.new)) }
-    ensures err { OnErr result (HasStopped (point limits world.old.bench) (said_by events.entry) (W.contents writer.old)
-        (W.contents writer.new)) }
-    ensures fault { IfErr result (λ f. f ≡ ScriptFault.Write) }
+    ensures ok { OnOk result (HasActed (point_at limits (expectation_of next.old) world.old.bench) (said_by events.entry) (W.contents writer.old)
+        (point_at limits (expectation_of next.new) world.new.bench) (W.contents writer.new)) }
+    ensures fault { IfErr result (λ f. HasStopped (point_at limits (expectation_of next.old) world.old.bench) (said_by events.entry) (W.contents writer.old)
+        (W.contents writer.new) f) }
 {
     match events {
-        EventLine::Offer { aim, .. } => play(world, offered(aim, file, limits), 1, writer),
-        EventLine::Upload => play(world, Event::Upload { limits }, 1, writer),
-        EventLine::Abort => play(world, Event::Abort, 1, writer),
+        EventLine::Offer { aim, .. } => play(world, offered(aim, file, limits), 1, next, writer),
+        EventLine::Upload => play(world, Event::Upload { limits }, 1, next, writer),
+        EventLine::Abort => play(world, Event::Abort, 1, next, writer),
         EventLine::Go { fate, times } => {
-            play_by::<T, M, W>(world, Event::Go(fate), times, writer)
+            play_by::<T, M, W>(world, Event::Go(fate), times, next, writer)
         }
         EventLine::GoHarmed { harm, writes, .. } => {
-            play_by::<T, M, W>(world, Event::Go(harmed(harm, writes, torn)), 1, writer)
+            play_by::<T, M, W>(
+                world,
+                Event::Go(harmed(harm, writes, torn)),
+                1,
+                next,
+                writer,
+            )
         }
-        EventLine::GoOn => pass_on::<T, M, W>(world, limits, writer),
-        EventLine::Time(ms) => pass_time::<T, M, W>(world, ms, writer),
-        EventLine::Reset => play(world, Event::Reset, 1, writer),
-        EventLine::Cut => play(world, Event::Cut, 1, writer),
+        EventLine::GoOn => pass_on::<T, M, W>(world, limits, next, writer),
+        EventLine::Time(ms) => pass_time::<T, M, W>(world, ms, next, writer),
+        EventLine::Reset => play(world, Event::Reset, 1, next, writer),
+        EventLine::Cut => play(world, Event::Cut, 1, next, writer),
     }
 }
 
@@ -258,23 +267,23 @@ pub(crate) fn play_live<'f, T: Telling<M, W>, M: Faulty, W: Write>(
     events: EventLine<'_>,
     torn: &[u8],
     limits: Limits,
+    next: &mut Option<Expectation>,
     writer: &mut W,
 ) -> Result<(), ScriptFault>
     requires live { IsLive world.old.bench.session }
     requires tear { torn.now ≡ tear_bytes events }
-    ensures ok { OnOk result (HasActed (point limits world.old.bench) (said_by events.entry) (W.contents writer.old)
-        (point limits world.new.bench) (W.contents writer.new)) }
-    ensures err { OnErr result (HasStopped (point limits world.old.bench) (said_by events.entry) (W.contents writer.old)
-        (W.contents writer.new)) }
-    ensures fault { IfErr result (λ f. f ≡ ScriptFault.Write) }
+    ensures ok { OnOk result (HasActed (point_at limits (expectation_of next.old) world.old.bench) (said_by events.entry) (W.contents writer.old)
+        (point_at limits (expectation_of next.new) world.new.bench) (W.contents writer.new)) }
+    ensures fault { IfErr result (λ f. HasStopped (point_at limits (expectation_of next.old) world.old.bench) (said_by events.entry) (W.contents writer.old)
+        (W.contents writer.new) f) }
 {
     match events {
         EventLine::Offer { .. } => {
             // Called for its clause `active`, which a refusal's bench needs; what it answers isn't
             // used.
             let _ = world.device();
-            say(writer, Err(LinkFault::HostBusy), &[])
+            say_next(writer, next, Err(LinkFault::HostBusy), &[])
         }
-        _ => play_events::<T, M, W>(world, events, &[], torn, limits, writer),
+        _ => play_events::<T, M, W>(world, events, &[], torn, limits, next, writer),
     }
 }

@@ -10,15 +10,15 @@ use crate::scripting::fields::ended;
 use crate::scripting::keywords::{Keyword, read_keyword};
 use crate::scripting::line::{EventLine, Line};
 use crate::scripting::line_forms::{
-    capacity, device, erase, go, ids, image, limits, offer, time, unit,
+    capacity, device, erase, expect, go, ids, image, limits, offer, time, unit,
 };
 use crate::scripting::words::word_at;
 
 /// The most bytes of a line, without its 0Ah.
 pub(crate) const MAX_LINE: usize = 65_536;
 
-fn by_keyword(keyword: Keyword, rest: &[u8]) -> Option<Line<'_>>
-    ensures { Reads said_of result (by_keyword keyword (words_of rest.now)) }
+fn by_keyword<'l>(keyword: Keyword, line: &'l [u8], rest: &'l [u8]) -> Option<Line<'l>>
+    ensures { Reads said_of result (by_keyword keyword line.now (words_of rest.now)) }
 {
     match keyword {
         Keyword::Ids => ids(rest),
@@ -37,6 +37,7 @@ fn by_keyword(keyword: Keyword, rest: &[u8]) -> Option<Line<'_>>
         Keyword::Reset => ended(Line::Do(EventLine::Reset), rest),
         Keyword::Cut => ended(Line::Do(EventLine::Cut), rest),
         Keyword::Show => ended(Line::Show, rest),
+        Keyword::Expect => expect(line),
     }
 }
 
@@ -50,7 +51,7 @@ fn is_comment(word: &[u8]) -> bool
 }
 
 fn words_say(line: &[u8]) -> Option<Line<'_>>
-    ensures { Reads said_of result (says (words_of line.now)) }
+    ensures { Reads said_of result (says line.now (words_of line.now)) }
 {
     match word_at(line) {
         None => Some(Line::Blank),
@@ -59,7 +60,7 @@ fn words_say(line: &[u8]) -> Option<Line<'_>>
                 return Some(Line::Blank);
             }
             let keyword = read_keyword(word)?;
-            by_keyword(keyword, rest)
+            by_keyword(keyword, line, rest)
         }
     }
 }

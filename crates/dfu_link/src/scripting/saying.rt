@@ -3,10 +3,13 @@
 ghost use Rattle.std.specs.Prelude.{◌≡◌, OnOk, OnErr, IfErr};
 ghost use Rattle.std.specs.Io.KnownBytes.{Appends};
 ghost use Rattle.dfu_suffix.specs.Writing.{IsOutInPart};
+ghost use Rattle.dfu_link.specs.Expecting.{Fails};
+ghost use Rattle.dfu_link.specs.inside.Expected.{expectation_of, Prints};
 ghost use Rattle.dfu_link.specs.Texts.{offer_fault_name, uploaded_line, report_line, refusal_line, told_line};
 
 use crate::fault::{LinkFault, OfferFault};
 use crate::scripting::digits::write_bytes;
+use crate::scripting::expectation::{Expectation, write_next};
 use crate::scripting::fault::ScriptFault;
 use crate::scripting::output::{write_out, write_three};
 use dfu_host::Report;
@@ -81,4 +84,27 @@ pub(crate) fn say<W: Write>(
         Ok(Some(report)) => say_report(writer, report, uploaded),
         Err(fault) => say_refusal(writer, fault),
     }
+}
+
+/// Writes what is printed of an event next. Where a line is expected it is put into memory first.
+pub(crate) fn say_next<W: Write>(
+    writer: &mut W,
+    next: &mut Option<Expectation>,
+    answer: Result<Option<Report>, LinkFault>,
+    uploaded: &[u8],
+) -> Result<(), ScriptFault>
+    ensures ok { OnOk result (Prints (expectation_of next.old) (W.contents writer.old) (told_line answer uploaded.now)
+        (expectation_of next.new) (W.contents writer.new)) }
+    ensures err { OnErr result (IsOutInPart (W.contents writer.old) (W.contents writer.new) (told_line answer uploaded.now)) }
+    ensures fault { IfErr result (λ f. Fails (expectation_of next.old) (told_line answer uploaded.now) (W.contents writer.old)
+        (W.contents writer.new) f) }
+{
+    let Some(expected) = next else {
+        return say(writer, answer, uploaded);
+    };
+    let mut line = Vec::new(expected.alloc);
+    let Ok(()) = say(&mut line, answer, uploaded) else {
+        return Err(ScriptFault::NoMemory);
+    };
+    write_next(writer, next, &line)
 }

@@ -5,9 +5,12 @@ ghost use Rattle.std.specs.Io.KnownBytes.{Appends};
 ghost use Rattle.hex.specs.Hex.{encode_lower};
 ghost use Rattle.dfu_slots.specs.Seen.{image_of};
 ghost use Rattle.dfu_suffix.specs.Writing.{IsOutInPart};
+ghost use Rattle.dfu_link.specs.Expecting.{Fails};
+ghost use Rattle.dfu_link.specs.inside.Expected.{expectation_of, Prints};
 ghost use Rattle.dfu_link.specs.Texts.{hex_text, image_line, state_text, show_line};
 
 use crate::scripting::digits::write_digits;
+use crate::scripting::expectation::{Expectation, write_next};
 use crate::scripting::fault::ScriptFault;
 use crate::scripting::output::{write_out, write_three, write_two};
 use dfu_device::Device;
@@ -103,4 +106,48 @@ pub(crate) fn write_show<M: Medium, W: Write>(
 {
     write_state(writer, device)?;
     write_image(writer, device)
+}
+
+/// Writes the line of the device's image next. Where a line is expected it is put into memory first.
+pub(crate) fn image_next<M: Medium, W: Write>(
+    writer: &mut W,
+    next: &mut Option<Expectation>,
+    device: &Device<M>,
+) -> Result<(), ScriptFault>
+    ensures ok { OnOk result (Prints (expectation_of next.old) (W.contents writer.old) (image_line device.now)
+        (expectation_of next.new) (W.contents writer.new)) }
+    ensures err { OnErr result (IsOutInPart (W.contents writer.old) (W.contents writer.new) (image_line device.now)) }
+    ensures fault { IfErr result (λ f. Fails (expectation_of next.old) (image_line device.now) (W.contents writer.old)
+        (W.contents writer.new) f) }
+{
+    let Some(expected) = next else {
+        return write_image(writer, device);
+    };
+    let mut line = Vec::new(expected.alloc);
+    let Ok(()) = write_image(&mut line, device) else {
+        return Err(ScriptFault::NoMemory);
+    };
+    write_next(writer, next, &line)
+}
+
+/// Writes the line of `show` next. Where a line is expected it is put into memory first.
+pub(crate) fn show_next<M: Medium, W: Write>(
+    writer: &mut W,
+    next: &mut Option<Expectation>,
+    device: &Device<M>,
+) -> Result<(), ScriptFault>
+    ensures ok { OnOk result (Prints (expectation_of next.old) (W.contents writer.old) (show_line device.now)
+        (expectation_of next.new) (W.contents writer.new)) }
+    ensures err { OnErr result (IsOutInPart (W.contents writer.old) (W.contents writer.new) (show_line device.now)) }
+    ensures fault { IfErr result (λ f. Fails (expectation_of next.old) (show_line device.now) (W.contents writer.old)
+        (W.contents writer.new) f) }
+{
+    let Some(expected) = next else {
+        return write_show(writer, device);
+    };
+    let mut line = Vec::new(expected.alloc);
+    let Ok(()) = write_show(&mut line, device) else {
+        return Err(ScriptFault::NoMemory);
+    };
+    write_next(writer, next, &line)
 }

@@ -6,6 +6,7 @@ ghost use Rattle.dfu_link.specs.Falls.{Falls};
 ghost use Rattle.dfu_link.specs.KeptLines.{untraced};
 ghost use Rattle.dfu_link.specs.ScriptLegal.{WroteLegal, StopsLegally};
 ghost use Rattle.dfu_link.specs.ScriptHeadline.{WroteHeadline, StopsWithHeadline};
+ghost use Rattle.dfu_link.specs.Printed.{WrotePrinted, StopsPrinted};
 ghost use Rattle.dfu_link.specs.inside.Moving.{Configured, CannotConfigure};
 ghost use Rattle.dfu_link.specs.inside.SetupView.{settings_of};
 
@@ -47,6 +48,7 @@ fn configure<R: Read + Drop>(
             }
             Some(Line::Do(_)) => return Ok(true),
             Some(Line::Show) => return Ok(true),
+            Some(Line::Expect(_)) => return Ok(true),
         }
     }
 }
@@ -102,6 +104,12 @@ pub fn script<R: Read + Drop, W: Write>(
     // The same as far as a script goes that stops.
     ensures headline_so_far { IfSome (R.remaining reader)
         (λ text. OnErr result (StopsWithHeadline text (W.contents writer.old) (W.contents writer.new))) }
+    // The headline without the language of scripts: only what a line brings is read of it.
+    ensures printed { IfSome (R.remaining reader)
+        (λ text. OnOk result (WrotePrinted text (W.contents writer.old) (W.contents writer.new))) }
+    // The same as far as a script goes that stops.
+    ensures printed_so_far { IfSome (R.remaining reader)
+        (λ text. OnErr result (StopsPrinted text (W.contents writer.old) (W.contents writer.new))) }
 {
     // Called for its law, which `legal` needs: no image but the one that is shown is active.
     image_shown();

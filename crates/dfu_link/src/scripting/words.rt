@@ -3,7 +3,7 @@
 ghost use Rattle.std.specs.Prelude.{◌≡◌, ◌↔◌, ◌+◌, ◌*◌, Some, None, IsTrue, is_some};
 ghost use Rattle.std.specs.List.{position, AllPass};
 ghost use Rattle.hex.specs.Hex.{is_hex_digit};
-ghost use Rattle.dfu_link.specs.Words.{Reads, is_space, is_no_space, words_of, first, number_of, bytes_of, pair_of};
+ghost use Rattle.dfu_link.specs.Words.{Reads, is_space, is_no_space, words_of, first, text_behind, number_of, bytes_of, pair_of};
 ghost use Rattle.dfu_link.specs.Said.{hex_bytes};
 
 use crate::scripting::hex_text::HexText;
@@ -32,6 +32,18 @@ pub(crate) fn word_at(line: &[u8]) -> Option<(&[u8], &[u8])>
         Some(end) => Some(line.split_at(end)),
         None => Some((line, &[])),
     }
+}
+
+/// What stands behind the first word and one space.
+#[tactic(auto, unfolding(crate::specs::Words::text_behind))]
+pub(crate) fn text_behind(line: &[u8]) -> Option<&[u8]>
+    ensures { Reads (λ x. x.now) result (text_behind line.now) }
+{
+    let start = start_at(line)?;
+    let (_, line) = line.split_at(start);
+    let end = space_at(line)?;
+    let (_, text) = line.split_at(end + 1);
+    Some(text)
 }
 
 /// A number of 1 to 10 decimal digits, at most 4,294,967,295.

@@ -17,6 +17,14 @@ fn script_faults_have_texts(rt: HostRuntime) -> Result<(), Fail> {
             "line 2 sets up a device that has begun",
         ),
         (ScriptFault::BadConfig, "no device can be set up like this"),
+        (
+            ScriptFault::Expected(3),
+            "line 3 expects another line than the one that is printed next",
+        ),
+        (
+            ScriptFault::NonePrinted(3),
+            "no line is printed that line 3 could expect",
+        ),
         (ScriptFault::TooLarge, "the script has over 16777216 bytes"),
         (ScriptFault::NoMemory, "out of memory"),
         (ScriptFault::Read, "the script can't be read"),

@@ -1,12 +1,12 @@
 use Rattle.std.proofs.Common.{◌≤◌}
-use Rattle.dfu_link.specs.ScriptRun.{point}
+use Rattle.dfu_link.specs.inside.Expected.{at_point}
 use Rattle.dfu_link.specs.inside.Moving.{Moves}
 use Rattle.dfu_link.proofs.scripting.after_start.follow.Given as goal
 
 abbrev pub invariant-lines : goal.invariant-lines
 invariant-lines g l = record {
   room : l.source.room ≤ l.fn.source.room;
-  moves : Moves (point l.fn.limits l.fn.world.bench) l.fn.source (g.W.Write.contents l.fn.writer) (point l.limits l.world.bench) l.source
+  moves : Moves (at_point l.fn.ahead l.fn.world.bench) l.fn.source (g.W.Write.contents l.fn.writer) (at_point l.ahead l.world.bench) l.source
       (g.W.Write.contents l.writer);
 }
 

@@ -11,7 +11,7 @@ returns-in_err-plain-clause-fault g c =
 pub returns-in_err-torn-clause-fault : goal.returns-in_err-torn-clause-fault
 returns-in_err-torn-clause-fault g c =
     let failed = err_from_is_err_and c.from_residual-in_err-torn.result c.from_residual-in_err-torn.ensures.1 in
-    rw (failed.1, failed.2) (no_tear c.device.result.now c.args.limits.now c.plain_line.new.limits c.args.number c.args.line.now
+    rw (failed.1, failed.2) (no_tear c.device.result.now c.args.ahead.now c.plain_line.new.ahead c.args.number c.args.line.now
     (g.W.Write.contents c.args.writer.now) (g.W.Write.contents c.plain_line.new.writer) c.args.world.now.bench c.in-Some.events
     c.in_err-torn.field-0.0 c.in_ok-plain.ensures.ok c.in-Some.is
     c.in_err-torn.ensures.fault)
@@ -19,11 +19,11 @@ returns-in_err-torn-clause-fault g c =
 pub returns-in_err-play_live-clause-fault : goal.returns-in_err-play_live-clause-fault
 returns-in_err-play_live-clause-fault g c =
     let failed = err_from_is_err_and c.from_residual-in_err-play_live.result c.from_residual-in_err-play_live.ensures.1 in
-    rw (failed.1, failed.2) (events_break c.device.result.now c.args.limits.now c.plain_line.new.limits c.args.number c.args.line.now
+    rw (failed.1, failed.2) (events_break c.device.result.now c.args.ahead.now c.plain_line.new.ahead c.args.number c.args.line.now
     (g.W.Write.contents c.args.writer.now) c.args.world.now.bench c.in-Some.events c.in_err-play_live.field-0.0 c.in_ok-plain.ensures.ok
-    c.in-Some.is c.in_err-play_live.ensures.err c.in_err-play_live.ensures.fault)
+    c.in-Some.is c.in_err-play_live.ensures.fault)
 
 pub returns-in_ok-play_live-clause-ok : goal.returns-in_ok-play_live-clause-ok
-returns-in_ok-play_live-clause-ok g c = events_play c.device.result.now c.args.limits.now c.plain_line.new.limits c.args.line.now
-    (g.W.Write.contents c.args.writer.now) c.args.world.now.bench c.play_live.new.world.bench c.in-Some.events
+returns-in_ok-play_live-clause-ok g c = events_play c.device.result.now c.args.ahead.now c.plain_line.new.ahead c.args.number c.args.line.now
+    (g.W.Write.contents c.args.writer.now) c.args.world.now.bench c.in-Some.events
     c.in_ok-plain.ensures.ok c.in-Some.is c.in_ok-play_live.ensures.ok

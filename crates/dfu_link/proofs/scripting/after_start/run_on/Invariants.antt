@@ -1,5 +1,6 @@
 use Rattle.std.proofs.Common.{ℕ, ◌+◌, Bool, true, false}
 use Rattle.dfu_link.specs.ScriptRun.{point, at_rest}
+use Rattle.dfu_link.specs.inside.Expected.{at_point}
 use Rattle.dfu_link.specs.inside.Moving.{IsUnarmed}
 use Rattle.dfu_link.proofs.RestLaws.{HasMoved}
 use Rattle.dfu_link.proofs.scripting.after_start.run_on.Given as goal
@@ -12,7 +13,7 @@ abbrev pub invariant-loop-more : goal.invariant-loop-more
 invariant-loop-more g l = record {
   unarmed : IsUnarmed l.device;
   moves : HasMoved l.fn.given l.fn.source (point l.fn.limits (at_rest l.fn.device)) (g.W.Write.contents l.fn.writer)
-      (point l.limits (at_rest l.device)) l.more l.source (g.W.Write.contents l.writer);
+      (at_point l.ahead (at_rest l.device)) l.more l.source (g.W.Write.contents l.writer);
 }
 
 abbrev pub decreases-loop-more : goal.decreases-loop-more

@@ -1,9 +1,11 @@
+use Rattle.dfu_link.specs.inside.Expected.{expectation_of}
 use Rattle.dfu_link.specs.inside.Moving.{IsSilent}
 use Rattle.dfu_link.proofs.Spending.{actions_in}
 use Rattle.dfu_link.proofs.scripting.playing.pass_on.Given as goal
 
 abbrev pub invariant-passes : goal.invariant-passes
-invariant-passes g l = IsSilent l.fn.world.bench (g.W.Write.contents l.fn.writer) l.world.bench (g.W.Write.contents l.writer)
+invariant-passes g l = IsSilent l.fn.world.bench (expectation_of l.fn.next) (g.W.Write.contents l.fn.writer) l.world.bench (expectation_of l.next)
+    (g.W.Write.contents l.writer)
 
 abbrev pub decreases-passes : goal.decreases-passes
 decreases-passes g l = actions_in l.world.bench.session

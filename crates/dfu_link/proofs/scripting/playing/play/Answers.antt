@@ -1,41 +1,45 @@
 use Rattle.std.proofs.Common.{◌++◌, ◌∷◌, [], List, sym, subst}
+use Rattle.std.proofs.lemmas.Result.{err_from_is_err_and}
 use Rattle.std.specs.Prelude.{replicate}
 use Rattle.dfu_link.specs.Happening.{happening, Happening}
 use Rattle.dfu_link.specs.Texts.{told_line}
 use Rattle.dfu_link.specs.ScriptRun.{none_comes}
-use Rattle.dfu_link.specs.Falls.{HasBroken}
+use Rattle.dfu_link.specs.inside.Expected.{expectation_of}
 use Rattle.dfu_link.specs.inside.Moving.{HasPlayed}
-use Rattle.dfu_link.proofs.WriteLaws.{appends_none, appends_more, on_err}
+use Rattle.dfu_link.proofs.ExpectLaws.{prints_none, prints_more}
 use Rattle.dfu_link.proofs.MoveLaws.{replicate_more, plays_one, broken}
 use Rattle.dfu_link.proofs.scripting.playing.play.Goals as goal
 
 pub loop-turn-init : goal.loop-turn-init
-loop-turn-init g c = record { out = []; plays = none_comes; told = appends_none (g.W.Write.contents c.args.writer.now) }
+loop-turn-init g c = record { out = []; plays = none_comes; prints = prints_none (expectation_of c.args.next.now) (g.W.Write.contents c.args.writer.now) }
 
 pub loop-turn-preserved : goal.loop-turn-preserved
 loop-turn-preserved g c =
+    let x = expectation_of c.args.next.now in
+    let y = expectation_of c.say_next.new.next in
     let e = happening c.args.event in
     let old = g.W.Write.contents c.args.writer.now in
     let mid = g.W.Write.contents c.loop-turn.writer in
-    let new = g.W.Write.contents c.say.new.writer in
+    let new = g.W.Write.contents c.say_next.new.writer in
     let before = c.loop-turn.invariant in
     let text = told_line c.step-answer.result c.step-answer.new.self.up in
-    let more : HasPlayed c.args.world.now.bench (replicate c.loop-turn.turn e ++ e ∷ []) old c.step-answer.new.self.bench new = record {
+    let more : HasPlayed c.args.world.now.bench x (replicate c.loop-turn.turn e ++ e ∷ []) old c.step-answer.new.self.bench y new = record {
       out = before.out ++ text;
       plays = plays_one c.args.world.now.bench c.loop-turn.world c.step-answer.new.self (replicate c.loop-turn.turn e) e before.out
           c.step-answer.result before.plays c.step-answer.ensures.play c.step-answer.ensures.active;
-      told = appends_more old mid new before.out text before.told (rw c.uploaded.ensures at c.in_ok-say.ensures.ok);
+      prints = prints_more before.prints (rw c.uploaded.ensures at c.in_ok-say_next.ensures.ok);
     } in
-    subst (λ (es : List Happening). HasPlayed c.args.world.now.bench es old c.step-answer.new.self.bench new)
+    subst (λ (es : List Happening). HasPlayed c.args.world.now.bench x es old c.step-answer.new.self.bench y new)
     (sym (replicate_more c.loop-turn.turn e)) more
 
-pub returns-in_err-say-clause-err : goal.returns-in_err-say-clause-err
-returns-in_err-say-clause-err g c =
+pub returns-in_err-say_next-clause-fault : goal.returns-in_err-say_next-clause-fault
+returns-in_err-say_next-clause-fault g c =
     let e = happening c.args.event in
     let old = g.W.Write.contents c.args.writer.now in
     let mid = g.W.Write.contents c.loop-turn.writer in
-    let new = g.W.Write.contents c.say.new.writer in
-    on_err c.from_residual.result (HasBroken c.args.world.now.bench (replicate c.args.times e) old new)
-    (broken c.args.world.now.bench c.loop-turn.world c.step-answer.new.self e c.loop-turn.turn c.args.times c.step-answer.result old mid new
-    c.loop-turn.invariant c.loop-turn-test.true c.step-answer.ensures.play c.step-answer.ensures.active
-    (rw c.uploaded.ensures at c.in_err-say.ensures.err))
+    let new = g.W.Write.contents c.say_next.new.writer in
+    let failed = err_from_is_err_and c.from_residual.result c.from_residual.ensures.1 in
+    let fault = c.in_err-say_next.field-0.0 in
+    rw (failed.1, failed.2) (broken c.args.world.now.bench c.loop-turn.world c.step-answer.new.self e c.loop-turn.turn c.args.times
+    c.step-answer.result old mid new fault c.loop-turn.invariant c.loop-turn-test.true c.step-answer.ensures.play c.step-answer.ensures.active
+    (rw c.uploaded.ensures at c.in_err-say_next.ensures.err) (rw c.uploaded.ensures at c.in_err-say_next.ensures.fault))

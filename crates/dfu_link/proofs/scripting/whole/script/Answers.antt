@@ -1,5 +1,6 @@
 use Rattle.dfu_link.proofs.LegalScripts.{wrote_legal, stops_legal}
 use Rattle.dfu_link.proofs.ScriptsHold.{wrote_headline, stopped_headline}
+use Rattle.dfu_link.proofs.Printing.{wrote_printed, stopped_printed}
 use Rattle.dfu_link.proofs.scripting.whole.script.Goals as goal
 
 pub returns-clause-legal : goal.returns-clause-legal
@@ -21,3 +22,19 @@ returns-clause-headline_so_far g c = stopped_headline (g.R.Read.remaining c.args
     (g.W.Write.contents c.run_lines.new.writer) c.run_lines.result
     (stops_legal c.image_shown.ensures (g.R.Read.remaining c.args.reader) (g.W.Write.contents c.args.writer.now)
     (g.W.Write.contents c.run_lines.new.writer) c.run_lines.result c.run_lines.ensures.fault)
+
+pub returns-clause-printed : goal.returns-clause-printed
+returns-clause-printed g c = wrote_printed (g.R.Read.remaining c.args.reader) (g.W.Write.contents c.args.writer.now)
+    (g.W.Write.contents c.run_lines.new.writer) c.run_lines.result
+    (wrote_headline (g.R.Read.remaining c.args.reader) (g.W.Write.contents c.args.writer.now)
+    (g.W.Write.contents c.run_lines.new.writer) c.run_lines.result
+    (wrote_legal c.image_shown.ensures (g.R.Read.remaining c.args.reader) (g.W.Write.contents c.args.writer.now)
+    (g.W.Write.contents c.run_lines.new.writer) c.run_lines.result c.run_lines.ensures.ok))
+
+pub returns-clause-printed_so_far : goal.returns-clause-printed_so_far
+returns-clause-printed_so_far g c = stopped_printed (g.R.Read.remaining c.args.reader) (g.W.Write.contents c.args.writer.now)
+    (g.W.Write.contents c.run_lines.new.writer) c.run_lines.result
+    (stopped_headline (g.R.Read.remaining c.args.reader) (g.W.Write.contents c.args.writer.now)
+    (g.W.Write.contents c.run_lines.new.writer) c.run_lines.result
+    (stops_legal c.image_shown.ensures (g.R.Read.remaining c.args.reader) (g.W.Write.contents c.args.writer.now)
+    (g.W.Write.contents c.run_lines.new.writer) c.run_lines.result c.run_lines.ensures.fault))

@@ -1,0 +1,113 @@
+-- The lines of refusals, and what `show` prints before the image, as texts that hold no newline before their end.
+use Rattle.std.proofs.Common.{◌≡◌, ℕ, List, ◌++◌, refl, true}
+use Rattle.std.specs.Prelude.{codes}
+use Rattle.dfu_wire.specs.declared.codes.Code.{Code}
+use Rattle.dfu_wire.specs.declared.codes.Code.TheVariants as code
+use Rattle.dfu_wire.specs.declared.states.State.{State}
+use Rattle.dfu_wire.specs.declared.states.State.TheVariants as state
+use Rattle.dfu_wire.specs.Code.{code_name}
+use Rattle.dfu_wire.specs.State.{state_name}
+use Rattle.dfu_suffix.specs.declared.fault.SuffixFault.{SuffixFault}
+use Rattle.dfu_suffix.specs.declared.fault.SuffixFault.TheVariants as suffix
+use Rattle.dfu_suffix.specs.FaultName.{suffix_fault_name}
+use Rattle.dfu_host.specs.declared.fault.HostFault.{HostFault}
+use Rattle.dfu_host.specs.declared.fault.HostFault.TheVariants as host
+use Rattle.dfu_host.specs.FaultName.{host_fault_name}
+use Rattle.dfu_device.specs.Shown.{Shown}
+use Rattle.dfu_device.specs.Stage.{state_of, code_of}
+use Rattle.dfu_link.specs.declared.fault.OfferFault.{OfferFault}
+use Rattle.dfu_link.specs.declared.fault.OfferFault.TheVariants as offer
+use Rattle.dfu_link.specs.declared.fault.LinkFault.{LinkFault}
+use Rattle.dfu_link.specs.declared.fault.LinkFault.TheVariants as link
+use Rattle.dfu_link.specs.Words.{endless}
+use Rattle.dfu_link.specs.Texts.{offer_fault_name, refusal_line, state_text}
+use Rattle.dfu_link.specs.Printed.{refused_line}
+use Rattle.dfu_link.proofs.LineLaws.{endless_more}
+
+suffix_endless : (fault : SuffixFault) → endless (suffix_fault_name fault) ≡ true
+suffix_endless suffix.TooShort = refl
+suffix_endless suffix.NoSignature = refl
+suffix_endless suffix.BadLength = refl
+suffix_endless suffix.DfuSe = refl
+suffix_endless suffix.BadCrc = refl
+suffix_endless suffix.AlreadySuffixed = refl
+suffix_endless suffix.TooLarge = refl
+suffix_endless suffix.NoMemory = refl
+suffix_endless suffix.Read = refl
+suffix_endless suffix.Write = refl
+
+host_endless : (fault : HostFault) → endless (host_fault_name fault) ≡ true
+host_endless host.EmptyPayload = refl
+host_endless host.WrongTarget = refl
+host_endless host.CannotDownload = refl
+host_endless host.CannotUpload = refl
+host_endless host.BadDescriptor = refl
+
+offer_endless : (fault : OfferFault) → endless (offer_fault_name fault) ≡ true
+offer_endless (offer.Suffix fault) = suffix_endless fault
+offer_endless (offer.Host fault) = host_endless fault
+
+-- Why an event is refused, in a text with no newline.
+pub record Refusal (fault : LinkFault) : Type 0 where
+  pub reason : List ℕ
+  pub one_line : endless reason ≡ true
+  pub is : refusal_line fault ≡ refused_line reason
+
+-- The line of a refusal says why.
+pub refusal : (fault : LinkFault) → Refusal fault
+refusal link.HostBusy = record { reason = codes "HostBusy"; one_line = refl; is = refl }
+refusal link.NoHost = record { reason = codes "NoHost"; one_line = refl; is = refl }
+refusal (link.BadOffer fault) = record {
+  reason = codes "BadOffer " ++ offer_fault_name fault;
+  one_line = endless_more (codes "BadOffer ") (offer_fault_name fault) refl (offer_endless fault);
+  is = refl;
+}
+refusal link.NoMemory = record { reason = codes "NoMemory"; one_line = refl; is = refl }
+
+state_endless : (s : State) → endless (state_name s) ≡ true
+state_endless state.AppIdle = refl
+state_endless state.AppDetach = refl
+state_endless state.DfuIdle = refl
+state_endless state.DownloadSync = refl
+state_endless state.DownloadBusy = refl
+state_endless state.DownloadIdle = refl
+state_endless state.ManifestSync = refl
+state_endless state.Manifest = refl
+state_endless state.ManifestWaitReset = refl
+state_endless state.UploadIdle = refl
+state_endless state.Error = refl
+
+code_endless : (c : Code) → endless (code_name c) ≡ true
+code_endless code.Ok = refl
+code_endless code.Target = refl
+code_endless code.File = refl
+code_endless code.Write = refl
+code_endless code.Erase = refl
+code_endless code.CheckErased = refl
+code_endless code.Prog = refl
+code_endless code.Verify = refl
+code_endless code.Address = refl
+code_endless code.NotDone = refl
+code_endless code.Firmware = refl
+code_endless code.Vendor = refl
+code_endless code.Usbr = refl
+code_endless code.Por = refl
+code_endless code.Unknown = refl
+code_endless code.StalledPkt = refl
+
+-- What `show` prints between the word `state ` and the image.
+abbrev pub state_words : Shown → List ℕ
+state_words device = (state_name (state_of device.stage) ++ codes " status ") ++ (code_name (code_of device.stage) ++ codes " ")
+
+-- That text stands behind the word.
+pub state_is : (device : Shown) → state_text device ≡ codes "state " ++ state_words device
+state_is device = refl
+
+-- It holds no newline.
+pub state_words_endless : (device : Shown) → endless (state_words device) ≡ true
+state_words_endless device =
+    let name = state_name (state_of device.stage) in
+    let code = code_name (code_of device.stage) in
+    endless_more (name ++ codes " status ") (code ++ codes " ")
+    (endless_more name (codes " status ") (state_endless (state_of device.stage)) refl)
+    (endless_more code (codes " ") (code_endless (code_of device.stage)) refl)

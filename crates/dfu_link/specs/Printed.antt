@@ -1,0 +1,173 @@
+-- The headline of the text that a script prints: which image its lines show, and what `report installed` and `report verified` mean.
+use Rattle.std.specs.Prelude.{◌≡◌, ℕ, List, [], ◌∷◌, ◌++◌, Option, Some, None, true, unwrap_or, codes, replicate, if◌then◌else◌}
+use Rattle.std.specs.Str.{bytes_eq}
+use Rattle.std.specs.Io.KnownBytes.{Appends}
+use Rattle.dfu_suffix.specs.Writing.{IsOutInPart}
+use Rattle.dfu_device.specs.Shown.{Shown}
+use Rattle.dfu_host.specs.declared.report.Report.{Report}
+use Rattle.dfu_link.specs.Words.{bytes_of, number_of, endless, lines_of, words_of}
+use Rattle.dfu_link.specs.Texts.{report_line, line_of_image}
+use Rattle.dfu_link.specs.Bench.{Bench}
+use Rattle.dfu_link.specs.ScriptRun.{at_rest}
+use Rattle.dfu_link.specs.Headline.{Begun, WithOffer, AsUpload, HeadlineHolds}
+use Rattle.dfu_link.specs.ScriptHeadline.{IsKnownImage}
+
+-- What a line brings.
+
+-- What a line brings. It sets the image that a device has at first, lets events come of which each may begin a session, lets some number of
+-- events come that begin none, or shows the device. Any other line brings nothing.
+pub data Brings : Type 0 where
+  Nothing : Brings
+  AnImage : (image : List ℕ) → Brings
+  Events : List (Option Begun) → Brings
+  SomePasses : Brings
+  AShow : Brings
+
+-- The bytes that the first of these words stands for.
+abbrev pub bytes_in : List (List ℕ) → List ℕ
+bytes_in [] = []
+bytes_in (word ∷ words) = unwrap_or (bytes_of word) []
+
+-- The number that the first of these words stands for.
+abbrev pub count_in : List (List ℕ) → ℕ
+count_in [] = 0
+count_in (word ∷ words) = unwrap_or (number_of word) 0
+
+-- What a line brings by the words after `go`: some passes, so many passes, or one event of another fate.
+abbrev pub go_brings : List (List ℕ) → Brings
+go_brings [] = Nothing
+go_brings (word ∷ words) =
+    if bytes_eq word (codes "until") then SomePasses
+    else if bytes_eq word (codes "pass") then Events (replicate (count_in words) None)
+    else Events (None ∷ [])
+
+-- What a line of these words brings. An offer and an upload may begin a session. An abort, a time, a reset and a cut are one event
+-- each, and `expect` is none.
+abbrev pub words_bring : List (List ℕ) → Brings
+words_bring [] = Nothing
+words_bring (word ∷ words) =
+    if bytes_eq word (codes "image") then AnImage (bytes_in words)
+    else if bytes_eq word (codes "offer") then Events (Some (WithOffer (bytes_in words)) ∷ [])
+    else if bytes_eq word (codes "verify") then Events (Some (WithOffer (bytes_in words)) ∷ [])
+    else if bytes_eq word (codes "upload") then Events (Some AsUpload ∷ [])
+    else if bytes_eq word (codes "abort") then Events (None ∷ [])
+    else if bytes_eq word (codes "go") then go_brings words
+    else if bytes_eq word (codes "time") then Events (None ∷ [])
+    else if bytes_eq word (codes "reset") then Events (None ∷ [])
+    else if bytes_eq word (codes "cut") then Events (None ∷ [])
+    else if bytes_eq word (codes "show") then AShow
+    else if bytes_eq word (codes "expect") then Events []
+    else Nothing
+
+-- What a line brings.
+abbrev pub brought : List ℕ → Brings
+brought line = words_bring (words_of line)
+
+-- What is printed.
+
+-- The sessions that have begun after an event, the last one first.
+abbrev pub begun_after : Option Begun → List Begun → List Begun
+begun_after None past = past
+begun_after (Some begun) past = begun ∷ past
+
+-- What is printed of a report, or of none, while this image is active.
+abbrev pub report_text : Option Report → (image : List ℕ) → List ℕ
+report_text None image = []
+report_text (Some report) image = report_line report image
+
+-- The line of a refused event.
+abbrev pub refused_line : (reason : List ℕ) → List ℕ
+refused_line reason = codes "refused " ++ reason ++ 10 ∷ []
+
+-- Events one after the other, with what is printed of them. After an event the headline holds with the report that is printed, and the line
+-- of an upload shows the active image. Or the event was refused: a line says so with some reason, and nothing else changes.
+pub data EventsPrint (factory : List ℕ) (past : List Begun) (b : Bench) :
+    List (Option Begun) → (printed : List ℕ) → List Begun → Bench → Type 0 where
+  no_event : EventsPrint factory past b [] [] past b
+  then_prints : {events : List (Option Begun)} {printed : List ℕ} {mid : List Begun} {c c' : Bench} {report : Option Report}
+      (event : Option Begun) → EventsPrint factory past b events printed mid c
+      → (holds : HeadlineHolds factory (begun_after event mid) report c')
+      → EventsPrint factory past b (events ++ event ∷ []) (printed ++ report_text report holds.says.image) (begun_after event mid) c'
+  then_refused : {events : List (Option Begun)} {printed : List ℕ} {mid : List Begun} {c : Bench} (event : Option Begun) (reason : List ℕ)
+      → EventsPrint factory past b events printed mid c → endless reason ≡ true
+      → EventsPrint factory past b (events ++ event ∷ []) (printed ++ refused_line reason) mid c
+
+-- What is printed of a line by what it brings, once the device is started. Of `show` it is a state in one line with a known image.
+pub data LinePrints (factory : List ℕ) (past : List Begun) (b : Bench) : Brings → (printed : List ℕ) → List Begun → Bench → Type 0 where
+  prints_nothing : LinePrints factory past b Nothing [] past b
+  prints_events : {events : List (Option Begun)} {printed : List ℕ} {past' : List Begun} {b' : Bench}
+      → EventsPrint factory past b events printed past' b' → LinePrints factory past b (Events events) printed past' b'
+  prints_passes : {printed : List ℕ} {past' : List Begun} {b' : Bench} (times : ℕ)
+      → EventsPrint factory past b (replicate times None) printed past' b' → LinePrints factory past b SomePasses printed past' b'
+  prints_image : {image : List ℕ} (state : List ℕ) → endless state ≡ true → IsKnownImage factory past b image
+      → LinePrints factory past b AShow (codes "state " ++ state ++ line_of_image image) past b
+
+-- Lines one after the other.
+pub data LinesPrint (factory : List ℕ) (past : List Begun) (b : Bench) :
+    List (List ℕ) → (printed : List ℕ) → List Begun → Bench → Type 0 where
+  no_line : LinesPrint factory past b [] [] past b
+  then_line : {lines : List (List ℕ)} {printed more : List ℕ} {mid past' : List Begun} {c b' : Bench} (line : List ℕ)
+      → LinesPrint factory past b lines printed mid c → LinePrints factory mid c (brought line) more past' b'
+      → LinesPrint factory past b (lines ++ line ∷ []) (printed ++ more) past' b'
+
+-- Whole scripts.
+
+-- A line that needs the device: it brings events, of `expect` none, or shows the device.
+abbrev pub NeedsDevice : Brings → Type 0
+NeedsDevice Nothing = ⊥
+NeedsDevice (AnImage image) = ⊥
+NeedsDevice (Events events) = Unit {0}
+NeedsDevice SomePasses = Unit {0}
+NeedsDevice AShow = Unit {0}
+
+-- The device starts before the first line that needs it, or behind them all. Its factory image is the one set last before that, or where no
+-- line sets one, this image.
+pub data StartsWith : (image : List ℕ) (lines after : List (List ℕ)) (factory : List ℕ) → Type 0 where
+  at_end : {image : List ℕ} → StartsWith image [] [] image
+  at_line : {image line : List ℕ} {lines : List (List ℕ)} → NeedsDevice (brought line)
+      → StartsWith image (line ∷ lines) (line ∷ lines) image
+  after_nothing : {image line factory : List ℕ} {lines after : List (List ℕ)} → brought line ≡ Nothing
+      → StartsWith image lines after factory → StartsWith image (line ∷ lines) after factory
+  after_image : {image set line factory : List ℕ} {lines after : List (List ℕ)} → brought line ≡ AnImage set
+      → StartsWith set lines after factory → StartsWith image (line ∷ lines) after factory
+
+-- After the start these lines of a text were done. The headline held at the start, with no session, and the image at the end is known.
+pub record TextPrints (text : List ℕ) (after done : List (List ℕ)) (printed : List ℕ) (past : List Begun) (end : Bench)
+    (image : List ℕ) : Type 0 where
+  pub factory : List ℕ
+  pub starts : StartsWith (0 ∷ []) (lines_of text) after factory
+  pub first : Shown
+  pub holds : HeadlineHolds factory [] None (at_rest first)
+  pub lines : LinesPrint factory [] (at_rest first) done printed past end
+  pub known : IsKnownImage factory past end image
+
+-- A whole script was written: what its lines print, and last the line of a known image.
+pub record WrotePrinted (text : List ℕ) (old new : Option (List ℕ)) : Type 0 where
+  pub after : List (List ℕ)
+  pub printed : List ℕ
+  pub past : List Begun
+  pub end : Bench
+  pub image : List ℕ
+  pub prints : TextPrints text after after printed past end image
+  pub told : Appends old new (printed ++ line_of_image image)
+
+-- What is out of the first of these lines, before which a script stopped, or of the last line of a script where none is left: nothing, or a
+-- front of what is printed of the line or of the first of its events.
+pub data PartPrints (factory : List ℕ) (past : List Begun) (b : Bench) (image : List ℕ) :
+    List (List ℕ) → (old new : Option (List ℕ)) → Type 0 where
+  nothing_out : {lines : List (List ℕ)} {old : Option (List ℕ)} → PartPrints factory past b image lines old old
+  in_events : {line : List ℕ} {lines : List (List ℕ)} {old new : Option (List ℕ)} {come : List (Option Begun)} {printed : List ℕ}
+      {past' : List Begun} {b' : Bench} (left : List (Option Begun)) → brought line ≡ Events (come ++ left)
+      → EventsPrint factory past b come printed past' b' → IsOutInPart old new printed
+      → PartPrints factory past b image (line ∷ lines) old new
+  in_line : {line : List ℕ} {lines : List (List ℕ)} {old new : Option (List ℕ)} {printed : List ℕ} {past' : List Begun} {b' : Bench}
+      → LinePrints factory past b (brought line) printed past' b' → IsOutInPart old new printed
+      → PartPrints factory past b image (line ∷ lines) old new
+  in_image : {old new : Option (List ℕ)} → IsOutInPart old new (line_of_image image) → PartPrints factory past b image [] old new
+
+-- A script stopped: nothing is out, and no device was started; or what is out is the text of the lines that were done, and of the next.
+pub data StopsPrinted (text : List ℕ) (old new : Option (List ℕ)) : Type 0 where
+  before_start : new ≡ old → StopsPrinted text old new
+  after_start : {after done rest : List (List ℕ)} {printed image : List ℕ} {past : List Begun} {end : Bench} {mid : Option (List ℕ)}
+      → (prints : TextPrints text after done printed past end image) → after ≡ done ++ rest → Appends old mid printed
+      → PartPrints prints.factory past end image rest mid new → StopsPrinted text old new

@@ -1,0 +1,37 @@
+-- What the code holds of a line that is expected, and what is printed where one is.
+use Rattle.std.specs.Prelude.{◌≡◌, ℕ, List, Option, Some, None}
+use Rattle.std.specs.Io.KnownBytes.{Appends}
+use Rattle.dfu_host.specs.declared.limits.Limits.{Limits}
+use Rattle.dfu_link.specs.Bench.{Bench}
+use Rattle.dfu_link.specs.Expecting.{Expectation, Meets, still}
+use Rattle.dfu_link.specs.ScriptRun.{Point}
+use Rattle.dfu_link.specs.declared.scripting.expectation.Expectation.{Expectation as ExpectationHeld}
+use Rattle.dfu_link.specs.declared.scripting.expectation.Ahead.{Ahead}
+use Rattle.dfu_link.specs.declared.scripting.fault.ScriptFault.{ScriptFault}
+use Rattle.dfu_link.specs.declared.scripting.fault.ScriptFault.TheVariants.{NonePrinted, NoMemory}
+
+-- What is held, as plain data.
+abbrev pub expectation_of : Option ExpectationHeld → Option Expectation
+expectation_of None = None
+expectation_of (Some e) = Some (record { number = e.number; text = e.text.items })
+
+-- These limits, what is expected, and this link.
+abbrev pub point_at : Limits → Option Expectation → Bench → Point
+point_at limits next at = record { limits = limits; next = next; at = at }
+
+-- What is held for the lines to come, and this link.
+abbrev pub at_point : Ahead → Bench → Point
+at_point a at = point_at a.limits (expectation_of a.next) at
+
+-- A text is out, which is as expected, and what is expected after it.
+pub record Prints (e : Option Expectation) (old : Option (List ℕ)) (text : List ℕ) (e' : Option Expectation) (new : Option (List ℕ))
+    : Type 0 where
+  pub told : Appends old new text
+  pub meets : Meets e text
+  pub left : e' ≡ still e text
+
+-- Why a line can't be expected: one is already, or there is no memory.
+abbrev pub CannotExpect : Option Expectation → ScriptFault → Type 0
+CannotExpect e NoMemory = Unit {0}
+CannotExpect (Some e) (NonePrinted n) = n ≡ e.number
+CannotExpect e fault = ⊥

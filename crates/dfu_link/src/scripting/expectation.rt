@@ -1,0 +1,112 @@
+//! A line that is expected to be printed next.
+
+ghost use Rattle.std.specs.Prelude.{◌≡◌, ◌≢◌, ◌<◌, ◌++◌, ◌∷◌, [], Some, None, true, false, length, OnOk, OnErr, IfErr};
+ghost use Rattle.std.specs.Io.KnownBytes.{Appends};
+ghost use Rattle.dfu_suffix.specs.Writing.{IsOutInPart};
+ghost use Rattle.dfu_link.specs.Expecting.{Fails};
+ghost use Rattle.dfu_link.specs.inside.Expected.{expectation_of, Prints, CannotExpect};
+
+use crate::scripting::fault::ScriptFault;
+use crate::scripting::output::write_out;
+use dfu_host::Limits;
+use std::alloc::Global;
+use std::io::Write;
+
+/// A line that is expected to be printed next, without its line feed, and the number of the line that
+/// says so. What is printed next is put into memory first, to compare it.
+#[derive(Drop)]
+pub(crate) struct Expectation {
+    pub number: u32,
+    pub text: Vec<u8>,
+    pub alloc: Global,
+}
+
+/// What lines have set for those after them: the limits of later sessions, and which line is expected.
+#[derive(Drop)]
+pub(crate) struct Ahead {
+    pub limits: Limits,
+    pub next: Option<Expectation>,
+}
+
+/// Expects a line. Nothing was expected before.
+///
+/// # Errors
+///
+/// NonePrinted where a line is expected already, NoMemory where there is none for this one.
+pub(crate) fn expect(
+    alloc: Global,
+    next: &mut Option<Expectation>,
+    number: u32,
+    text: &[u8],
+) -> Result<(), ScriptFault>
+    ensures free { OnOk result (expectation_of next.old ≡ None) }
+    ensures ok { OnOk result (expectation_of next.new ≡ Some (record { number = number; text = text.now })) }
+    ensures fault { IfErr result (λ f. CannotExpect (expectation_of next.old) f) }
+{
+    if let Some(first) = next {
+        return Err(ScriptFault::NonePrinted(first.number));
+    }
+    let mut copy = Vec::new(alloc);
+    let Ok(()) = copy.extend_from_slice(text) else {
+        return Err(ScriptFault::NoMemory);
+    };
+    *next = Some(Expectation {
+        number,
+        text: copy,
+        alloc,
+    });
+    Ok(())
+}
+
+/// Whether a text is this line.
+fn is_line(expected: &[u8], text: &[u8]) -> bool
+    ensures same { result ≡ true → text.now ≡ expected.now ++ 10 ∷ [] }
+    ensures other { result ≡ false → text.now ≢ expected.now ++ 10 ∷ [] }
+{
+    match text.split_last() {
+        Some((last, front)) => *last == b'\n' && front == expected,
+        None => false,
+    }
+}
+
+/// Writes a text if it is the line that is expected; another one but for its last byte.
+fn write_expected<W: Write>(
+    writer: &mut W,
+    expected: &Expectation,
+    text: &[u8],
+) -> Result<(), ScriptFault>
+    requires { 0 < length text.now }
+    ensures ok { OnOk result (Appends (W.contents writer.old) (W.contents writer.new) text.now) }
+    ensures same { OnOk result (text.now ≡ expected.now.text.items ++ 10 ∷ []) }
+    ensures err { OnErr result (IsOutInPart (W.contents writer.old) (W.contents writer.new) text.now) }
+    ensures fault { IfErr result (λ f. Fails (expectation_of (Some expected.now)) text.now (W.contents writer.old) (W.contents writer.new) f) }
+{
+    if is_line(&expected.text, text) {
+        return write_out(writer, text);
+    }
+    let Some((_, front)) = text.split_last() else {
+        unreachable!()
+    };
+    write_out(writer, front)?;
+    Err(ScriptFault::Expected(expected.number))
+}
+
+/// Writes a text, which is printed next.
+pub(crate) fn write_next<W: Write>(
+    writer: &mut W,
+    next: &mut Option<Expectation>,
+    text: &[u8],
+) -> Result<(), ScriptFault>
+    ensures ok { OnOk result (Prints (expectation_of next.old) (W.contents writer.old) text.now (expectation_of next.new)
+        (W.contents writer.new)) }
+    ensures err { OnErr result (IsOutInPart (W.contents writer.old) (W.contents writer.new) text.now) }
+    ensures fault { IfErr result (λ f. Fails (expectation_of next.old) text.now (W.contents writer.old) (W.contents writer.new) f) }
+{
+    if text.is_empty() {
+        return Ok(());
+    }
+    match next.take() {
+        None => write_out(writer, text),
+        Some(expected) => write_expected(writer, &expected, text),
+    }
+}
