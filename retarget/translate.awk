@@ -119,7 +119,7 @@ waits {
 /^declare void @llvm\.trap\(\) #[0-9]+$/ { print; next }
 
 $0 ~ "^define internal (noundef )?(zeroext )?(void|" type ") " called parameters { print; next }
-$0 ~ "^define noundef i(32|64) @dfu_(device|host)_[a-z_]+" parameters { export($0); next }
+$0 ~ "^define noundef i(32|64) @dfu_(device|host|asking)_[a-z_]+" parameters { export($0); next }
 
 line ~ "^  " name " = alloca (" number "|\\[[0-9]+ x i8\\]|ptr), align [0-9]+$" { sub(/alloca ptr/, "alloca i64"); print; next }
 line ~ "^  " name " = load " plain ", " place ", align [0-9]+$" { load(word[3], word[6], word[8], word[10], rest); next }

@@ -17,12 +17,13 @@ libraries() {
     done
 }
 
-# target NAME: what builds for it, and the machine of QEMU that runs it; `device` and `host` are its archives. What each program has
-# is compiled into a folder of its own, `here`.
+# target NAME: what builds for it, and the machine of QEMU that runs it; `device`, `host` and `asks` are its archives. What each program
+# has is compiled into a folder of its own, `here`.
 target() {
     target=$1
     device=$work/$1/libdfu_device_c.a
     host=$work/$1/libdfu_host_c.a
+    asks=$work/$1/libdfu_asks_c.a
     compiler=arm-none-eabi-gcc
     start=cortex_m.c
     script=cortex_m.ld
@@ -104,7 +105,7 @@ prints() {
 }
 # deepest NAME MOST: it goes no deeper than so many bytes; the deepest is told.
 deepest() {
-    run "$1" "$2" && awk '$(NF - 3) > most { most = $(NF - 3) } END { print "  at most " most " bytes of stack" }' "$work/printed"
+    run "$1" "$2" && awk '/bytes of stack$/ && $(NF - 3) > most { most = $(NF - 3) } END { print "  at most " most " bytes of stack" }' "$work/printed"
 }
 # faults NAME WORD..: it ends in on_fault.
 faults() {
@@ -159,6 +160,16 @@ run_short() {
     done
     program flasher "$top/examples/c/flasher.c" "$host" "$device"
     is "$target: flasher" prints "$top/examples/c/flasher.out" flasher "$(ones)"
+    for name in rows twins garbled; do
+        program "asking_$name" "$top/tests/c/asking_$name.c" "$asks" "$device"
+    done
+    is "$target: asking_rows" run asking_rows
+    is "$target: asking_twins" run asking_twins 2000
+    is "$target: asking_garbled" run asking_garbled 5000
+    for name in asking_bootloader nor_bootloader; do
+        program "$name" "$top/examples/c/$name.c" "$asks" "$device"
+        is "$target: $name" prints "$top/examples/c/$name.out" "$name"
+    done
     digests 5000 10000 1
 }
 # digests CALLS CALLS SEED..: as on x86-64, over aligned and unaligned memory: so many calls of the device for each seed, and so many
@@ -176,15 +187,20 @@ digests() {
         is "$target: the host as on x86-64, $odd bytes off" as_here digest_host "$of_host" "$odd"
     done
 }
-# sizes CODE NEEDS: both libraries are under so many bytes and need no other names; and how deep their calls go.
+# sizes CODE ASKS NEEDS: the libraries are under so many bytes, that of the device that asks under ASKS, and need no other names; and how
+# deep their calls go.
 sizes() {
     echo "$target"
-    for library in "$device" "$host"; do
-        is "$target: size of ${library##*/}" is_small "$library" "$1"
-        is "$target: what ${library##*/} needs" needs_only "$library" "$2"
+    is "$target: size of ${device##*/}" is_small "$device" "$1"
+    is "$target: size of ${host##*/}" is_small "$host" "$1"
+    is "$target: size of ${asks##*/}" is_small "$asks" "$2"
+    for library in "$device" "$host" "$asks"; do
+        is "$target: what ${library##*/} needs" needs_only "$library" "$3"
     done
     program stack "$top/tests/c/stack.c" "$device"
     is "$target: stack of the device" deepest stack 9000
     program host_stack "$top/tests/c/host_stack.c" "$host"
     is "$target: stack of the host" deepest host_stack 1000
+    program asking_stack "$top/tests/c/asking_stack.c" "$asks" "$device"
+    is "$target: stack of the device that asks" deepest asking_stack 8100
 }

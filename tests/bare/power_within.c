@@ -79,9 +79,9 @@ static int failed;
 
 /* Makes a call, cut after each number of ticks in turn, until it comes to its end. */
 static void each(void (*call)(void)) {
-    static uint8_t start[sizeof medium];
+    static uint8_t start[sizeof medium], block[sizeof pending];
     static struct dfu_device record;
-    memcpy(start, medium, sizeof medium), record = device;
+    memcpy(start, medium, sizeof medium), memcpy(block, pending, sizeof pending), record = device;
     for (uint32_t ticks = 1; cut(call, ticks); ticks++) {
         cuts++;
         if (memcmp(last, medium, sizeof medium) != 0) {
@@ -89,7 +89,7 @@ static void each(void (*call)(void)) {
             if (!stands())
                 failed = 1;
         }
-        memcpy(medium, start, sizeof medium), device = record;
+        memcpy(medium, start, sizeof medium), memcpy(pending, block, sizeof pending), device = record;
     }
 }
 

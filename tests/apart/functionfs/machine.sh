@@ -69,17 +69,10 @@ found() {
     fi
 }
 
-# archives: $asks, $device and $host are the folders of the proved libraries for AArch64. rt writes those of dfu_asks_c where that of
-# x86-64 stands, which comes back.
+# archives: $asks, $device and $host are the folders of the proved libraries for AArch64.
 archives() {
     "$top/libraries" aarch64 > /dev/null
-    asks=$top/crates/dfu_asks_c/out device=$top/crates/dfu_device_c/out/aarch64 host=$top/crates/dfu_host_c/out/aarch64
-    mkdir -p "$asks/aarch64"
-    [ ! -f "$asks/libdfu_asks_c.a" ] || cp -p "$asks/libdfu_asks_c.a" "$work/"
-    (cd "$top/crates/dfu_asks_c" && rt lib --target aarch64-unknown-linux-gnu) > "$work/said"
-    mv -f "$asks/libdfu_asks_c.a" "$asks/aarch64/"
-    [ ! -f "$work/libdfu_asks_c.a" ] || mv -f "$work/libdfu_asks_c.a" "$asks/"
-    asks=$asks/aarch64
+    asks=$top/crates/dfu_asks_c/out/aarch64 device=$top/crates/dfu_device_c/out/aarch64 host=$top/crates/dfu_host_c/out/aarch64
 }
 
 # programs: dfu-gadget, dfu-flash and transfer, in $root/work, which is the machine's folder `guest`.

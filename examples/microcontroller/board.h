@@ -1,0 +1,22 @@
+/* The board: an nRF51 as QEMU's machine `microbit` has it, with 256 KiB of flash in pages of 1,024 bytes and 16 KiB of memory. What the
+ * bootloader, the image and the factory have to agree on. */
+#ifndef BOARD_H
+#define BOARD_H
+#include "dfu_device.h"
+
+#define FLASH_SIZE 0x40000u
+#define PAGE 1024u
+#define TRANSFER 256 /* wTransferSize */
+
+/* The flash behind the bootloader is the device's medium: two slots, each with a page for its gate, one for its header, and the rest
+ * for the image. */
+#define MEDIUM 0x6800u
+#define MEDIUM_SIZE (FLASH_SIZE - MEDIUM)
+
+/* The memory behind the bootloader's is the image's. */
+#define IMAGE_MEMORY 0x20002700u
+#define IMAGE_MEMORY_END 0x20004000u
+
+extern const struct dfu_config board_config;
+
+#endif

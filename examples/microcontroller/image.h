@@ -1,0 +1,22 @@
+/* What an image and the bootloader know of each other.
+ *
+ * An image begins with a table of 48 words: the first is where its stack ends, in the image's memory. Each other one belongs to an
+ * exception of the Cortex-M0, and says how many bytes behind the image's first byte its handler begins, plus 1 for Thumb. Word 1 is the
+ * start. The bootloader forwards PendSV, SysTick and all interrupts but those of UART0 and TIMER0, which are its own, as is the exception
+ * SVC. A handler runs on the bootloader's stack, at a lower priority than the bootloader's, and may use IMAGE_HANDLER_STACK bytes of it.
+ *
+ * An image has to run in either slot, so it is position independent. It begins as after a reset of the processor. */
+#ifndef IMAGE_H
+#define IMAGE_H
+#include <stdint.h>
+
+enum { IMAGE_WORDS = 48, IMAGE_HANDLER_STACK = 256 };
+
+/* Says something over the serial port: at most 64 bytes of it. */
+static inline void image_say(const char *text, uint32_t length) {
+    register const char *first __asm__("r0") = text;
+    register uint32_t second __asm__("r1") = length;
+    __asm__ volatile("svc 0" : "+r"(first), "+r"(second) : : "r2", "r3", "r12", "memory");
+}
+
+#endif
