@@ -116,7 +116,7 @@ equal 'set-up: a gadget on the bus' 1 "$("$top/gadget/set-up" --remove --applica
 unset GADGET_ROOT
 
 # The manual: each option with its text, each status, and the version.
-manual=$(sed 's/^\.[A-Za-z]* *//; s/\\-/-/g; s/\\f[A-Z]//g; s/"//g' "$top/docs/dfu-gadget.1" | tr '\n' ' ' | tr -s ' ')
+manual=$(sed 's/^\.[A-Za-z]* *//; s/\\-/-/g; s/\\f[A-Z]//g; s/"//g' "$top/manual/dfu-gadget.1" | tr '\n' ' ' | tr -s ' ')
 sed -n 's/^  \(-[hV], \)*--\([a-z-]*\).*/\2/p' help > options
 is 'the options of the help' test "$(wc -l < options)" -eq 19
 while read -r option; do
@@ -137,5 +137,5 @@ equal 'the statuses' 8 "$(wc -l < statuses)"
 while read -r status; do
     case $manual in *"$status"*) right ;; *) wrong "the manual lacks: $status" ;; esac
 done < statuses
-is 'the version of the manual' grep -q "^.TH .*\"$(./gadget -V | sed 's/dfu-gadget/dfu/')\"" "$top/docs/dfu-gadget.1"
+is 'the version of the manual' grep -q "^.TH .*\"$(./gadget -V | sed 's/dfu-gadget/dfu/')\"" "$top/manual/dfu-gadget.1"
 is 'the version of the program dfu' grep -q "\"dfu-gadget $(./gadget -V | sed 's/.* //')" "$top/gadget/help.c"
