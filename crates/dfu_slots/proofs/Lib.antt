@@ -3,19 +3,20 @@ pub mod AfterCall
 pub mod AfterCommit
 pub mod AfterPut
 pub mod Begun
-mod Commit
+pub mod Commit
 mod Committed
 mod Comparing
 mod Counting
+mod Headers
 pub mod Filled
-mod Formatted
+pub mod Formatted
 mod Formatting
 mod Kept
 pub mod Unread
 pub mod Newest
 mod Opening
 pub mod Parts
-mod Pieces
+pub mod Pieces
 pub mod Put
 mod PutSteps
 mod Refused
@@ -32,12 +33,12 @@ pub mod Torn
 mod Unique
 pub mod Multiples
 pub mod Within
-mod ReadBack
+pub mod ReadBack
 pub mod Written
 mod Blank
 pub mod Sectors
 pub mod Anew
-mod ErasedTo
+pub mod ErasedTo
 pub mod Edges
 mod SizedOn
 mod Ahead

@@ -1,21 +1,13 @@
 -- Bytes that are read back piece by piece.
-use Rattle.std.proofs.Common.{◌≡◌, ◌≢◌, ◌↔◌, Bool, true, false, not, ℕ, ◌+◌, ◌-◌, ◌≤◌, List, [], ◌∷◌, ◌++◌, length, take, drop, slice_range, refl, sym, ◌∙◌, ap, subst, arith, length-append, length-drop}
-use Rattle.std.specs.Bool.{Decides}
+use Rattle.std.proofs.Common.{◌≡◌, ◌↔◌, ℕ, ◌+◌, ◌-◌, ◌≤◌, List, [], ◌∷◌, ◌++◌, length, take, drop, slice_range, refl, sym, ◌∙◌, ap, subst, arith, length-append, length-drop}
 use Rattle.std.proofs.lemmas.List.{length-take-le, take-append-drop, drop-drop, take_at, drop_at}
-use Rattle.std.proofs.lemmas.Bool.{true≢false}
 use Rattle.std.proofs.Math.Seq.{take-add}
 
--- What `!=` says of the bytes that were read: none differs.
-pub found_same : (read piece : List ℕ) (differ same : Bool) → differ ≡ not same → Decides same (read ≡ piece) → differ ≡ false
-    → read ≡ piece
-found_same read piece differ true is d none = d.0 refl
-found_same read piece differ false is d none = absurd (true≢false (sym is ∙ none))
-
--- Or one does.
-pub found_other : (read piece : List ℕ) (differ same : Bool) → differ ≡ not same → Decides same (read ≡ piece) → differ ≡ true
-    → read ≢ piece
-found_other read piece differ true is d some = absurd (true≢false (sym some ∙ is))
-found_other read piece differ false is d some = λ e. true≢false (sym (d.1 e))
+-- Two texts of one length are the same as far as they were compared.
+pub record AreSameTo (read piece : List ℕ) (at : ℕ) : Type 0 where
+  pub long : length read ≡ length piece
+  pub within : at ≤ length piece
+  pub same : take at read ≡ take at piece
 
 -- Exactly these bytes stand from there on.
 abbrev pub Stand : List ℕ → ℕ → List ℕ → Type 0

@@ -1,36 +1,20 @@
 //! Which slot is active is known beforehand: for a caller who keeps it between two calls. No image is read.
-ghost use Rattle.std.specs.Prelude.{◌≡◌, ◌+◌, ◌≤◌, ◌↔◌, length, get_or, take, drop, not, IsTrue, IsOk, IfOk, IfErr, OnOk, IsSome, IfSome, OnSome};
-ghost use Rattle.std.specs.Int.{w32, from_le_bytes};
-ghost use Rattle.dfu_slots.specs.Layout.{slot_size, header};
+ghost use Rattle.std.specs.Prelude.{◌≡◌, ◌+◌, ◌≤◌, ◌↔◌, length, not, IsTrue, IsOk, IfOk, IfErr, OnOk, IsSome, IfSome, OnSome};
+ghost use Rattle.dfu_slots.specs.Layout.{slot_size};
 ghost use Rattle.dfu_slots.specs.Image.{gate_of, IsSized, slot_of, first_is_active, active_at, spare_at, HasImage};
 ghost use Rattle.dfu_slots.specs.Seen.{store_of};
 ghost use Rattle.dfu_slots.specs.Store.{HasPuts, IsStore};
 ghost use Rattle.dfu_slots.specs.Known.{CountsUnread, MayCount, IsNewestUnread, place_of, IsActiveUnread};
 
 use crate::from_parts::has_puts;
-use crate::layout::{OLD_VERSION, VERSION, make_header};
+use crate::header::{is_formed, register_in};
+use crate::layout::{OLD_VERSION, VERSION};
 use crate::open::is_sized;
 use crate::places::Places;
 use crate::puts::Puts;
-use crate::read::{capacity_of, generation, header_of, is_open, length_in};
+use crate::read::{capacity_of, generation, header_of, is_open};
 use crate::{Medium, Slots};
 use arrayvec::ArrayVec;
-
-// The register that stands in a header.
-fn register_in(header: &[u8; 16]) -> u32
-    ensures { result ≡ from_le_bytes w32 (take 4 (drop 8 header.now)) }
-{
-    u32::from_le_bytes([header[8], header[9], header[10], header[11]])
-}
-
-// Whether a header is of this version with this register, and well formed, with a length up to the room.
-fn is_formed(found: &[u8; 16], room: u32, version: u8, register: u32) -> bool
-    ensures { let len = from_le_bytes w32 (take 4 (drop 4 found.now)) in
-        IsTrue result ↔ ((found.now ≡ header version (get_or found.now 0 0) len register) × (len ≤ room)) }
-{
-    let len = length_in(found);
-    *found == make_header(version, found[0], len, register) && len <= room
-}
 
 // Whether the slot that begins there is open, and its header is well formed and of version 1.
 fn counts_unread<M: Medium>(medium: &M, at: u32) -> bool

@@ -7,6 +7,7 @@ mod erasing;
 mod fault;
 mod format;
 mod from_parts;
+mod header;
 mod known;
 pub mod laws;
 mod layout;

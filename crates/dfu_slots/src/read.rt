@@ -1,5 +1,5 @@
 //! What is read of the slots of a medium.
-ghost use Rattle.std.specs.Prelude.{◌≡◌, ℕ, ◌+◌, ◌*◌, ◌≤◌, ◌<◌, length, take, drop, slice_index, slice_range, ◌==◌, ◌↔◌, IfSome, IfNone, IsTrue};
+ghost use Rattle.std.specs.Prelude.{◌≡◌, ℕ, ◌+◌, ◌*◌, ◌≤◌, ◌<◌, length, take, slice_index, slice_range, ◌==◌, ◌↔◌, IfSome, IfNone, IsTrue};
 ghost use Rattle.std.specs.Int.{w32, from_le_bytes};
 ghost use Rattle.dfu_slots.specs.Layout.{OPEN, slot_size, generation, version, HasHeader};
 ghost use Rattle.dfu_slots.specs.Image.{
@@ -13,7 +13,8 @@ ghost use Rattle.dfu_slots.specs.Image.{
 };
 
 use crate::Medium;
-use crate::layout::{OLD_VERSION, OPEN_GATE, VERSION, gate_size, make_header};
+use crate::header::{is_formed, is_header, length_in};
+use crate::layout::{OLD_VERSION, OPEN_GATE, VERSION, gate_size};
 use crate::register::register_of;
 
 // How many bytes are read back at a time.
@@ -29,6 +30,21 @@ pub(crate) fn byte_at<M: Medium>(medium: &M, at: u32) -> u8
     byte[0]
 }
 
+// Whether two pieces of one length have the same bytes. It is much less code than `==`.
+fn are_same(read: &[u8], piece: &[u8]) -> bool
+    requires { length read.now ≡ length piece.now }
+    ensures { IsTrue result ↔ (read.now ≡ piece.now) }
+{
+    let mut at = 0;
+    while at < piece.len() {
+        if read[at] != piece[at] {
+            return false;
+        }
+        at += 1;
+    }
+    true
+}
+
 /// Whether exactly these bytes stand there. It reads them in pieces.
 pub(crate) fn stands_at<M: Medium>(medium: &M, at: u32, bytes: &[u8]) -> bool
     requires within { at + length bytes.now ≤ length (M.state medium.now).bytes }
@@ -42,7 +58,7 @@ pub(crate) fn stands_at<M: Medium>(medium: &M, at: u32, bytes: &[u8]) -> bool
         let read = &mut buffer[..size];
         medium.read(medium.len() - ahead, read);
         let (piece, next) = rest.split_at(size);
-        if &*read != piece {
+        if !are_same(read, piece) {
             return false;
         }
         ahead -= size as u32;
@@ -85,13 +101,6 @@ pub(crate) fn header_of<M: Medium>(medium: &M, at: u32) -> [u8; 16]
     header
 }
 
-/// The length that stands in a header.
-pub(crate) fn length_in(header: &[u8; 16]) -> u32
-    ensures { result ≡ from_le_bytes w32 (take 4 (drop 4 header.now)) }
-{
-    u32::from_le_bytes([header[4], header[5], header[6], header[7]])
-}
-
 // Whether the slot that begins there has a well-formed header of version 2: its register is that of the image.
 fn is_intact<M: Medium>(medium: &M, at: u32) -> bool
     requires sized { IsSized (M.state medium.now) }
@@ -103,7 +112,7 @@ fn is_intact<M: Medium>(medium: &M, at: u32) -> bool
     if len > capacity_of(medium) {
         return false;
     }
-    header == make_header(VERSION, header[0], len, register_of(medium, at, len))
+    is_header(&header, VERSION, register_of(medium, at, len))
 }
 
 /// Whether the slot that begins there counts.
@@ -138,7 +147,7 @@ pub(crate) fn header_len<M: Medium>(medium: &M, at: u32) -> Option<u32>
     if header[1] == VERSION {
         return Some(len);
     }
-    if header == make_header(OLD_VERSION, header[0], len, 0) && len <= capacity_of(medium) {
+    if is_formed(&header, capacity_of(medium), OLD_VERSION, 0) {
         Some(len)
     } else {
         None

@@ -71,6 +71,7 @@ pub(crate) fn write_some<M: Medium>(medium: &mut M, at: u32, bytes: &[u8]) -> Re
 }
 
 /// Writes these bytes there, at most 4,096, with zeros up to the end of a unit, and writes nothing for no bytes.
+#[inline(never)]
 pub(crate) fn write_filled<M: Medium>(
     medium: &mut M,
     at: u32,

@@ -1,6 +1,6 @@
 use Rattle.std.proofs.Common.{arith}
 use Rattle.dfu_slots.specs.Image.{gate_of}
-use Rattle.dfu_slots.proofs.Comparing.{intact_large, intact_compared}
+use Rattle.dfu_slots.proofs.Comparing.{intact_large, intact_told}
 use Rattle.dfu_slots.proofs.read.is_intact.Goals as goal
 
 pub returns-then-len-capacity_of : goal.returns-then-len-capacity_of
@@ -15,7 +15,7 @@ pub returns : goal.returns
 returns g c =
     let m = g.M.Medium.state c.args.medium.now in
     let sized = c.requires.sized in
-    intact_compared (gate_of m) m.bytes c.args.at c.requires.within (omega (arith, sized.room)) c.header_of-header.result
+    intact_told (gate_of m) m.bytes c.args.at c.requires.within (omega (arith, sized.room)) c.header_of-header.result
     c.header_of-header.ensures c.length_in-len.result c.length_in-len.ensures
-    (omega (arith, c.if-len-capacity_of.false, c.capacity_of.ensures)) c.eq.result c.make_header.result c.register_of.result
-    c.eq.ensures c.make_header.ensures c.register_of.ensures
+    (omega (arith, c.if-len-capacity_of.false, c.capacity_of.ensures)) c.is_header.result c.register_of.result
+    c.register_of.ensures c.is_header.ensures
