@@ -4,7 +4,6 @@ mod Carrying
 mod Came
 mod Rows
 mod Pieces
-mod Skipped
 mod Locating
 mod JobPieces
 pub mod Working
@@ -18,8 +17,6 @@ mod Partly
 mod Shut
 mod Started
 mod FormatParts
-mod Standing
-mod Formatted
 mod FormatInside
 mod FormatGoing
 mod FormatPieces

@@ -5,7 +5,7 @@ use Rattle.std.proofs.lemmas.List.{append_assoc, append-nil, length-replicate, t
 use Rattle.std.proofs.Math.Nat.{mod-lt, mod-add-mod, mod_self}
 use Rattle.dfu_slots.specs.Medium.{Write}
 use Rattle.dfu_slots.specs.Writes.{erase_write, erases}
-use Rattle.dfu_asks.proofs.Skipped.{erases_skip, erases_step}
+use Rattle.dfu_slots.proofs.ErasedTo.{erases_skip, erases_step}
 use Rattle.dfu_slots.proofs.Sectors.{edge_add}
 use Rattle.dfu_asks.specs.declared.located.Located.{Located}
 use Rattle.dfu_asks.specs.declared.located.Located.TheVariants as located

@@ -13,7 +13,7 @@ use Rattle.dfu_slots.proofs.Newest.{tested_places}
 use Rattle.dfu_slots.proofs.Torn.{written_torn, written_range, first_of_range}
 use Rattle.dfu_slots.proofs.Series.{AllInside, inside_append}
 use Rattle.dfu_slots.proofs.Sectors.{unit_wide, gate_most}
-use Rattle.dfu_asks.proofs.Skipped.{erases_step}
+use Rattle.dfu_slots.proofs.ErasedTo.{erases_step}
 use Rattle.dfu_slots.proofs.Within.{written_nil}
 use Rattle.dfu_slots.proofs.Parts.{length-gate_unit}
 use Rattle.dfu_slots.proofs.Seeing.{begun_closed}

@@ -30,7 +30,8 @@ use Rattle.dfu_slots.proofs.SpareData.{data_front}
 units_fit : (s : MediumState) (image : List ℕ) → CanFormat s image → length (filled s.grain.unit image) ≤ capacity_of s
 units_fit s image can = filled_within s.grain.unit (capacity_of s) image can.sized.whole.units can.fits
 
-close_inside : (s : MediumState) → IsSized s → AllInside 0 (length s.bytes) (close_writes s.grain s.bytes)
+-- The writes that close both gates lie within the medium.
+pub close_inside : (s : MediumState) → IsSized s → AllInside 0 (length s.bytes) (close_writes s.grain s.bytes)
 close_inside s sized =
     let most = closed_most s.grain in
     (omega arith, omega (arith, most, sized.room, sized.even), (omega arith, omega (arith, most, sized.room, sized.even), tt))
@@ -45,9 +46,8 @@ module _ (s mid : MediumState) (sized : IsSized s) (all : AllWrites s (close_wri
   closed_sized : IsSized mid
   closed_sized = sized_after s mid sized closed_grain closed_size
 
--- So does writing the image.
-
-image_inside : (s : MediumState) (image : List ℕ) → CanFormat s image → AllInside 0 (length s.bytes) (image_writes s.grain image)
+-- The writes of the image lie within it too.
+pub image_inside : (s : MediumState) (image : List ℕ) → CanFormat s image → AllInside 0 (length s.bytes) (image_writes s.grain image)
 image_inside s image can =
     let units = filled s.grain.unit image in
     pieces_inside s.grain.sector (length units) 0 (length s.bytes) (2 * gate_of s) units (sized_edge s can.sized) (omega arith)

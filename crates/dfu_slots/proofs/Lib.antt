@@ -10,7 +10,7 @@ mod Counting
 mod Headers
 pub mod Filled
 pub mod Formatted
-mod Formatting
+pub mod Formatting
 mod Kept
 pub mod Unread
 pub mod Newest
