@@ -5,7 +5,9 @@ pub mod Twins
 pub mod Spared
 pub mod Opening
 pub mod Standing
+pub mod Happening
 pub mod LongTakes
 pub mod Asked
 pub mod DueTimes
 pub mod TrueNotes
+pub mod Twos

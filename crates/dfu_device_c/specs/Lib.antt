@@ -4,6 +4,7 @@ pub mod Noted
 pub mod Device
 pub mod Numbers
 pub mod Calls
+pub mod Events
 pub mod Power
 pub mod Stalls
 pub mod Due

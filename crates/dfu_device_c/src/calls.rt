@@ -1,26 +1,27 @@
-//! The calls for a device, over what is kept of it.
-ghost use Rattle.std.specs.Prelude.{◌≡◌, ◌≤◌, false, length, IfOk, IfErr, OnErr, OnOk};
+//! A call for a device, over what is kept of it.
+ghost use Rattle.std.specs.Prelude.{◌≡◌, ◌≤◌, false, length, IfOk, IfErr, OnErr};
 ghost use Rattle.dfu_device.specs.Lent.{answer_room};
-ghost use Rattle.dfu_device.specs.Rows.{Handles, Elapses};
-ghost use Rattle.dfu_device.specs.Table.{reset_stage};
 ghost use Rattle.dfu_c_parts.specs.Config.{setting_of, transfer_of, unit_of, IsConfig};
 ghost use Rattle.dfu_device_c.specs.Memory.{is_on};
 ghost use Rattle.dfu_device_c.specs.Noted.{On};
 ghost use Rattle.dfu_device_c.specs.Device.{IsRefusedSeen, Takes};
-ghost use Rattle.dfu_device_c.specs.Calls.{Handled};
+ghost use Rattle.dfu_device_c.specs.Events.{Happens};
 
+use crate::event::{Event, happen};
 use crate::keeping::{keep, made};
 use crate::memory::Memory;
 use crate::refusal::Refusal;
 use dfu_c_parts::{DfuConfig, DfuDevice};
 use dfu_device::{Answer, LentBlock};
 
-/// `Device::handle_into`, with room for any answer: the answer, and how many bytes it has.
-pub(crate) fn handle(
+/// The device is made, this happens to it, and it is kept: the answer, and how many bytes it has. All calls go through this
+/// one, so that what makes a device and keeps it stands once in the library.
+pub(crate) fn on(
     config: &DfuConfig,
     kept: &mut DfuDevice,
     block: &mut LentBlock<'_>,
     memory: &mut Memory<'_>,
+    event: Event,
     setup: &[u8; 8],
     body: &[u8],
     out: &mut [u8],
@@ -29,10 +30,11 @@ pub(crate) fn handle(
     requires fits { transfer_of config.now ≤ length block.old.memory.now }
     requires unit { unit_of config.now ≡ memory.old.unit }
     requires plain { is_on memory.old.cover ≡ false }
-    requires room { answer_room (setting_of config.now) ≤ length out.old }
+    requires room { event ≡ Event.Setup → answer_room (setting_of config.now) ≤ length out.old }
     ensures row { IfOk result (λ r. On (unit_of config.now) kept.old memory.old.bytes.now kept.new memory.new.bytes.now
-        (λ b b'. Handled config.now kept.old block.old.memory.now b out.old (λ a sent d d'. Handles setup.now body.now d a sent d') r.0 r.1
-        kept.new block.new.memory.now b' out.new)) }
+        (λ b b'. Takes config.now kept.old block.old.memory.now b
+        (λ d d'. Happens event setup.now body.now d r.0 r.1 out.old out.new d') kept.new block.new.memory.now b')) }
+    ensures most { IfOk result (λ r. r.1 ≤ 65535) }
     ensures err { IfErr result (λ e. IsRefusedSeen e config.now kept.old block.old.memory.now memory.old.bytes.now) }
     ensures unchanged { OnErr result ((kept.new ≡ kept.old) × (block.new.memory.now ≡ block.old.memory.now)
         × (memory.new.bytes.now ≡ memory.old.bytes.now) × (out.new ≡ out.old)) }
@@ -40,61 +42,7 @@ pub(crate) fn handle(
     ensures block_name { block.new.memory.ghost_name ≡ block.old.memory.ghost_name }
 {
     let mut device = made(config, kept, block, memory)?;
-    let Some((answer, count)) = device.handle_into(setup, body, out) else {
-        unreachable!()
-    };
+    let (answer, count) = happen(&mut device, event, setup, body, out);
     keep(device, kept, block, memory);
     Ok((answer, count))
-}
-
-/// `Device::elapse`.
-pub(crate) fn elapse(
-    config: &DfuConfig,
-    kept: &mut DfuDevice,
-    block: &mut LentBlock<'_>,
-    memory: &mut Memory<'_>,
-    ms: u32,
-) -> Result<(), Refusal>
-    requires config { IsConfig config.now }
-    requires fits { transfer_of config.now ≤ length block.old.memory.now }
-    requires unit { unit_of config.now ≡ memory.old.unit }
-    requires plain { is_on memory.old.cover ≡ false }
-    ensures row { OnOk result (On (unit_of config.now) kept.old memory.old.bytes.now kept.new memory.new.bytes.now
-        (λ b b'. Takes config.now kept.old block.old.memory.now b (Elapses ms) kept.new block.new.memory.now b')) }
-    ensures err { IfErr result (λ e. IsRefusedSeen e config.now kept.old block.old.memory.now memory.old.bytes.now) }
-    ensures unchanged { OnErr result ((kept.new ≡ kept.old) × (block.new.memory.now ≡ block.old.memory.now)
-        × (memory.new.bytes.now ≡ memory.old.bytes.now)) }
-    ensures name { memory.new.bytes.ghost_name ≡ memory.old.bytes.ghost_name }
-    ensures block_name { block.new.memory.ghost_name ≡ block.old.memory.ghost_name }
-{
-    let mut device = made(config, kept, block, memory)?;
-    device.elapse(ms);
-    keep(device, kept, block, memory);
-    Ok(())
-}
-
-/// `Device::usb_reset`.
-pub(crate) fn usb_reset(
-    config: &DfuConfig,
-    kept: &mut DfuDevice,
-    block: &mut LentBlock<'_>,
-    memory: &mut Memory<'_>,
-) -> Result<(), Refusal>
-    requires config { IsConfig config.now }
-    requires fits { transfer_of config.now ≤ length block.old.memory.now }
-    requires unit { unit_of config.now ≡ memory.old.unit }
-    requires plain { is_on memory.old.cover ≡ false }
-    ensures row { OnOk result (On (unit_of config.now) kept.old memory.old.bytes.now kept.new memory.new.bytes.now
-        (λ b b'. Takes config.now kept.old block.old.memory.now b (λ d d'. d' ≡ record d { stage = reset_stage d.stage })
-        kept.new block.new.memory.now b')) }
-    ensures err { IfErr result (λ e. IsRefusedSeen e config.now kept.old block.old.memory.now memory.old.bytes.now) }
-    ensures unchanged { OnErr result ((kept.new ≡ kept.old) × (block.new.memory.now ≡ block.old.memory.now)
-        × (memory.new.bytes.now ≡ memory.old.bytes.now)) }
-    ensures name { memory.new.bytes.ghost_name ≡ memory.old.bytes.ghost_name }
-    ensures block_name { block.new.memory.ghost_name ≡ block.old.memory.ghost_name }
-{
-    let mut device = made(config, kept, block, memory)?;
-    device.usb_reset();
-    keep(device, kept, block, memory);
-    Ok(())
 }

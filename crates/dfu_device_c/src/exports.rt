@@ -8,9 +8,11 @@ ghost use Rattle.dfu_c_parts.specs.Config.{setting_of, transfer_of, unit_of, IsC
 ghost use Rattle.dfu_device_c.specs.Noted.{On};
 ghost use Rattle.dfu_device_c.specs.Numbers.{answer_number, NO_ROOM};
 ghost use Rattle.dfu_device_c.specs.Calls.{IsCause, Refuses, Goes, Answered, HasNoRoom};
+ghost use Rattle.dfu_device_c.specs.Events.{Replies};
 
 use crate::calls;
 use crate::cover::Cover;
+use crate::event::Event;
 use crate::memory::{Memory, is_short};
 use dfu_c_parts::{DfuConfig, DfuDevice, is_allowed, unit_of};
 use dfu_device::{Answer, LentBlock};
@@ -54,6 +56,53 @@ fn refusal_before(config: &DfuConfig, block: &[u8], medium: &[u8]) -> i32
     0
 }
 
+// A call for a device, once a setup has room for its answer: the number of the answer, or of the refusal. It is one function for
+// all calls, so that they take little room.
+#[inline(never)]
+fn on(
+    config: &DfuConfig,
+    device: &mut DfuDevice,
+    block: &mut [u8],
+    medium: &mut [u8],
+    event: Event,
+    setup: &[u8; 8],
+    body: &[u8],
+    out: &mut [u8],
+) -> i32
+    requires room { event ≡ Event.Setup → answer_room (setting_of config.now) ≤ length out.old }
+    ensures outcome { let c = config.now in
+        On (unit_of c) device.old medium.old device.new medium.new
+        (λ b b'. Replies c device.old block.old b event setup.now body.now out.old result device.new block.new b' out.new)
+        ⊎ (Refuses c device.old block.old medium.old result device.new block.new medium.new × (out.new ≡ out.old)) }
+{
+    let refusal = refusal_before(config, block, medium);
+    if refusal != 0 {
+        return refusal;
+    }
+    let mut lent = LentBlock {
+        memory: block,
+        len: 0,
+    };
+    let mut memory = Memory {
+        bytes: medium,
+        unit: unit_of(config),
+        cover: Cover::NONE,
+    };
+    match calls::on(
+        config,
+        device,
+        &mut lent,
+        &mut memory,
+        event,
+        setup,
+        body,
+        out,
+    ) {
+        Ok((answer, count)) => number_of(answer, count),
+        Err(refusal) => refusal.number(),
+    }
+}
+
 /// Answers a setup with its body, as `Device::handle_into`: how many bytes of the answer stand in `out`, or -1 for a stall.
 /// Refused with -5 where `out` has less room than an answer may need; then as every call.
 #[unsafe(no_mangle)]
@@ -76,23 +125,8 @@ pub extern "C" fn dfu_device_handle(
     if out.len() < room_for(config) {
         return -5;
     }
-    let refusal = refusal_before(config, block, medium);
-    if refusal != 0 {
-        return refusal;
-    }
-    let mut lent = LentBlock {
-        memory: block,
-        len: 0,
-    };
-    let mut memory = Memory {
-        bytes: medium,
-        unit: unit_of(config),
-        cover: Cover::NONE,
-    };
-    match calls::handle(config, device, &mut lent, &mut memory, setup, body, out) {
-        Ok((answer, count)) => number_of(answer, count),
-        Err(refusal) => refusal.number(),
-    }
+    let event = Event::Setup;
+    on(config, device, block, medium, event, setup, body, out)
 }
 
 /// So many milliseconds pass, as `Device::elapse`.
@@ -109,23 +143,8 @@ pub extern "C" fn dfu_device_elapse(
         (λ b b'. Goes c device.old block.old b (Elapses ms) result device.new block.new b')
         ⊎ Refuses c device.old block.old medium.old result device.new block.new medium.new }
 {
-    let refusal = refusal_before(config, block, medium);
-    if refusal != 0 {
-        return refusal;
-    }
-    let mut lent = LentBlock {
-        memory: block,
-        len: 0,
-    };
-    let mut memory = Memory {
-        bytes: medium,
-        unit: unit_of(config),
-        cover: Cover::NONE,
-    };
-    match calls::elapse(config, device, &mut lent, &mut memory, ms) {
-        Ok(_) => 0,
-        Err(refusal) => refusal.number(),
-    }
+    let event = Event::Elapse(ms);
+    on(config, device, block, medium, event, &[0; 8], &[], &mut [])
 }
 
 /// The bus is reset, as `Device::usb_reset`.
@@ -141,21 +160,6 @@ pub extern "C" fn dfu_device_usb_reset(
         (λ d d'. d' ≡ record d { stage = reset_stage d.stage }) result device.new block.new b')
         ⊎ Refuses c device.old block.old medium.old result device.new block.new medium.new }
 {
-    let refusal = refusal_before(config, block, medium);
-    if refusal != 0 {
-        return refusal;
-    }
-    let mut lent = LentBlock {
-        memory: block,
-        len: 0,
-    };
-    let mut memory = Memory {
-        bytes: medium,
-        unit: unit_of(config),
-        cover: Cover::NONE,
-    };
-    match calls::usb_reset(config, device, &mut lent, &mut memory) {
-        Ok(_) => 0,
-        Err(refusal) => refusal.number(),
-    }
+    let event = Event::Reset;
+    on(config, device, block, medium, event, &[0; 8], &[], &mut [])
 }

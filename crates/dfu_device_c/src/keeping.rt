@@ -51,7 +51,6 @@ fn stand<'b>(kept: &DfuDevice, block: &mut LentBlock<'b>) -> Option<(Mode, LentB
 
 /// The device of a record, over the memory of its medium and of its block, which are taken out of their places; or why there
 /// is none, and both are back.
-#[inline(never)]
 pub(crate) fn made<'m, 'b>(
     config: &DfuConfig,
     kept: &DfuDevice,
@@ -88,7 +87,6 @@ pub(crate) fn made<'m, 'b>(
 }
 
 /// Keeps a device: the record says of it and notes the active slot, and the memory of its medium and of its block is back.
-#[inline(never)]
 pub(crate) fn keep<'m, 'b>(
     device: Kept<'m, 'b>,
     kept: &mut DfuDevice,

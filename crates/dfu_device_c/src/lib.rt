@@ -5,6 +5,7 @@ mod asking;
 mod calls;
 mod copy;
 mod cover;
+mod event;
 mod exports;
 mod keeping;
 pub mod laws;

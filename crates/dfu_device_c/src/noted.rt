@@ -30,18 +30,40 @@ fn length_in(header: &[u8; 16]) -> u32
     u32::from_le_bytes([header[4], header[5], header[6], header[7]])
 }
 
-// The register that stands in a header.
-fn register_in(header: &[u8; 16]) -> u32
-    ensures { result ≡ from_le_bytes w32 (take 4 (drop 8 header.now)) }
+// The last four bytes of a header, where each has zeros.
+fn rest_in(header: &[u8; 16]) -> u32
+    ensures { result ≡ from_le_bytes w32 (take 4 (drop 12 header.now)) }
 {
-    u32::from_le_bytes([header[8], header[9], header[10], header[11]])
+    u32::from_le_bytes([header[12], header[13], header[14], header[15]])
 }
 
-// Whether it is a header of version 2, whatever its register is.
+// Whether it is a header of version 2, whatever its register is. To look at single bytes is much less code than `==`.
 fn is_two(header: &[u8; 16]) -> bool
     ensures { IsTrue result ↔ IsTwo header.now }
 {
-    *header == make_header(2, header[0], length_in(header), register_in(header))
+    if header[1] != 2 {
+        return false;
+    }
+    if header[2] != 0 {
+        return false;
+    }
+    if header[3] != 0 {
+        return false;
+    }
+    rest_in(header) == 0
+}
+
+// Whether two headers are the same, byte by byte for the same reason.
+fn are_same(one: &[u8], other: &[u8]) -> bool
+    requires { length one.now ≡ length other.now }
+    ensures { IsTrue result ↔ (one.now ≡ other.now) }
+{
+    for i in 0..one.len() {
+        if one[i] != other[i] {
+            return false;
+        }
+    }
+    true
 }
 
 // The header of version 1 with the generation and the length of this one.
@@ -105,8 +127,7 @@ fn cover_in(kept: &DfuDevice, bytes: &[u8], unit: Unit) -> Option<Cover>
         return None;
     }
     let place = header_place(is_first(kept), bytes, unit);
-    let there = &bytes[place..place + HEADER_SIZE];
-    if there != kept.header.as_slice() {
+    if !are_same(&bytes[place..place + HEADER_SIZE], &kept.header) {
         return None;
     }
     Some(Cover {
