@@ -2,7 +2,7 @@
 
 # Names of files are left to readline, which knows how each has to be quoted.
 _dfu() {
-    local word=${COMP_WORDS[COMP_CWORD]} command at=1 place=0 options='--explain -h --help' is_value=
+    local word=${COMP_WORDS[COMP_CWORD]} command at=1 place=0 options='--explain -h --help' option is_value=
     COMPREPLY=()
     # The command may stand behind an option.
     [ "$COMP_CWORD" -eq 1 ] || [ "${COMP_WORDS[1]}" != --explain ] || at=2
@@ -15,23 +15,25 @@ _dfu() {
         return
     fi
     [ "$command" != add ] || options='--vid --pid --did --explain -h --help'
-    [ "$command" != run ] || options='--trace --explain -h --help'
+    [ "$command" != run ] || options='--trace --file --explain -h --help'
     [ "$command" != judge ] || options='--interface --device --explain -h --help'
     at=$((at + 1))
     # How many words that are no options stand before this one. In `--vid=1209` readline takes the `=`
     # for a word.
     while [ "$at" -lt "$COMP_CWORD" ]; do
         case ${COMP_WORDS[at]} in
-        --vid | --pid | --did | --interface | --device)
+        --vid | --pid | --did | --interface | --device | --file)
+            option=${COMP_WORDS[at]}
             at=$((at + 1))
             [ "${COMP_WORDS[at]}" != = ] || [ "$at" -eq "$COMP_CWORD" ] || at=$((at + 1))
-            [ "$at" -lt "$COMP_CWORD" ] || is_value=1
+            [ "$at" -lt "$COMP_CWORD" ] || is_value=$option
             ;;
         -?*) ;;
         *) place=$((place + 1)) ;;
         esac
         at=$((at + 1))
     done
+    [ "$is_value" != --file ] || compopt -o default
     [ -z "$is_value" ] || return
     case $command:$place:$word in
     help:*:-*) ;;

@@ -7,7 +7,7 @@ function __dfu_at
     for word in (commandline -opc)[2..]
         if test $is_value -eq 1
             set is_value 0
-        else if contains -- $word --vid --pid --did --interface --device
+        else if contains -- $word --vid --pid --did --interface --device --file
             set is_value 1
         else if not string match -q -- '-?*' $word
             set -a words $word
@@ -32,6 +32,7 @@ complete -c dfu -x -n '__fish_seen_subcommand_from add' -l vid -d 'Vendor, four 
 complete -c dfu -x -n '__fish_seen_subcommand_from add' -l pid -d 'Product, four hexadecimal digits'
 complete -c dfu -x -n '__fish_seen_subcommand_from add' -l did -d 'Device release, four hexadecimal digits'
 complete -c dfu -n '__fish_seen_subcommand_from run' -l trace -d 'Print a line for each action of the host too'
+complete -c dfu -r -F -n '__fish_seen_subcommand_from run' -l file -d 'The file that FILE stands for in offer and verify'
 complete -c dfu -x -n '__fish_seen_subcommand_from judge' -l interface -d 'The number of the DFU interface'
 complete -c dfu -x -n '__fish_seen_subcommand_from judge' -l device -d 'Of a capture the device'
 complete -c dfu -n '__dfu_at show' -a 'functional status state setup configuration'

@@ -18,17 +18,17 @@ ComesOut written new end result =
     (Keeps written new × (result ≡ end)) ⊎ (IfSome written (λ w. HasFront w new) × (result ≡ Fault))
 
 -- A script was run into a buffer, as it is run into a writer, and what was written comes out.
-pub record RunsBuffered (given old new : Option (List ℕ)) (result : Exit) : Type 0 where
+pub record RunsBuffered (file given old new : Option (List ℕ)) (result : Exit) : Type 0 where
   pub written : Option (List ℕ)
   pub end : Exit
-  pub run : WritesRun given old written end
-  pub legal : WritesLegally given old written end
-  pub headline : WritesWithHeadline given old written end
+  pub run : WritesRun file given old written end
+  pub legal : WritesLegally file given old written end
+  pub headline : WritesWithHeadline file given old written end
   pub comes_out : ComesOut written new end result
 
 -- A script with a trace was run into a buffer in front of a writer that held nothing, and what was written comes out.
-pub record RunsTraced (given new : Option (List ℕ)) (result : Exit) : Type 0 where
+pub record RunsTraced (file given new : Option (List ℕ)) (result : Exit) : Type 0 where
   pub written : Option (List ℕ)
   pub end : Exit
-  pub run : WritesTraced given written end
+  pub run : WritesTraced file given written end
   pub comes_out : ComesOut written new end result

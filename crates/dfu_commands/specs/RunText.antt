@@ -27,31 +27,31 @@ WritesStop NoMemory old new result = Wrote old new (fault_line suffix.NoMemory) 
 WritesStop Read old new result = Wrote old new (fault_line suffix.Read) Fault result
 WritesStop Write old new result = (new ≡ old) × (result ≡ Fault)
 
--- A script ran to its end and that is all that is written, or it stopped and the line of its fault is written behind what
+-- Where FILE stands for the bytes of this file, a script ran to its end and that is all that is written, or it stopped and the line of its fault is written behind what
 -- it wrote.
-pub data WritesRun (given old new : Option (List ℕ)) (result : Exit) : Type 0 where
-  runs : IfSome given (λ text. WroteRun text old new) → result ≡ Done → WritesRun given old new result
+pub data WritesRun (file given old new : Option (List ℕ)) (result : Exit) : Type 0 where
+  runs : IfSome given (λ text. WroteRun file text old new) → result ≡ Done → WritesRun file given old new result
   stops : (mid : Option (List ℕ)) (fault : ScriptFault) →
-      IfSome given (λ text. Falls text old mid fault) → WritesStop fault mid new result → WritesRun given old new result
+      IfSome given (λ text. Falls file text old mid fault) → WritesStop fault mid new result → WritesRun file given old new result
 
 -- The session machine goes along with what is written: to the end of the script, and that is all; or to where it stopped, and
 -- behind that the line of its fault is written.
-pub data WritesLegally (given old new : Option (List ℕ)) (result : Exit) : Type 0 where
-  to_the_end : IfSome given (λ text. WroteLegal text old new) → result ≡ Done → WritesLegally given old new result
+pub data WritesLegally (file given old new : Option (List ℕ)) (result : Exit) : Type 0 where
+  to_the_end : IfSome given (λ text. WroteLegal file text old new) → result ≡ Done → WritesLegally file given old new result
   to_the_stop : (mid : Option (List ℕ)) (fault : ScriptFault) →
-      IfSome given (λ text. StopsLegally text old mid) → WritesStop fault mid new result → WritesLegally given old new result
+      IfSome given (λ text. StopsLegally file text old mid) → WritesStop fault mid new result → WritesLegally file given old new result
 
 -- The headline holds of what is written: to the end of the script, and that is all; or to where it stopped, and behind that the
 -- line of its fault is written.
-pub data WritesWithHeadline (given old new : Option (List ℕ)) (result : Exit) : Type 0 where
-  whole_holds : IfSome given (λ text. WroteHeadline text old new) → result ≡ Done → WritesWithHeadline given old new result
+pub data WritesWithHeadline (file given old new : Option (List ℕ)) (result : Exit) : Type 0 where
+  whole_holds : IfSome given (λ text. WroteHeadline file text old new) → result ≡ Done → WritesWithHeadline file given old new result
   start_holds : (mid : Option (List ℕ)) (fault : ScriptFault) →
-      IfSome given (λ text. StopsWithHeadline text old mid) → WritesStop fault mid new result →
-      WritesWithHeadline given old new result
+      IfSome given (λ text. StopsWithHeadline file text old mid) → WritesStop fault mid new result →
+      WritesWithHeadline file given old new result
 
 -- A script with a trace was written to a writer that held nothing: without the lines of the trace it ran to its end, or it stopped, and the
 -- line of its fault is written behind what it wrote.
-pub data WritesTraced (given new : Option (List ℕ)) (result : Exit) : Type 0 where
-  traced_runs : IfSome given (λ text. WroteRun text (Some []) (untraced new)) → result ≡ Done → WritesTraced given new result
+pub data WritesTraced (file given new : Option (List ℕ)) (result : Exit) : Type 0 where
+  traced_runs : IfSome given (λ text. WroteRun file text (Some []) (untraced new)) → result ≡ Done → WritesTraced file given new result
   traced_stops : (mid : Option (List ℕ)) (fault : ScriptFault) →
-      IfSome given (λ text. Falls text (Some []) (untraced mid) fault) → WritesStop fault mid new result → WritesTraced given new result
+      IfSome given (λ text. Falls file text (Some []) (untraced mid) fault) → WritesStop fault mid new result → WritesTraced file given new result

@@ -5,6 +5,10 @@ use Rattle.std.specs.Prelude.{ℕ, List, codes}
 unfoldable pub out_why : List ℕ
 out_why = codes "it has to be a file, as ./- for one with this name"
 
+-- Why `-` is no `--file`.
+unfoldable pub file_why : List ℕ
+file_why = codes "the script is standard input already"
+
 -- Why KIND is none.
 unfoldable pub kind_why : List ℕ
 kind_why = codes "it has to be functional, status, state, setup or configuration"

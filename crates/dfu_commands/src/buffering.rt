@@ -1,7 +1,8 @@
 //! `dfu run` through a buffer.
 
-ghost use Rattle.std.specs.Prelude.{◌≡◌, [], Some};
+ghost use Rattle.std.specs.Prelude.{◌≡◌, [], Some, None};
 ghost use Rattle.std.specs.Io.Buffered.{writer_contents};
+ghost use Rattle.dfu_link.specs.Said.{given_bytes};
 ghost use Rattle.dfu_commands.specs.Buffering.{RunsBuffered, RunsTraced};
 
 use crate::running::{run_traced_with_fault, run_with_fault};
@@ -19,21 +20,23 @@ pub fn run_buffered<R: Read + Drop, W: Write + Drop>(
     reader: R,
     buffer: BufWriter<W>,
 ) -> (Exit, W)
-    ensures { RunsBuffered (R.remaining reader) (writer_contents W.contents buffer) (W.contents result.1) result.0 }
+    ensures { RunsBuffered None (R.remaining reader) (writer_contents W.contents buffer) (W.contents result.1) result.0 }
 {
-    let (exit, _, writer) = run_buffered_with_fault(alloc, reader, buffer);
+    let (exit, _, writer) = run_buffered_with_fault(alloc, None, reader, buffer);
     (exit, writer)
 }
 
-/// Does what `run_buffered` does, and returns the fault at which the script stopped too.
+/// Does what `run_buffered` does, where FILE stands for the bytes of `file`, if there are any, and returns
+/// the fault at which the script stopped too.
 pub(crate) fn run_buffered_with_fault<R: Read + Drop, W: Write + Drop>(
     alloc: Global,
+    file: Option<&[u8]>,
     reader: R,
     mut buffer: BufWriter<W>,
 ) -> (Exit, Option<ScriptFault>, W)
-    ensures { RunsBuffered (R.remaining reader) (writer_contents W.contents buffer) (W.contents result.2) result.0 }
+    ensures { RunsBuffered (given_bytes file.entry) (R.remaining reader) (writer_contents W.contents buffer) (W.contents result.2) result.0 }
 {
-    let (exit, fault) = run_with_fault(alloc, reader, &mut buffer);
+    let (exit, fault) = run_with_fault(alloc, file, reader, &mut buffer);
     match buffer.into_inner() {
         Ok(writer) => (exit, fault, writer),
         Err(error) => {
@@ -47,12 +50,13 @@ pub(crate) fn run_buffered_with_fault<R: Read + Drop, W: Write + Drop>(
 /// Does what `run_buffered_with_fault` does, with a line for each action of the host.
 pub(crate) fn run_traced_buffered<R: Read + Drop, W: Write + Drop>(
     alloc: Global,
+    file: Option<&[u8]>,
     reader: R,
     buffer: BufWriter<W>,
 ) -> (Exit, Option<ScriptFault>, W)
-    ensures { writer_contents W.contents buffer ≡ Some [] → RunsTraced (R.remaining reader) (W.contents result.2) result.0 }
+    ensures { writer_contents W.contents buffer ≡ Some [] → RunsTraced (given_bytes file.entry) (R.remaining reader) (W.contents result.2) result.0 }
 {
-    let (exit, fault, buffer) = run_traced_with_fault(alloc, reader, buffer);
+    let (exit, fault, buffer) = run_traced_with_fault(alloc, file, reader, buffer);
     match buffer.into_inner() {
         Ok(writer) => (exit, fault, writer),
         Err(error) => {

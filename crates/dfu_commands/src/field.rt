@@ -25,6 +25,8 @@ pub(crate) enum Field {
     Report,
     /// Bytes.
     Hex,
+    /// The bytes of a file that is offered, or the word `FILE`.
+    Offered,
 }
 
 /// A number of 1 to 10 digits.
@@ -59,6 +61,10 @@ fn are_digits(word: &[u8]) -> bool {
     word.iter().all(|digit| digit.is_ascii_hexdigit())
 }
 
+fn is_hex(word: &[u8]) -> bool {
+    word == b"-".as_slice() || (word.len() % 2 == 0 && are_digits(word))
+}
+
 impl Field {
     /// Whether a word is this.
     pub(crate) fn takes(self, word: &str) -> bool {
@@ -73,7 +79,8 @@ impl Field {
             Field::Capacity => is_number(word, 1, 1_048_576),
             Field::Times => is_number(word, 1, 1_000_000),
             Field::Report => word == "report",
-            Field::Hex => word == "-" || (bytes.len() % 2 == 0 && are_digits(bytes)),
+            Field::Hex => is_hex(bytes),
+            Field::Offered => word == "FILE" || is_hex(bytes),
         }
     }
 
@@ -89,7 +96,7 @@ impl Field {
             Field::Capacity => "a number from 1 to 1,048,576",
             Field::Times => "a number from 1 to 1,000,000",
             Field::Report => "report",
-            Field::Hex => "an even count of hexadecimal digits, or - for no bytes",
+            Field::Hex | Field::Offered => "an even count of hexadecimal digits, or - for no bytes",
         }
     }
 }

@@ -13,6 +13,8 @@ static NONE: [Field; 0] = [];
 
 static HEX: [Field; 1] = [Field::Hex];
 
+static OFFER: [Field; 1] = [Field::Offered];
+
 static NUMBER: [Field; 1] = [Field::Number];
 
 static UNIT: [Field; 1] = [Field::Unit];
@@ -49,7 +51,8 @@ fn fields_of(keyword: &str) -> Option<&'static [Field]> {
         "erase" => Some(&ERASE),
         "capacity" => Some(&CAPACITY),
         "limits" => Some(&LIMITS),
-        "image" | "offer" | "verify" => Some(&HEX),
+        "image" => Some(&HEX),
+        "offer" | "verify" => Some(&OFFER),
         "time" => Some(&NUMBER),
         "upload" | "abort" | "reset" | "cut" | "show" => Some(&NONE),
         _ => None,

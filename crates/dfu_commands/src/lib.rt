@@ -12,6 +12,7 @@ mod identifiers;
 mod judging;
 mod line;
 mod numbering;
+mod offered;
 mod performing;
 mod running;
 mod scripts;

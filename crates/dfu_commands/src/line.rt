@@ -53,10 +53,18 @@ fn wrong_count(alloc: Global, form: &Form, words: &[&str]) -> Result<String, All
     }
 }
 
-fn words_why(alloc: Global, text: &str) -> Result<String, AllocError> {
+/// Whether a line offers by the word `FILE`.
+fn names_file(words: &[&str]) -> bool {
+    matches!(words, ["offer" | "verify", "FILE", ..])
+}
+
+fn words_why(alloc: Global, text: &str, has_file: bool) -> Result<String, AllocError> {
     let mut words: Vec<&str> = Vec::new(alloc);
     for word in text.split_ascii_whitespace() {
         words.push(word)?;
+    }
+    if !has_file && names_file(&words) {
+        return String::from_str(alloc, "FILE stands for a file only with --file");
     }
     match form_of(&words) {
         Ok(form) => match wrong_word(alloc, &form, &words)? {
@@ -67,10 +75,11 @@ fn words_why(alloc: Global, text: &str) -> Result<String, AllocError> {
     }
 }
 
-/// Why a line that is none of the language is none: the first rule that it breaks.
-pub(crate) fn line_why(alloc: Global, line: &[u8]) -> Result<String, AllocError> {
+/// Why a line that is none of the language is none: the first rule that it breaks. `has_file` says whether
+/// `--file` was given.
+pub(crate) fn line_why(alloc: Global, line: &[u8], has_file: bool) -> Result<String, AllocError> {
     match plain_text(line) {
-        Ok(text) => words_why(alloc, text),
+        Ok(text) => words_why(alloc, text, has_file),
         Err(why) => String::from_str(alloc, why),
     }
 }

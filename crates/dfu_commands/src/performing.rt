@@ -3,8 +3,9 @@
 use crate::captures::device_in;
 use crate::identifiers::{IdTexts, ids_said};
 use crate::judging::{Judged, interface_in, judge_file};
+use crate::offered::read_file;
 use crate::scripts::run_script;
-use crate::words::{bad_device, bad_identifier, bad_interface, bad_kind, bad_out};
+use crate::words::{bad_device, bad_file, bad_identifier, bad_interface, bad_kind, bad_out};
 use dfu_files::{Owned, add_file, check_file};
 use dfu_suffix::SuffixFault;
 use dfu_text::{Answer, Exit, bad_words, fault_text, show_text};
@@ -69,6 +70,30 @@ fn perform_judge<R: Files + Input + Print + AllocGlobal>(
     judge_file(rt, judged)
 }
 
+/// Runs a script, where the words can be used: the script and its file can't both be standard input.
+fn perform_run<R: Files + Input + Print + AllocGlobal>(
+    rt: &R,
+    script: &str,
+    trace: bool,
+    file: &Option<String>,
+    explain: bool,
+) -> Answer
+where
+    R::File: IsTerminal,
+    R::Reader: IsTerminal,
+{
+    let Some(name) = file else {
+        return run_script(rt, script, trace, None, explain);
+    };
+    if script == "-" && name.as_str() == "-" {
+        return refused(rt, bad_file(rt.alloc()));
+    }
+    match read_file(rt, name) {
+        Ok(bytes) => run_script(rt, script, trace, Some(&bytes), explain),
+        Err(answer) => answer,
+    }
+}
+
 /// Does a job.
 fn perform<R: Files + Input + Print + AllocGlobal>(rt: &R, job: &Job, explain: bool) -> Answer
 where
@@ -92,7 +117,11 @@ where
             perform_add(rt, file, to, &texts)
         }
         Job::Show { kind, hex } => perform_show(rt, kind, hex),
-        Job::Run { script, trace } => run_script(rt, script, *trace, explain),
+        Job::Run {
+            script,
+            trace,
+            file,
+        } => perform_run(rt, script, *trace, file, explain),
         Job::Judge {
             file,
             interface,

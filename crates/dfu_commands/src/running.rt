@@ -1,10 +1,11 @@
 //! `dfu run`: what a script prints, and the line for one that stopped.
 
 ghost use Rattle.std.specs.Prelude.{◌≡◌, [], None, Some};
+ghost use Rattle.dfu_link.specs.Said.{given_bytes};
 ghost use Rattle.dfu_commands.specs.RunText.{WritesStop, WritesRun, WritesLegally, WritesWithHeadline, WritesTraced};
 
 use crate::numbering::number_text;
-use dfu_link::{ScriptFault, script, script_traced};
+use dfu_link::{ScriptFault, script_traced_with, script_with};
 use dfu_suffix::SuffixFault;
 use dfu_text::{Exit, fault_text, write_out};
 use std::alloc::Global;
@@ -43,44 +44,48 @@ fn stop_text<W: Write>(alloc: Global, fault: ScriptFault, writer: &mut W) -> Exi
 /// Where the writer fails it answers Fault; a front of the text is out, not all of it, and nothing
 /// more is written.
 pub fn run_text<R: Read + Drop, W: Write>(alloc: Global, reader: R, writer: &mut W) -> Exit
-    ensures run { WritesRun (R.remaining reader) (W.contents writer.old) (W.contents writer.new) result }
-    ensures legal { WritesLegally (R.remaining reader) (W.contents writer.old) (W.contents writer.new) result }
-    ensures headline { WritesWithHeadline (R.remaining reader) (W.contents writer.old) (W.contents writer.new) result }
+    ensures run { WritesRun None (R.remaining reader) (W.contents writer.old) (W.contents writer.new) result }
+    ensures legal { WritesLegally None (R.remaining reader) (W.contents writer.old) (W.contents writer.new) result }
+    ensures headline { WritesWithHeadline None (R.remaining reader) (W.contents writer.old) (W.contents writer.new) result }
 {
-    let (exit, _) = run_with_fault(alloc, reader, writer);
+    let (exit, _) = run_with_fault(alloc, None, reader, writer);
     exit
 }
 
-/// Does what `run_text` does, and returns beside the end the fault at which the script stopped.
+/// Does what `run_text` does, where FILE stands for the bytes of `file`, if there are any, and returns
+/// beside the end the fault at which the script stopped.
 pub(crate) fn run_with_fault<R: Read + Drop, W: Write>(
     alloc: Global,
+    file: Option<&[u8]>,
     reader: R,
     writer: &mut W,
 ) -> (Exit, Option<ScriptFault>)
-    ensures run { WritesRun (R.remaining reader) (W.contents writer.old) (W.contents writer.new) result.0 }
-    ensures legal { WritesLegally (R.remaining reader) (W.contents writer.old) (W.contents writer.new) result.0 }
-    ensures headline { WritesWithHeadline (R.remaining reader) (W.contents writer.old) (W.contents writer.new) result.0 }
+    ensures run { WritesRun (given_bytes file.entry) (R.remaining reader) (W.contents writer.old) (W.contents writer.new) result.0 }
+    ensures legal { WritesLegally (given_bytes file.entry) (R.remaining reader) (W.contents writer.old) (W.contents writer.new) result.0 }
+    ensures headline { WritesWithHeadline (given_bytes file.entry) (R.remaining reader) (W.contents writer.old) (W.contents writer.new)
+        result.0 }
     // Where no fault is given the script ran to its end.
     ensures fault { result.1 ≡ None → result.0 ≡ Exit.Done }
 {
-    match script(alloc, reader, writer) {
+    match script_with(alloc, file, reader, writer) {
         Ok(()) => (Exit::Done, None),
         Err(fault) => (stop_text(alloc, fault, writer), Some(fault)),
     }
 }
 
-/// Does what `run_text` does, with a line for each action of the host, as `dfu_link::script_traced` writes it.
+/// Does what `run_with_fault` does, with a line for each action of the host, as `dfu_link::script_traced_with` writes it.
 /// It returns beside the end the fault at which the script stopped too, and the writer.
 pub(crate) fn run_traced_with_fault<R: Read + Drop, W: Write + Drop>(
     alloc: Global,
+    file: Option<&[u8]>,
     reader: R,
     writer: W,
 ) -> (Exit, Option<ScriptFault>, W)
-    ensures run { W.contents writer ≡ Some [] → WritesTraced (R.remaining reader) (W.contents result.2) result.0 }
+    ensures run { W.contents writer ≡ Some [] → WritesTraced (given_bytes file.entry) (R.remaining reader) (W.contents result.2) result.0 }
     // Where no fault is given the script ran to its end.
     ensures fault { result.1 ≡ None → result.0 ≡ Exit.Done }
 {
-    let (answer, mut writer) = script_traced(alloc, reader, writer);
+    let (answer, mut writer) = script_traced_with(alloc, file, reader, writer);
     match answer {
         Ok(()) => (Exit::Done, None, writer),
         Err(fault) => {

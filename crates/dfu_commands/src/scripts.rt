@@ -31,11 +31,13 @@ fn stop_reason<S>(
     alloc: Global,
     name: &str,
     fault: ScriptFault,
+    has_file: bool,
     watched: &mut Watched<S>,
 ) -> Option<String> {
     match fault {
         ScriptFault::BadLine(number) => {
-            line_reason(alloc, name, number, &watched.line_reason(alloc)?)
+            let why = watched.line_reason(alloc, has_file)?;
+            line_reason(alloc, name, number, &why)
         }
         ScriptFault::BadConfig => {
             let (number, why) = watched.setup_reason()?;
@@ -64,29 +66,32 @@ fn run_from<R: Print + AllocGlobal, S: Read + IsTerminal + Drop>(
     name: &str,
     script: S,
     trace: bool,
+    file: Option<&[u8]>,
     explain: bool,
 ) -> Answer {
     let alloc = rt.alloc();
     let room = if script.is_terminal() { 0 } else { BUFFER };
     let mut watched = Watched::new(alloc, script, explain);
     let (exit, fault, _) = if trace {
-        run_traced_buffered(alloc, &mut watched, buffer_of(rt, room))
+        run_traced_buffered(alloc, file, &mut watched, buffer_of(rt, room))
     } else {
-        run_buffered_with_fault(alloc, &mut watched, buffer_of(rt, room))
+        run_buffered_with_fault(alloc, file, &mut watched, buffer_of(rt, room))
     };
     let reason = match fault {
-        Some(fault) if explain => stop_reason(alloc, name, fault, &mut watched),
+        Some(fault) if explain => { stop_reason(alloc, name, fault, file.is_some(), &mut watched) }
         _ => None,
     };
     Answer { exit, reason }
 }
 
 /// Runs a script, or that of standard input where the name is `-`, with a line for each action of the host
-/// where `trace` is set, and with the reason where it stops and that is wanted.
+/// where `trace` is set, and with the reason where it stops and that is wanted. FILE stands for the bytes
+/// of `file`, if there are any.
 pub(crate) fn run_script<R: Files + Input + Print + AllocGlobal>(
     rt: &R,
     script: &str,
     trace: bool,
+    file: Option<&[u8]>,
     explain: bool,
 ) -> Answer
 where
@@ -94,7 +99,7 @@ where
     R::Reader: IsTerminal,
 {
     match open(rt, script) {
-        Ok(reader) => run_from(rt, script, reader, trace, explain),
+        Ok(reader) => run_from(rt, script, reader, trace, file, explain),
         Err(error) => Answer {
             exit: fault_text(SuffixFault::Read, &mut io::writer(rt)),
             reason: error_reason(rt.alloc(), script, &error),

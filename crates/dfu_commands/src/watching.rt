@@ -80,12 +80,13 @@ impl<R> Watched<R> {
         }
     }
 
-    /// Why the line that was given last is none of the language.
-    pub(crate) fn line_reason(&self, alloc: Global) -> Option<String> {
+    /// Why the line that was given last is none of the language, where `has_file` says whether `--file` was
+    /// given.
+    pub(crate) fn line_reason(&self, alloc: Global, has_file: bool) -> Option<String> {
         if self.piece.is_empty() || !self.is_known {
             return None;
         }
-        match line_why(alloc, &self.line) {
+        match line_why(alloc, &self.line, has_file) {
             Ok(why) => Some(why),
             Err(_) => None,
         }

@@ -4,7 +4,7 @@ ghost use Rattle.std.specs.Prelude.{◌≡◌, IfOk, IfSome, None, codes, is_som
 ghost use Rattle.std.specs.String.{string_bytes};
 ghost use Rattle.dfu_text.specs.ReasonLines.{reason_line};
 ghost use Rattle.dfu_commands.specs.Identifiers.{ids_said};
-ghost use Rattle.dfu_commands.specs.WordReasons.{device_why, interface_why, kind_why, out_why};
+ghost use Rattle.dfu_commands.specs.WordReasons.{device_why, file_why, interface_why, kind_why, out_why};
 
 use crate::identifiers::{IdTexts, wrong_option};
 use dfu_text::reason_line;
@@ -49,6 +49,15 @@ pub(crate) fn bad_out(alloc: Global) -> Option<String>
 {
     let why = "it has to be a file, as ./- for one with this name";
     made(reason_line(alloc, "OUT ", "-", why))
+}
+
+/// Why a script and its file can't both be standard input.
+#[tactic(auto, unfolding(crate::specs::WordReasons::file_why))]
+pub(crate) fn bad_file(alloc: Global) -> Option<String>
+    ensures { IfSome result (λ t. string_bytes t ≡ reason_line (codes "--file ") (codes "-") file_why) }
+{
+    let why = "the script is standard input already";
+    made(reason_line(alloc, "--file ", "-", why))
 }
 
 /// Why an interface is none.

@@ -19,7 +19,7 @@ use Rattle.dfu_link.specs.Comes.{Comes, refuses, happens, shown_as}
 use Rattle.dfu_link.specs.Standing.{IsSteady}
 use Rattle.dfu_link.specs.Texts.{uploaded_line, told_line, answer_line, line_of_image, state_text}
 use Rattle.dfu_link.specs.Said.{Said, Show}
-use Rattle.dfu_link.specs.ScriptRun.{AllCome, none_comes, then_comes, Point, LineActs, skips, limits_to as acts_limits, plays, goes_on as acts_on, shows as acts_shows, expects as acts_expects, point, LinesRun, stays, then_runs}
+use Rattle.dfu_link.specs.ScriptRun.{AllCome, none_comes, then_comes, Point, LineActs, skips, limits_to as acts_limits, plays, goes_on as acts_on, shows as acts_shows, expects as acts_expects, LinesRun, stays, then_runs}
 use Rattle.dfu_link.specs.ScriptLegal.{begun_with, Vouches, GoesWith, reported, EventsGo, no_event, one_event, LineGoes, does_nothing, limits_to, lets_come, goes_on, shows, expects, LinesGo, no_line, one_line}
 use Rattle.dfu_link.proofs.MoveLaws.{replicate_more}
 use Rattle.dfu_link.proofs.Saying.{only_offered}
@@ -156,7 +156,7 @@ cur_shown shown b m vouches = (shown b).1 m.cur vouches.agrees.active
 
 -- Where a script is, whatever is expected.
 abbrev pub bare : Point → Point
-bare p = point p.limits p.at
+bare p = record p { next = None }
 
 -- A line that was done, with which the machine went along.
 pub record LineGone (factory : List ℕ) (s : Setting) (before : List Report) (p : Point) (m : Machine) (said : Said) (out : List ℕ)

@@ -108,7 +108,7 @@ image_falls {q = q} {t = t} {mid = mid} {new = new} f m ended fails broke = reco
   falls = image_breaks q t.left t.room (t.number + 1) mid new f ended fails broke;
 }
 
-none_falls : (p : Point) (k : ℕ) (lines : List (List ℕ)) (old : Option (List ℕ)) (f : ScriptFault) → GivesNone k lines f
+none_falls : (p : Point) (k : ℕ) (lines : List (List ℕ)) (old : Option (List ℕ)) (f : ScriptFault) → GivesNone p.given k lines f
     → NextFalls p k lines old old f
 none_falls p k lines old TooLarge h = refl
 none_falls p k lines old Read h = refl
@@ -122,14 +122,14 @@ none_falls p k lines old (Expected n) h = absurd h
 none_falls p k lines old (NonePrinted n) h = absurd h
 
 stops_here : (p : Point) (a : Option (List ℕ)) (room k : ℕ) (old : Option (List ℕ)) (f : ScriptFault)
-    → IfSome a (λ left. IsStopped room left f × GivesNone k (lines_of left) f)
+    → IfSome a (λ left. IsStopped room left f × GivesNone p.given k (lines_of left) f)
     → IfSome a (λ left. IsStopped room left f × NextFalls p k (lines_of left) old old f)
 stops_here p None room k old f h = tt
 stops_here p (Some left) room k old f h = (h.0, none_falls p k (lines_of left) old f h.1)
 
 -- The source gives no line.
 pub source_falls : {p q : Point} {s t : SourceState} {old mid : Option (List ℕ)} (f : ScriptFault) → Moves p s old q t mid
-    → StopsSource t f → MovesAndFalls p s old mid f
+    → StopsSource q.given t f → MovesAndFalls p s old mid f
 source_falls {q = q} {t = t} {mid = mid} f m stops = record {
   to = q;
   at = t;
@@ -175,18 +175,18 @@ break_falls p k line old new f stop breaks = elim stop [ ]
 
 -- It stops in what a line prints.
 pub line_breaks : (p : Point) (k : ℕ) (line : List ℕ) (old new : Option (List ℕ)) (said : Said) (f : ScriptFault)
-    → line_of line ≡ Some said → HasStopped p said old new f → LineFalls p k line old new f
+    → line_of p.given line ≡ Some said → HasStopped p said old new f → LineFalls p k line old new f
 line_breaks p k line old new said f e broken = break_falls p k line old new f (break_of f (broken line e)) (broken line e)
 
 -- There is no memory for the tear of a line.
 pub tear_falls : (p : Point) (k : ℕ) (line : List ℕ) (old : Option (List ℕ)) (said : Said) (f : ScriptFault)
-    → line_of line ≡ Some said → FindsNoTear said f → LineFalls p k line old old f
+    → line_of p.given line ≡ Some said → FindsNoTear said f → LineFalls p k line old old f
 tear_falls p k line old (Does d) f e (has, is) = subst (λ (g : ScriptFault). LineFalls p k line old old g) (sym is) (inl (for_tear e has, refl))
 tear_falls p k line old said f e no_tear = elim no_tear [ ]
 
 -- There is no memory for the file that a line offers.
 pub offer_falls : (p : Point) (k : ℕ) (line : List ℕ) (old : Option (List ℕ)) (said : Said) (f : ScriptFault)
-    → line_of line ≡ Some said → p.at.session ≡ Nobody → FindsNoRoom said f → LineFalls p k line old old f
+    → line_of p.given line ≡ Some said → p.at.session ≡ Nobody → FindsNoRoom said f → LineFalls p k line old old f
 offer_falls p k line old (Does (Offer aim file)) f e free is = subst (λ (g : ScriptFault). LineFalls p k line old old g) (sym is)
     (inl (for_file (record { aim = aim; file = file; says = e }) free, refl))
 offer_falls p k line old said f e free is = elim is [ ]

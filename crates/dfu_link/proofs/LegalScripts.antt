@@ -43,10 +43,10 @@ starts_beside {settings = settings} {first = first} starts = record {
 }
 
 -- What went along from the start on is a legal run.
-runs_legally : {text : List ℕ} {settings : Settings} {after done : List (List ℕ)} {first : Shown} {shown : List ℕ} {end : Point}
-    → SetsUp text settings after → Starts settings first
-    → (all : LinesGone settings.image first.config [] (point settings.limits (at_rest first)) (begun_with settings.image) done shown end)
-    → RunsLegally text after done shown end all.after
+runs_legally : {g : Option (List ℕ)} {text : List ℕ} {settings : Settings} {after done : List (List ℕ)} {first : Shown} {shown : List ℕ} {end : Point}
+    → SetsUp g text settings after → Starts settings first
+    → (all : LinesGone settings.image first.config [] (point settings (at_rest first)) (begun_with settings.image) done shown end)
+    → RunsLegally g text after done shown end all.after
 runs_legally {settings = settings} {first = first} sets_up starts all = record {
   settings = settings;
   sets_up = sets_up;
@@ -61,9 +61,9 @@ runs_legally {settings = settings} {first = first} sets_up starts all = record {
 }
 
 -- The machine goes along with a script that runs to its end.
-run_legal : ImageShown → {text out : List ℕ} → IsRun text out → IsLegal text out
+run_legal : ImageShown → {g : Option (List ℕ)} {text out : List ℕ} → IsRun g text out → IsLegal g text out
 run_legal shows run =
-    let all = lines_gone shows {p = point run.settings.limits (at_rest run.first)} (starts_beside run.starts) run.runs in
+    let all = lines_gone shows {p = point run.settings (at_rest run.first)} (starts_beside run.starts) run.runs in
     record {
       after = run.after;
       shown = run.shown;
@@ -121,27 +121,27 @@ out_of_next shows p m k [] old new (NonePrinted n) beside (fails, broke) = out_o
 out_of_next shows p m k [] old new BadConfig beside (fails, broke) = out_of_image shows p m beside.vouches broke
 
 -- The machine goes along with a script that stops.
-falls_legal : ImageShown → {text : List ℕ} {old new : Option (List ℕ)} {fault : ScriptFault} → Falls text old new fault
-    → StopsLegally text old new
+falls_legal : ImageShown → {g : Option (List ℕ)} {text : List ℕ} {old new : Option (List ℕ)} {fault : ScriptFault}
+    → Falls g text old new fault → StopsLegally g text old new
 unfolding runs_legally
 falls_legal shows (no_memory e) = before_start e
 falls_legal shows (in_setting falls e) = before_start e
 falls_legal shows (at_start sets_up cannot there e) = before_start e
 falls_legal shows {new = new} (in_run {settings = settings} {first = first} {fault = fault} sets_up starts falls there) =
-    let all = lines_gone shows {p = point settings.limits (at_rest first)} (starts_beside starts) falls.runs in
+    let all = lines_gone shows {p = point settings (at_rest first)} (starts_beside starts) falls.runs in
     after_start (runs_legally sets_up starts all) falls.split falls.told
     (out_of_next shows falls.end all.after _ falls.rest falls.mid new fault all.beside falls.falls)
 
 -- A script that was written is one with which the machine goes along.
-pub wrote_legal : ImageShown → (given : Option (List ℕ)) (old new : Option (List ℕ)) (r : Result Unit ScriptFault)
-    → IfSome given (λ text. OnOk r (WroteRun text old new)) → IfSome given (λ text. OnOk r (WroteLegal text old new))
-wrote_legal shows None old new r ok = tt
-wrote_legal shows (Some text) old new (Ok done) ok = record { out = ok.out; legal = run_legal shows ok.run; told = ok.told }
-wrote_legal shows (Some text) old new (Err f) ok = tt
+pub wrote_legal : ImageShown → (g given : Option (List ℕ)) (old new : Option (List ℕ)) (r : Result Unit ScriptFault)
+    → IfSome given (λ text. OnOk r (WroteRun g text old new)) → IfSome given (λ text. OnOk r (WroteLegal g text old new))
+wrote_legal shows g None old new r ok = tt
+wrote_legal shows g (Some text) old new (Ok done) ok = record { out = ok.out; legal = run_legal shows ok.run; told = ok.told }
+wrote_legal shows g (Some text) old new (Err f) ok = tt
 
 -- And so is one that stopped.
-pub stops_legal : ImageShown → (given : Option (List ℕ)) (old new : Option (List ℕ)) (r : Result Unit ScriptFault)
-    → IfSome given (λ text. IfErr r (λ f. Falls text old new f)) → IfSome given (λ text. OnErr r (StopsLegally text old new))
-stops_legal shows None old new r fault = tt
-stops_legal shows (Some text) old new (Ok done) fault = tt
-stops_legal shows (Some text) old new (Err f) fault = falls_legal shows fault
+pub stops_legal : ImageShown → (g given : Option (List ℕ)) (old new : Option (List ℕ)) (r : Result Unit ScriptFault)
+    → IfSome given (λ text. IfErr r (λ f. Falls g text old new f)) → IfSome given (λ text. OnErr r (StopsLegally g text old new))
+stops_legal shows g None old new r fault = tt
+stops_legal shows g (Some text) old new (Ok done) fault = tt
+stops_legal shows g (Some text) old new (Err f) fault = falls_legal shows fault

@@ -10,9 +10,9 @@ use Rattle.dfu_link.specs.Words.{◌>>=◌, guard, bytes_of, number_of, first, t
 use Rattle.dfu_link.specs.Keywords.{keyword_of, fate_keyword_of}
 use Rattle.dfu_link.specs.Happening.{Fate}
 use Rattle.dfu_link.specs.Said.{ConfigLine, TheIds, TheDevice, TheUnit, TheSector, TheCapacity, TheImage, EventLine, Offer, Upload, Abort, Go, Time, Reset, Cut, Said, Blank, Sets, LimitsTo, Does, GoesOn, Show, Expects}
-use Rattle.dfu_link.specs.Lines.{number_at, small_at, hex_at, identifier_at, attributes_at, ids_of, device_of, unit_named, unit_of, erase_of, capacity_of, image_of, limits_of, offer_of, time_of, pass_of, slip_of, harmed_of, until_of, go_of, expect_of, by_keyword, is_comment, says, line_of}
+use Rattle.dfu_link.specs.Lines.{number_at, small_at, hex_at, named_bytes, file_at, identifier_at, attributes_at, ids_of, device_of, unit_named, unit_of, erase_of, capacity_of, image_of, limits_of, offer_of, time_of, pass_of, slip_of, harmed_of, until_of, go_of, expect_of, by_keyword, is_comment, says, line_of}
 use Rattle.dfu_link.specs.Headline.{Begun, WithOffer, AsUpload}
-use Rattle.dfu_link.specs.Printed.{Brings, Nothing, AnImage, Events, SomePasses, AShow, bytes_in, count_in, go_brings, words_bring, brought}
+use Rattle.dfu_link.specs.Printed.{Brings, Nothing, AnImage, Events, SomePasses, AShow, bytes_in, file_in, count_in, go_brings, words_bring, brought}
 
 -- What is said.
 
@@ -83,6 +83,13 @@ hex_in [] file h = absurd cc
 hex_in (word ∷ words) file h = bind_some (bytes_of word) _ file h (λ x is made. ap (λ (f : List ℕ × List (List ℕ)). f.0)
     (sym (some_of (x, words) file made)) ∙ ap (λ (o : Option (List ℕ)). unwrap_or o []) (sym is))
 
+file_is : (given : Option (List ℕ)) (words : List (List ℕ)) (file : List ℕ × List (List ℕ)) → file_at given words ≡ Some file
+    → file.0 ≡ file_in given words
+unfolding file_at named_bytes
+file_is given [] file h = absurd cc
+file_is given (word ∷ words) file h = bind_some (named_bytes given word) _ file h (λ x is made. ap (λ (f : List ℕ × List (List ℕ)). f.0)
+    (sym (some_of (x, words) file made)) ∙ ap (λ (o : Option (List ℕ)). unwrap_or o []) (sym is))
+
 number_in : (words : List (List ℕ)) (n : ℕ × List (List ℕ)) → number_at words ≡ Some n → n.0 ≡ count_in words
 unfolding number_at
 number_in [] n h = absurd cc
@@ -135,11 +142,11 @@ limits_bring words said h = bind_some (number_at words) _ said h (λ a ia ha. bi
 
 -- Event lines.
 
-offer_brings : (aim : Aim) (words : List (List ℕ)) (said : Said) → offer_of aim words ≡ Some said
-    → said_brings said ≡ Events (Some (WithOffer (bytes_in words)) ∷ [])
+offer_brings : (given : Option (List ℕ)) (aim : Aim) (words : List (List ℕ)) (said : Said) → offer_of given aim words ≡ Some said
+    → said_brings said ≡ Events (Some (WithOffer (file_in given words)) ∷ [])
 unfolding offer_of
-offer_brings aim words said h = bind_some (hex_at words) _ said h (λ x is hx. ends_bring (Does (Offer aim x.0)) x.1 said hx
-    ∙ ap (λ (file : List ℕ). Events (Some (WithOffer file) ∷ [])) (hex_in words x is))
+offer_brings given aim words said h = bind_some (file_at given words) _ said h (λ x is hx. ends_bring (Does (Offer aim x.0)) x.1 said hx
+    ∙ ap (λ (file : List ℕ). Events (Some (WithOffer file) ∷ [])) (file_is given words x is))
 
 time_brings : (words : List (List ℕ)) (said : Said) → time_of words ≡ Some said → said_brings said ≡ Events (None ∷ [])
 unfolding time_of
@@ -190,11 +197,11 @@ go_says (word ∷ words) said h =
     fate_case (codes "until") _ _ _ word words said h (until_brings words said) (λ h. absurd cc))))))))))
 
 -- The first word of a line is this one or another.
-word_case : {K : Type 0} (s : List ℕ) (k : K) (rest : Option K) (f : K → Option Said) (word : List ℕ) (words : List (List ℕ)) (said : Said)
-    → (cond (bytes_eq word s) (Some k) rest >>= f) ≡ Some said → (f k ≡ Some said → said_brings said ≡ words_bring (s ∷ words))
-    → ((rest >>= f) ≡ Some said → said_brings said ≡ words_bring (word ∷ words)) → said_brings said ≡ words_bring (word ∷ words)
-word_case s k rest f word words said h one other = if_case (bytes_eq word s) k rest f said h
-    (λ is made. subst (λ (w : List ℕ). said_brings said ≡ words_bring (w ∷ words)) (sym ((bytes_eq-Decides word s).0 is)) (one made)) other
+word_case : {K : Type 0} (given : Option (List ℕ)) (s : List ℕ) (k : K) (rest : Option K) (f : K → Option Said) (word : List ℕ) (words : List (List ℕ)) (said : Said)
+    → (cond (bytes_eq word s) (Some k) rest >>= f) ≡ Some said → (f k ≡ Some said → said_brings said ≡ words_bring given (s ∷ words))
+    → ((rest >>= f) ≡ Some said → said_brings said ≡ words_bring given (word ∷ words)) → said_brings said ≡ words_bring given (word ∷ words)
+word_case given s k rest f word words said h one other = if_case (bytes_eq word s) k rest f said h
+    (λ is made. subst (λ (w : List ℕ). said_brings said ≡ words_bring given (w ∷ words)) (sym ((bytes_eq-Decides word s).0 is)) (one made)) other
 
 some_unless : {A : Type 0} (t : Bool) (x y : A) → cond t None (Some x) ≡ Some y → x ≡ y
 some_unless true x y h = absurd cc
@@ -205,45 +212,50 @@ unfolding expect_of
 expect_brings line said h = bind_some (text_behind line) _ said h
     (λ text is made. ap said_brings (sym (some_unless (length text == 0) (Expects text) said made)))
 
-keyword_says : (line word : List ℕ) (words : List (List ℕ)) (said : Said) → (keyword_of word >>= λ k. by_keyword k line words) ≡ Some said
-    → said_brings said ≡ words_bring (word ∷ words)
+keyword_says : (given : Option (List ℕ)) (line word : List ℕ) (words : List (List ℕ)) (said : Said)
+    → (keyword_of word >>= λ k. by_keyword given k line words) ≡ Some said → said_brings said ≡ words_bring given (word ∷ words)
 unfolding keyword_of
-keyword_says line word words said h =
-    word_case (codes "ids") _ _ _ word words said h (ids_bring words said) (λ h.
-    word_case (codes "device") _ _ _ word words said h (device_brings words said) (λ h.
-    word_case (codes "unit") _ _ _ word words said h (unit_brings words said) (λ h.
-    word_case (codes "erase") _ _ _ word words said h (erase_brings words said) (λ h.
-    word_case (codes "capacity") _ _ _ word words said h (capacity_brings words said) (λ h.
-    word_case (codes "image") _ _ _ word words said h (image_brings words said) (λ h.
-    word_case (codes "limits") _ _ _ word words said h (limits_bring words said) (λ h.
-    word_case (codes "offer") _ _ _ word words said h (offer_brings Install words said) (λ h.
-    word_case (codes "verify") _ _ _ word words said h (offer_brings Verify words said) (λ h.
-    word_case (codes "upload") _ _ _ word words said h (ends_bring (Does Upload) words said) (λ h.
-    word_case (codes "abort") _ _ _ word words said h (ends_bring (Does Abort) words said) (λ h.
-    word_case (codes "go") _ _ _ word words said h (go_says words said) (λ h.
-    word_case (codes "time") _ _ _ word words said h (time_brings words said) (λ h.
-    word_case (codes "reset") _ _ _ word words said h (ends_bring (Does Reset) words said) (λ h.
-    word_case (codes "cut") _ _ _ word words said h (ends_bring (Does Cut) words said) (λ h.
-    word_case (codes "show") _ _ _ word words said h (ends_bring Show words said) (λ h.
-    word_case (codes "expect") _ _ _ word words said h (expect_brings line said) (λ h. absurd cc)))))))))))))))))
+keyword_says given line word words said h =
+    word_case given (codes "ids") _ _ _ word words said h (ids_bring words said) (λ h.
+    word_case given (codes "device") _ _ _ word words said h (device_brings words said) (λ h.
+    word_case given (codes "unit") _ _ _ word words said h (unit_brings words said) (λ h.
+    word_case given (codes "erase") _ _ _ word words said h (erase_brings words said) (λ h.
+    word_case given (codes "capacity") _ _ _ word words said h (capacity_brings words said) (λ h.
+    word_case given (codes "image") _ _ _ word words said h (image_brings words said) (λ h.
+    word_case given (codes "limits") _ _ _ word words said h (limits_bring words said) (λ h.
+    word_case given (codes "offer") _ _ _ word words said h (offer_brings given Install words said) (λ h.
+    word_case given (codes "verify") _ _ _ word words said h (offer_brings given Verify words said) (λ h.
+    word_case given (codes "upload") _ _ _ word words said h (ends_bring (Does Upload) words said) (λ h.
+    word_case given (codes "abort") _ _ _ word words said h (ends_bring (Does Abort) words said) (λ h.
+    word_case given (codes "go") _ _ _ word words said h (go_says words said) (λ h.
+    word_case given (codes "time") _ _ _ word words said h (time_brings words said) (λ h.
+    word_case given (codes "reset") _ _ _ word words said h (ends_bring (Does Reset) words said) (λ h.
+    word_case given (codes "cut") _ _ _ word words said h (ends_bring (Does Cut) words said) (λ h.
+    word_case given (codes "show") _ _ _ word words said h (ends_bring Show words said) (λ h.
+    word_case given (codes "expect") _ _ _ word words said h (expect_brings line said) (λ h. absurd cc)))))))))))))))))
 
 -- A comment brings nothing.
-comment_brings : (word : List ℕ) (words : List (List ℕ)) → is_comment word ≡ true → words_bring (word ∷ words) ≡ Nothing
-comment_brings [] words h = absurd cc
-comment_brings (byte ∷ bytes) words h =
+comment_brings : (given : Option (List ℕ)) (word : List ℕ) (words : List (List ℕ)) → is_comment word ≡ true
+    → words_bring given (word ∷ words) ≡ Nothing
+comment_brings given [] words h = absurd cc
+comment_brings given (byte ∷ bytes) words h =
     let e : byte ≡ 35 = grind (arith, nat_tests, h) in
-    ap (λ (b : ℕ). words_bring ((b ∷ bytes) ∷ words)) e
+    ap (λ (b : ℕ). words_bring given ((b ∷ bytes) ∷ words)) e
 
-word_says : (c : Bool) (line word : List ℕ) (words : List (List ℕ)) (said : Said) → is_comment word ≡ c
-    → cond c (Some Blank) (keyword_of word >>= λ k. by_keyword k line words) ≡ Some said → said_brings said ≡ words_bring (word ∷ words)
-word_says true line word words said is h = ap said_brings (sym (some_of Blank said h)) ∙ sym (comment_brings word words is)
-word_says false line word words said is h = keyword_says line word words said h
+word_says : (given : Option (List ℕ)) (c : Bool) (line word : List ℕ) (words : List (List ℕ)) (said : Said) → is_comment word ≡ c
+    → cond c (Some Blank) (keyword_of word >>= λ k. by_keyword given k line words) ≡ Some said
+    → said_brings said ≡ words_bring given (word ∷ words)
+word_says given true line word words said is h = ap said_brings (sym (some_of Blank said h)) ∙ sym (comment_brings given word words is)
+word_says given false line word words said is h = keyword_says given line word words said h
 
-words_say : (line : List ℕ) (words : List (List ℕ)) (said : Said) → says line words ≡ Some said → said_brings said ≡ words_bring words
-words_say line [] said h = ap said_brings (sym (some_of Blank said h))
-words_say line (word ∷ words) said h = word_says (is_comment word) line word words said refl h
+words_say : (given : Option (List ℕ)) (line : List ℕ) (words : List (List ℕ)) (said : Said) → says given line words ≡ Some said
+    → said_brings said ≡ words_bring given words
+words_say given line [] said h = ap said_brings (sym (some_of Blank said h))
+words_say given line (word ∷ words) said h = word_says given (is_comment word) line word words said refl h
 
 -- A line of the language brings what it says.
-pub line_brings : (line : List ℕ) (said : Said) → line_of line ≡ Some said → brought line ≡ said_brings said
+pub line_brings : (given : Option (List ℕ)) (line : List ℕ) (said : Said) → line_of given line ≡ Some said
+    → brought given line ≡ said_brings said
 unfolding line_of
-line_brings line said h = sym (words_say line (words_of line) said (if_some (nat_le (length line) 65536) (says line (words_of line)) said h))
+line_brings given line said h =
+    sym (words_say given line (words_of line) said (if_some (nat_le (length line) 65536) (says given line (words_of line)) said h))

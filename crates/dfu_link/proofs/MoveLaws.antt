@@ -129,64 +129,64 @@ broken b c c' e k n r old mid new f p lt come active broke fails =
 -- A line.
 
 -- A line that says nothing does nothing.
-pub step_blank : (k : ℕ) (p : Point) (line : List ℕ) (old : Option (List ℕ)) → line_of line ≡ Some Blank → Steps k p line old p old
+pub step_blank : (k : ℕ) (p : Point) (line : List ℕ) (old : Option (List ℕ)) → line_of p.given line ≡ Some Blank → Steps k p line old p old
 step_blank k p line old e = record { said = Blank; is = e; out = []; acts = skips; told = appends_none old }
 
 -- A line that sets the limits sets them.
-pub step_limits : (k : ℕ) (p : Point) (line : List ℕ) (old : Option (List ℕ)) (a r : ℕ) → line_of line ≡ Some (LimitsTo a r)
+pub step_limits : (k : ℕ) (p : Point) (line : List ℕ) (old : Option (List ℕ)) (a r : ℕ) → line_of p.given line ≡ Some (LimitsTo a r)
     → Steps k p line old (record p { limits = record { actions = a; restarts = r } }) old
 step_limits k p line old a r e = record { said = LimitsTo a r; is = e; out = []; acts = limits_to; told = appends_none old }
 
 -- What an event line says was done.
-pub step_acts : (k : ℕ) (p p' : Point) (line : List ℕ) (old new : Option (List ℕ)) (said : Said) → line_of line ≡ Some said
+pub step_acts : (k : ℕ) (p p' : Point) (line : List ℕ) (old new : Option (List ℕ)) (said : Said) → line_of p.given line ≡ Some said
     → HasActed p said old p' new → Steps k p line old p' new
 step_acts k p p' line old new said e a = record { said = said; is = e; out = a.out; acts = a.acts k; told = a.told }
 
 -- The events of an event line were played.
-pub line_acted : (r : Result Unit ScriptFault) (l : Limits) (x x' : Option Expectation) (b b' : Bench) (old new : Option (List ℕ))
+pub line_acted : (r : Result Unit ScriptFault) (g : Option (List ℕ)) (l : Limits) (x x' : Option Expectation) (b b' : Bench) (old new : Option (List ℕ))
     {said : Said} {events : List Happening} (d : EventLine) → said ≡ Does d → events ≡ events_of l d
-    → OnOk r (HasPlayed b x events old b' x' new) → OnOk r (HasActed (point_at l x b) said old (point_at l x' b') new)
-line_acted (Err f) l x x' b b' old new d is same played = tt
-line_acted (Ok done) l x x' b b' old new d is same played =
+    → OnOk r (HasPlayed b x events old b' x' new) → OnOk r (HasActed (point_at g l x b) said old (point_at g l x' b') new)
+line_acted (Err f) g l x x' b b' old new d is same played = tt
+line_acted (Ok done) g l x x' b b' old new d is same played =
     let p = subst (λ (events : List Happening). HasPlayed b x events old b' x' new) same played in
-    subst (λ (y : Said). HasActed (point_at l x b) y old (point_at l x' b') new) (sym is)
+    subst (λ (y : Said). HasActed (point_at g l x b) y old (point_at g l x' b') new) (sym is)
     (record {
       out = p.out;
-      acts = λ k. subst (λ (y : Option Expectation). LineActs k (point_at l x b) (Does d) p.out (point_at l y b')) (sym p.prints.left)
+      acts = λ k. subst (λ (y : Option Expectation). LineActs k (point_at g l x b) (Does d) p.out (point_at g l y b')) (sym p.prints.left)
           (plays p.plays p.prints.meets);
       told = p.prints.told;
     })
 
 -- So it is where it stops among them.
-pub line_stopped : (r : Result Unit ScriptFault) (l : Limits) (x : Option Expectation) (b : Bench) (old new : Option (List ℕ)) {said : Said}
+pub line_stopped : (r : Result Unit ScriptFault) (g : Option (List ℕ)) (l : Limits) (x : Option Expectation) (b : Bench) (old new : Option (List ℕ)) {said : Said}
     {events : List Happening} (d : EventLine) → said ≡ Does d → events ≡ events_of l d → IfErr r (λ f. HasBroken b x events old new f)
-    → IfErr r (λ f. HasStopped (point_at l x b) said old new f)
-line_stopped (Ok done) l x b old new d is same part = tt
-line_stopped (Err f) l x b old new d is same part =
+    → IfErr r (λ f. HasStopped (point_at g l x b) said old new f)
+line_stopped (Ok done) g l x b old new d is same part = tt
+line_stopped (Err f) g l x b old new d is same part =
     let broke = subst (λ (events : List Happening). HasBroken b x events old new f) same part in
-    subst (λ (y : Said). HasStopped (point_at l x b) y old new f) (sym is) (λ line e. in_events e broke)
+    subst (λ (y : Said). HasStopped (point_at g l x b) y old new f) (sym is) (λ line e. in_events e broke)
 
 -- A line that shows prints the line of the device.
-pub step_shows : (k : ℕ) (l : Limits) {x x' : Option Expectation} (b : Bench) (line : List ℕ) (old new : Option (List ℕ))
-    → line_of line ≡ Some Show → Prints x old (show_line b.device) x' new → Steps k (point_at l x b) line old (point_at l x' b) new
-step_shows k l {x = x} b line old new e prints = record {
+pub step_shows : (k : ℕ) (g : Option (List ℕ)) (l : Limits) {x x' : Option Expectation} (b : Bench) (line : List ℕ) (old new : Option (List ℕ))
+    → line_of g line ≡ Some Show → Prints x old (show_line b.device) x' new → Steps k (point_at g l x b) line old (point_at g l x' b) new
+step_shows k g l {x = x} b line old new e prints = record {
   said = Show;
   is = e;
   out = show_line b.device;
-  acts = subst (λ (y : Option Expectation). LineActs k (point_at l x b) Show (show_line b.device) (point_at l y b)) (sym prints.left)
+  acts = subst (λ (y : Option Expectation). LineActs k (point_at g l x b) Show (show_line b.device) (point_at g l y b)) (sym prints.left)
       (shows prints.meets);
   told = prints.told;
 }
 
 -- A line that expects another has it expected.
-pub step_expects : (k : ℕ) (l : Limits) {x x' : Option Expectation} (b : Bench) (line : List ℕ) (old : Option (List ℕ)) (text : List ℕ)
-    → line_of line ≡ Some (Expects text) → x ≡ None → x' ≡ Some (record { number = k; text = text })
-    → Steps k (point_at l x b) line old (point_at l x' b) old
-step_expects k l {x = x} b line old text e free is = record {
+pub step_expects : (k : ℕ) (g : Option (List ℕ)) (l : Limits) {x x' : Option Expectation} (b : Bench) (line : List ℕ) (old : Option (List ℕ)) (text : List ℕ)
+    → line_of g line ≡ Some (Expects text) → x ≡ None → x' ≡ Some (record { number = k; text = text })
+    → Steps k (point_at g l x b) line old (point_at g l x' b) old
+step_expects k g l {x = x} b line old text e free is = record {
   said = Expects text;
   is = e;
   out = [];
-  acts = subst (λ (y : Option Expectation). LineActs k (point_at l x b) (Expects text) [] (point_at l y b)) (sym is) (expects free);
+  acts = subst (λ (y : Option Expectation). LineActs k (point_at g l x b) (Expects text) [] (point_at g l y b)) (sym is) (expects free);
   told = appends_none old;
 }
 
@@ -272,7 +272,7 @@ pub prepared_none : (x : Settings) (s : SourceState) → Prepared x s x s
 prepared_none x s = record { done = []; gives = gives_none s; prepares = nothing }
 
 -- One line more has set something.
-pub prepared_then : {x y z : Settings} {s t u : SourceState} (w : Said) → Prepared x s y t → GivesLine t u → line_of u.line ≡ Some w
+pub prepared_then : {x y z : Settings} {s t u : SourceState} (w : Said) → Prepared x s y t → GivesLine t u → line_of y.given u.line ≡ Some w
     → prepared y w ≡ Some z → Prepared x s z u
 prepared_then {u = u} w p given is does = record {
   done = p.done ++ u.line ∷ [];

@@ -75,35 +75,35 @@ part_some : {old new : Option (List ℕ)} {text : List ℕ} → IsOutInPart old 
 part_some part = λ e. absurd (part_none part.front part.rest (sym part.whole ∙ e) part.left)
 
 -- Something is printed of one action more, which is as expected.
-goes_on_by : {b : Bench} {c c' : LinkState} (limits : Limits) (r : Result (Option Report) LinkFault) {old mid : Option (List ℕ)}
+goes_on_by : {b : Bench} {c c' : LinkState} (g : Option (List ℕ)) (limits : Limits) (r : Result (Option Report) LinkFault) {old mid : Option (List ℕ)}
     {x y : Option Expectation} (k : ℕ) (next : Option Expectation) → Meets next (told_line r c'.up)
     → IsSilent b x old c.bench y mid → HasCome c (Goes Pass unharmed) c' r → ShowsActive c'.bench → told_line r c'.up ≢ []
-    → LineActs k (point_at limits next b) GoesOn (told_line r c'.up) (point_at limits (still next (told_line r c'.up)) c'.bench)
-goes_on_by {b = b} {c = c} {c' = c'} limits r k next meets silent come active some =
+    → LineActs k (point_at g limits next b) GoesOn (told_line r c'.up) (point_at g limits (still next (told_line r c'.up)) c'.bench)
+goes_on_by {b = b} {c = c} {c' = c'} g limits r k next meets silent come active some =
     let same : told_line r c'.up ≡ answer_line come.answer = told_line_is c c' r come in
-    subst (λ (text : List ℕ). LineActs k (point_at limits next b) GoesOn text (point_at limits (still next text) c'.bench)) (sym same)
+    subst (λ (text : List ℕ). LineActs k (point_at g limits next b) GoesOn text (point_at g limits (still next text) c'.bench)) (sym same)
     (goes_on silent.times silent.plays come.comes active (λ e. some (same ∙ e)) (subst (λ (text : List ℕ). Meets next text) same meets))
 
 -- It is out.
-pub passed_on : {b : Bench} {c c' : LinkState} (limits : Limits) (r : Result (Option Report) LinkFault)
+pub passed_on : {b : Bench} {c c' : LinkState} (g : Option (List ℕ)) (limits : Limits) (r : Result (Option Report) LinkFault)
     {old mid : Option (List ℕ)} (kept new : Option (List ℕ)) {x y z : Option Expectation} → IsSilent b x old c.bench y mid
     → HasCome c (Goes Pass unharmed) c' r → ShowsActive c'.bench → Keeps mid kept → r ≢ Ok None
-    → Prints y kept (told_line r c'.up) z new → HasActed (point_at limits x b) GoesOn old (point_at limits z c'.bench) new
-passed_on {b = b} {c' = c'} limits r {old = old} {mid = mid} kept new {x = x} {z = z} silent come active keeps other prints =
+    → Prints y kept (told_line r c'.up) z new → HasActed (point_at g limits x b) GoesOn old (point_at g limits z c'.bench) new
+passed_on {b = b} {c' = c'} g limits r {old = old} {mid = mid} kept new {x = x} {z = z} silent come active keeps other prints =
     let all = prints_more (prints_kept silent.prints keeps) prints in
     record {
       out = told_line r c'.up;
-      acts = λ k. subst (λ (e : Option Expectation). LineActs k (point_at limits x b) GoesOn (told_line r c'.up) (point_at limits e c'.bench))
-          (sym all.left) (goes_on_by limits r k x all.meets silent come active (something r c'.up other));
+      acts = λ k. subst (λ (e : Option Expectation). LineActs k (point_at g limits x b) GoesOn (told_line r c'.up) (point_at g limits e c'.bench))
+          (sym all.left) (goes_on_by g limits r k x all.meets silent come active (something r c'.up other));
       told = all.told;
     }
 
 -- Or it stopped in it.
-pub stopped_on : {b : Bench} {c c' : LinkState} (limits : Limits) (r : Result (Option Report) LinkFault)
+pub stopped_on : {b : Bench} {c c' : LinkState} (g : Option (List ℕ)) (limits : Limits) (r : Result (Option Report) LinkFault)
     {old mid : Option (List ℕ)} (kept new : Option (List ℕ)) {x y : Option Expectation} (f : ScriptFault) → IsSilent b x old c.bench y mid
     → HasCome c (Goes Pass unharmed) c' r → ShowsActive c'.bench → Keeps mid kept → IsOutInPart kept new (told_line r c'.up)
-    → Fails y (told_line r c'.up) kept new f → HasStopped (point_at limits x b) GoesOn old new f
-stopped_on {c' = c'} limits r {old = old} {mid = mid} kept new f silent come active keeps broke fails line e =
+    → Fails y (told_line r c'.up) kept new f → HasStopped (point_at g limits x b) GoesOn old new f
+stopped_on {c' = c'} g limits r {old = old} {mid = mid} kept new f silent come active keeps broke fails line e =
     let before = prints_kept silent.prints keeps in
-    in_passes e (goes_on_by limits r 0 None tt silent come active (part_some broke))
+    in_passes e (goes_on_by g limits r 0 None tt silent come active (part_some broke))
     (broke_after old kept new [] (told_line r c'.up) before.told broke) (fails_after (told_line r c'.up) new f before fails)

@@ -10,7 +10,7 @@ use Rattle.dfu_link.specs.Bench.{Bench}
 use Rattle.dfu_link.specs.Texts.{told_line, refusal_line}
 use Rattle.dfu_link.specs.Said.{ConfigLine, TheIds, TheDevice, TheUnit, TheSector, TheCapacity, TheImage, EventLine, Offer, Upload, Abort, Go, Time, Reset, Cut, Said, Blank, Sets, LimitsTo, Does, GoesOn, Show, Expects}
 use Rattle.dfu_link.specs.Lines.{line_of}
-use Rattle.dfu_link.specs.ScriptRun.{Settings, set as set_by, beginning, Point, events_of, Prepares, prepared, nothing, then_prepares, IsReady, HasToAct}
+use Rattle.dfu_link.specs.ScriptRun.{Settings, set as set_by, beginning, at_rest, Point, events_of, Prepares, prepared, nothing, then_prepares, IsReady, HasToAct}
 use Rattle.dfu_link.specs.Headline.{Begun, WithOffer, AsUpload, HeadlineHolds}
 use Rattle.dfu_link.specs.ScriptHeadline as headline
 use Rattle.dfu_link.specs.ScriptHeadline.{IsKnownImage}
@@ -99,27 +99,44 @@ line_prints (headline.passes_line {times = times} holds) = prints_passes times (
 line_prints {p = p} (headline.show_line known) = prints_image (state_words p.at.device) (state_words_endless p.at.device) known
 
 -- By the words of the line.
-line_told : {factory : List ℕ} {past past' : List Begun} {p q : Point} {printed : List ℕ} (line : List ℕ) {said : Said}
-    → line_of line ≡ Some said → headline.LineHolds factory past p said printed past' q
-    → LinePrints factory past p.at (brought line) printed past' q.at
-line_told {factory = factory} {past = past} {past' = past'} {p = p} {q = q} {printed = printed} line {said = said} is holds =
-    subst (λ (brings : Brings). LinePrints factory past p.at brings printed past' q.at) (sym (line_brings line said is)) (line_prints holds)
+line_told : {factory : List ℕ} {past past' : List Begun} {p q : Point} {printed : List ℕ} (g : Option (List ℕ)) (line : List ℕ) {said : Said}
+    → line_of g line ≡ Some said → headline.LineHolds factory past p said printed past' q
+    → LinePrints factory past p.at (brought g line) printed past' q.at
+line_told {factory = factory} {past = past} {past' = past'} {p = p} {q = q} {printed = printed} g line {said = said} is holds =
+    subst (λ (brings : Brings). LinePrints factory past p.at brings printed past' q.at) (sym (line_brings g line said is)) (line_prints holds)
+
+-- A line leaves the bytes that are given.
+line_keeps : {factory : List ℕ} {past : List Begun} {p : Point} {said : Said} {printed : List ℕ} {past' : List Begun} {q : Point}
+    → headline.LineHolds factory past p said printed past' q → q.given ≡ p.given
+line_keeps headline.blank_line = refl
+line_keeps headline.limits_line = refl
+line_keeps (headline.event_line holds) = refl
+line_keeps headline.expect_line = refl
+line_keeps (headline.passes_line holds) = line_keeps holds
+line_keeps (headline.show_line known) = refl
+
+lines_keep : {factory : List ℕ} {past : List Begun} {p : Point} {lines : List (List ℕ)} {printed : List ℕ} {past' : List Begun} {q : Point}
+    → headline.LinesHold factory past p lines printed past' q → q.given ≡ p.given
+lines_keep headline.no_line = refl
+lines_keep (headline.one_line line more is holds) = line_keeps holds ∙ lines_keep more
 
 lines_print : {factory : List ℕ} {past : List Begun} {p : Point} {lines : List (List ℕ)} {printed : List ℕ} {past' : List Begun} {q : Point}
-    → headline.LinesHold factory past p lines printed past' q → LinesPrint factory past p.at lines printed past' q.at
+    → headline.LinesHold factory past p lines printed past' q → LinesPrint p.given factory past p.at lines printed past' q.at
 lines_print headline.no_line = no_line
-lines_print (headline.one_line line more is holds) = then_line line (lines_print more) (line_told line is holds)
+lines_print {p = p} (headline.one_line line more is holds) = then_line line (lines_print more)
+    (line_told p.given line (ap (λ (g : Option (List ℕ)). line_of g line) (sym (lines_keep more)) ∙ is) holds)
 
 -- The start.
 
-set_starts : {t : Settings} {factory : List ℕ} {lines after : List (List ℕ)} (u : Settings) → Some u ≡ Some t
-    → StartsWith t.image lines after factory → StartsWith u.image lines after factory
-set_starts {t = t} {factory = factory} {lines = lines} {after = after} u e starts =
-    subst (λ (s : Settings). StartsWith s.image lines after factory) (sym (some_of u t e)) starts
+set_starts : {g : Option (List ℕ)} {t : Settings} {factory : List ℕ} {lines after : List (List ℕ)} (u : Settings) → Some u ≡ Some t
+    → StartsWith g t.image lines after factory → StartsWith g u.image lines after factory
+set_starts {g = g} {t = t} {factory = factory} {lines = lines} {after = after} u e starts =
+    subst (λ (s : Settings). StartsWith g s.image lines after factory) (sym (some_of u t e)) starts
 
 -- A line that sets something comes before the start.
-line_sets : {factory line : List ℕ} {lines after : List (List ℕ)} (s : Settings) (x : ConfigLine) → brought line ≡ set_brings x
-    → StartsWith (set_by s x).image lines after factory → StartsWith s.image (line ∷ lines) after factory
+line_sets : {g : Option (List ℕ)} {factory line : List ℕ} {lines after : List (List ℕ)} (s : Settings) (x : ConfigLine)
+    → brought g line ≡ set_brings x
+    → StartsWith g (set_by s x).image lines after factory → StartsWith g s.image (line ∷ lines) after factory
 line_sets s (TheIds ids) is starts = after_nothing is starts
 line_sets s (TheDevice functional least busy manifest) is starts = after_nothing is starts
 line_sets s (TheUnit unit) is starts = after_nothing is starts
@@ -127,9 +144,10 @@ line_sets s (TheSector n) is starts = after_nothing is starts
 line_sets s (TheCapacity n) is starts = after_nothing is starts
 line_sets s (TheImage image) is starts = after_image is starts
 
-line_starts : {t : Settings} {factory : List ℕ} {lines after : List (List ℕ)} (line : List ℕ) (s : Settings) (said : Said)
-    → brought line ≡ said_brings said → prepared s said ≡ Some t → StartsWith t.image lines after factory
-    → StartsWith s.image (line ∷ lines) after factory
+line_starts : {g : Option (List ℕ)} {t : Settings} {factory : List ℕ} {lines after : List (List ℕ)} (line : List ℕ) (s : Settings)
+    (said : Said)
+    → brought g line ≡ said_brings said → prepared s said ≡ Some t → StartsWith g t.image lines after factory
+    → StartsWith g s.image (line ∷ lines) after factory
 line_starts line s Blank is set starts = after_nothing is (set_starts s set starts)
 line_starts line s (Sets x) is set starts = line_sets s x is (set_starts (set_by s x) set starts)
 line_starts line s (LimitsTo actions restarts) is set starts =
@@ -139,13 +157,37 @@ line_starts line s GoesOn is set starts = absurd cc
 line_starts line s Show is set starts = absurd cc
 line_starts line s (Expects text) is set starts = absurd cc
 
+set_keeps : (s : Settings) (x : ConfigLine) → (set_by s x).given ≡ s.given
+set_keeps s (TheIds ids) = refl
+set_keeps s (TheDevice functional least busy manifest) = refl
+set_keeps s (TheUnit unit) = refl
+set_keeps s (TheSector n) = refl
+set_keeps s (TheCapacity n) = refl
+set_keeps s (TheImage image) = refl
+
+-- A line that sets something leaves the bytes that are given.
+said_keeps : {t : Settings} (s : Settings) (said : Said) → prepared s said ≡ Some t → t.given ≡ s.given
+said_keeps {t = t} s Blank sets = ap (λ (u : Settings). u.given) (sym (some_of s t sets))
+said_keeps {t = t} s (Sets x) sets = ap (λ (u : Settings). u.given) (sym (some_of (set_by s x) t sets)) ∙ set_keeps s x
+said_keeps {t = t} s (LimitsTo actions restarts) sets =
+    ap (λ (u : Settings). u.given) (sym (some_of (record s { limits = record { actions = actions; restarts = restarts } }) t sets))
+said_keeps s (Does events) sets = absurd cc
+said_keeps s GoesOn sets = absurd cc
+said_keeps s Show sets = absurd cc
+said_keeps s (Expects text) sets = absurd cc
+
+prepares_keep : {s t : Settings} {lines : List (List ℕ)} → Prepares s lines t → t.given ≡ s.given
+prepares_keep nothing = refl
+prepares_keep (then_prepares {t = t} line {said = said} prepares is sets) = said_keeps t said sets ∙ prepares_keep prepares
+
 prepares_start : {s t : Settings} {factory : List ℕ} {before lines after : List (List ℕ)} → Prepares s before t
-    → StartsWith t.image lines after factory → StartsWith s.image (before ++ lines) after factory
+    → StartsWith s.given t.image lines after factory → StartsWith s.given s.image (before ++ lines) after factory
 prepares_start nothing starts = starts
 prepares_start {s = s} {factory = factory} {lines = lines} {after = after}
     (then_prepares {t = t} {lines = before} line {said = said} prepares is sets) starts =
-    subst (λ (all : List (List ℕ)). StartsWith s.image all after factory) (sym (append_assoc before (line ∷ []) lines))
-    (prepares_start prepares (line_starts line t said (line_brings line said is) sets starts))
+    let says : line_of s.given line ≡ Some said = ap (λ (g : Option (List ℕ)). line_of g line) (sym (prepares_keep prepares)) ∙ is in
+    subst (λ (all : List (List ℕ)). StartsWith s.given s.image all after factory) (sym (append_assoc before (line ∷ []) lines))
+    (prepares_start prepares (line_starts line t said (line_brings s.given line said says) sets starts))
 
 said_needs : (said : Said) → HasToAct (Some said) → NeedsDevice (said_brings said)
 said_needs (Does events) acts = tt
@@ -154,31 +196,40 @@ said_needs Show acts = tt
 said_needs (Expects text) acts = tt
 said_needs said acts = absurd acts
 
-line_needs : (line : List ℕ) (said : Option Said) → line_of line ≡ said → HasToAct said → NeedsDevice (brought line)
-line_needs line None is acts = absurd acts
-line_needs line (Some said) is acts = subst NeedsDevice (sym (line_brings line said is)) (said_needs said acts)
+line_needs : (g : Option (List ℕ)) (line : List ℕ) (said : Option Said) → line_of g line ≡ said → HasToAct said
+    → NeedsDevice (brought g line)
+line_needs g line None is acts = absurd acts
+line_needs g line (Some said) is acts = subst NeedsDevice (sym (line_brings g line said is)) (said_needs said acts)
 
-ready_starts : (image : List ℕ) (after : List (List ℕ)) → IsReady after → StartsWith image after after image
-ready_starts image [] ready = at_end
-ready_starts image (line ∷ lines) ready = at_line (line_needs line (line_of line) refl ready)
+ready_starts : (s : Settings) (image : List ℕ) (after : List (List ℕ)) → IsReady s after → StartsWith s.given image after after image
+ready_starts s image [] ready = at_end
+ready_starts s image (line ∷ lines) ready = at_line (line_needs s.given line (line_of s.given line) refl ready)
 
 -- Scripts.
 
-text_prints : {text : List ℕ} {after done : List (List ℕ)} {printed : List ℕ} {past : List Begun} {end : Point} {image : List ℕ}
-    → (holds : headline.ScriptHolds text after done printed past end image) → TextPrints text after done printed past end.at image
-text_prints {after = after} holds = record {
-  factory = holds.settings.image;
-  starts = subst (λ (all : List (List ℕ)). StartsWith beginning.image all after holds.settings.image) (sym holds.sets_up.split)
-      (prepares_start holds.sets_up.prepares (ready_starts holds.settings.image after holds.sets_up.ready));
-  first = holds.first;
-  holds = holds.starts;
-  lines = lines_print holds.lines;
-  known = holds.known;
-}
+text_prints : {g : Option (List ℕ)} {text : List ℕ} {after done : List (List ℕ)} {printed : List ℕ} {past : List Begun} {end : Point}
+    {image : List ℕ}
+    → (holds : headline.ScriptHolds g text after done printed past end image) → TextPrints g text after done printed past end.at image
+text_prints {g = g} {after = after} {done = done} {printed = printed} {past = past} {end = end} holds =
+    let factory = holds.settings.image in
+    let kept : holds.settings.given ≡ g = prepares_keep holds.sets_up.prepares in
+    record {
+      factory = factory;
+      starts = subst (λ (all : List (List ℕ)). StartsWith g (beginning g).image all after factory) (sym holds.sets_up.split)
+          (prepares_start holds.sets_up.prepares
+          (subst (λ (x : Option (List ℕ)). StartsWith x factory after after factory) kept
+          (ready_starts holds.settings factory after holds.sets_up.ready)));
+      first = holds.first;
+      holds = holds.starts;
+      lines = subst (λ (x : Option (List ℕ)). LinesPrint x factory [] (at_rest holds.first) done printed past end.at) kept
+          (lines_print holds.lines);
+      known = holds.known;
+    }
 
 -- A script that wrote with the headline printed with it.
-pub whole_printed : (text : List ℕ) (old new : Option (List ℕ)) → headline.WroteHeadline text old new → WrotePrinted text old new
-whole_printed text old new wrote = record {
+pub whole_printed : (g : Option (List ℕ)) (text : List ℕ) (old new : Option (List ℕ)) → headline.WroteHeadline g text old new
+    → WrotePrinted g text old new
+whole_printed g text old new wrote = record {
   after = wrote.after;
   printed = wrote.printed;
   past = wrote.past;
@@ -190,32 +241,36 @@ whole_printed text old new wrote = record {
 
 part_prints : {factory : List ℕ} {past : List Begun} {p : Point} {image : List ℕ} {lines : List (List ℕ)} {old new : Option (List ℕ)}
     → IsKnownImage factory past p.at image → headline.PartHolds factory past p image lines old new
-    → PartPrints factory past p.at image lines old new
+    → PartPrints p.given factory past p.at image lines old new
 part_prints known headline.nothing_out = nothing_out
 part_prints {p = p} known (headline.in_events {line = line} {events = events} {played = played} left says split holds out) =
     let same = sym (same_events p.limits events) ∙ ap (map session_by) split ∙ map-append session_by played left in
-    in_events (map session_by left) (line_brings line (Does events) says ∙ ap Events same) (events_print holds) out
-part_prints known (headline.in_passes {line = line} says holds out) = in_line (line_told line says holds) out
-part_prints {p = p} known (headline.in_show {line = line} says out) = in_line (line_told {p = p} line says (headline.show_line known)) out
+    in_events (map session_by left) (line_brings p.given line (Does events) says ∙ ap Events same) (events_print holds) out
+part_prints {p = p} known (headline.in_passes {line = line} says holds out) = in_line (line_told p.given line says holds) out
+part_prints {p = p} known (headline.in_show {line = line} says out) = in_line (line_told {p = p} p.given line says (headline.show_line known)) out
 part_prints known (headline.in_image out) = in_image out
 
 -- And so did one that stopped.
-pub part_printed : (text : List ℕ) (old new : Option (List ℕ)) → headline.StopsWithHeadline text old new → StopsPrinted text old new
+pub part_printed : (g : Option (List ℕ)) (text : List ℕ) (old new : Option (List ℕ)) → headline.StopsWithHeadline g text old new
+    → StopsPrinted g text old new
 unfolding text_prints
-part_printed text old new (headline.before_start e) = before_start e
-part_printed text old new (headline.after_start holds split told out) =
-    after_start (text_prints holds) split told (part_prints holds.known out)
+part_printed g text old new (headline.before_start e) = before_start e
+part_printed g text old new
+    (headline.after_start {rest = rest} {image = image} {past = past} {end = end} {mid = mid} holds split told out) =
+    let kept : end.given ≡ g = lines_keep holds.lines ∙ prepares_keep holds.sets_up.prepares in
+    after_start (text_prints holds) split told
+    (subst (λ (x : Option (List ℕ)). PartPrints x holds.settings.image past end.at image rest mid new) kept (part_prints holds.known out))
 
 -- Of a script's result: where it is Ok, what was written with the headline was printed with it.
-pub wrote_printed : (given : Option (List ℕ)) (old new : Option (List ℕ)) (r : Result Unit ScriptFault)
-    → IfSome given (λ text. OnOk r (headline.WroteHeadline text old new)) → IfSome given (λ text. OnOk r (WrotePrinted text old new))
-wrote_printed None old new r ok = tt
-wrote_printed (Some text) old new (Ok done) ok = whole_printed text old new ok
-wrote_printed (Some text) old new (Err f) ok = tt
+pub wrote_printed : (g given : Option (List ℕ)) (old new : Option (List ℕ)) (r : Result Unit ScriptFault)
+    → IfSome given (λ text. OnOk r (headline.WroteHeadline g text old new)) → IfSome given (λ text. OnOk r (WrotePrinted g text old new))
+wrote_printed g None old new r ok = tt
+wrote_printed g (Some text) old new (Ok done) ok = whole_printed g text old new ok
+wrote_printed g (Some text) old new (Err f) ok = tt
 
 -- And where it is a fault, what is out was.
-pub stopped_printed : (given : Option (List ℕ)) (old new : Option (List ℕ)) (r : Result Unit ScriptFault)
-    → IfSome given (λ text. OnErr r (headline.StopsWithHeadline text old new)) → IfSome given (λ text. OnErr r (StopsPrinted text old new))
-stopped_printed None old new r stopped = tt
-stopped_printed (Some text) old new (Ok done) stopped = tt
-stopped_printed (Some text) old new (Err f) stopped = part_printed text old new stopped
+pub stopped_printed : (g given : Option (List ℕ)) (old new : Option (List ℕ)) (r : Result Unit ScriptFault)
+    → IfSome given (λ text. OnErr r (headline.StopsWithHeadline g text old new)) → IfSome given (λ text. OnErr r (StopsPrinted g text old new))
+stopped_printed g None old new r stopped = tt
+stopped_printed g (Some text) old new (Ok done) stopped = tt
+stopped_printed g (Some text) old new (Err f) stopped = part_printed g text old new stopped

@@ -94,7 +94,7 @@ went_and_fell f went falls = record { from = λ r next. falls_after f (went.from
 
 -- And then the source gave no line.
 pub went_and_stopped : {given : Bool} {first s : SourceState} {p q : Point} {old mid : Option (List ℕ)} (f : ScriptFault)
-    → Went given first p old q s mid → StopsSource s f → Fell given first p old mid f
+    → Went given first p old q s mid → StopsSource q.given s f → Fell given first p old mid f
 went_and_stopped f went stops = record { from = λ r next. source_falls f (went.from r next) stops }
 
 -- And then the source gave the next, or had none left.
@@ -150,6 +150,7 @@ pub events_play : (d : Shown) (l l' : Ahead) (k : ℕ) (line : List ℕ) (old : 
     → HasActed (at_point l' b) (said_by events) mid q new → Steps k (at_point l b) line old q new
 events_play d l l' k line old {mid = mid} {new = new} b {q = q} events plainly is played =
     let plain = subst (λ (y : Option EventLine). Plainly d l k line old y l' mid) is plainly in
-    let step : Steps k (at_point l' b) line mid q new = step_acts k (at_point l' b) q line mid new (said_by events) plain.0 played in
-    subst (λ (y : Ahead). Steps k (at_point y b) line old q new) plain.1
-    (subst (λ (y : Option (List ℕ)). Steps k (at_point l' b) line y q new) plain.2 step)
+    let there : HasActed (at_point l b) (said_by events) mid q new = subst (λ (y : Ahead). HasActed (at_point y b) (said_by events) mid q new)
+    plain.1 played in
+    subst (λ (y : Option (List ℕ)). Steps k (at_point l b) line y q new) plain.2
+    (step_acts k (at_point l b) q line mid new (said_by events) plain.0 there)

@@ -120,15 +120,15 @@ at_start : {factory : List ℕ} → IsOfPast factory [] (legal.begun_with factor
 at_start = record { known = inl refl; offers = λ x one. one; live = λ x e. absurd cc }
 
 -- What was done by a script that goes legally, with the headline.
-record RunHeld (text : List ℕ) (after done : List (List ℕ)) (printed : List ℕ) (end : Point) (m : Machine)
-    (runs : legal.RunsLegally text after done printed end m) : Type 0 where
+record RunHeld (g : Option (List ℕ)) (text : List ℕ) (after done : List (List ℕ)) (printed : List ℕ) (end : Point) (m : Machine)
+    (runs : legal.RunsLegally g text after done printed end m) : Type 0 where
   pub past : List Begun
   pub of_past : IsOfPast runs.settings.image past m
-  pub holds : ScriptHolds text after done printed past end m.cur
+  pub holds : ScriptHolds g text after done printed past end m.cur
   pub same : holds.settings ≡ runs.settings
 
-run_held : {text : List ℕ} {after done : List (List ℕ)} {printed : List ℕ} {end : Point} {m : Machine}
-    (runs : legal.RunsLegally text after done printed end m) → RunHeld text after done printed end m runs
+run_held : {g : Option (List ℕ)} {text : List ℕ} {after done : List (List ℕ)} {printed : List ℕ} {end : Point} {m : Machine}
+    (runs : legal.RunsLegally g text after done printed end m) → RunHeld g text after done printed end m runs
 run_held runs =
     let held = lines_held at_start runs.starts runs.lines in
     record {
@@ -155,10 +155,10 @@ part_held of_past vouches (legal.in_show says out) = in_show says out
 part_held of_past vouches (legal.in_image out) = in_image out
 
 -- A script that was written keeps the headline.
-pub wrote_headline : (given : Option (List ℕ)) (old new : Option (List ℕ)) (r : Result Unit ScriptFault)
-    → IfSome given (λ text. OnOk r (legal.WroteLegal text old new)) → IfSome given (λ text. OnOk r (WroteHeadline text old new))
-wrote_headline None old new r ok = tt
-wrote_headline (Some text) old new (Ok done) ok =
+pub wrote_headline : (g given : Option (List ℕ)) (old new : Option (List ℕ)) (r : Result Unit ScriptFault)
+    → IfSome given (λ text. OnOk r (legal.WroteLegal g text old new)) → IfSome given (λ text. OnOk r (WroteHeadline g text old new))
+wrote_headline g None old new r ok = tt
+wrote_headline g (Some text) old new (Ok done) ok =
     let held = run_held ok.legal.runs in
     record {
       after = ok.legal.after;
@@ -169,9 +169,10 @@ wrote_headline (Some text) old new (Ok done) ok =
       holds = held.holds;
       told = subst (λ (out : List ℕ). Appends old new out) ok.legal.out_is ok.told;
     }
-wrote_headline (Some text) old new (Err f) ok = tt
+wrote_headline g (Some text) old new (Err f) ok = tt
 
-stops_held : {text : List ℕ} {old new : Option (List ℕ)} → legal.StopsLegally text old new → StopsWithHeadline text old new
+stops_held : {g : Option (List ℕ)} {text : List ℕ} {old new : Option (List ℕ)} → legal.StopsLegally g text old new
+    → StopsWithHeadline g text old new
 stops_held (legal.before_start e) = before_start e
 stops_held {new = new} (legal.after_start {rest = rest} {end = end} {m = m} {mid = mid} runs split told out) =
     let held = run_held runs in
@@ -179,8 +180,8 @@ stops_held {new = new} (legal.after_start {rest = rest} {end = end} {m = m} {mid
     (part_held held.of_past runs.vouches out))
 
 -- And so does one that stopped.
-pub stopped_headline : (given : Option (List ℕ)) (old new : Option (List ℕ)) (r : Result Unit ScriptFault)
-    → IfSome given (λ text. OnErr r (legal.StopsLegally text old new)) → IfSome given (λ text. OnErr r (StopsWithHeadline text old new))
-stopped_headline None old new r stopped = tt
-stopped_headline (Some text) old new (Ok done) stopped = tt
-stopped_headline (Some text) old new (Err f) stopped = stops_held stopped
+pub stopped_headline : (g given : Option (List ℕ)) (old new : Option (List ℕ)) (r : Result Unit ScriptFault)
+    → IfSome given (λ text. OnErr r (legal.StopsLegally g text old new)) → IfSome given (λ text. OnErr r (StopsWithHeadline g text old new))
+stopped_headline g None old new r stopped = tt
+stopped_headline g (Some text) old new (Ok done) stopped = tt
+stopped_headline g (Some text) old new (Err f) stopped = stops_held stopped

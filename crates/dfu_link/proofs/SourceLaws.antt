@@ -183,29 +183,29 @@ text_ended left left' room room' n x (b ∷ bs) r e true h =
 
 -- No line.
 
-too_long_is_none : (line : List ℕ) → 65536 < length line → line_of line ≡ None
+too_long_is_none : (given : Option (List ℕ)) (line : List ℕ) → 65536 < length line → line_of given line ≡ None
 unfolding line_of
-too_long_is_none line long = grind (arith, long)
+too_long_is_none given line long = grind (arith, long)
 
-long_line : (a b : Option (List ℕ)) (room n : ℕ) (line : List ℕ) → Consumes a b line → length line ≡ 65537 → endless line ≡ true
-    → length line ≤ room → IfSome a (λ left. IsStopped room left (BadLine (n + 1)) × GivesNone (n + 1) (lines_of left) (BadLine (n + 1)))
-long_line None b room n line h size none le = tt
-long_line (Some a) None room n line h size none le = absurd h
-long_line (Some a) (Some b) room n line h size none le =
+long_line : (g a b : Option (List ℕ)) (room n : ℕ) (line : List ℕ) → Consumes a b line → length line ≡ 65537 → endless line ≡ true
+    → length line ≤ room → IfSome a (λ left. IsStopped room left (BadLine (n + 1)) × GivesNone g (n + 1) (lines_of left) (BadLine (n + 1)))
+long_line g None b room n line h size none le = tt
+long_line g (Some a) None room n line h size none le = absurd h
+long_line g (Some a) (Some b) room n line h size none le =
     let long = line_long line b (omega (arith, size)) none in
     let is : lines_of a ≡ long.0 ∷ long.1 = ap lines_of h ∙ long.2 in (
       λ over. absurd (omega (arith, over.short, size, le)),
-      subst (λ (ls : List (List ℕ)). GivesNone (n + 1) ls (BadLine (n + 1))) (sym is)
-          (refl, too_long_is_none long.0 (omega (arith, size, long.3))),
+      subst (λ (ls : List (List ℕ)). GivesNone g (n + 1) ls (BadLine (n + 1))) (sym is)
+          (refl, too_long_is_none g long.0 (omega (arith, size, long.3))),
     )
 
 -- The line has over 65,536 bytes.
 pub line_too_long : {left left1 left2 : Option (List ℕ)} {room room1 : ℕ} (n : ℕ) (x : List ℕ) {line line' : List ℕ} {bytes : ℕ}
     → ReadSoFar left room left1 room1 line → TakesPiece left1 line bytes false left2 line' → bytes ≤ room1 → 65536 < length line'
-    → StopsSource (source_state left room n x) (BadLine (n + 1))
-line_too_long {left = left} {left1 = left1} {left2 = left2} {room = room} n x {line = line} {line' = line'} r t le long =
+    → (g : Option (List ℕ)) → StopsSource g (source_state left room n x) (BadLine (n + 1))
+line_too_long {left = left} {left1 = left1} {left2 = left2} {room = room} n x {line = line} {line' = line'} r t le long g =
     let size = ap length t.longer ∙ length-append line t.piece in
     let given : Consumes left left2 line' = subst (λ (xs : List ℕ). Consumes left left2 xs) (sym t.longer)
     (Consumes-trans left left1 left2 line t.piece r.given t.taken) in
     let none : endless line' ≡ true = ap endless t.longer ∙ endless_more line t.piece r.no_end t.no_end in
-    long_line left left2 room n line' given (omega (arith, long, t.short)) none (omega (arith, r.rooms, le, t.count, size))
+    long_line g left left2 room n line' given (omega (arith, long, t.short)) none (omega (arith, r.rooms, le, t.count, size))

@@ -49,7 +49,7 @@ next_known p k [] old new (LateConfig n) known (fails, broke) = part_known known
 next_known p k [] old new (NonePrinted n) known (fails, broke) = part_known known broke
 next_known p k [] old new BadConfig known (fails, broke) = part_known known broke
 
-falls_known : {text a : List ℕ} {new : Option (List ℕ)} {fault : ScriptFault} → Falls text (Some a) new fault → IsKnown new
+falls_known : {g : Option (List ℕ)} {text a : List ℕ} {new : Option (List ℕ)} {fault : ScriptFault} → Falls g text (Some a) new fault → IsKnown new
 falls_known {a = a} (no_memory e) = (a, e)
 falls_known {a = a} (in_setting falls e) = (a, e)
 falls_known {a = a} (at_start sets_up cannot there e) = (a, e)
@@ -71,23 +71,23 @@ same_seen : (is_broken : Bool) (p : Place) (all : Option (List ℕ)) → IsKnown
 same_seen is_broken p all known = known.1 ∙ sym (untraced_is is_broken p all known.0 known.1)
 
 -- A run was written.
-pub wrote_untraced : (given : Option (List ℕ)) (start : Option (List ℕ)) (is_broken : Bool) (p : Place) (all : Option (List ℕ))
+pub wrote_untraced : (g given : Option (List ℕ)) (start : Option (List ℕ)) (is_broken : Bool) (p : Place) (all : Option (List ℕ))
     (r : Result Unit ScriptFault)
-    → IfSome given (λ text. OnOk r (WroteRun text (seen_at false Start start) (seen_at is_broken p all)))
-    → IfSome given (λ text. start ≡ Some [] → OnOk r (WroteRun text (Some []) (untraced all)))
-wrote_untraced None start is_broken p all r ok = tt
-wrote_untraced (Some text) start is_broken p all (Err f) ok = λ e. tt
-wrote_untraced (Some text) start is_broken p all (Ok done) ok = λ e.
-    let run = subst (λ (s : Option (List ℕ)). WroteRun text (seen_at false Start s) (seen_at is_broken p all)) e ok in
-    subst (λ (new : Option (List ℕ)). WroteRun text (Some []) new) (same_seen is_broken p all (appends_known [] _ run.out run.told)) run
+    → IfSome given (λ text. OnOk r (WroteRun g text (seen_at false Start start) (seen_at is_broken p all)))
+    → IfSome given (λ text. start ≡ Some [] → OnOk r (WroteRun g text (Some []) (untraced all)))
+wrote_untraced g None start is_broken p all r ok = tt
+wrote_untraced g (Some text) start is_broken p all (Err f) ok = λ e. tt
+wrote_untraced g (Some text) start is_broken p all (Ok done) ok = λ e.
+    let run = subst (λ (s : Option (List ℕ)). WroteRun g text (seen_at false Start s) (seen_at is_broken p all)) e ok in
+    subst (λ (new : Option (List ℕ)). WroteRun g text (Some []) new) (same_seen is_broken p all (appends_known [] _ run.out run.told)) run
 
 -- It fell.
-pub falls_untraced : (given : Option (List ℕ)) (start : Option (List ℕ)) (is_broken : Bool) (p : Place) (all : Option (List ℕ))
+pub falls_untraced : (g given : Option (List ℕ)) (start : Option (List ℕ)) (is_broken : Bool) (p : Place) (all : Option (List ℕ))
     (r : Result Unit ScriptFault)
-    → IfSome given (λ text. IfErr r (λ f. Falls text (seen_at false Start start) (seen_at is_broken p all) f))
-    → IfSome given (λ text. start ≡ Some [] → IfErr r (λ f. Falls text (Some []) (untraced all) f))
-falls_untraced None start is_broken p all r fault = tt
-falls_untraced (Some text) start is_broken p all (Ok done) fault = λ e. tt
-falls_untraced (Some text) start is_broken p all (Err f) fault = λ e.
-    let fell = subst (λ (s : Option (List ℕ)). Falls text (seen_at false Start s) (seen_at is_broken p all) f) e fault in
-    subst (λ (new : Option (List ℕ)). Falls text (Some []) new f) (same_seen is_broken p all (falls_known fell)) fell
+    → IfSome given (λ text. IfErr r (λ f. Falls g text (seen_at false Start start) (seen_at is_broken p all) f))
+    → IfSome given (λ text. start ≡ Some [] → IfErr r (λ f. Falls g text (Some []) (untraced all) f))
+falls_untraced g None start is_broken p all r fault = tt
+falls_untraced g (Some text) start is_broken p all (Ok done) fault = λ e. tt
+falls_untraced g (Some text) start is_broken p all (Err f) fault = λ e.
+    let fell = subst (λ (s : Option (List ℕ)). Falls g text (seen_at false Start s) (seen_at is_broken p all) f) e fault in
+    subst (λ (new : Option (List ℕ)). Falls g text (Some []) new f) (same_seen is_broken p all (falls_known fell)) fell

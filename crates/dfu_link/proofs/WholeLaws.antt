@@ -38,12 +38,12 @@ fresh_took {text = text} {s = s} {s' = s'} {xs = xs} fresh gives =
     (t.0, t.1, subst (λ (room : ℕ). Took text room xs t.0 s'.room) fresh.room t.2)
 
 -- No more lines set.
-setting_ends : {text : List ℕ} {s : SourceState} {x : Settings} (old : Option (List ℕ)) (f : ScriptFault) → IsFresh text s
-    → x ≡ beginning → StopsSetting x s f → Falls text old old f
+setting_ends : {g : Option (List ℕ)} {text : List ℕ} {s : SourceState} {x : Settings} (old : Option (List ℕ)) (f : ScriptFault) → IsFresh text s
+    → x ≡ beginning g → StopsSetting x s f → Falls g text old old f
 setting_ends {text = text} old f fresh e stops =
     let p = stops.prepared in
     let t = fresh_took fresh p.gives in
-    let here = of_some stops.at.left (λ left. IsStopped stops.at.room left f × GivesNone (stops.at.number + 1) (lines_of left) f) t.0 t.1
+    let here = of_some stops.at.left (λ left. IsStopped stops.at.room left f × GivesNone stops.to.given (stops.at.number + 1) (lines_of left) f) t.0 t.1
     stops.stops in
     in_setting (record {
       done = p.done;
@@ -51,13 +51,13 @@ setting_ends {text = text} old f fresh e stops =
       split = t.2.are;
       settings = stops.to;
       prepares = subst (λ (y : Settings). Prepares y p.done stops.to) e p.prepares;
-      falls = subst (λ (n : ℕ). GivesNone n (lines_of t.0) f) (omega (arith, p.gives.count, fresh.number)) here.1;
+      falls = subst (λ (n : ℕ). GivesNone stops.to.given n (lines_of t.0) f) (omega (arith, p.gives.count, fresh.number)) here.1;
       stops = stops_after f t.2 here.0;
     }) refl
 
 -- The lines that set fall.
-pub configure_ends : {text : List ℕ} {s : SourceState} {x : Settings} (old : Option (List ℕ)) (f : ScriptFault) → IsFresh text s
-    → x ≡ beginning → CannotConfigure x s f → Falls text old old f
+pub configure_ends : {g : Option (List ℕ)} {text : List ℕ} {s : SourceState} {x : Settings} (old : Option (List ℕ)) (f : ScriptFault) → IsFresh text s
+    → x ≡ beginning g → CannotConfigure x s f → Falls g text old old f
 configure_ends old NoMemory fresh e falls = no_memory refl
 configure_ends old (BadLine n) fresh e falls = setting_ends old (BadLine n) fresh e falls
 configure_ends old (LateConfig n) fresh e falls = setting_ends old (LateConfig n) fresh e falls
@@ -69,20 +69,20 @@ configure_ends old (Expected n) fresh e falls = setting_ends old (Expected n) fr
 configure_ends old (NonePrinted n) fresh e falls = setting_ends old (NonePrinted n) fresh e falls
 
 -- The device has to start.
-abbrev sets_up : {text : List ℕ} {s s' : SourceState} {x y : Settings} {more : Bool} → (fresh : IsFresh text s) → x ≡ beginning
-    → (c : Configured x s y more s') → SetsUp text y (lines_of (fresh_took fresh c.prepared.gives).0)
+abbrev sets_up : {g : Option (List ℕ)} {text : List ℕ} {s s' : SourceState} {x y : Settings} {more : Bool} → (fresh : IsFresh text s) → x ≡ beginning g
+    → (c : Configured x s y more s') → SetsUp g text y (lines_of (fresh_took fresh c.prepared.gives).0)
 sets_up {y = y} fresh e c =
     let t = fresh_took fresh c.prepared.gives in
     record {
       before = c.prepared.done;
       split = t.2.are;
       prepares = subst (λ (z : Settings). Prepares z c.prepared.done y) e c.prepared.prepares;
-      ready = of_some c.at.left (λ left. IsReady (lines_of left)) t.0 t.1 c.ready;
+      ready = of_some c.at.left (λ left. IsReady y (lines_of left)) t.0 t.1 c.ready;
     }
 
 -- It does not start.
-pub start_ends : {text : List ℕ} {s s' : SourceState} {x y : Settings} {more : Bool} (old : Option (List ℕ)) (f : ScriptFault)
-    → IsFresh text s → x ≡ beginning → Configured x s y more s' → StartFalls y f → Falls text old old f
+pub start_ends : {g : Option (List ℕ)} {text : List ℕ} {s s' : SourceState} {x y : Settings} {more : Bool} (old : Option (List ℕ)) (f : ScriptFault)
+    → IsFresh text s → x ≡ beginning g → Configured x s y more s' → StartFalls y f → Falls g text old old f
 start_ends old NoMemory fresh e c falls = no_memory refl
 start_ends old BadConfig fresh e c falls =
     let t = fresh_took fresh c.prepared.gives in
@@ -101,9 +101,9 @@ at_end None h = tt
 at_end (Some left) h = h
 
 -- It starts, and all lines after it are done.
-pub run_ends : {text : List ℕ} {s s' : SourceState} {x y : Settings} {more : Bool} {old new : Option (List ℕ)} (d : Shown)
-    → IsFresh text s → x ≡ beginning → (c : Configured x s y more s') → Starts y d → Ends (point y.limits (at_rest d)) c.at old new
-    → WroteRun text old new
+pub run_ends : {g : Option (List ℕ)} {text : List ℕ} {s s' : SourceState} {x y : Settings} {more : Bool} {old new : Option (List ℕ)} (d : Shown)
+    → IsFresh text s → x ≡ beginning g → (c : Configured x s y more s') → Starts y d → Ends (point y (at_rest d)) c.at old new
+    → WroteRun g text old new
 run_ends {text = text} {y = y} d fresh e c starts ends =
     let t = fresh_took fresh c.prepared.gives in
     let u = took c.at ends.last ends.done ends.gives t.1 in
@@ -123,8 +123,8 @@ run_ends {text = text} {y = y} d fresh e c starts ends =
         starts = starts;
         shown = ends.shown;
         end = ends.end;
-        runs = subst (λ (ls : List (List ℕ)). LinesRun (1 + length c.prepared.done) (point y.limits (at_rest d)) ls ends.shown ends.end) lines
-            (subst (λ (k : ℕ). LinesRun k (point y.limits (at_rest d)) ends.done ends.shown ends.end) number ends.runs);
+        runs = subst (λ (ls : List (List ℕ)). LinesRun (1 + length c.prepared.done) (point y (at_rest d)) ls ends.shown ends.end) lines
+            (subst (λ (k : ℕ). LinesRun k (point y (at_rest d)) ends.done ends.shown ends.end) number ends.runs);
         meets = ends.meets;
         out_is = refl;
       };
@@ -132,9 +132,9 @@ run_ends {text = text} {y = y} d fresh e c starts ends =
     }
 
 -- It starts, and of the lines after it one falls.
-pub run_falls : {text : List ℕ} {s s' : SourceState} {x y : Settings} {more : Bool} {old new : Option (List ℕ)} (d : Shown)
-    (f : ScriptFault) → IsFresh text s → x ≡ beginning → (c : Configured x s y more s') → Starts y d
-    → MovesAndFalls (point y.limits (at_rest d)) c.at old new f → Falls text old new f
+pub run_falls : {g : Option (List ℕ)} {text : List ℕ} {s s' : SourceState} {x y : Settings} {more : Bool} {old new : Option (List ℕ)} (d : Shown)
+    (f : ScriptFault) → IsFresh text s → x ≡ beginning g → (c : Configured x s y more s') → Starts y d
+    → MovesAndFalls (point y (at_rest d)) c.at old new f → Falls g text old new f
 run_falls {y = y} {new = new} d f fresh e c starts falls =
     let m = falls.moves in
     let t = fresh_took fresh c.prepared.gives in
@@ -142,13 +142,13 @@ run_falls {y = y} {new = new} d f fresh e c starts falls =
     let here = of_some falls.at.left (λ left. IsStopped falls.at.room left f × NextFalls falls.to (falls.at.number + 1) (lines_of left)
     falls.mid new f) u.0 u.1 falls.falls in
     let number : c.at.number + 1 ≡ 1 + length c.prepared.done = omega (arith, c.prepared.gives.count, fresh.number) in
-    let runs : RunFalls (point y.limits (at_rest d)) (1 + length c.prepared.done) (lines_of t.0) _ new f = record {
+    let runs : RunFalls (point y (at_rest d)) (1 + length c.prepared.done) (lines_of t.0) _ new f = record {
       done = m.done;
       rest = lines_of u.0;
       split = u.2.are;
       shown = m.shown;
       end = falls.to;
-      runs = subst (λ (k : ℕ). LinesRun k (point y.limits (at_rest d)) m.done m.shown falls.to) number m.runs;
+      runs = subst (λ (k : ℕ). LinesRun k (point y (at_rest d)) m.done m.shown falls.to) number m.runs;
       mid = falls.mid;
       told = m.told;
       falls = subst (λ (n : ℕ). NextFalls falls.to n (lines_of u.0) falls.mid new f)

@@ -33,47 +33,47 @@ pub record HasBroken (b : Bench) (next : Option Expectation) (events : List Happ
 
 -- It stopped in what a line prints: among its events, in what `go until report` prints, or in the line of `show`.
 pub data BreaksIn (p : Point) (line : List ℕ) (old new : Option (List ℕ)) (fault : ScriptFault) : Type 0 where
-  in_events : {events : EventLine} → line_of line ≡ Some (Does events) → HasBroken p.at p.next (events_of p.limits events) old new fault
+  in_events : {events : EventLine} → line_of p.given line ≡ Some (Does events) → HasBroken p.at p.next (events_of p.limits events) old new fault
       → BreaksIn p line old new fault
-  in_passes : {out : List ℕ} {q : Point} → line_of line ≡ Some GoesOn → LineActs 0 (point p.limits p.at) GoesOn out q
+  in_passes : {out : List ℕ} {q : Point} → line_of p.given line ≡ Some GoesOn → LineActs 0 (record p { next = None }) GoesOn out q
       → IsOutInPart old new out → Fails p.next out old new fault → BreaksIn p line old new fault
-  in_show : line_of line ≡ Some Show → IsOutInPart old new (show_line p.at.device) → Fails p.next (show_line p.at.device) old new fault
+  in_show : line_of p.given line ≡ Some Show → IsOutInPart old new (show_line p.at.device) → Fails p.next (show_line p.at.device) old new fault
       → BreaksIn p line old new fault
 
 -- A line sets something about the device.
-pub record IsSetting (line : List ℕ) : Type 0 where
+pub record IsSetting (given : Option (List ℕ)) (line : List ℕ) : Type 0 where
   pub setting : ConfigLine
-  pub says : line_of line ≡ Some (Sets setting)
+  pub says : line_of given line ≡ Some (Sets setting)
 
 -- A line offers a file.
-pub record IsOffer (line : List ℕ) : Type 0 where
+pub record IsOffer (given : Option (List ℕ)) (line : List ℕ) : Type 0 where
   pub aim : Aim
   pub file : List ℕ
-  pub says : line_of line ≡ Some (Does (Offer aim file))
+  pub says : line_of given line ≡ Some (Does (Offer aim file))
 
 -- A line says which line is printed next.
-pub record IsExpect (line : List ℕ) : Type 0 where
+pub record IsExpect (given : Option (List ℕ)) (line : List ℕ) : Type 0 where
   pub text : List ℕ
-  pub says : line_of line ≡ Some (Expects text)
+  pub says : line_of given line ≡ Some (Expects text)
 
 -- A line needs memory: for the file that it offers while no session is live, for the tear that it brings, or for the line that it expects.
 pub data NeedsMemory (p : Point) (line : List ℕ) : Type 0 where
-  for_file : IsOffer line → p.at.session ≡ Nobody → NeedsMemory p line
-  for_tear : {events : EventLine} → line_of line ≡ Some (Does events) → HasTear events → NeedsMemory p line
-  for_text : IsExpect line → NeedsMemory p line
+  for_file : IsOffer p.given line → p.at.session ≡ Nobody → NeedsMemory p line
+  for_tear : {events : EventLine} → line_of p.given line ≡ Some (Does events) → HasTear events → NeedsMemory p line
+  for_text : IsExpect p.given line → NeedsMemory p line
 
 -- A line comes that is expected, before this line, which expects one too.
 pub record IsSecond (p : Point) (line : List ℕ) (n : ℕ) : Type 0 where
   pub first : Expectation
   pub is : p.next ≡ Some first
   pub number : n ≡ first.number
-  pub second : IsExpect line
+  pub second : IsExpect p.given line
 
 -- How line k falls once the device is started: it is none of the language, or a configuration line, or finds no memory that it needs, and
 -- then nothing of it is out; or it expects a line before one that is expected was printed; or it stops in what the line prints.
 abbrev pub LineFalls : Point → ℕ → List ℕ → Option (List ℕ) → Option (List ℕ) → ScriptFault → Type 0
-LineFalls p k line old new (BadLine n) = (n ≡ k) × (line_of line ≡ None) × (new ≡ old)
-LineFalls p k line old new (LateConfig n) = (n ≡ k) × IsSetting line × (new ≡ old)
+LineFalls p k line old new (BadLine n) = (n ≡ k) × (line_of p.given line ≡ None) × (new ≡ old)
+LineFalls p k line old new (LateConfig n) = (n ≡ k) × IsSetting p.given line × (new ≡ old)
 LineFalls p k line old new NoMemory = (NeedsMemory p line × (new ≡ old)) ⊎ BreaksIn p line old new NoMemory
 LineFalls p k line old new Write = BreaksIn p line old new Write
 LineFalls p k line old new (Expected n) = BreaksIn p line old new (Expected n)
@@ -101,13 +101,13 @@ pub record RunFalls (p : Point) (k : ℕ) (lines : List (List ℕ)) (old new : O
   pub falls : NextFalls end (k + length done) rest mid new fault
 
 -- Lines that set fall: some set, and then no more does.
-pub record SettingFalls (text : List ℕ) (fault : ScriptFault) : Type 0 where
+pub record SettingFalls (given : Option (List ℕ)) (text : List ℕ) (fault : ScriptFault) : Type 0 where
   pub done : List (List ℕ)
   pub rest : List (List ℕ)
   pub split : lines_of text ≡ done ++ rest
   pub settings : Settings
-  pub prepares : Prepares beginning done settings
-  pub falls : GivesNone (1 + length done) rest fault
+  pub prepares : Prepares (beginning given) done settings
+  pub falls : GivesNone settings.given (1 + length done) rest fault
   pub stops : StopsAfter text done fault
 
 -- No device can be set up like this, or the room has no whole units or no whole sectors, or the image has more bytes than there is room for.
@@ -125,12 +125,12 @@ StartFalls s fault = ⊥
 
 -- A script ends with a fault. There was no memory for a line, the image or the device, and nothing is out; a line that sets falls, or no
 -- device can be set up like this, and nothing is out; or the device starts, and of the lines after it one falls.
-pub data Falls (text : List ℕ) (old new : Option (List ℕ)) : ScriptFault → Type 0 where
-  no_memory : new ≡ old → Falls text old new NoMemory
-  in_setting : {fault : ScriptFault} → SettingFalls text fault → new ≡ old → Falls text old new fault
-  at_start : {settings : Settings} {after : List (List ℕ)} (sets_up : SetsUp text settings after) → CannotStart settings
-      → StopsAfter text sets_up.before BadConfig → new ≡ old → Falls text old new BadConfig
-  in_run : {settings : Settings} {after : List (List ℕ)} {first : Shown} {fault : ScriptFault} (sets_up : SetsUp text settings after)
+pub data Falls (given : Option (List ℕ)) (text : List ℕ) (old new : Option (List ℕ)) : ScriptFault → Type 0 where
+  no_memory : new ≡ old → Falls given text old new NoMemory
+  in_setting : {fault : ScriptFault} → SettingFalls given text fault → new ≡ old → Falls given text old new fault
+  at_start : {settings : Settings} {after : List (List ℕ)} (sets_up : SetsUp given text settings after) → CannotStart settings
+      → StopsAfter text sets_up.before BadConfig → new ≡ old → Falls given text old new BadConfig
+  in_run : {settings : Settings} {after : List (List ℕ)} {first : Shown} {fault : ScriptFault} (sets_up : SetsUp given text settings after)
       → Starts settings first
-      → (falls : RunFalls (point settings.limits (at_rest first)) (1 + length sets_up.before) after old new fault)
-      → StopsAfter text (sets_up.before ++ falls.done) fault → Falls text old new fault
+      → (falls : RunFalls (point settings (at_rest first)) (1 + length sets_up.before) after old new fault)
+      → StopsAfter text (sets_up.before ++ falls.done) fault → Falls given text old new fault

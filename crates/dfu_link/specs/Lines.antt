@@ -36,6 +36,14 @@ small_at most words = number_at words >>= λ n. guard (nat_le n.0 most) n
 unfoldable pub hex_at : List (List ℕ) → Field (List ℕ)
 hex_at words = field bytes_of words
 
+-- The bytes that a word of an offer stands for: FILE for the bytes that are given, if they are, any other for those that it spells.
+unfoldable pub named_bytes : Option (List ℕ) → List ℕ → Option (List ℕ)
+named_bytes given word = if bytes_eq word (codes "FILE") then given else bytes_of word
+
+-- The bytes of a file that is offered.
+unfoldable pub file_at : Option (List ℕ) → List (List ℕ) → Field (List ℕ)
+file_at given words = field (named_bytes given) words
+
 -- Four hexadecimal digits.
 unfoldable pub identifier_at : List (List ℕ) → Field ℕ
 identifier_at words = field identifier_in words
@@ -105,9 +113,9 @@ limits_of words = do
   ends (LimitsTo actions.0 restarts.0) restarts.1
 
 -- After `offer` and `verify`: the bytes of the file.
-unfoldable pub offer_of : Aim → List (List ℕ) → Option Said
-offer_of aim words = do
-  file ← hex_at words
+unfoldable pub offer_of : (given : Option (List ℕ)) → Aim → List (List ℕ) → Option Said
+offer_of given aim words = do
+  file ← file_at given words
   ends (Does (Offer aim file.0)) file.1
 
 -- After `time`: the milliseconds.
@@ -168,24 +176,24 @@ expect_of line = do
   if length text == 0 then None else Some (Expects text)
 
 -- After the first word of a line, or with all of it.
-abbrev pub by_keyword : Keyword → (line : List ℕ) → List (List ℕ) → Option Said
-by_keyword key.Ids line words = ids_of words
-by_keyword key.Device line words = device_of words
-by_keyword key.Unit line words = unit_of words
-by_keyword key.Erase line words = erase_of words
-by_keyword key.Capacity line words = capacity_of words
-by_keyword key.Image line words = image_of words
-by_keyword key.Limits line words = limits_of words
-by_keyword key.Offer line words = offer_of Install words
-by_keyword key.Verify line words = offer_of Verify words
-by_keyword key.Upload line words = ends (Does Upload) words
-by_keyword key.Abort line words = ends (Does Abort) words
-by_keyword key.Go line words = go_of words
-by_keyword key.Time line words = time_of words
-by_keyword key.Reset line words = ends (Does Reset) words
-by_keyword key.Cut line words = ends (Does Cut) words
-by_keyword key.Show line words = ends Show words
-by_keyword key.Expect line words = expect_of line
+abbrev pub by_keyword : (given : Option (List ℕ)) → Keyword → (line : List ℕ) → List (List ℕ) → Option Said
+by_keyword given key.Ids line words = ids_of words
+by_keyword given key.Device line words = device_of words
+by_keyword given key.Unit line words = unit_of words
+by_keyword given key.Erase line words = erase_of words
+by_keyword given key.Capacity line words = capacity_of words
+by_keyword given key.Image line words = image_of words
+by_keyword given key.Limits line words = limits_of words
+by_keyword given key.Offer line words = offer_of given Install words
+by_keyword given key.Verify line words = offer_of given Verify words
+by_keyword given key.Upload line words = ends (Does Upload) words
+by_keyword given key.Abort line words = ends (Does Abort) words
+by_keyword given key.Go line words = go_of words
+by_keyword given key.Time line words = time_of words
+by_keyword given key.Reset line words = ends (Does Reset) words
+by_keyword given key.Cut line words = ends (Does Cut) words
+by_keyword given key.Show line words = ends Show words
+by_keyword given key.Expect line words = expect_of line
 
 -- A line is a comment where its first word begins with `#`.
 abbrev pub is_comment : List ℕ → Bool
@@ -193,10 +201,10 @@ is_comment [] = false
 is_comment (byte ∷ bytes) = byte == 35
 
 -- What the words of a line say: nothing where there are none, or where they are a comment.
-abbrev pub says : (line : List ℕ) → List (List ℕ) → Option Said
-says line [] = Some Blank
-says line (word ∷ words) = if is_comment word then Some Blank else (keyword_of word >>= λ k. by_keyword k line words)
+abbrev pub says : (given : Option (List ℕ)) → (line : List ℕ) → List (List ℕ) → Option Said
+says given line [] = Some Blank
+says given line (word ∷ words) = if is_comment word then Some Blank else (keyword_of word >>= λ k. by_keyword given k line words)
 
--- What a line says, if it is one of the language: a line over 65,536 bytes is none.
-unfoldable pub line_of : List ℕ → Option Said
-line_of line = if nat_le (length line) 65536 then says line (words_of line) else None
+-- What a line says, where these bytes are given, if it is one of the language: a line over 65,536 bytes is none.
+unfoldable pub line_of : (given : Option (List ℕ)) → List ℕ → Option Said
+line_of given line = if nat_le (length line) 65536 then says given line (words_of line) else None

@@ -28,6 +28,11 @@ abbrev pub bytes_in : List (List ℕ) → List ℕ
 bytes_in [] = []
 bytes_in (word ∷ words) = unwrap_or (bytes_of word) []
 
+-- The file that the first of these words stands for: FILE for the bytes that are given, any other for those that it spells.
+abbrev pub file_in : (given : Option (List ℕ)) → List (List ℕ) → List ℕ
+file_in given [] = []
+file_in given (word ∷ words) = unwrap_or (if bytes_eq word (codes "FILE") then given else bytes_of word) []
+
 -- The number that the first of these words stands for.
 abbrev pub count_in : List (List ℕ) → ℕ
 count_in [] = 0
@@ -43,12 +48,12 @@ go_brings (word ∷ words) =
 
 -- What a line of these words brings. An offer and an upload may begin a session. An abort, a time, a reset and a cut are one event
 -- each, and `expect` is none.
-abbrev pub words_bring : List (List ℕ) → Brings
-words_bring [] = Nothing
-words_bring (word ∷ words) =
+abbrev pub words_bring : (given : Option (List ℕ)) → List (List ℕ) → Brings
+words_bring given [] = Nothing
+words_bring given (word ∷ words) =
     if bytes_eq word (codes "image") then AnImage (bytes_in words)
-    else if bytes_eq word (codes "offer") then Events (Some (WithOffer (bytes_in words)) ∷ [])
-    else if bytes_eq word (codes "verify") then Events (Some (WithOffer (bytes_in words)) ∷ [])
+    else if bytes_eq word (codes "offer") then Events (Some (WithOffer (file_in given words)) ∷ [])
+    else if bytes_eq word (codes "verify") then Events (Some (WithOffer (file_in given words)) ∷ [])
     else if bytes_eq word (codes "upload") then Events (Some AsUpload ∷ [])
     else if bytes_eq word (codes "abort") then Events (None ∷ [])
     else if bytes_eq word (codes "go") then go_brings words
@@ -59,9 +64,9 @@ words_bring (word ∷ words) =
     else if bytes_eq word (codes "expect") then Events []
     else Nothing
 
--- What a line brings.
-abbrev pub brought : List ℕ → Brings
-brought line = words_bring (words_of line)
+-- What a line brings where these bytes are given.
+abbrev pub brought : (given : Option (List ℕ)) → List ℕ → Brings
+brought given line = words_bring given (words_of line)
 
 -- What is printed.
 
@@ -103,12 +108,12 @@ pub data LinePrints (factory : List ℕ) (past : List Begun) (b : Bench) : Bring
       → LinePrints factory past b AShow (codes "state " ++ state ++ line_of_image image) past b
 
 -- Lines one after the other.
-pub data LinesPrint (factory : List ℕ) (past : List Begun) (b : Bench) :
+pub data LinesPrint (given : Option (List ℕ)) (factory : List ℕ) (past : List Begun) (b : Bench) :
     List (List ℕ) → (printed : List ℕ) → List Begun → Bench → Type 0 where
-  no_line : LinesPrint factory past b [] [] past b
+  no_line : LinesPrint given factory past b [] [] past b
   then_line : {lines : List (List ℕ)} {printed more : List ℕ} {mid past' : List Begun} {c b' : Bench} (line : List ℕ)
-      → LinesPrint factory past b lines printed mid c → LinePrints factory mid c (brought line) more past' b'
-      → LinesPrint factory past b (lines ++ line ∷ []) (printed ++ more) past' b'
+      → LinesPrint given factory past b lines printed mid c → LinePrints factory mid c (brought given line) more past' b'
+      → LinesPrint given factory past b (lines ++ line ∷ []) (printed ++ more) past' b'
 
 -- Whole scripts.
 
@@ -122,52 +127,52 @@ NeedsDevice AShow = Unit {0}
 
 -- The device starts before the first line that needs it, or behind them all. Its factory image is the one set last before that, or where no
 -- line sets one, this image.
-pub data StartsWith : (image : List ℕ) (lines after : List (List ℕ)) (factory : List ℕ) → Type 0 where
-  at_end : {image : List ℕ} → StartsWith image [] [] image
-  at_line : {image line : List ℕ} {lines : List (List ℕ)} → NeedsDevice (brought line)
-      → StartsWith image (line ∷ lines) (line ∷ lines) image
-  after_nothing : {image line factory : List ℕ} {lines after : List (List ℕ)} → brought line ≡ Nothing
-      → StartsWith image lines after factory → StartsWith image (line ∷ lines) after factory
-  after_image : {image set line factory : List ℕ} {lines after : List (List ℕ)} → brought line ≡ AnImage set
-      → StartsWith set lines after factory → StartsWith image (line ∷ lines) after factory
+pub data StartsWith (given : Option (List ℕ)) : (image : List ℕ) (lines after : List (List ℕ)) (factory : List ℕ) → Type 0 where
+  at_end : {image : List ℕ} → StartsWith given image [] [] image
+  at_line : {image line : List ℕ} {lines : List (List ℕ)} → NeedsDevice (brought given line)
+      → StartsWith given image (line ∷ lines) (line ∷ lines) image
+  after_nothing : {image line factory : List ℕ} {lines after : List (List ℕ)} → brought given line ≡ Nothing
+      → StartsWith given image lines after factory → StartsWith given image (line ∷ lines) after factory
+  after_image : {image set line factory : List ℕ} {lines after : List (List ℕ)} → brought given line ≡ AnImage set
+      → StartsWith given set lines after factory → StartsWith given image (line ∷ lines) after factory
 
 -- After the start these lines of a text were done. The headline held at the start, with no session, and the image at the end is known.
-pub record TextPrints (text : List ℕ) (after done : List (List ℕ)) (printed : List ℕ) (past : List Begun) (end : Bench)
-    (image : List ℕ) : Type 0 where
+pub record TextPrints (given : Option (List ℕ)) (text : List ℕ) (after done : List (List ℕ)) (printed : List ℕ) (past : List Begun)
+    (end : Bench) (image : List ℕ) : Type 0 where
   pub factory : List ℕ
-  pub starts : StartsWith (0 ∷ []) (lines_of text) after factory
+  pub starts : StartsWith given (0 ∷ []) (lines_of text) after factory
   pub first : Shown
   pub holds : HeadlineHolds factory [] None (at_rest first)
-  pub lines : LinesPrint factory [] (at_rest first) done printed past end
+  pub lines : LinesPrint given factory [] (at_rest first) done printed past end
   pub known : IsKnownImage factory past end image
 
 -- A whole script was written: what its lines print, and last the line of a known image.
-pub record WrotePrinted (text : List ℕ) (old new : Option (List ℕ)) : Type 0 where
+pub record WrotePrinted (given : Option (List ℕ)) (text : List ℕ) (old new : Option (List ℕ)) : Type 0 where
   pub after : List (List ℕ)
   pub printed : List ℕ
   pub past : List Begun
   pub end : Bench
   pub image : List ℕ
-  pub prints : TextPrints text after after printed past end image
+  pub prints : TextPrints given text after after printed past end image
   pub told : Appends old new (printed ++ line_of_image image)
 
 -- What is out of the first of these lines, before which a script stopped, or of the last line of a script where none is left: nothing, or a
 -- front of what is printed of the line or of the first of its events.
-pub data PartPrints (factory : List ℕ) (past : List Begun) (b : Bench) (image : List ℕ) :
+pub data PartPrints (given : Option (List ℕ)) (factory : List ℕ) (past : List Begun) (b : Bench) (image : List ℕ) :
     List (List ℕ) → (old new : Option (List ℕ)) → Type 0 where
-  nothing_out : {lines : List (List ℕ)} {old : Option (List ℕ)} → PartPrints factory past b image lines old old
+  nothing_out : {lines : List (List ℕ)} {old : Option (List ℕ)} → PartPrints given factory past b image lines old old
   in_events : {line : List ℕ} {lines : List (List ℕ)} {old new : Option (List ℕ)} {come : List (Option Begun)} {printed : List ℕ}
-      {past' : List Begun} {b' : Bench} (left : List (Option Begun)) → brought line ≡ Events (come ++ left)
+      {past' : List Begun} {b' : Bench} (left : List (Option Begun)) → brought given line ≡ Events (come ++ left)
       → EventsPrint factory past b come printed past' b' → IsOutInPart old new printed
-      → PartPrints factory past b image (line ∷ lines) old new
+      → PartPrints given factory past b image (line ∷ lines) old new
   in_line : {line : List ℕ} {lines : List (List ℕ)} {old new : Option (List ℕ)} {printed : List ℕ} {past' : List Begun} {b' : Bench}
-      → LinePrints factory past b (brought line) printed past' b' → IsOutInPart old new printed
-      → PartPrints factory past b image (line ∷ lines) old new
-  in_image : {old new : Option (List ℕ)} → IsOutInPart old new (line_of_image image) → PartPrints factory past b image [] old new
+      → LinePrints factory past b (brought given line) printed past' b' → IsOutInPart old new printed
+      → PartPrints given factory past b image (line ∷ lines) old new
+  in_image : {old new : Option (List ℕ)} → IsOutInPart old new (line_of_image image) → PartPrints given factory past b image [] old new
 
 -- A script stopped: nothing is out, and no device was started; or what is out is the text of the lines that were done, and of the next.
-pub data StopsPrinted (text : List ℕ) (old new : Option (List ℕ)) : Type 0 where
-  before_start : new ≡ old → StopsPrinted text old new
+pub data StopsPrinted (given : Option (List ℕ)) (text : List ℕ) (old new : Option (List ℕ)) : Type 0 where
+  before_start : new ≡ old → StopsPrinted given text old new
   after_start : {after done rest : List (List ℕ)} {printed image : List ℕ} {past : List Begun} {end : Bench} {mid : Option (List ℕ)}
-      → (prints : TextPrints text after done printed past end image) → after ≡ done ++ rest → Appends old mid printed
-      → PartPrints prints.factory past end image rest mid new → StopsPrinted text old new
+      → (prints : TextPrints given text after done printed past end image) → after ≡ done ++ rest → Appends old mid printed
+      → PartPrints given prints.factory past end image rest mid new → StopsPrinted given text old new

@@ -1,5 +1,6 @@
 -- What a line says, as plain data.
-use Rattle.std.specs.Prelude.{ℕ, List, [], unwrap_or}
+use Rattle.std.specs.Borrow.{Bor}
+use Rattle.std.specs.Prelude.{ℕ, List, [], Option, Some, None, unwrap_or}
 use Rattle.dfu_wire.specs.declared.ids.Ids.{Ids}
 use Rattle.dfu_wire.specs.declared.functionals.Functional.{Functional}
 use Rattle.dfu_slots.specs.declared.unit.Unit.{Unit as WriteUnit}
@@ -13,12 +14,24 @@ use Rattle.dfu_link.specs.declared.scripting.line.Line as lines
 use Rattle.dfu_link.specs.declared.scripting.line.Line.TheVariants as line
 use Rattle.dfu_link.specs.declared.scripting.line.ConfigLine as config_lines
 use Rattle.dfu_link.specs.declared.scripting.line.ConfigLine.TheVariants as config
+use Rattle.dfu_link.specs.declared.scripting.line.Offered as offereds
+use Rattle.dfu_link.specs.declared.scripting.line.Offered.TheVariants as offered
 use Rattle.dfu_link.specs.declared.scripting.line.EventLine as event_lines
 use Rattle.dfu_link.specs.declared.scripting.line.EventLine.TheVariants as events
 
 -- The bytes that a hexadecimal text stands for.
 abbrev pub hex_bytes : HexText → List ℕ
 hex_bytes text = unwrap_or (bytes_of text.text.now) []
+
+-- The bytes that are given to a script, if any are.
+abbrev pub given_bytes : Option (Bor (List ℕ)) → Option (List ℕ)
+given_bytes None = None
+given_bytes (Some bytes) = Some bytes.now
+
+-- The bytes of a file that a line offers.
+abbrev pub offered_bytes : offereds.Offered → List ℕ
+offered_bytes (offered.Spelled text) = hex_bytes text
+offered_bytes (offered.Given bytes) = bytes.now
 
 -- What a configuration line sets: who the device is, what it is like, how its medium is written and erased, how many bytes an image may have,
 -- or the image that it has at first.
@@ -76,7 +89,7 @@ harm_fate kind.Lie = Lie
 
 -- What an event line as the code has it says.
 abbrev pub said_by : event_lines.EventLine → Said
-said_by (events.Offer aim text) = Does (Offer aim (hex_bytes text))
+said_by (events.Offer aim file) = Does (Offer aim (offered_bytes file))
 said_by events.Upload = Does Upload
 said_by events.Abort = Does Abort
 said_by (events.Go f times) = Does (Go (fate_of f) (harm_in f) times)

@@ -63,28 +63,28 @@ pub data LinesHold (factory : List ℕ) (past : List Begun) (p : Point) :
     List (List ℕ) → (printed : List ℕ) → List Begun → Point → Type 0 where
   no_line : LinesHold factory past p [] [] past p
   one_line : {lines : List (List ℕ)} {printed more : List ℕ} {mid past' : List Begun} {q q' : Point} (line : List ℕ) {said : Said}
-      → LinesHold factory past p lines printed mid q → line_of line ≡ Some said → LineHolds factory mid q said more past' q'
+      → LinesHold factory past p lines printed mid q → line_of q.given line ≡ Some said → LineHolds factory mid q said more past' q'
       → LinesHold factory past p (lines ++ line ∷ []) (printed ++ more) past' q'
 
 -- These lines were done on a device that was started on what the text sets up. The headline held at the start, with the image that the
 -- text sets as the factory image, and the image at the end is known.
-pub record ScriptHolds (text : List ℕ) (after done : List (List ℕ)) (printed : List ℕ) (past : List Begun) (end : Point)
-    (image : List ℕ) : Type 0 where
+pub record ScriptHolds (given : Option (List ℕ)) (text : List ℕ) (after done : List (List ℕ)) (printed : List ℕ) (past : List Begun)
+    (end : Point) (image : List ℕ) : Type 0 where
   pub settings : Settings
-  pub sets_up : SetsUp text settings after
+  pub sets_up : SetsUp given text settings after
   pub first : Shown
   pub starts : HeadlineHolds settings.image [] None (at_rest first)
-  pub lines : LinesHold settings.image [] (point settings.limits (at_rest first)) done printed past end
+  pub lines : LinesHold settings.image [] (point settings (at_rest first)) done printed past end
   pub known : IsKnownImage settings.image past end.at image
 
 -- A whole script was written: what its lines print, and last the line of a known image.
-pub record WroteHeadline (text : List ℕ) (old new : Option (List ℕ)) : Type 0 where
+pub record WroteHeadline (given : Option (List ℕ)) (text : List ℕ) (old new : Option (List ℕ)) : Type 0 where
   pub after : List (List ℕ)
   pub printed : List ℕ
   pub past : List Begun
   pub end : Point
   pub image : List ℕ
-  pub holds : ScriptHolds text after after printed past end image
+  pub holds : ScriptHolds given text after after printed past end image
   pub told : Appends old new (printed ++ line_of_image image)
 
 -- Where a script stopped among these lines, what is out of the first of them, or where none is left of the line of the image: nothing; a
@@ -94,19 +94,19 @@ pub data PartHolds (factory : List ℕ) (past : List Begun) (p : Point) (image :
   nothing_out : {lines : List (List ℕ)} {old : Option (List ℕ)} → PartHolds factory past p image lines old old
   in_events : {line : List ℕ} {lines : List (List ℕ)} {old new : Option (List ℕ)} {events : EventLine} {played : List Happening}
       (left : List Happening) {printed : List ℕ} {past' : List Begun} {b : Bench}
-      → line_of line ≡ Some (Does events) → events_of p.limits events ≡ played ++ left
+      → line_of p.given line ≡ Some (Does events) → events_of p.limits events ≡ played ++ left
       → EventsHold factory past p.at played printed past' b → IsOutInPart old new printed
       → PartHolds factory past p image (line ∷ lines) old new
   in_passes : {line : List ℕ} {lines : List (List ℕ)} {old new : Option (List ℕ)} {printed : List ℕ} {past' : List Begun} {q : Point}
-      → line_of line ≡ Some GoesOn → LineHolds factory past p GoesOn printed past' q → IsOutInPart old new printed
+      → line_of p.given line ≡ Some GoesOn → LineHolds factory past p GoesOn printed past' q → IsOutInPart old new printed
       → PartHolds factory past p image (line ∷ lines) old new
-  in_show : {line : List ℕ} {lines : List (List ℕ)} {old new : Option (List ℕ)} → line_of line ≡ Some Show
+  in_show : {line : List ℕ} {lines : List (List ℕ)} {old new : Option (List ℕ)} → line_of p.given line ≡ Some Show
       → IsOutInPart old new (state_text p.at.device ++ line_of_image image) → PartHolds factory past p image (line ∷ lines) old new
   in_image : {old new : Option (List ℕ)} → IsOutInPart old new (line_of_image image) → PartHolds factory past p image [] old new
 
 -- A script stopped: nothing is out, and no device was started; or what is out is the text of the lines that were done, and of the next.
-pub data StopsWithHeadline (text : List ℕ) (old new : Option (List ℕ)) : Type 0 where
-  before_start : new ≡ old → StopsWithHeadline text old new
+pub data StopsWithHeadline (given : Option (List ℕ)) (text : List ℕ) (old new : Option (List ℕ)) : Type 0 where
+  before_start : new ≡ old → StopsWithHeadline given text old new
   after_start : {after done rest : List (List ℕ)} {printed image : List ℕ} {past : List Begun} {end : Point} {mid : Option (List ℕ)}
-      → (holds : ScriptHolds text after done printed past end image) → after ≡ done ++ rest → Appends old mid printed
-      → PartHolds holds.settings.image past end image rest mid new → StopsWithHeadline text old new
+      → (holds : ScriptHolds given text after done printed past end image) → after ≡ done ++ rest → Appends old mid printed
+      → PartHolds holds.settings.image past end image rest mid new → StopsWithHeadline given text old new

@@ -65,29 +65,29 @@ pub data LinesGo (factory : List ℕ) (p : Point) (m : Machine) : List (List ℕ
   no_line : LinesGo factory p m [] [] [] p m
   one_line : {lines : List (List ℕ)} {reports more : List Report} {out text : List ℕ} {q q' : Point} {n n' : Machine} (line : List ℕ)
       {said : Said}
-      → LinesGo factory p m lines reports out q n → line_of line ≡ Some said → LineGoes factory q n said more text q' n'
+      → LinesGo factory p m lines reports out q n → line_of q.given line ≡ Some said → LineGoes factory q n said more text q' n'
       → LinesGo factory p m (lines ++ line ∷ []) (reports ++ more) (out ++ text) q' n'
 
 -- A device started on what the text sets up, and then these lines were done, with these reports and this text: the machine began with the
 -- factory image and nothing else, and made a legal run with these reports, and it vouches for the bench at the start and at the end.
-pub record RunsLegally (text : List ℕ) (after done : List (List ℕ)) (shown : List ℕ) (end : Point) (m : Machine) : Type 0 where
+pub record RunsLegally (given : Option (List ℕ)) (text : List ℕ) (after done : List (List ℕ)) (shown : List ℕ) (end : Point) (m : Machine) : Type 0 where
   pub settings : Settings
-  pub sets_up : SetsUp text settings after
+  pub sets_up : SetsUp given text settings after
   pub first : Shown
   pub starts : Vouches settings.image (at_rest first) (begun_with settings.image)
   pub reports : List Report
-  pub lines : LinesGo settings.image (point settings.limits (at_rest first)) (begun_with settings.image) done reports shown end m
+  pub lines : LinesGo settings.image (point settings (at_rest first)) (begun_with settings.image) done reports shown end m
   pub kinds : List Kind
   pub legal : Legal settings.device.functional.tolerant settings.device.functional.transfer (begun_with settings.image) kinds reports m
   pub vouches : Vouches settings.image end.at m
 
 -- A whole script: all lines were done, and the last line shows the machine's active image.
-pub record IsLegal (text out : List ℕ) : Type 0 where
+pub record IsLegal (given : Option (List ℕ)) (text out : List ℕ) : Type 0 where
   pub after : List (List ℕ)
   pub shown : List ℕ
   pub end : Point
   pub machine : Machine
-  pub runs : RunsLegally text after after shown end machine
+  pub runs : RunsLegally given text after after shown end machine
   pub out_is : out ≡ shown ++ line_of_image machine.cur
 
 -- Where a script stopped among these lines, what is out of the first of them, or where none is left of the line of the image: nothing; a
@@ -97,27 +97,27 @@ pub data OutOfNext (factory : List ℕ) (p : Point) (m : Machine) : List (List �
   nothing_out : {lines : List (List ℕ)} {old : Option (List ℕ)} → OutOfNext factory p m lines old old
   in_events : {line : List ℕ} {lines : List (List ℕ)} {old new : Option (List ℕ)} {events : EventLine} {played : List Happening}
       (left : List Happening) {reports : List Report} {out : List ℕ} {b : Bench} {m' : Machine}
-      → line_of line ≡ Some (Does events) → events_of p.limits events ≡ played ++ left
+      → line_of p.given line ≡ Some (Does events) → events_of p.limits events ≡ played ++ left
       → EventsGo factory p.at m played reports out b m' → IsOutInPart old new out → OutOfNext factory p m (line ∷ lines) old new
   in_passes : {line : List ℕ} {lines : List (List ℕ)} {old new : Option (List ℕ)} {reports : List Report} {out : List ℕ} {q : Point}
       {m' : Machine}
-      → line_of line ≡ Some GoesOn → LineGoes factory p m GoesOn reports out q m' → IsOutInPart old new out
+      → line_of p.given line ≡ Some GoesOn → LineGoes factory p m GoesOn reports out q m' → IsOutInPart old new out
       → OutOfNext factory p m (line ∷ lines) old new
   in_show : {line : List ℕ} {lines : List (List ℕ)} {old new : Option (List ℕ)}
-      → line_of line ≡ Some Show → IsOutInPart old new (state_text p.at.device ++ line_of_image m.cur)
+      → line_of p.given line ≡ Some Show → IsOutInPart old new (state_text p.at.device ++ line_of_image m.cur)
       → OutOfNext factory p m (line ∷ lines) old new
   in_image : {old new : Option (List ℕ)} → IsOutInPart old new (line_of_image m.cur) → OutOfNext factory p m [] old new
 
 -- A script that stopped: nothing is out, and no device was started; or the machine went along with the lines that were done, and what is
 -- out is their text and what is out of the next.
-pub data StopsLegally (text : List ℕ) (old new : Option (List ℕ)) : Type 0 where
-  before_start : new ≡ old → StopsLegally text old new
+pub data StopsLegally (given : Option (List ℕ)) (text : List ℕ) (old new : Option (List ℕ)) : Type 0 where
+  before_start : new ≡ old → StopsLegally given text old new
   after_start : {after done rest : List (List ℕ)} {shown : List ℕ} {end : Point} {m : Machine} {mid : Option (List ℕ)}
-      → (runs : RunsLegally text after done shown end m) → after ≡ done ++ rest → Appends old mid shown
-      → OutOfNext runs.settings.image end m rest mid new → StopsLegally text old new
+      → (runs : RunsLegally given text after done shown end m) → after ≡ done ++ rest → Appends old mid shown
+      → OutOfNext runs.settings.image end m rest mid new → StopsLegally given text old new
 
 -- A whole script was written with which the session machine goes along.
-pub record WroteLegal (text : List ℕ) (old new : Option (List ℕ)) : Type 0 where
+pub record WroteLegal (given : Option (List ℕ)) (text : List ℕ) (old new : Option (List ℕ)) : Type 0 where
   pub out : List ℕ
-  pub legal : IsLegal text out
+  pub legal : IsLegal given text out
   pub told : Appends old new out

@@ -23,17 +23,18 @@ use Rattle.dfu_link.specs.Lines.{line_of}
 use Rattle.dfu_link.specs.Expecting.{Expectation, Meets, still}
 
 -- What is set before the first event line or `show`: the device, how its medium is written and erased, how many bytes an image may have, the
--- image at first, and the limits of sessions.
+-- image at first, and the limits of sessions. The bytes that FILE stands for are given, if any are, and no line sets them.
 pub record Settings : Type 0 where
   pub device : Setting
   pub grain : Grain
   pub capacity : ℕ
   pub image : List ℕ
   pub limits : Limits
+  pub given : Option (List ℕ)
 
 -- What holds where no line sets anything else.
-abbrev pub beginning : Settings
-beginning = record {
+abbrev pub beginning : (given : Option (List ℕ)) → Settings
+beginning given = record {
   device = record {
     ids = record { device = 0x0100; product = 0x0001; vendor = 0x1209 };
     functional = functional_of 7 255 8 0x0110;
@@ -45,6 +46,7 @@ beginning = record {
   capacity = 64;
   image = 0 ∷ [];
   limits = record { actions = 1000000; restarts = 0 };
+  given = given;
 }
 
 -- What a configuration line sets takes the place of what stood there.
@@ -68,7 +70,7 @@ prepared s said = None
 pub data Prepares : Settings → List (List ℕ) → Settings → Type 0 where
   nothing : {s : Settings} → Prepares s [] s
   then_prepares : {s t t' : Settings} {lines : List (List ℕ)} (line : List ℕ) {said : Said} →
-      Prepares s lines t → line_of line ≡ Some said → prepared t said ≡ Some t' → Prepares s (lines ++ line ∷ []) t'
+      Prepares s lines t → line_of t.given line ≡ Some said → prepared t said ≡ Some t' → Prepares s (lines ++ line ∷ []) t'
 
 -- An event line, `show` or `expect` is read.
 abbrev pub HasToAct : Option Said → Type 0
@@ -79,9 +81,9 @@ HasToAct (Some (Expects text)) = Unit {0}
 HasToAct said = ⊥
 
 -- The device has to start before the next line, or where none is left.
-abbrev pub IsReady : List (List ℕ) → Type 0
-IsReady [] = Unit {0}
-IsReady (line ∷ lines) = HasToAct (line_of line)
+abbrev pub IsReady : Settings → List (List ℕ) → Type 0
+IsReady s [] = Unit {0}
+IsReady s (line ∷ lines) = HasToAct (line_of s.given line)
 
 -- A blank medium of two slots that is written and erased like this, with room for images of so many bytes. It is not armed.
 abbrev pub blank : Grain → ℕ → MediumState
@@ -109,15 +111,17 @@ pub data AllCome : Bench → List Happening → List ℕ → Bench → Type 0 wh
   then_comes : {b c c' : Bench} {events : List Happening} {event : Happening} {out : List ℕ} {answer : Result Answered LinkFault} →
       AllCome b events out c → Comes c event c' answer → ShowsActive c' → AllCome b (events ++ event ∷ []) (out ++ answer_line answer) c'
 
--- Where a script is once the device is started: the limits of the next session, which line is expected next, and the link.
+-- Where a script is once the device is started: the bytes that FILE stands for, the limits of the next session, which line is expected
+-- next, and the link.
 pub record Point : Type 0 where
+  pub given : Option (List ℕ)
   pub limits : Limits
   pub next : Option Expectation
   pub at : Bench
 
--- These limits, and this link, and no line is expected.
-abbrev pub point : Limits → Bench → Point
-point limits at = record { limits = limits; next = None; at = at }
+-- Where it is with these settings and this link, and no line is expected.
+abbrev pub point : Settings → Bench → Point
+point s at = record { given = s.given; limits = s.limits; next = None; at = at }
 
 -- This was printed, and the link is this now.
 abbrev pub printed : Point → (text : List ℕ) → Bench → Point
@@ -153,33 +157,33 @@ pub data LineActs (k : ℕ) : Point → Said → List ℕ → Point → Type 0 w
 pub data LinesRun (k : ℕ) : Point → List (List ℕ) → List ℕ → Point → Type 0 where
   stays : {p : Point} → LinesRun k p [] [] p
   then_runs : {p q q' : Point} {lines : List (List ℕ)} (line : List ℕ) {said : Said} {out more : List ℕ} →
-      LinesRun k p lines out q → line_of line ≡ Some said → LineActs (k + length lines) q said more q'
+      LinesRun k p lines out q → line_of q.given line ≡ Some said → LineActs (k + length lines) q said more q'
       → LinesRun k p (lines ++ line ∷ []) (out ++ more) q'
 
 -- The text is set up like this, and these lines are left: the lines before set, and now the device has to start.
-pub record SetsUp (text : List ℕ) (settings : Settings) (after : List (List ℕ)) : Type 0 where
+pub record SetsUp (given : Option (List ℕ)) (text : List ℕ) (settings : Settings) (after : List (List ℕ)) : Type 0 where
   pub before : List (List ℕ)
   pub split : lines_of text ≡ before ++ after
-  pub prepares : Prepares beginning before settings
-  pub ready : IsReady after
+  pub prepares : Prepares (beginning given) before settings
+  pub ready : IsReady settings after
 
 -- A whole script of at most 16,777,216 bytes: lines that set, the device started, lines that act, and last the line of the image, which is
 -- as expected.
-pub record IsRun (text out : List ℕ) : Type 0 where
+pub record IsRun (given : Option (List ℕ)) (text out : List ℕ) : Type 0 where
   pub small : length text ≤ 16777216
   pub settings : Settings
   pub after : List (List ℕ)
-  pub sets_up : SetsUp text settings after
+  pub sets_up : SetsUp given text settings after
   pub first : Shown
   pub starts : Starts settings first
   pub shown : List ℕ
   pub end : Point
-  pub runs : LinesRun (1 + length sets_up.before) (point settings.limits (at_rest first)) after shown end
+  pub runs : LinesRun (1 + length sets_up.before) (point settings (at_rest first)) after shown end
   pub meets : Meets end.next (image_line end.at.device)
   pub out_is : out ≡ shown ++ image_line end.at.device
 
 -- A run of the text was written.
-pub record WroteRun (text : List ℕ) (old new : Option (List ℕ)) : Type 0 where
+pub record WroteRun (given : Option (List ℕ)) (text : List ℕ) (old new : Option (List ℕ)) : Type 0 where
   pub out : List ℕ
-  pub run : IsRun text out
+  pub run : IsRun given text out
   pub told : Appends old new out

@@ -1,5 +1,5 @@
 -- The limit of a text, and where reading it line by line ends.
-use Rattle.std.specs.Prelude.{◌≡◌, ℕ, ◌-◌, ◌<◌, ◌≤◌, List, ◌∷◌, ◌++◌, length, take, true, None}
+use Rattle.std.specs.Prelude.{◌≡◌, ℕ, ◌-◌, ◌<◌, ◌≤◌, List, ◌∷◌, ◌++◌, length, take, true, Option, None}
 use Rattle.dfu_link.specs.Words.{endless, lines_of}
 use Rattle.dfu_link.specs.Lines.{line_of}
 use Rattle.dfu_link.specs.declared.scripting.fault.ScriptFault.{ScriptFault}
@@ -32,8 +32,8 @@ StopsAfter text lines fault = (b : Begins text lines) × IsStopped (16777216 - l
 
 -- Of these lines, the first of them line k, reading gives none of the language: the text goes over its limit, the reader fails, or line k
 -- is none.
-abbrev pub GivesNone : ℕ → List (List ℕ) → ScriptFault → Type 0
-GivesNone k lines TooLarge = Unit {0}
-GivesNone k lines Read = Unit {0}
-GivesNone k (line ∷ lines) (BadLine n) = (n ≡ k) × (line_of line ≡ None)
-GivesNone k lines fault = ⊥
+abbrev pub GivesNone : (given : Option (List ℕ)) → ℕ → List (List ℕ) → ScriptFault → Type 0
+GivesNone given k lines TooLarge = Unit {0}
+GivesNone given k lines Read = Unit {0}
+GivesNone given k (line ∷ lines) (BadLine n) = (n ≡ k) × (line_of given line ≡ None)
+GivesNone given k lines fault = ⊥

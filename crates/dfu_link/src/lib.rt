@@ -28,5 +28,5 @@ pub use event::Event;
 pub use fate::Fate;
 pub use fault::{LinkFault, OfferFault};
 pub use running::{Stop, run};
-pub use scripting::{ScriptFault, script, script_traced};
+pub use scripting::{ScriptFault, script, script_traced, script_traced_with, script_with};
 pub use world::World;

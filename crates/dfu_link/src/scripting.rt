@@ -2,10 +2,12 @@
 //! host, and writes what comes of them.
 
 mod after_start;
+mod alone;
 mod digits;
 mod expectation;
 mod fault;
 mod fields;
+mod held;
 mod hex_text;
 mod keywords;
 mod line;
@@ -22,5 +24,6 @@ mod starting;
 mod whole;
 mod words;
 
+pub use alone::{script, script_traced};
 pub use fault::ScriptFault;
-pub use whole::{script, script_traced};
+pub use whole::{script_traced_with, script_with};

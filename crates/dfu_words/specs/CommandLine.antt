@@ -1,5 +1,6 @@
 -- The command line of the program, in clap's own words.
 use Rattle.std.specs.Prelude.{◌≡◌, ◌||◌, Bool, true, false, List, [], ◌∷◌, Option, Some, None, codes}
+use Rattle.std.specs.Option.{option_map}
 use Rattle.std.specs.Str.{bytes_eq}
 use Rattle.std.specs.String.{string_bytes}
 use Rattle.clap.specs.Words.{App, Row, Rule, Text, first_of, matches_of, new_app, new_rule, subcommand_of, with_rule, with_subcommand}
@@ -18,6 +19,10 @@ optional id default = record (new_rule id) { action = Some Set; value_names = 1;
 -- An option `--ID` has a value, and a default where it isn't given.
 abbrev pub option : Text → Text → Rule
 option id default = record (new_rule id) { long = Some id; action = Some Set; defaults = default ∷ [] }
+
+-- An option `--ID` that is unset has no value where it isn't given.
+abbrev pub unset : Text → Rule
+unset id = record (new_rule id) { long = Some id; action = Some Set }
 
 -- A flag `--ID` has no value, and is off where it isn't given.
 abbrev pub flag : Text → Rule
@@ -41,9 +46,11 @@ add_app =
 abbrev pub show_app : App
 show_app = explained (with_rule (with_rule (new_app (codes "show")) (needed (codes "kind"))) (needed (codes "hex")))
 
--- The command `run` takes SCRIPT and the flag `--trace`.
+-- The command `run` takes SCRIPT, the flag `--trace` and the option `--file`.
 abbrev pub run_app : App
-run_app = explained (with_rule (with_rule (new_app (codes "run")) (needed (codes "script"))) (flag (codes "trace")))
+run_app =
+    explained (with_rule (with_rule (with_rule (new_app (codes "run")) (needed (codes "script"))) (flag (codes "trace")))
+    (unset (codes "file")))
 
 -- The command `judge` takes FILE, `-` by default, and the options `--interface`, `0` by default, and `--device`, `only` by default.
 abbrev pub judge_app : App
@@ -82,8 +89,8 @@ States (Some p) (Add file to vid pid did) =
     × (first_of (codes "did") p.1 ≡ Some (string_bytes did))
 States (Some p) (Show kind hex) = (p.0 ≡ codes "show") × (first_of (codes "kind") p.1 ≡ Some (string_bytes kind))
     × (first_of (codes "hex") p.1 ≡ Some (string_bytes hex))
-States (Some p) (Run script trace) = (p.0 ≡ codes "run") × (first_of (codes "script") p.1 ≡ Some (string_bytes script))
-    × (trace ≡ is_on (first_of (codes "trace") p.1))
+States (Some p) (Run script trace file) = (p.0 ≡ codes "run") × (first_of (codes "script") p.1 ≡ Some (string_bytes script))
+    × (trace ≡ is_on (first_of (codes "trace") p.1)) × (first_of (codes "file") p.1 ≡ option_map string_bytes file)
 States (Some p) (Judge file interface device) =
     (p.0 ≡ codes "judge") × (first_of (codes "file") p.1 ≡ Some (string_bytes file))
     × (first_of (codes "interface") p.1 ≡ Some (string_bytes interface)) × (first_of (codes "device") p.1 ≡ Some (string_bytes device))

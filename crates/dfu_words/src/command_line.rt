@@ -4,7 +4,7 @@
 ghost use Rattle.std.specs.Prelude.{◌≡◌, IfOk, false, true};
 ghost use Rattle.clap.specs.Words.{App, Rule, app_of, new_app, rule_of, with_rule, with_subcommand};
 ghost use Rattle.clap.specs.declared.builder.Command.TheViews.{out-Command};
-ghost use Rattle.dfu_words.specs.CommandLine.{needed, optional, option, flag, explained, check_app, add_app, show_app, run_app, judge_app, bare_app, top_app, dfu_app};
+ghost use Rattle.dfu_words.specs.CommandLine.{needed, optional, option, unset, flag, explained, check_app, add_app, show_app, run_app, judge_app, bare_app, top_app, dfu_app};
 
 use crate::help;
 use clap::{Arg, ArgAction, Command};
@@ -52,6 +52,18 @@ fn option<'a>(alloc: Global, id: &'a str, default: &'a str, help: &'a str) -> Ar
         .long(id)
         .action(ArgAction::Set)
         .default_value(default)
+        .help(help)
+}
+
+/// An option with a value, which has none where it isn't given.
+#[inline(never)]
+fn unset<'a>(alloc: Global, id: &'a str, help: &'a str) -> Arg<'a>
+    ensures rule { rule_of result ≡ unset id.entry.now }
+    ensures local { result.global ≡ false }
+{
+    Arg::new(alloc, id)
+        .long(id)
+        .action(ArgAction::Set)
         .help(help)
 }
 
@@ -161,6 +173,7 @@ fn run_command<'a>(alloc: Global) -> Result<Command<'a>, AllocError>
         needed(alloc, "script", "SCRIPT", help::RUN_SCRIPT),
     );
     let command = with(command, flag(alloc, "trace", help::RUN_TRACE));
+    let command = with(command, unset(alloc, "file", help::RUN_FILE));
     explained(alloc, command)
 }
 

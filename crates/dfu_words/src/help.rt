@@ -60,6 +60,9 @@ pub(crate) const RUN_SCRIPT: &str = "The script, or - for standard input";
 pub(crate) const RUN_TRACE: &str =
     "Print a line for each action of the host too, which begins with #";
 
+pub(crate) const RUN_FILE: &str =
+    "The file that FILE stands for in offer and verify, or - for standard input";
+
 pub(crate) const RUN_EXAMPLE: &str = "\
 Example, a file with 4 bytes of payload that is installed after 13 actions of the host:
   printf 'offer ffffffffffffffffffff00015546441071c8510c\\ngo pass 13\\n' | dfu run -";

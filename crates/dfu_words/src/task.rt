@@ -34,6 +34,8 @@ pub enum Job {
         script: String,
         /// Whether each action is to be told: `--trace` was given.
         trace: bool,
+        /// The file that FILE stands for, or standard input where it is `-`; none without `--file`.
+        file: Option<String>,
     },
     /// Judge a log or a capture, or that of standard input where `file` is `-`.
     Judge {

@@ -1,6 +1,7 @@
 //! From the words of a command line to a job.
 
 ghost use Rattle.std.specs.Prelude.{◌≡◌, IfErr, IfOk, IfSome, Some, codes, is_some, map, true};
+ghost use Rattle.std.specs.Option.{option_map};
 ghost use Rattle.std.specs.String.{string_bytes};
 ghost use Rattle.clap.specs.Words.{HasKind, Kinds, first_of, found_of, has_subcommand, matches_of, rows_of, subcommand_of, subcommand_rows_of};
 ghost use Rattle.dfu_words.specs.CommandLine.{asks_why, dfu_app, is_on, rows_in, States};
@@ -26,6 +27,20 @@ fn text_of(alloc: Global, found: &ArgMatches<'_>, id: &str) -> Result<String, Jo
     };
     match String::from_str(alloc, text) {
         Ok(text) => Ok(text),
+        Err(_) => Err(JobFault::NoMemory),
+    }
+}
+
+/// The text of an option, where it was given.
+fn text_if(alloc: Global, found: &ArgMatches<'_>, id: &str) -> Result<Option<String>, JobFault>
+    ensures memory { IfErr result (λ f. f ≡ JobFault.NoMemory) }
+    ensures text { IfOk result (λ t. first_of id.now (rows_of (found_of found.now)) ≡ option_map string_bytes t) }
+{
+    let Some(text) = found.get_str(id) else {
+        return Ok(None);
+    };
+    match String::from_str(alloc, text) {
+        Ok(text) => Ok(Some(text)),
         Err(_) => Err(JobFault::NoMemory),
     }
 }
@@ -113,7 +128,12 @@ fn run_job(alloc: Global, found: &ArgMatches<'_>) -> Result<Job, JobFault>
 {
     let script = text_of(alloc, found, "script")?;
     let trace = is_on(found, "trace");
-    Ok(Job::Run { script, trace })
+    let file = text_if(alloc, found, "file")?;
+    Ok(Job::Run {
+        script,
+        trace,
+        file,
+    })
 }
 
 fn judge_job(alloc: Global, found: &ArgMatches<'_>) -> Result<Job, JobFault>

@@ -22,6 +22,24 @@ fn joined(alloc: Global, texts: &[&str]) -> Result<String, AllocError> {
     Ok(line)
 }
 
+/// A run of a script in words.
+fn run_told(
+    alloc: Global,
+    script: &str,
+    trace: bool,
+    file: &Option<String>,
+) -> Result<String, AllocError> {
+    let mut line = joined(alloc, &["run", script])?;
+    if trace {
+        line.push_str("traced;")?;
+    }
+    if let Some(file) = file {
+        line.push_str(file)?;
+        line.push_str(";")?;
+    }
+    Ok(line)
+}
+
 /// A job in words.
 fn told(alloc: Global, job: Job) -> Result<String, AllocError> {
     match job {
@@ -36,12 +54,9 @@ fn told(alloc: Global, job: Job) -> Result<String, AllocError> {
         Job::Show { kind, hex } => joined(alloc, &["show", &kind, &hex]),
         Job::Run {
             script,
-            trace: true,
-        } => joined(alloc, &["run", &script, "traced"]),
-        Job::Run {
-            script,
-            trace: false,
-        } => joined(alloc, &["run", &script]),
+            trace,
+            file,
+        } => run_told(alloc, &script, trace, &file),
         Job::Judge {
             file,
             interface,
@@ -71,13 +86,17 @@ fn outcome(alloc: Global, line: &str) -> Result<String, AllocError> {
 }
 
 /// Words, and the job that they are.
-static JOBS: [(&str, &str); 24] = [
+static JOBS: [(&str, &str); 28] = [
     ("dfu add a b --pid 0001", "add;a;b;ffff;0001;ffff;"),
     ("dfu add a b --did 1 --vid=2", "add;a;b;2;ffff;1;"),
     ("dfu check -", "check;-;"),
     ("dfu show status 00", "show;status;00;"),
     ("dfu run -", "run;-;"),
     ("dfu run --trace a", "run;a;traced;"),
+    ("dfu run a --file b", "run;a;b;"),
+    ("dfu run --file=- a --trace", "run;a;traced;-;"),
+    ("dfu run a --file", "words 2"),
+    ("dfu run a --file b --file c", "words 2"),
     ("dfu judge", "judge;-;0;only;"),
     ("dfu judge a --interface 2", "judge;a;2;only;"),
     ("dfu judge --device=1.7 a", "judge;a;0;1.7;"),

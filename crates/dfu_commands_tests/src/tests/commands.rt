@@ -6,13 +6,19 @@ use std::test::Fail;
 
 /// Words, what is printed, the calls that are made, and the end.
 #[rattlefmt::skip]
-static READ: [(&str, &str, &str, u8); 14] = [
+static READ: [(&str, &str, &str, u8); 20] = [
     ("dfu check a", "ok payload 4 suffix 16 device ffff product ffff vendor ffff dfu 0100 crc 0c51c871\n", "open a;", 0),
     ("dfu check -", "refused TooShort\n", "", 1),
     ("dfu check c", "fault Read\n", "open c;", 3),
     ("dfu run a", "refused BadLine 1\n", "open a;", 1),
     ("dfu run -", "state appIDLE status OK image 00\nimage 00\n", "", 0),
     ("dfu run c", "fault Read\n", "open c;", 3),
+    ("dfu run - --file a", "state appIDLE status OK image 00\nimage 00\n", "open a;", 0),
+    ("dfu run a --file -", "refused BadLine 1\n", "open a;", 1),
+    ("dfu run - --file c", "fault Read\n", "open c;", 3),
+    ("dfu run c --file a", "fault Read\n", "open a;open c;", 3),
+    ("dfu run - --file -", "bad words\n", "", 2),
+    ("dfu run - --file=- --trace", "bad words\n", "", 2),
     ("dfu show name 00", "bad words\n", "", 2),
     ("dfu judge -", "refused BadLine 1\n", "", 1),
     ("dfu judge a", "refused BadLine 1\n", "open a;", 1),
@@ -22,6 +28,16 @@ static READ: [(&str, &str, &str, u8); 14] = [
     ("dfu add c -", "bad words\n", "", 2),
     ("dfu add - b --vid 12", "bad words\n", "", 2),
 ];
+
+// With `--file` the word FILE stands for the bytes of that file.
+#[test]
+fn offers_what_is_given(rt: HostRuntime) -> Result<(), Fail> {
+    let mut machine = machine_with(rt.alloc(), &FOUR_ONES, "")?;
+    machine.input = b"offer FILE\ngo until report\n";
+    ends(&rt, &machine, "dfu run - --file a", 0)?;
+    prints(&rt, &machine, "report installed\nimage ffffffff\n")?;
+    ends(&rt, &machine, "dfu run -", 1)
+}
 
 // Standard input has a script, and `a` a file.
 #[test]

@@ -34,9 +34,10 @@ const BAD_SETUP: &str =
 
 /// Words, the call that fails, and the status, what is printed and what is said.
 #[rattlefmt::skip]
-static SAID: [(&str, &str, (u8, &str, &str)); 14] = [
+static SAID: [(&str, &str, (u8, &str, &str)); 15] = [
     ("dfu check c", "", (3, "fault Read\n", "dfu: c: entity not found\n")),
     ("dfu check a", "open", (3, "fault Read\n", "dfu: a: permission denied\n")),
+    ("dfu run - --file c", "", (3, "fault Read\n", "dfu: c: entity not found\n")),
     ("dfu add c b", "", (3, "fault Read\n", "dfu: c: entity not found\n")),
     ("dfu add a b", "see", (3, "fault Write\n", "dfu: b: permission denied\n")),
     ("dfu add a b", "rights", (3, "fault Write\n", "dfu: b: permission denied\n")),
@@ -85,11 +86,12 @@ fn ends_the_same_unsaid(rt: HostRuntime) -> Result<(), Fail> {
 
 /// Words that are refused, and what is said of them.
 #[rattlefmt::skip]
-static WORDS: [(&str, &str); 7] = [
+static WORDS: [(&str, &str); 8] = [
     ("dfu add a b --vid 0x12", "dfu: --vid 0x12: it has to be four hexadecimal digits, as 1209\n"),
     ("dfu add a b --vid 1209 --pid 0x01 --did 1", "dfu: --pid 0x01: it has to be four hexadecimal digits, as 1209\n"),
     ("dfu add a b --vid 1209 --pid 0001 --did 1", "dfu: --did 1: it has to be four hexadecimal digits, as 1209\n"),
     ("dfu add a b --did 1 --vid 12095", "dfu: --vid 12095: it has to be four hexadecimal digits, as 1209\n"),
+    ("dfu run - --file -", "dfu: --file -: the script is standard input already\n"),
     ("dfu add a -", "dfu: OUT -: it has to be a file, as ./- for one with this name\n"),
     ("dfu show name 00", "dfu: KIND name: it has to be functional, status, state, setup or configuration\n"),
     ("dfu show a\u{1b}[31m\u{7f}\u{fc} 00", "dfu: KIND a?[31m?\u{fc}: it has to be functional, status, state, setup or configuration\n"),

@@ -1,12 +1,12 @@
 //! Why a script is refused: its line, or the device that it sets up.
 
-use crate::tests::machine::Machine;
+use crate::tests::machine::{Kind, Machine};
 use crate::tests::reasons::says;
 use std::test::Fail;
 
 /// A line that is none of the language, and why.
 #[rattlefmt::skip]
-static LINES: [(&[u8], &str); 25] = [
+static LINES: [(&[u8], &str); 28] = [
     (b"bogus", "its first word is none of the language"),
     (b"go", "behind go a word is missing, as pass"),
     (b"go home", "the word behind go is none of the language"),
@@ -26,6 +26,9 @@ static LINES: [(&[u8], &str); 25] = [
     (b"capacity 0", "its word 2 isn't a number from 1 to 1,048,576"),
     (b"limits 1 65536", "its word 3 isn't a number, at most 65,535"),
     (b"offer 0", "its word 2 isn't an even count of hexadecimal digits, or - for no bytes"),
+    (b"offer FILE", "FILE stands for a file only with --file"),
+    (b"verify FILE 00", "FILE stands for a file only with --file"),
+    (b"image FILE", "its word 2 isn't an even count of hexadecimal digits, or - for no bytes"),
     (b"device 10 255 8 1 5 10", "its word 2 isn't two hexadecimal digits, 00 to 0f"),
     (b"show\r", "it ends in a carriage return, and a line ends in a line feed alone"),
     (b"\xef\xbb\xbfshow", "it begins with a byte order mark"),
@@ -48,6 +51,21 @@ fn says_which_rule_a_line_breaks(rt: HostRuntime) -> Result<(), Fail> {
         )?;
     }
     Ok(())
+}
+
+// Where the option is given, FILE is a word that the line takes.
+#[test]
+fn says_what_stands_behind_a_file(rt: HostRuntime) -> Result<(), Fail> {
+    let machine = Machine::new(rt.alloc(), b"offer FILE 00\n", "");
+    machine.put("a", Kind::File, b"")?;
+    let told = "dfu: standard input: line 1: it has 3 words in place of 2\n";
+    says(
+        &rt,
+        &machine,
+        "dfu run - --file a",
+        true,
+        (1, "refused BadLine 1\n", told),
+    )
 }
 
 /// Scripts that set up no device, and the line and the cause.

@@ -4,6 +4,7 @@ use Rattle.std.specs.Io.KnownBytes.{Appends}
 use Rattle.dfu_host.specs.declared.limits.Limits.{Limits}
 use Rattle.dfu_link.specs.Bench.{Bench}
 use Rattle.dfu_link.specs.Expecting.{Expectation, Meets, still}
+use Rattle.dfu_link.specs.Said.{given_bytes}
 use Rattle.dfu_link.specs.ScriptRun.{Point}
 use Rattle.dfu_link.specs.declared.scripting.expectation.Expectation.{Expectation as ExpectationHeld}
 use Rattle.dfu_link.specs.declared.scripting.expectation.Ahead.{Ahead}
@@ -15,13 +16,13 @@ abbrev pub expectation_of : Option ExpectationHeld → Option Expectation
 expectation_of None = None
 expectation_of (Some e) = Some (record { number = e.number; text = e.text.items })
 
--- These limits, what is expected, and this link.
-abbrev pub point_at : Limits → Option Expectation → Bench → Point
-point_at limits next at = record { limits = limits; next = next; at = at }
+-- The bytes that are given, these limits, what is expected, and this link.
+abbrev pub point_at : (given : Option (List ℕ)) → Limits → Option Expectation → Bench → Point
+point_at given limits next at = record { given = given; limits = limits; next = next; at = at }
 
 -- What is held for the lines to come, and this link.
 abbrev pub at_point : Ahead → Bench → Point
-at_point a at = point_at a.limits (expectation_of a.next) at
+at_point a at = point_at (given_bytes a.given) a.limits (expectation_of a.next) at
 
 -- A text is out, which is as expected, and what is expected after it.
 pub record Prints (e : Option Expectation) (old : Option (List ℕ)) (text : List ℕ) (e' : Option Expectation) (new : Option (List ℕ))

@@ -7,7 +7,7 @@ use Rattle.dfu_link.specs.Bench.{Bench}
 use Rattle.dfu_link.specs.Happening.{Happening, Goes, Pass, unharmed}
 use Rattle.dfu_link.specs.Texts.{image_line}
 use Rattle.dfu_link.specs.Words.{lines_of}
-use Rattle.dfu_link.specs.Said.{Offer, HasTear, Said, Does, said_by}
+use Rattle.dfu_link.specs.Said.{Offer, HasTear, Said, Does, given_bytes, said_by}
 use Rattle.dfu_link.specs.Lines.{line_of}
 use Rattle.dfu_link.specs.ScriptRun.{Settings, Prepares, IsReady, at_rest, AllCome, Point, LineActs, LinesRun}
 use Rattle.dfu_link.specs.Falls.{BreaksIn, LineFalls, NextFalls}
@@ -17,6 +17,8 @@ use Rattle.dfu_link.specs.inside.Expected.{at_point, Prints}
 use Rattle.dfu_link.specs.declared.scripting.expectation.Ahead.{Ahead}
 use Rattle.dfu_link.specs.inside.Source.{SourceState, Gives, Next, StopsSource}
 use Rattle.dfu_link.specs.declared.scripting.line.EventLine.{EventLine as EventLineRead}
+use Rattle.dfu_link.specs.declared.scripting.held.OfferedFile.{OfferedFile}
+use Rattle.dfu_link.specs.declared.scripting.held.OfferedFile.TheVariants.{Decoded, Given}
 use Rattle.dfu_link.specs.declared.scripting.fault.ScriptFault.{ScriptFault}
 use Rattle.dfu_link.specs.declared.scripting.fault.ScriptFault.TheVariants.{NoMemory}
 
@@ -35,7 +37,7 @@ pub record HasActed (p : Point) (said : Said) (old : Option (List ℕ)) (p' : Po
 
 -- It stopped in what a line prints.
 abbrev pub HasStopped : Point → Said → Option (List ℕ) → Option (List ℕ) → ScriptFault → Type 0
-HasStopped p said old new fault = (line : List ℕ) → line_of line ≡ Some said → BreaksIn p line old new fault
+HasStopped p said old new fault = (line : List ℕ) → line_of p.given line ≡ Some said → BreaksIn p line old new fault
 
 -- The host passed so often that nothing was printed of it.
 pub record IsSilent (b : Bench) (e : Option Expectation) (old : Option (List ℕ)) (b' : Bench) (e' : Option Expectation)
@@ -49,10 +51,15 @@ abbrev pub file_bytes : Said → List ℕ
 file_bytes (Does (Offer aim file)) = file
 file_bytes said = []
 
+-- The bytes of a file that is offered, as the code holds it.
+abbrev pub held_bytes : OfferedFile → List ℕ
+held_bytes (Decoded bytes) = bytes.items
+held_bytes (Given bytes) = bytes.now
+
 -- Line k was done, and what it prints is out.
 pub record Steps (k : ℕ) (p : Point) (line : List ℕ) (old : Option (List ℕ)) (p' : Point) (new : Option (List ℕ)) : Type 0 where
   pub said : Said
-  pub is : line_of line ≡ Some said
+  pub is : line_of p.given line ≡ Some said
   pub out : List ℕ
   pub acts : LineActs k p said out p'
   pub told : Appends old new out
@@ -103,7 +110,7 @@ LinesDone p s old (Some d) to s' new = IsUnarmed d × Moves p s old (to (at_rest
 -- A line was done but for its events, whatever the session: it said none, or these are left to play.
 abbrev pub Plainly : Shown → Ahead → ℕ → List ℕ → Option (List ℕ) → Option EventLineRead → Ahead → Option (List ℕ) → Type 0
 Plainly d l k line old None l' new = (b : Bench) → b.device ≡ d → Steps k (at_point l b) line old (at_point l' b) new
-Plainly d l k line old (Some events) l' new = (line_of line ≡ Some (said_by events)) × (l' ≡ l) × (new ≡ old)
+Plainly d l k line old (Some events) l' new = (line_of (given_bytes l.given) line ≡ Some (said_by events)) × (l' ≡ l) × (new ≡ old)
 
 -- A line falls but for its events, whatever the session.
 abbrev pub PlainlyFalls : Shown → Ahead → ℕ → List ℕ → Option (List ℕ) → Option (List ℕ) → ScriptFault → Type 0
@@ -120,7 +127,7 @@ pub record Configured (x : Settings) (s : SourceState) (x' : Settings) (more : B
   pub at : SourceState
   pub prepared : Prepared x s x' at
   pub next : Next at more s'
-  pub ready : IfSome at.left (λ left. IsReady (lines_of left))
+  pub ready : IfSome at.left (λ left. IsReady x' (lines_of left))
   pub reached : IfSome at.left (λ left. ¬ GoesOver at.room left)
 
 -- Lines that a source gave have set something, and then no more does.
@@ -128,7 +135,7 @@ pub record StopsSetting (x : Settings) (s : SourceState) (fault : ScriptFault) :
   pub to : Settings
   pub at : SourceState
   pub prepared : Prepared x s to at
-  pub stops : StopsSource at fault
+  pub stops : StopsSource to.given at fault
 
 -- There was no memory for a line that sets, or no more lines set.
 abbrev pub CannotConfigure : Settings → SourceState → ScriptFault → Type 0

@@ -1,6 +1,7 @@
 -- What the setup of the code stands for.
 use Rattle.std.specs.Prelude.{ℕ, List, [], ◌∷◌, Option, Some, None, Vec}
 use Rattle.std.specs.declared.alloc.Global.{Global}
+use Rattle.dfu_link.specs.Said.{given_bytes}
 use Rattle.dfu_link.specs.ScriptRun.{Settings}
 use Rattle.dfu_slots.specs.declared.unit.Unit.{Unit as WriteUnit}
 use Rattle.dfu_slots.specs.Units.{Grain}
@@ -24,4 +25,5 @@ settings_of s = record {
   capacity = s.room.bytes;
   image = image_bytes s.image;
   limits = s.limits;
+  given = given_bytes s.given;
 }

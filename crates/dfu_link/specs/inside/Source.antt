@@ -67,5 +67,5 @@ Next s true s' = GivesLine s s'
 Next s false s' = IsAtEnd s.left
 
 -- A source whose reader tells the text gives no line.
-abbrev pub StopsSource : SourceState → ScriptFault → Type 0
-StopsSource s fault = IfSome s.left (λ left. IsStopped s.room left fault × GivesNone (s.number + 1) (lines_of left) fault)
+abbrev pub StopsSource : (given : Option (List ℕ)) → SourceState → ScriptFault → Type 0
+StopsSource given s fault = IfSome s.left (λ left. IsStopped s.room left fault × GivesNone given (s.number + 1) (lines_of left) fault)

@@ -5,7 +5,7 @@
 
 ghost use Rattle.std.specs.Prelude.{◌≡◌, ◌≤◌, OnOk, IfOk, IfErr, IfSome};
 ghost use Rattle.dfu_link.specs.Refusing.{IsLive};
-ghost use Rattle.dfu_link.specs.ScriptRun.{at_rest, point};
+ghost use Rattle.dfu_link.specs.ScriptRun.{at_rest};
 ghost use Rattle.dfu_link.specs.inside.Expected.{at_point};
 ghost use Rattle.dfu_link.specs.Falls.{LineFalls};
 ghost use Rattle.dfu_link.specs.inside.Source.{Next, GivesLine, SourceState};
@@ -13,8 +13,9 @@ ghost use Rattle.dfu_link.specs.inside.Moving.{Steps, Ends, LinesDone, IsUnarmed
 
 use crate::scripting::expectation::{Ahead, expect};
 use crate::scripting::fault::ScriptFault;
+use crate::scripting::held::{file_of, tear_of};
 use crate::scripting::line::{EventLine, Line};
-use crate::scripting::playing::{file_of, play_events, play_live, tear_of};
+use crate::scripting::playing::{play_events, play_live};
 use crate::scripting::reading::parse;
 use crate::scripting::showing::{image_next, show_next};
 use crate::scripting::source::Source;
@@ -27,20 +28,20 @@ use std::alloc::Global;
 use std::io::{Read, Write};
 
 /// Does a line but for its events, which it gives.
-fn plain_line<'l, M: Medium, W: Write>(
+fn plain_line<'l, 'g, M: Medium, W: Write>(
     alloc: Global,
     device: &Device<M>,
     line: &'l [u8],
     number: u32,
-    ahead: &mut Ahead,
+    ahead: &mut Ahead<'g>,
     writer: &mut W,
-) -> Result<Option<EventLine<'l>>, ScriptFault>
+) -> Result<Option<EventLine<'l, 'g>>, ScriptFault>
     ensures ok { IfOk result (λ events. Plainly device.now ahead.old number line.now (W.contents writer.old) events ahead.new
         (W.contents writer.new)) }
     ensures fault { IfErr result (λ f. PlainlyFalls device.now ahead.old number line.now (W.contents writer.old)
         (W.contents writer.new) f) }
 {
-    match parse(line) {
+    match parse(ahead.given, line) {
         None => Err(ScriptFault::BadLine(number)),
         Some(Line::Blank) => Ok(None),
         Some(Line::Set(_)) => Err(ScriptFault::LateConfig(number)),
@@ -66,7 +67,7 @@ fn live_line<'f, T: Telling<M, W>, M: Faulty, W: Write>(
     world: &mut World<'f, M>,
     line: &[u8],
     number: u32,
-    ahead: &mut Ahead,
+    ahead: &mut Ahead<'_>,
     writer: &mut W,
 ) -> Result<(), ScriptFault>
     requires { IsLive world.old.bench.session }
@@ -78,7 +79,7 @@ fn live_line<'f, T: Telling<M, W>, M: Faulty, W: Write>(
     let plain = plain_line(alloc, world.device(), line, number, ahead, writer)?;
     if let Some(events) = plain {
         let torn = tear_of(alloc, events)?;
-        play_live::<T, M, W>(world, events, &torn, ahead.limits, &mut ahead.next, writer)?;
+        play_live::<T, M, W>(world, events, &torn, ahead, writer)?;
     }
     Ok(())
 }
@@ -89,7 +90,7 @@ fn follow<'f, T: Telling<M, W>, R: Read + Drop, M: Faulty, W: Write>(
     alloc: Global,
     world: World<'f, M>,
     source: &mut Source<R>,
-    ahead: &mut Ahead,
+    ahead: &mut Ahead<'_>,
     writer: &mut W,
 ) -> Result<Option<Device<M>>, ScriptFault>
     ensures room { source.new.room ≤ source.old.room }
@@ -122,11 +123,11 @@ fn follow<'f, T: Telling<M, W>, R: Read + Drop, M: Faulty, W: Write>(
 
 /// Does the line that the source gave while no session is live, and those after it until the session
 /// that it begins is over. The device is given back, unless all lines were done first.
-fn act<T: Telling<M, W>, R: Read + Drop, M: Faulty, W: Write>(
+fn act<'g, T: Telling<M, W>, R: Read + Drop, M: Faulty, W: Write>(
     alloc: Global,
     device: Device<M>,
     source: &mut Source<R>,
-    ahead: &mut Ahead,
+    ahead: &mut Ahead<'g>,
     writer: &mut W,
 ) -> Result<Option<Device<M>>, ScriptFault>
     requires { IsUnarmed device }
@@ -149,17 +150,10 @@ fn act<T: Telling<M, W>, R: Read + Drop, M: Faulty, W: Write>(
         return Ok(Some(device));
     };
     let file = file_of(alloc, events)?;
+    let bytes = file.bytes();
     let torn = tear_of(alloc, events)?;
     let mut world = World::new(alloc, device);
-    play_events::<T, M, W>(
-        &mut world,
-        events,
-        &file,
-        &torn,
-        ahead.limits,
-        &mut ahead.next,
-        writer,
-    )?;
+    play_events::<T, M, W>(&mut world, events, bytes, &torn, ahead, writer)?;
     let after = follow::<T, R, M, W>(alloc, world, source, ahead, writer)?;
     Ok(after)
 }
@@ -171,17 +165,17 @@ pub(crate) fn run_on<T: Telling<M, W>, R: Read + Drop, M: Faulty, W: Write>(
     device: Device<M>,
     source: &mut Source<R>,
     given: bool,
-    limits: Limits,
+    ahead: Ahead<'_>,
     writer: &mut W,
 ) -> Result<(), ScriptFault>
     requires { IsUnarmed device }
-    ensures ok { OnOk result ((s : SourceState) → Next s given source.old → Ends (point limits (at_rest device)) s
+    ensures ok { OnOk result ((s : SourceState) → Next s given source.old → Ends (at_point ahead.entry (at_rest device)) s
         (W.contents writer.old) (W.contents writer.new)) }
-    ensures fault { IfErr result (λ f. (s : SourceState) → Next s given source.old → MovesAndFalls (point limits (at_rest device)) s
+    ensures fault { IfErr result (λ f. (s : SourceState) → Next s given source.old → MovesAndFalls (at_point ahead.entry (at_rest device)) s
         (W.contents writer.old) (W.contents writer.new) f) }
 {
     let mut device = device;
-    let mut ahead = Ahead { limits, next: None };
+    let mut ahead = ahead;
     let mut more = given;
     while more {
         match act::<T, R, M, W>(alloc, device, source, &mut ahead, writer)? {

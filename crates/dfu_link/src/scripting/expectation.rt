@@ -21,9 +21,11 @@ pub(crate) struct Expectation {
     pub alloc: Global,
 }
 
-/// What lines have set for those after them: the limits of later sessions, and which line is expected.
+/// What holds for the lines to come: the bytes that FILE stands for, if they are given, the limits of
+/// later sessions, and which line is expected.
 #[derive(Drop)]
-pub(crate) struct Ahead {
+pub(crate) struct Ahead<'g> {
+    pub given: Option<&'g [u8]>,
     pub limits: Limits,
     pub next: Option<Expectation>,
 }

@@ -3,12 +3,12 @@
 
 ghost use Rattle.std.specs.Prelude.{◌≤◌, Some, None, IfSome};
 ghost use Rattle.dfu_link.specs.Words.{Reads, words_of, ends};
-ghost use Rattle.dfu_link.specs.Said.{hex_bytes, said_of};
-ghost use Rattle.dfu_link.specs.Lines.{number_at, small_at, hex_at, identifier_at, attributes_at};
+ghost use Rattle.dfu_link.specs.Said.{given_bytes, hex_bytes, offered_bytes, said_of};
+ghost use Rattle.dfu_link.specs.Lines.{number_at, small_at, hex_at, file_at, identifier_at, attributes_at};
 
 use crate::scripting::hex_text::HexText;
-use crate::scripting::line::Line;
-use crate::scripting::words::{hex_text, number, pair, word_at};
+use crate::scripting::line::{Line, Offered};
+use crate::scripting::words::{hex_text, number, offered, pair, word_at};
 use dfu_wire::identifier;
 
 /// A number.
@@ -50,6 +50,19 @@ pub(crate) fn hex_at(line: &[u8]) -> Option<(HexText<'_>, &[u8])>
     Some((text, rest))
 }
 
+/// A file that is offered, where these bytes are given.
+#[tactic(auto, unfolding(crate::specs::Lines::file_at))]
+pub(crate) fn file_at<'l, 'g>(
+    given: Option<&'g [u8]>,
+    line: &'l [u8],
+) -> Option<(Offered<'l, 'g>, &'l [u8])>
+    ensures { Reads (λ x. (offered_bytes x.0, words_of x.1.now)) result (file_at (given_bytes given.entry) (words_of line.now)) }
+{
+    let (word, rest) = word_at(line)?;
+    let file = offered(given, word)?;
+    Some((file, rest))
+}
+
 /// An identifier: four hexadecimal digits.
 #[tactic(auto, unfolding(crate::specs::Lines::identifier_at))]
 pub(crate) fn identifier_at(line: &[u8]) -> Option<(u16, &[u8])>
@@ -71,7 +84,7 @@ pub(crate) fn attributes_at(line: &[u8]) -> Option<(u8, &[u8])>
 }
 
 /// What the line says, where no further word is left.
-pub(crate) fn ended<'l>(said: Line<'l>, rest: &[u8]) -> Option<Line<'l>>
+pub(crate) fn ended<'l, 'g>(said: Line<'l, 'g>, rest: &[u8]) -> Option<Line<'l, 'g>>
     ensures { Reads said_of result (ends (said_of said.entry) (words_of rest.now)) }
 {
     match word_at(rest) {

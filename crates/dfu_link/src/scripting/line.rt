@@ -54,13 +54,22 @@ pub(crate) enum HarmKind {
     Lie,
 }
 
+/// A file that a line offers.
+#[derive(Clone, Copy)]
+pub(crate) enum Offered<'l, 'g> {
+    /// The line spells its bytes.
+    Spelled(HexText<'l>),
+    /// They are those that are given to the script: the line names them by the word FILE.
+    Given(&'g [u8]),
+}
+
 /// The events of a line.
 #[derive(Clone, Copy)]
-pub(crate) enum EventLine<'l> {
+pub(crate) enum EventLine<'l, 'g> {
     /// A file is offered.
     Offer {
         aim: Aim,
-        file: HexText<'l>,
+        file: Offered<'l, 'g>,
     },
     /// An upload begins.
     Upload,
@@ -90,7 +99,7 @@ pub(crate) enum EventLine<'l> {
 
 /// What a line says.
 #[derive(Clone, Copy)]
-pub(crate) enum Line<'l> {
+pub(crate) enum Line<'l, 'g> {
     /// Nothing: it has no words, or is a comment.
     Blank,
     /// A configuration line.
@@ -98,7 +107,7 @@ pub(crate) enum Line<'l> {
     /// The limits of later sessions.
     Limits { actions: u32, restarts: u16 },
     /// An event line.
-    Do(EventLine<'l>),
+    Do(EventLine<'l, 'g>),
     /// `show`.
     Show,
     /// The next line that is printed is this text.

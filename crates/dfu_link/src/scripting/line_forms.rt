@@ -3,13 +3,13 @@
 ghost use Rattle.std.specs.Prelude.{◌≡◌, None};
 ghost use Rattle.dfu_link.specs.Words.{Reads, words_of, ends};
 ghost use Rattle.dfu_link.specs.Happening.{fate_of, harm_in};
-ghost use Rattle.dfu_link.specs.Said.{said_of, Go, Does, harm_fate};
+ghost use Rattle.dfu_link.specs.Said.{given_bytes, said_of, Go, Does, harm_fate};
 ghost use Rattle.dfu_link.specs.Lines.{small_at, ids_of, device_of, unit_named, unit_of, erase_of, capacity_of, image_of, limits_of, offer_of, time_of, pass_of, slip_of, harmed_of, until_of, by_fate, go_of, expect_of};
 
 use crate::aim::Aim;
 use crate::fate::Fate;
 use crate::scripting::fields::{
-    attributes_at, ended, hex_at, identifier_at, number_at, short_at, small_at,
+    attributes_at, ended, file_at, hex_at, identifier_at, number_at, short_at, small_at,
 };
 use crate::scripting::keywords::{FateKeyword, read_fate};
 use crate::scripting::line::{ConfigLine, EventLine, HarmKind, Line, Room, Sector};
@@ -19,7 +19,7 @@ use dfu_wire::{Functional, Ids};
 
 /// `ids VVVV PPPP DDDD`.
 #[tactic(auto, unfolding(crate::specs::Lines::ids_of))]
-pub(crate) fn ids(line: &[u8]) -> Option<Line<'_>>
+pub(crate) fn ids(line: &[u8]) -> Option<Line<'_, 'static>>
     ensures { Reads said_of result (ids_of (words_of line.now)) }
 {
     let (vendor, rest) = identifier_at(line)?;
@@ -35,7 +35,7 @@ pub(crate) fn ids(line: &[u8]) -> Option<Line<'_>>
 
 /// `device FF DETACH TRANSFER LEAST BUSY MANIFEST`.
 #[tactic(auto, unfolding(crate::specs::Lines::device_of))]
-pub(crate) fn device(line: &[u8]) -> Option<Line<'_>>
+pub(crate) fn device(line: &[u8]) -> Option<Line<'_, 'static>>
     ensures { Reads said_of result (device_of (words_of line.now)) }
 {
     let (attributes, rest) = attributes_at(line)?;
@@ -69,7 +69,7 @@ fn unit_named(bytes: u32) -> Option<Unit>
 
 /// `unit N`.
 #[tactic(auto, unfolding(crate::specs::Lines::unit_of))]
-pub(crate) fn unit(line: &[u8]) -> Option<Line<'_>>
+pub(crate) fn unit(line: &[u8]) -> Option<Line<'_, 'static>>
     ensures { Reads said_of result (unit_of (words_of line.now)) }
 {
     let (n, rest) = number_at(line)?;
@@ -79,33 +79,31 @@ pub(crate) fn unit(line: &[u8]) -> Option<Line<'_>>
 
 /// `erase N`.
 #[tactic(auto, unfolding(crate::specs::Lines::erase_of), using(std::proofs::lemmas::Bool::Decides::nat_tests))]
-pub(crate) fn erase(line: &[u8]) -> Option<Line<'_>>
+pub(crate) fn erase(line: &[u8]) -> Option<Line<'_, 'static>>
     ensures { Reads said_of result (erase_of (words_of line.now)) }
 {
     let (n, rest) = small_at(line, 131_072)?;
-    if n % 256 == 0 {
-        ended(Line::Set(ConfigLine::Erase(Sector { bytes: n })), rest)
-    } else {
-        None
+    if n % 256 != 0 {
+        return None;
     }
+    ended(Line::Set(ConfigLine::Erase(Sector { bytes: n })), rest)
 }
 
 /// `capacity N`.
 #[tactic(auto, unfolding(crate::specs::Lines::capacity_of), using(std::proofs::lemmas::Bool::Decides::nat_tests))]
-pub(crate) fn capacity(line: &[u8]) -> Option<Line<'_>>
+pub(crate) fn capacity(line: &[u8]) -> Option<Line<'_, 'static>>
     ensures { Reads said_of result (capacity_of (words_of line.now)) }
 {
     let (n, rest) = small_at(line, 1_048_576)?;
-    if n >= 1 {
-        ended(Line::Set(ConfigLine::Capacity(Room { bytes: n })), rest)
-    } else {
-        None
+    if n == 0 {
+        return None;
     }
+    ended(Line::Set(ConfigLine::Capacity(Room { bytes: n })), rest)
 }
 
 /// `image HEX`.
 #[tactic(auto, unfolding(crate::specs::Lines::image_of))]
-pub(crate) fn image(line: &[u8]) -> Option<Line<'_>>
+pub(crate) fn image(line: &[u8]) -> Option<Line<'_, 'static>>
     ensures { Reads said_of result (image_of (words_of line.now)) }
 {
     let (image, rest) = hex_at(line)?;
@@ -114,7 +112,7 @@ pub(crate) fn image(line: &[u8]) -> Option<Line<'_>>
 
 /// `limits A R`.
 #[tactic(auto, unfolding(crate::specs::Lines::limits_of))]
-pub(crate) fn limits(line: &[u8]) -> Option<Line<'_>>
+pub(crate) fn limits(line: &[u8]) -> Option<Line<'_, 'static>>
     ensures { Reads said_of result (limits_of (words_of line.now)) }
 {
     let (actions, rest) = number_at(line)?;
@@ -122,18 +120,22 @@ pub(crate) fn limits(line: &[u8]) -> Option<Line<'_>>
     ended(Line::Limits { actions, restarts }, rest)
 }
 
-/// `offer HEX` and `verify HEX`.
+/// `offer HEX`, `offer FILE`, `verify HEX` and `verify FILE`, where these bytes are given.
 #[tactic(auto, unfolding(crate::specs::Lines::offer_of))]
-pub(crate) fn offer(aim: Aim, line: &[u8]) -> Option<Line<'_>>
-    ensures { Reads said_of result (offer_of aim (words_of line.now)) }
+pub(crate) fn offer<'l, 'g>(
+    given: Option<&'g [u8]>,
+    aim: Aim,
+    line: &'l [u8],
+) -> Option<Line<'l, 'g>>
+    ensures { Reads said_of result (offer_of (given_bytes given.entry) aim (words_of line.now)) }
 {
-    let (file, rest) = hex_at(line)?;
+    let (file, rest) = file_at(given, line)?;
     ended(Line::Do(EventLine::Offer { aim, file }), rest)
 }
 
 /// `time MS`.
 #[tactic(auto, unfolding(crate::specs::Lines::time_of))]
-pub(crate) fn time(line: &[u8]) -> Option<Line<'_>>
+pub(crate) fn time(line: &[u8]) -> Option<Line<'_, 'static>>
     ensures { Reads said_of result (time_of (words_of line.now)) }
 {
     let (ms, rest) = number_at(line)?;
@@ -142,20 +144,19 @@ pub(crate) fn time(line: &[u8]) -> Option<Line<'_>>
 
 /// `go pass N`.
 #[tactic(auto, unfolding(crate::specs::Lines::pass_of), using(std::proofs::lemmas::Bool::Decides::nat_tests))]
-fn pass(line: &[u8]) -> Option<Line<'_>>
+fn pass(line: &[u8]) -> Option<Line<'_, 'static>>
     ensures { Reads said_of result (pass_of (words_of line.now)) }
 {
     let (times, rest) = small_at(line, 1_000_000)?;
-    if times >= 1 {
-        let fate = Fate::Pass;
-        ended(Line::Do(EventLine::Go { fate, times }), rest)
-    } else {
-        None
+    if times == 0 {
+        return None;
     }
+    let fate = Fate::Pass;
+    ended(Line::Do(EventLine::Go { fate, times }), rest)
 }
 
 /// One action.
-fn once<'l>(fate: Fate<'l>, rest: &[u8]) -> Option<Line<'l>>
+fn once<'l>(fate: Fate<'l>, rest: &[u8]) -> Option<Line<'l, 'static>>
     ensures { Reads said_of result (ends (Does (Go (fate_of fate.entry) (harm_in fate.entry) 1)) (words_of rest.now)) }
 {
     ended(Line::Do(EventLine::Go { fate, times: 1 }), rest)
@@ -163,7 +164,7 @@ fn once<'l>(fate: Fate<'l>, rest: &[u8]) -> Option<Line<'l>>
 
 /// `go slip MS`.
 #[tactic(auto, unfolding(crate::specs::Lines::slip_of))]
-fn slip(line: &[u8]) -> Option<Line<'_>>
+fn slip(line: &[u8]) -> Option<Line<'_, 'static>>
     ensures { Reads said_of result (slip_of (words_of line.now)) }
 {
     let (ms, rest) = number_at(line)?;
@@ -172,7 +173,7 @@ fn slip(line: &[u8]) -> Option<Line<'_>>
 
 /// `go cut W HEX` and `go fail W HEX`.
 #[tactic(auto, unfolding(crate::specs::Lines::harmed_of))]
-fn harmed(harm: HarmKind, line: &[u8]) -> Option<Line<'_>>
+fn harmed(harm: HarmKind, line: &[u8]) -> Option<Line<'_, 'static>>
     ensures { Reads said_of result (harmed_of (harm_fate harm) (words_of line.now)) }
 {
     let (writes, rest) = number_at(line)?;
@@ -183,19 +184,18 @@ fn harmed(harm: HarmKind, line: &[u8]) -> Option<Line<'_>>
 
 /// `go until report`.
 #[tactic(auto, unfolding(crate::specs::Lines::until_of))]
-fn until(line: &[u8]) -> Option<Line<'_>>
+fn until(line: &[u8]) -> Option<Line<'_, 'static>>
     ensures { Reads said_of result (until_of (words_of line.now)) }
 {
     let (word, rest) = word_at(line)?;
-    if word == b"report".as_slice() {
-        ended(Line::Do(EventLine::GoOn), rest)
-    } else {
-        None
+    if word != b"report".as_slice() {
+        return None;
     }
+    ended(Line::Do(EventLine::GoOn), rest)
 }
 
 /// What stands after `go`, by its first word.
-fn by_fate(keyword: FateKeyword, rest: &[u8]) -> Option<Line<'_>>
+fn by_fate(keyword: FateKeyword, rest: &[u8]) -> Option<Line<'_, 'static>>
     ensures { Reads said_of result (by_fate keyword (words_of rest.now)) }
 {
     match keyword {
@@ -214,7 +214,7 @@ fn by_fate(keyword: FateKeyword, rest: &[u8]) -> Option<Line<'_>>
 
 /// `go` with a fate, or `until`.
 #[tactic(auto, unfolding(crate::specs::Lines::go_of))]
-pub(crate) fn go(line: &[u8]) -> Option<Line<'_>>
+pub(crate) fn go(line: &[u8]) -> Option<Line<'_, 'static>>
     ensures { Reads said_of result (go_of (words_of line.now)) }
 {
     let (word, rest) = word_at(line)?;
@@ -224,7 +224,7 @@ pub(crate) fn go(line: &[u8]) -> Option<Line<'_>>
 
 /// `expect TEXT`: the text is all that stands behind one space.
 #[tactic(auto, unfolding(crate::specs::Lines::expect_of), using(std::proofs::lemmas::Bool::Decides::nat_tests))]
-pub(crate) fn expect(line: &[u8]) -> Option<Line<'_>>
+pub(crate) fn expect(line: &[u8]) -> Option<Line<'_, 'static>>
     ensures { Reads said_of result (expect_of line.now) }
 {
     let text = text_behind(line)?;

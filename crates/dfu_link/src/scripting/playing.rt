@@ -1,6 +1,6 @@
 //! The events of an event line, played.
 
-ghost use Rattle.std.specs.Prelude.{◌≡◌, ◌≢◌, [], ◌∷◌, Ok, None, true, false, OnOk, OnErr, IfOk, IfErr, IfSome, replicate};
+ghost use Rattle.std.specs.Prelude.{◌≡◌, ◌≢◌, ℕ, List, Option, [], ◌∷◌, Ok, None, true, false, OnOk, OnErr, IfErr, IfSome, replicate};
 ghost use Rattle.std.specs.Io.KnownBytes.{Keeps};
 ghost use Rattle.dfu_link.specs.Tracing.{IsOfPlay};
 ghost use Rattle.dfu_link.specs.Bench.{ShowsActive};
@@ -8,19 +8,18 @@ ghost use Rattle.dfu_link.specs.Comes.{HasCome};
 ghost use Rattle.dfu_link.specs.Happening.{Offers, Goes, Passes, Pass, unharmed, harmed, fate_of, harm_in, happening};
 ghost use Rattle.dfu_link.specs.Refusing.{IsLive};
 ghost use Rattle.dfu_link.specs.Said.{GoesOn, harm_fate, said_by, tear_bytes};
-ghost use Rattle.dfu_link.specs.inside.Expected.{expectation_of, point_at};
+ghost use Rattle.dfu_link.specs.inside.Expected.{expectation_of, point_at, at_point};
 ghost use Rattle.dfu_link.specs.Falls.{HasBroken};
-ghost use Rattle.dfu_link.specs.inside.Moving.{HasPlayed, HasActed, HasStopped, file_bytes, FindsNoRoom, FindsNoTear};
+ghost use Rattle.dfu_link.specs.inside.Moving.{HasPlayed, HasActed, HasStopped, file_bytes};
 
 use crate::aim::Aim;
 use crate::event::Event;
 use crate::fate::Fate;
 use crate::fault::LinkFault;
-use crate::scripting::expectation::Expectation;
+use crate::scripting::expectation::{Ahead, Expectation};
 use crate::scripting::fault::ScriptFault;
 use crate::scripting::line::{EventLine, HarmKind};
 use crate::scripting::saying::say_next;
-use crate::scripting::starting::bytes_of;
 use crate::tracing::step::Step;
 use crate::tracing::telling::Telling;
 use crate::world::World;
@@ -28,7 +27,6 @@ use arrayvec::ArrayVec;
 use dfu_device::Device;
 use dfu_host::{Limits, Report};
 use dfu_slots::Faulty;
-use std::alloc::Global;
 use std::io::Write;
 
 /// Lets the same event come so many times, and writes what is printed of each.
@@ -159,13 +157,13 @@ fn is_silent(answer: Result<Option<Report>, LinkFault>) -> bool
 /// refusal where none is live.
 fn pass_on<'f, T: Telling<M, W>, M: Faulty, W: Write>(
     world: &mut World<'f, M>,
-    limits: Limits,
     next: &mut Option<Expectation>,
     writer: &mut W,
 ) -> Result<(), ScriptFault>
-    ensures ok { OnOk result (HasActed (point_at limits (expectation_of next.old) world.old.bench) GoesOn (W.contents writer.old) (point_at limits (expectation_of next.new) world.new.bench)
-        (W.contents writer.new)) }
-    ensures fault { IfErr result (λ f. HasStopped (point_at limits (expectation_of next.old) world.old.bench) GoesOn (W.contents writer.old) (W.contents writer.new) f) }
+    ensures ok { OnOk result ((given : Option (List ℕ)) (limits : Limits) → HasActed (point_at given limits (expectation_of next.old) world.old.bench)
+        GoesOn (W.contents writer.old) (point_at given limits (expectation_of next.new) world.new.bench) (W.contents writer.new)) }
+    ensures fault { IfErr result (λ f. (given : Option (List ℕ)) (limits : Limits) → HasStopped (point_at given limits (expectation_of next.old) world.old.bench)
+        GoesOn (W.contents writer.old) (W.contents writer.new) f) }
 {
     let mut out = ArrayVec::new();
     'passes: loop {
@@ -174,28 +172,6 @@ fn pass_on<'f, T: Telling<M, W>, M: Faulty, W: Write>(
         if !is_silent(answer) {
             return Ok(());
         }
-    }
-}
-
-/// The file that is offered. Other events have none.
-pub(crate) fn file_of(alloc: Global, events: EventLine<'_>) -> Result<Vec<u8>, ScriptFault>
-    ensures ok { IfOk result (λ v. v.items ≡ file_bytes (said_by events.entry)) }
-    ensures fault { IfErr result (λ f. FindsNoRoom (said_by events.entry) f) }
-{
-    match events {
-        EventLine::Offer { file, .. } => bytes_of(alloc, file),
-        _ => Ok(Vec::new(alloc)),
-    }
-}
-
-/// The tear of a write that is harmed. Other events have none.
-pub(crate) fn tear_of(alloc: Global, events: EventLine<'_>) -> Result<Vec<u8>, ScriptFault>
-    ensures ok { IfOk result (λ v. v.items ≡ tear_bytes events.entry) }
-    ensures fault { IfErr result (λ f. FindsNoTear (said_by events.entry) f) }
-{
-    match events {
-        EventLine::GoHarmed { tear, .. } => bytes_of(alloc, tear),
-        _ => Ok(Vec::new(alloc)),
     }
 }
 
@@ -224,57 +200,66 @@ fn offered<'f>(aim: Aim, file: &'f [u8], limits: Limits) -> Event<'f, 'static>
 /// Plays the events of a line, and writes what is printed of them.
 pub(crate) fn play_events<'f, T: Telling<M, W>, M: Faulty, W: Write>(
     world: &mut World<'f, M>,
-    events: EventLine<'_>,
+    events: EventLine<'_, '_>,
     file: &'f [u8],
     torn: &[u8],
-    limits: Limits,
-    next: &mut Option<Expectation>,
+    ahead: &mut Ahead<'_>,
     writer: &mut W,
 ) -> Result<(), ScriptFault>
     requires file { file.now ≡ file_bytes (said_by events) }
     requires tear { torn.now ≡ tear_bytes events }
-    ensures ok { OnOk result (HasActed (point_at limits (expectation_of next.old) world.old.bench) (said_by events.entry) (W.contents writer.old)
-        (point_at limits (expectation_of next.new) world.new.bench) (W.contents writer.new)) }
-    ensures fault { IfErr result (λ f. HasStopped (point_at limits (expectation_of next.old) world.old.bench) (said_by events.entry) (W.contents writer.old)
+    ensures ok { OnOk result (HasActed (at_point ahead.old world.old.bench) (said_by events.entry) (W.contents writer.old)
+        (at_point ahead.new world.new.bench) (W.contents writer.new)) }
+    ensures fault { IfErr result (λ f. HasStopped (at_point ahead.old world.old.bench) (said_by events.entry) (W.contents writer.old)
         (W.contents writer.new) f) }
 {
     match events {
-        EventLine::Offer { aim, .. } => play(world, offered(aim, file, limits), 1, next, writer),
-        EventLine::Upload => play(world, Event::Upload { limits }, 1, next, writer),
-        EventLine::Abort => play(world, Event::Abort, 1, next, writer),
+        EventLine::Offer { aim, .. } => {
+            play(
+                world,
+                offered(aim, file, ahead.limits),
+                1,
+                &mut ahead.next,
+                writer,
+            )
+        }
+        EventLine::Upload => {
+            let limits = ahead.limits;
+            play(world, Event::Upload { limits }, 1, &mut ahead.next, writer)
+        }
+        EventLine::Abort => play(world, Event::Abort, 1, &mut ahead.next, writer),
         EventLine::Go { fate, times } => {
-            play_by::<T, M, W>(world, Event::Go(fate), times, next, writer)
+            play_by::<T, M, W>(world, Event::Go(fate), times, &mut ahead.next, writer)
         }
         EventLine::GoHarmed { harm, writes, .. } => {
             play_by::<T, M, W>(
                 world,
                 Event::Go(harmed(harm, writes, torn)),
                 1,
-                next,
+                &mut ahead.next,
                 writer,
             )
         }
-        EventLine::GoOn => pass_on::<T, M, W>(world, limits, next, writer),
-        EventLine::Time(ms) => pass_time::<T, M, W>(world, ms, next, writer),
-        EventLine::Reset => play(world, Event::Reset, 1, next, writer),
-        EventLine::Cut => play(world, Event::Cut, 1, next, writer),
+        EventLine::GoOn => pass_on::<T, M, W>(world, &mut ahead.next, writer),
+        EventLine::Time(ms) => pass_time::<T, M, W>(world, ms, &mut ahead.next, writer),
+        EventLine::Reset => play(world, Event::Reset, 1, &mut ahead.next, writer),
+        EventLine::Cut => play(world, Event::Cut, 1, &mut ahead.next, writer),
     }
 }
 
 /// The same while a session is live: an offer is refused whatever its file is.
 pub(crate) fn play_live<'f, T: Telling<M, W>, M: Faulty, W: Write>(
     world: &mut World<'f, M>,
-    events: EventLine<'_>,
+    events: EventLine<'_, '_>,
     torn: &[u8],
-    limits: Limits,
-    next: &mut Option<Expectation>,
+    ahead: &mut Ahead<'_>,
     writer: &mut W,
 ) -> Result<(), ScriptFault>
     requires live { IsLive world.old.bench.session }
     requires tear { torn.now ≡ tear_bytes events }
-    ensures ok { OnOk result (HasActed (point_at limits (expectation_of next.old) world.old.bench) (said_by events.entry) (W.contents writer.old)
-        (point_at limits (expectation_of next.new) world.new.bench) (W.contents writer.new)) }
-    ensures fault { IfErr result (λ f. HasStopped (point_at limits (expectation_of next.old) world.old.bench) (said_by events.entry) (W.contents writer.old)
+    ensures ok { OnOk result (HasActed (at_point ahead.old world.old.bench) (said_by events.entry) (W.contents writer.old)
+        (at_point ahead.new world.new.bench) (W.contents writer.new)) }
+    ensures fault { IfErr result (λ f. HasStopped (at_point ahead.old world.old.bench) (said_by events.entry) (W.contents writer.old)
         (W.contents writer.new) f) }
 {
     match events {
@@ -282,8 +267,8 @@ pub(crate) fn play_live<'f, T: Telling<M, W>, M: Faulty, W: Write>(
             // Called for its clause `active`, which a refusal's bench needs; what it answers isn't
             // used.
             let _ = world.device();
-            say_next(writer, next, Err(LinkFault::HostBusy), &[])
+            say_next(writer, &mut ahead.next, Err(LinkFault::HostBusy), &[])
         }
-        _ => play_events::<T, M, W>(world, events, &[], torn, limits, next, writer),
+        _ => play_events::<T, M, W>(world, events, &[], torn, ahead, writer),
     }
 }

@@ -2,7 +2,7 @@
 
 ghost use Rattle.std.specs.Prelude.{◌≡◌};
 ghost use Rattle.dfu_link.specs.Words.{Reads, words_of};
-ghost use Rattle.dfu_link.specs.Said.{said_of};
+ghost use Rattle.dfu_link.specs.Said.{given_bytes, said_of};
 ghost use Rattle.dfu_link.specs.Lines.{is_comment, says, by_keyword, line_of};
 
 use crate::aim::Aim;
@@ -17,8 +17,13 @@ use crate::scripting::words::word_at;
 /// The most bytes of a line, without its 0Ah.
 pub(crate) const MAX_LINE: usize = 65_536;
 
-fn by_keyword<'l>(keyword: Keyword, line: &'l [u8], rest: &'l [u8]) -> Option<Line<'l>>
-    ensures { Reads said_of result (by_keyword keyword line.now (words_of rest.now)) }
+fn by_keyword<'l, 'g>(
+    given: Option<&'g [u8]>,
+    keyword: Keyword,
+    line: &'l [u8],
+    rest: &'l [u8],
+) -> Option<Line<'l, 'g>>
+    ensures { Reads said_of result (by_keyword (given_bytes given.entry) keyword line.now (words_of rest.now)) }
 {
     match keyword {
         Keyword::Ids => ids(rest),
@@ -28,8 +33,8 @@ fn by_keyword<'l>(keyword: Keyword, line: &'l [u8], rest: &'l [u8]) -> Option<Li
         Keyword::Capacity => capacity(rest),
         Keyword::Image => image(rest),
         Keyword::Limits => limits(rest),
-        Keyword::Offer => offer(Aim::Install, rest),
-        Keyword::Verify => offer(Aim::Verify, rest),
+        Keyword::Offer => offer(given, Aim::Install, rest),
+        Keyword::Verify => offer(given, Aim::Verify, rest),
         Keyword::Upload => ended(Line::Do(EventLine::Upload), rest),
         Keyword::Abort => ended(Line::Do(EventLine::Abort), rest),
         Keyword::Go => go(rest),
@@ -50,8 +55,8 @@ fn is_comment(word: &[u8]) -> bool
     }
 }
 
-fn words_say(line: &[u8]) -> Option<Line<'_>>
-    ensures { Reads said_of result (says line.now (words_of line.now)) }
+fn words_say<'l, 'g>(given: Option<&'g [u8]>, line: &'l [u8]) -> Option<Line<'l, 'g>>
+    ensures { Reads said_of result (says (given_bytes given.entry) line.now (words_of line.now)) }
 {
     match word_at(line) {
         None => Some(Line::Blank),
@@ -60,18 +65,19 @@ fn words_say(line: &[u8]) -> Option<Line<'_>>
                 return Some(Line::Blank);
             }
             let keyword = read_keyword(word)?;
-            by_keyword(keyword, line, rest)
+            by_keyword(given, keyword, line, rest)
         }
     }
 }
 
-/// What a line says, or nothing where it is none of the language. A line over 65,536 bytes is none.
+/// What a line says where these bytes are given, or nothing where it is none of the language. A line
+/// over 65,536 bytes is none.
 #[tactic(auto, unfolding(crate::specs::Lines::line_of))]
-pub(crate) fn parse(line: &[u8]) -> Option<Line<'_>>
-    ensures { Reads said_of result (line_of line.now) }
+pub(crate) fn parse<'l, 'g>(given: Option<&'g [u8]>, line: &'l [u8]) -> Option<Line<'l, 'g>>
+    ensures { Reads said_of result (line_of (given_bytes given.entry) line.now) }
 {
     if line.len() > MAX_LINE {
         return None;
     }
-    words_say(line)
+    words_say(given, line)
 }

@@ -1,7 +1,7 @@
 //! What is set before the first event line or `show`.
 
 ghost use Rattle.std.specs.Prelude.{◌≡◌, OnOk, IfErr};
-ghost use Rattle.dfu_link.specs.Said.{config_line_of};
+ghost use Rattle.dfu_link.specs.Said.{config_line_of, given_bytes};
 ghost use Rattle.dfu_link.specs.ScriptRun.{set, beginning};
 ghost use Rattle.dfu_link.specs.inside.SetupView.{settings_of};
 
@@ -15,9 +15,9 @@ use std::alloc::Global;
 
 /// What is set: what `Config::new` takes, the unit in which the medium is written and the sectors in
 /// which it is erased, how many bytes an image may have, the image at first (the byte 00 where there
-/// is none), and the limits of sessions.
+/// is none), and the limits of sessions. The bytes that FILE stands for are given.
 #[derive(Drop)]
-pub(crate) struct Setup {
+pub(crate) struct Setup<'g> {
     pub ids: Ids,
     pub functional: Functional,
     pub least: u32,
@@ -28,11 +28,12 @@ pub(crate) struct Setup {
     pub room: Room,
     pub image: Option<Vec<u8>>,
     pub limits: Limits,
+    pub given: Option<&'g [u8]>,
 }
 
 /// What holds where no line sets anything else.
-pub(crate) fn beginning() -> Setup
-    ensures { settings_of result ≡ beginning }
+pub(crate) fn beginning(given: Option<&[u8]>) -> Setup<'_>
+    ensures { settings_of result ≡ beginning (given_bytes given.entry) }
 {
     Setup {
         ids: Ids {
@@ -60,13 +61,14 @@ pub(crate) fn beginning() -> Setup
             actions: 1_000_000,
             restarts: 0,
         },
+        given,
     }
 }
 
 /// Does what a configuration line says. It takes memory for an image alone.
 pub(crate) fn set(
     alloc: Global,
-    setup: &mut Setup,
+    setup: &mut Setup<'_>,
     setting: ConfigLine<'_>,
 ) -> Result<(), ScriptFault>
     ensures ok { OnOk result (settings_of setup.new ≡ set (settings_of setup.old) (config_line_of setting.entry)) }
@@ -94,7 +96,7 @@ pub(crate) fn set(
 }
 
 /// Sets the limits of sessions.
-pub(crate) fn set_limits(setup: &mut Setup, limits: Limits)
+pub(crate) fn set_limits(setup: &mut Setup<'_>, limits: Limits)
     ensures { settings_of setup.new ≡ record (settings_of setup.old) { limits = limits } }
 {
     setup.limits = limits;

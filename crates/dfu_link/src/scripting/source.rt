@@ -1,6 +1,6 @@
 //! The lines of a script, one after the other.
 
-ghost use Rattle.std.specs.Prelude.{◌≡◌, ◌≤◌, ◌<◌, ◌+◌, ◌++◌, [], length, vec_capacity, IfOk, IfErr, Ok, true};
+ghost use Rattle.std.specs.Prelude.{◌≡◌, ◌≤◌, ◌<◌, ◌+◌, ◌++◌, ℕ, List, Option, [], length, vec_capacity, IfOk, IfErr, Ok, true};
 ghost use Rattle.std.specs.Io.KnownBytes.{prepend_known};
 ghost use Rattle.std.specs.List.{position};
 ghost use Rattle.dfu_link.specs.Words.{is_newline};
@@ -114,7 +114,7 @@ fn read_line<R: Read + Drop>(
     requires number { before + room.old ≤ 16777216 }
     ensures ok { IfOk result (λ more. Next (source_state pieces.old.left room.old before line.old.items) more
         (source_state pieces.new.left room.new (before + 1) line.new.items)) }
-    ensures fault { IfErr result (λ f. StopsSource (source_state pieces.old.left room.old before line.old.items) f) }
+    ensures fault { IfErr result (λ f. (given : Option (List ℕ)) → StopsSource given (source_state pieces.old.left room.old before line.old.items) f) }
     ensures room { room.new ≤ room.old }
     ensures less { result ≡ Ok true → room.new < room.old }
     ensures capacity { vec_capacity line.old ≤ vec_capacity line.new }
@@ -177,7 +177,7 @@ impl<R: Read + Drop> Source<R> {
     /// text comes before that and before its 0Ah, Read where the reader fails.
     pub(crate) fn next(&mut self) -> Result<bool, ScriptFault>
         ensures ok { IfOk result (λ more. Next self.old more self.new) }
-        ensures fault { IfErr result (λ f. StopsSource self.old f) }
+        ensures fault { IfErr result (λ f. (given : Option (List ℕ)) → StopsSource given self.old f) }
         ensures room { self.new.room ≤ self.old.room }
     {
         self.line.clear();

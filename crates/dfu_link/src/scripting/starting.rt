@@ -33,7 +33,7 @@ pub(crate) fn bytes_of(alloc: Global, text: HexText<'_>) -> Result<Vec<u8>, Scri
 }
 
 /// The image at first.
-fn first_image(setup: &Setup) -> &[u8]
+fn first_image<'s>(setup: &'s Setup<'_>) -> &'s [u8]
     ensures { result.now ≡ image_bytes setup.now.image }
 {
     match &setup.image {
@@ -91,7 +91,10 @@ fn form(
 }
 
 /// Starts the device, in appIDLE on a formatted medium in memory.
-pub(crate) fn start(alloc: Global, setup: &Setup) -> Result<Device<Noting<SimMedium>>, ScriptFault>
+pub(crate) fn start(
+    alloc: Global,
+    setup: &Setup<'_>,
+) -> Result<Device<Noting<SimMedium>>, ScriptFault>
     ensures ok { IfOk result (λ d. Starts (settings_of setup.now) d) }
     ensures unarmed { IfOk result (λ d. IsUnarmed d) }
     ensures fault { IfErr result (λ f. StartFalls (settings_of setup.now) f) }

@@ -1,6 +1,7 @@
 //! Whole scripts.
 
 ghost use Rattle.std.specs.Prelude.{◌≡◌, [], Some, OnOk, OnErr, IfOk, IfErr, IfSome};
+ghost use Rattle.dfu_link.specs.Said.{given_bytes};
 ghost use Rattle.dfu_link.specs.ScriptRun.{WroteRun};
 ghost use Rattle.dfu_link.specs.Falls.{Falls};
 ghost use Rattle.dfu_link.specs.KeptLines.{untraced};
@@ -12,6 +13,7 @@ ghost use Rattle.dfu_link.specs.inside.SetupView.{settings_of};
 
 use crate::laws::image_shown;
 use crate::scripting::after_start::run_on;
+use crate::scripting::expectation::Ahead;
 use crate::scripting::fault::ScriptFault;
 use crate::scripting::line::Line;
 use crate::scripting::reading::parse;
@@ -29,7 +31,7 @@ use std::io::{Read, Write};
 /// Does the lines up to the first event line or `show`, and tells whether there is one.
 fn configure<R: Read + Drop>(
     alloc: Global,
-    setup: &mut Setup,
+    setup: &mut Setup<'_>,
     source: &mut Source<R>,
 ) -> Result<bool, ScriptFault>
     ensures ok { IfOk result (λ more. Configured (settings_of setup.old) source.old (settings_of setup.new) more source.new) }
@@ -39,7 +41,7 @@ fn configure<R: Read + Drop>(
         if !source.next()? {
             return Ok(false);
         }
-        match parse(source.line()) {
+        match parse(setup.given, source.line()) {
             None => return Err(ScriptFault::BadLine(source.number())),
             Some(Line::Blank) => {}
             Some(Line::Set(setting)) => set(alloc, setup, setting)?,
@@ -53,25 +55,34 @@ fn configure<R: Read + Drop>(
     }
 }
 
-/// Runs what a reader gives.
+/// Runs what a reader gives, where FILE stands for these bytes.
 fn run_lines<T: Telling<Noting<SimMedium>, W>, R: Read + Drop, W: Write>(
     alloc: Global,
+    given: Option<&[u8]>,
     reader: R,
     writer: &mut W,
 ) -> Result<(), ScriptFault>
-    ensures ok { IfSome (R.remaining reader) (λ text. OnOk result (WroteRun text (W.contents writer.old) (W.contents writer.new))) }
-    ensures fault { IfSome (R.remaining reader) (λ text. IfErr result (λ f. Falls text (W.contents writer.old) (W.contents writer.new) f)) }
+    ensures ok { IfSome (R.remaining reader) (λ text. OnOk result (WroteRun (given_bytes given.entry) text (W.contents writer.old) (W.contents writer.new))) }
+    ensures fault { IfSome (R.remaining reader) (λ text. IfErr result (λ f. Falls (given_bytes given.entry) text (W.contents writer.old) (W.contents writer.new) f)) }
 {
     let mut source = Source::new(alloc, reader)?;
-    let mut setup = beginning();
-    let given = configure(alloc, &mut setup, &mut source)?;
+    let mut setup = beginning(given);
+    let more = configure(alloc, &mut setup, &mut source)?;
     let device = start(alloc, &setup)?;
-    run_on::<T, R, Noting<SimMedium>, W>(alloc, device, &mut source, given, setup.limits, writer)
+    let ahead = Ahead {
+        given: setup.given,
+        limits: setup.limits,
+        next: None,
+    };
+    run_on::<T, R, Noting<SimMedium>, W>(alloc, device, &mut source, more, ahead, writer)
 }
 
 /// Runs a script: reads it line by line, and does each line before the next one is read. Lines that
 /// set set up a device, event lines let events come to a link of that device and a host, and what
 /// is printed of them is written; last comes the line of the device's image.
+///
+/// In `offer` and `verify` the word FILE stands for the bytes that are given, of which nothing is
+/// copied. Where none are it is no word of the language.
 ///
 /// It keeps one line, one piece of 65,536 bytes that was read, and the file of the session that is
 /// live, however long the text is.
@@ -83,64 +94,66 @@ fn run_lines<T: Telling<Noting<SimMedium>, W>, R: Read + Drop, W: Write>(
 /// line, and before the byte of that line that is one too many; no read is made after that byte was
 /// read. Read comes at the first error of the reader, with no second try. With BadConfig nothing is
 /// written; with Write a front of the text.
-pub fn script<R: Read + Drop, W: Write>(
+pub fn script_with<R: Read + Drop, W: Write>(
     alloc: Global,
+    given: Option<&[u8]>,
     reader: R,
     writer: &mut W,
 ) -> Result<(), ScriptFault>
     // What was written is a run of what was read.
-    ensures ok { IfSome (R.remaining reader) (λ text. OnOk result (WroteRun text (W.contents writer.old) (W.contents writer.new))) }
+    ensures ok { IfSome (R.remaining reader) (λ text. OnOk result (WroteRun (given_bytes given.entry) text (W.contents writer.old) (W.contents writer.new))) }
     // Which fault comes when, and what is out then.
-    ensures fault { IfSome (R.remaining reader) (λ text. IfErr result (λ f. Falls text (W.contents writer.old) (W.contents writer.new) f)) }
+    ensures fault { IfSome (R.remaining reader) (λ text. IfErr result (λ f. Falls (given_bytes given.entry) text (W.contents writer.old) (W.contents writer.new) f)) }
     // The session machine goes along: what was written is what it reports, and the image that it has active.
-    ensures legal { IfSome (R.remaining reader) (λ text. OnOk result (WroteLegal text (W.contents writer.old) (W.contents writer.new))) }
+    ensures legal { IfSome (R.remaining reader) (λ text. OnOk result (WroteLegal (given_bytes given.entry) text (W.contents writer.old) (W.contents writer.new))) }
     // It does so as far as a script goes that stops.
     ensures stopped { IfSome (R.remaining reader)
-        (λ text. OnErr result (StopsLegally text (W.contents writer.old) (W.contents writer.new))) }
+        (λ text. OnErr result (StopsLegally (given_bytes given.entry) text (W.contents writer.old) (W.contents writer.new))) }
     // The headline: each image that is printed is the factory image or a payload offered so far, and where `report installed` or
     // `report verified` is printed, the device is in appIDLE and exactly the payload of the last session is active.
     ensures headline { IfSome (R.remaining reader)
-        (λ text. OnOk result (WroteHeadline text (W.contents writer.old) (W.contents writer.new))) }
+        (λ text. OnOk result (WroteHeadline (given_bytes given.entry) text (W.contents writer.old) (W.contents writer.new))) }
     // The same as far as a script goes that stops.
     ensures headline_so_far { IfSome (R.remaining reader)
-        (λ text. OnErr result (StopsWithHeadline text (W.contents writer.old) (W.contents writer.new))) }
+        (λ text. OnErr result (StopsWithHeadline (given_bytes given.entry) text (W.contents writer.old) (W.contents writer.new))) }
     // The headline without the language of scripts: only what a line brings is read of it.
     ensures printed { IfSome (R.remaining reader)
-        (λ text. OnOk result (WrotePrinted text (W.contents writer.old) (W.contents writer.new))) }
+        (λ text. OnOk result (WrotePrinted (given_bytes given.entry) text (W.contents writer.old) (W.contents writer.new))) }
     // The same as far as a script goes that stops.
     ensures printed_so_far { IfSome (R.remaining reader)
-        (λ text. OnErr result (StopsPrinted text (W.contents writer.old) (W.contents writer.new))) }
+        (λ text. OnErr result (StopsPrinted (given_bytes given.entry) text (W.contents writer.old) (W.contents writer.new))) }
 {
     // Called for its law, which `legal` needs: no image but the one that is shown is active.
     image_shown();
-    run_lines::<Quiet, R, W>(alloc, reader, writer)
+    run_lines::<Quiet, R, W>(alloc, given, reader, writer)
 }
 
-/// Runs a script as `script` does, and writes a line for each action of the host, before what is printed
+/// Runs a script as `script_with` does, and writes a line for each action of the host, before what is printed
 /// of it: the number of the action, the phase of the host, what it asks for, the fate, what the device
 /// answers, the state of the device before and after, the writes of the medium, and the milliseconds since
-/// the start, once it is over. Such a line begins with `# `, and no line of `script` begins with `#`. It hands
+/// the start, once it is over. Such a line begins with `# `, and no line of `script_with` begins with `#`. It hands
 /// back the writer.
 ///
 /// It takes memory for one line of the trace at a time.
 ///
 /// # Errors
 ///
-/// Those of `script`, of the text without the lines that begin with `#`. Where there is no memory for a line
+/// Those of `script_with`, of the text without the lines that begin with `#`. Where there is no memory for a line
 /// of the trace nothing more is written, and Write comes.
-pub fn script_traced<R: Read + Drop, W: Write + Drop>(
+pub fn script_traced_with<R: Read + Drop, W: Write + Drop>(
     alloc: Global,
+    given: Option<&[u8]>,
     reader: R,
     writer: W,
 ) -> (Result<(), ScriptFault>, W)
     // What was written without the lines that begin with `#` is a run of what was read.
     ensures ok { IfSome (R.remaining reader) (λ text. W.contents writer ≡ Some [] →
-        OnOk result.0 (WroteRun text (Some []) (untraced (W.contents result.1)))) }
+        OnOk result.0 (WroteRun (given_bytes given.entry) text (Some []) (untraced (W.contents result.1)))) }
     // Which fault comes when, and what is out then without those lines.
     ensures fault { IfSome (R.remaining reader) (λ text. W.contents writer ≡ Some [] →
-        IfErr result.0 (λ f. Falls text (Some []) (untraced (W.contents result.1)) f)) }
+        IfErr result.0 (λ f. Falls (given_bytes given.entry) text (Some []) (untraced (W.contents result.1)) f)) }
 {
     let mut traced = Traced::new(alloc, writer);
-    let answer = run_lines::<Loud, R, Traced<W>>(alloc, reader, &mut traced);
+    let answer = run_lines::<Loud, R, Traced<W>>(alloc, given, reader, &mut traced);
     (answer, traced.writer)
 }

@@ -3,7 +3,7 @@ use Rattle.std.proofs.lemmas.Result.{err_from_is_err_and}
 use Rattle.dfu_link.specs.Bench.{Bench, LinkState}
 use Rattle.dfu_link.specs.Said.{said_by}
 use Rattle.dfu_link.specs.ScriptRun.{at_rest}
-use Rattle.dfu_link.specs.inside.Expected.{expectation_of, point_at, at_point}
+use Rattle.dfu_link.specs.inside.Expected.{at_point}
 use Rattle.dfu_link.specs.inside.Moving.{HasActed, HasStopped, Plainly}
 use Rattle.dfu_link.specs.declared.scripting.line.EventLine.{EventLine}
 use Rattle.dfu_link.proofs.MoveLaws.{rest_starts}
@@ -78,7 +78,7 @@ returns-in_err-after-clause-fault g c =
     let old = g.W.Write.contents c.args.writer.now in
     let mid = g.W.Write.contents c.plain_line.new.writer in
     let new = g.W.Write.contents c.play_events.new.writer in
-    let q = point_at l'.limits (expectation_of c.play_events.new.next) c.play_events.new.world.bench in
+    let q = at_point c.play_events.new.ahead c.play_events.new.world.bench in
     let moved = moved_none true c.args.source.now (at_point l (at_rest c.args.device)) old in
     let starts : c.new-world.result.bench ≡ at_rest c.args.device = ap (λ (x : LinkState). x.bench) c.new-world.ensures.link
     ∙ rest_starts c.args.device c.requires in
@@ -97,7 +97,7 @@ returns-clause-ok g c =
     let old = g.W.Write.contents c.args.writer.now in
     let mid = g.W.Write.contents c.plain_line.new.writer in
     let new = g.W.Write.contents c.play_events.new.writer in
-    let q = point_at l'.limits (expectation_of c.play_events.new.next) c.play_events.new.world.bench in
+    let q = at_point c.play_events.new.ahead c.play_events.new.world.bench in
     let moved = moved_none true c.args.source.now (at_point l (at_rest c.args.device)) old in
     let starts : c.new-world.result.bench ≡ at_rest c.args.device = ap (λ (x : LinkState). x.bench) c.new-world.ensures.link
     ∙ rest_starts c.args.device c.requires in

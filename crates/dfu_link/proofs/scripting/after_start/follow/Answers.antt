@@ -3,6 +3,7 @@ use Rattle.std.proofs.lemmas.Result.{err_from_is_err_and}
 use Rattle.dfu_suffix.specs.Writing.{IsOutInPart}
 use Rattle.dfu_device.specs.Shown.{Shown}
 use Rattle.dfu_link.specs.Bench.{Bench, LinkState}
+use Rattle.dfu_link.specs.Said.{given_bytes}
 use Rattle.dfu_link.specs.Texts.{image_line}
 use Rattle.dfu_link.specs.ScriptRun.{at_rest}
 use Rattle.dfu_link.specs.Expecting.{Fails}
@@ -23,7 +24,8 @@ lines-init g c = record {
 pub returns-in_err-next-clause-fault : goal.returns-in_err-next-clause-fault
 returns-in_err-next-clause-fault g c =
     let failed = err_from_is_err_and c.from_residual.result c.from_residual.ensures.1 in
-    rw (failed.1, failed.2) (source_falls c.in_err-next.field-0.0 c.lines.invariant.moves c.in_err-next.ensures.fault)
+    rw (failed.1, failed.2) (source_falls c.in_err-next.field-0.0 c.lines.invariant.moves
+    (c.in_err-next.ensures.fault (given_bytes c.lines.ahead.given)))
 
 pub returns-in_err-image_next-clause-fault : goal.returns-in_err-image_next-clause-fault
 returns-in_err-image_next-clause-fault g c =

@@ -4,7 +4,7 @@ use Rattle.std.specs.Prelude.{IfSome}
 use Rattle.dfu_suffix.specs.Writing.{IsOutInPart}
 use Rattle.dfu_device.specs.Shown.{Shown}
 use Rattle.dfu_link.specs.Texts.{image_line}
-use Rattle.dfu_link.specs.ScriptRun.{point, at_rest}
+use Rattle.dfu_link.specs.ScriptRun.{at_rest}
 use Rattle.dfu_link.specs.inside.Source.{SourceState, Next, GivesLine}
 use Rattle.dfu_link.specs.inside.Moving.{Ends, Moves, MovesAndFalls, LinesDone, IsUnarmed}
 use Rattle.dfu_link.specs.Expecting.{Fails}
@@ -17,14 +17,14 @@ use Rattle.dfu_link.proofs.scripting.after_start.run_on.Goals as goal
 pub loop-more-init : goal.loop-more-init
 loop-more-init g c = record {
   unarmed = c.requires;
-  moves = moved_none c.args.given c.args.source.now (point c.args.limits (at_rest c.args.device)) (g.W.Write.contents c.args.writer.now);
+  moves = moved_none c.args.given c.args.source.now (at_point c.args.ahead (at_rest c.args.device)) (g.W.Write.contents c.args.writer.now);
 }
 
 pub returns-in_err-after-clause-fault : goal.returns-in_err-after-clause-fault
 returns-in_err-after-clause-fault g c =
     let failed = err_from_is_err_and c.from_residual.result c.from_residual.ensures.1 in
     let x = c.loop-more in
-    let moved = subst (λ (more : Bool). HasMoved c.args.given c.args.source.now (point c.args.limits (at_rest c.args.device))
+    let moved = subst (λ (more : Bool). HasMoved c.args.given c.args.source.now (at_point c.args.ahead (at_rest c.args.device))
     (g.W.Write.contents c.args.writer.now) (at_point x.ahead (at_rest x.device)) more x.source (g.W.Write.contents x.writer))
     c.loop-more-test.true x.invariant.moves in
     rw (failed.1, failed.2) (moved_and_fell c.in_err-after.field-0.0 moved c.in_err-after.ensures.fault).from
@@ -35,7 +35,7 @@ returns-in-None-clause-ok g c =
     let p = at_point x.ahead (at_rest x.device) in
     let mid = g.W.Write.contents x.writer in
     let new = g.W.Write.contents c.act.new.writer in
-    let moved = subst (λ (more : Bool). HasMoved c.args.given c.args.source.now (point c.args.limits (at_rest c.args.device))
+    let moved = subst (λ (more : Bool). HasMoved c.args.given c.args.source.now (at_point c.args.ahead (at_rest c.args.device))
     (g.W.Write.contents c.args.writer.now) p more x.source mid) c.loop-more-test.true x.invariant.moves in
     let ends : (r : SourceState) → GivesLine r x.source → Ends p r mid new = λ r gives. subst
     (λ (d : Option Shown). LinesDone p r mid d (at_point c.act.new.ahead) c.act.new.source new) c.in-None.is
@@ -50,12 +50,12 @@ returns-in_err-more-clause-fault g c =
     let mid = g.W.Write.contents x.writer in
     let new = g.W.Write.contents c.act.new.writer in
     let q = at_point c.act.new.ahead (at_rest c.in-Some.after) in
-    let moved = subst (λ (more : Bool). HasMoved c.args.given c.args.source.now (point c.args.limits (at_rest c.args.device))
+    let moved = subst (λ (more : Bool). HasMoved c.args.given c.args.source.now (at_point c.args.ahead (at_rest c.args.device))
     (g.W.Write.contents c.args.writer.now) p more x.source mid) c.loop-more-test.true x.invariant.moves in
     let moves : (r : SourceState) → GivesLine r x.source → Moves p r mid q c.act.new.source new = λ r gives. (subst
     (λ (d : Option Shown). LinesDone p r mid d (at_point c.act.new.ahead) c.act.new.source new) c.in-Some.is
     (c.in_ok-after.ensures.ok r gives)).1 in
-    rw (failed.1, failed.2) (went_and_stopped c.in_err-more.field-0.0 (moved_on moved moves) c.in_err-more.ensures.fault).from
+    rw (failed.1, failed.2) (went_and_stopped c.in_err-more.field-0.0 (moved_on moved moves) (c.in_err-more.ensures.fault q.given)).from
 
 fewer : (more : Bool) (s t : SourceState) (n : ℕ) → Next s more t → s.room ≤ n → turns more t.room < 1 + n
 fewer true s t n next le = omega (arith, next.less, le)
@@ -74,7 +74,7 @@ loop-more-preserved g c =
     let mid = g.W.Write.contents x.writer in
     let new = g.W.Write.contents c.act.new.writer in
     let q = at_point c.act.new.ahead (at_rest c.in-Some.after) in
-    let moved = subst (λ (more : Bool). HasMoved c.args.given c.args.source.now (point c.args.limits (at_rest c.args.device))
+    let moved = subst (λ (more : Bool). HasMoved c.args.given c.args.source.now (at_point c.args.ahead (at_rest c.args.device))
     (g.W.Write.contents c.args.writer.now) p more x.source mid) c.loop-more-test.true x.invariant.moves in
     let moves : (r : SourceState) → GivesLine r x.source → Moves p r mid q c.act.new.source new = λ r gives. (subst
     (λ (d : Option Shown). LinesDone p r mid d (at_point c.act.new.ahead) c.act.new.source new) c.in-Some.is
@@ -88,7 +88,7 @@ pub returns-clause-ok : goal.returns-clause-ok
 returns-clause-ok g c =
     let x = c.loop-more in
     let q = at_point x.ahead (at_rest x.device) in
-    let p = point c.args.limits (at_rest c.args.device) in
+    let p = at_point c.args.ahead (at_rest c.args.device) in
     let old = g.W.Write.contents c.args.writer.now in
     let mid = g.W.Write.contents x.writer in
     let new = g.W.Write.contents c.image_next.new.writer in
@@ -101,7 +101,7 @@ pub returns-clause-fault : goal.returns-clause-fault
 returns-clause-fault g c =
     let x = c.loop-more in
     let q = at_point x.ahead (at_rest x.device) in
-    let p = point c.args.limits (at_rest c.args.device) in
+    let p = at_point c.args.ahead (at_rest c.args.device) in
     let old = g.W.Write.contents c.args.writer.now in
     let mid = g.W.Write.contents x.writer in
     let new = g.W.Write.contents c.image_next.new.writer in

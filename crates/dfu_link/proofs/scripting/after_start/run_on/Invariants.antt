@@ -1,5 +1,5 @@
 use Rattle.std.proofs.Common.{ℕ, ◌+◌, Bool, true, false}
-use Rattle.dfu_link.specs.ScriptRun.{point, at_rest}
+use Rattle.dfu_link.specs.ScriptRun.{at_rest}
 use Rattle.dfu_link.specs.inside.Expected.{at_point}
 use Rattle.dfu_link.specs.inside.Moving.{IsUnarmed}
 use Rattle.dfu_link.proofs.RestLaws.{HasMoved}
@@ -12,7 +12,7 @@ turns false room = 0
 abbrev pub invariant-loop-more : goal.invariant-loop-more
 invariant-loop-more g l = record {
   unarmed : IsUnarmed l.device;
-  moves : HasMoved l.fn.given l.fn.source (point l.fn.limits (at_rest l.fn.device)) (g.W.Write.contents l.fn.writer)
+  moves : HasMoved l.fn.given l.fn.source (at_point l.fn.ahead (at_rest l.fn.device)) (g.W.Write.contents l.fn.writer)
       (at_point l.ahead (at_rest l.device)) l.more l.source (g.W.Write.contents l.writer);
 }
 

@@ -1,0 +1,70 @@
+//! Whole scripts to which no file is given.
+
+ghost use Rattle.std.specs.Prelude.{◌≡◌, [], Some, None, OnOk, OnErr, IfErr, IfSome};
+ghost use Rattle.dfu_link.specs.ScriptRun.{WroteRun};
+ghost use Rattle.dfu_link.specs.Falls.{Falls};
+ghost use Rattle.dfu_link.specs.KeptLines.{untraced};
+ghost use Rattle.dfu_link.specs.ScriptLegal.{WroteLegal, StopsLegally};
+ghost use Rattle.dfu_link.specs.ScriptHeadline.{WroteHeadline, StopsWithHeadline};
+ghost use Rattle.dfu_link.specs.Printed.{WrotePrinted, StopsPrinted};
+
+use crate::scripting::fault::ScriptFault;
+use crate::scripting::whole::{script_traced_with, script_with};
+use std::alloc::Global;
+use std::io::{Read, Write};
+
+/// Runs a script as `script_with` does, where no bytes are given: FILE is no word of the language.
+///
+/// # Errors
+///
+/// Those of `script_with`.
+pub fn script<R: Read + Drop, W: Write>(
+    alloc: Global,
+    reader: R,
+    writer: &mut W,
+) -> Result<(), ScriptFault>
+    // What was written is a run of what was read.
+    ensures ok { IfSome (R.remaining reader) (λ text. OnOk result (WroteRun None text (W.contents writer.old) (W.contents writer.new))) }
+    // Which fault comes when, and what is out then.
+    ensures fault { IfSome (R.remaining reader) (λ text. IfErr result (λ f. Falls None text (W.contents writer.old) (W.contents writer.new) f)) }
+    // The session machine goes along: what was written is what it reports, and the image that it has active.
+    ensures legal { IfSome (R.remaining reader) (λ text. OnOk result (WroteLegal None text (W.contents writer.old) (W.contents writer.new))) }
+    // It does so as far as a script goes that stops.
+    ensures stopped { IfSome (R.remaining reader)
+        (λ text. OnErr result (StopsLegally None text (W.contents writer.old) (W.contents writer.new))) }
+    // The headline: each image that is printed is the factory image or a payload offered so far, and where `report installed` or
+    // `report verified` is printed, the device is in appIDLE and exactly the payload of the last session is active.
+    ensures headline { IfSome (R.remaining reader)
+        (λ text. OnOk result (WroteHeadline None text (W.contents writer.old) (W.contents writer.new))) }
+    // The same as far as a script goes that stops.
+    ensures headline_so_far { IfSome (R.remaining reader)
+        (λ text. OnErr result (StopsWithHeadline None text (W.contents writer.old) (W.contents writer.new))) }
+    // The headline without the language of scripts: only what a line brings is read of it.
+    ensures printed { IfSome (R.remaining reader)
+        (λ text. OnOk result (WrotePrinted None text (W.contents writer.old) (W.contents writer.new))) }
+    // The same as far as a script goes that stops.
+    ensures printed_so_far { IfSome (R.remaining reader)
+        (λ text. OnErr result (StopsPrinted None text (W.contents writer.old) (W.contents writer.new))) }
+{
+    script_with::<R, W>(alloc, None, reader, writer)
+}
+
+/// Runs a script as `script_traced_with` does, where no bytes are given.
+///
+/// # Errors
+///
+/// Those of `script_traced_with`.
+pub fn script_traced<R: Read + Drop, W: Write + Drop>(
+    alloc: Global,
+    reader: R,
+    writer: W,
+) -> (Result<(), ScriptFault>, W)
+    // What was written without the lines that begin with `#` is a run of what was read.
+    ensures ok { IfSome (R.remaining reader) (λ text. W.contents writer ≡ Some [] →
+        OnOk result.0 (WroteRun None text (Some []) (untraced (W.contents result.1)))) }
+    // Which fault comes when, and what is out then without those lines.
+    ensures fault { IfSome (R.remaining reader) (λ text. W.contents writer ≡ Some [] →
+        IfErr result.0 (λ f. Falls None text (Some []) (untraced (W.contents result.1)) f)) }
+{
+    script_traced_with::<R, W>(alloc, None, reader, writer)
+}
