@@ -30,6 +30,8 @@ pub mod Projected
 pub mod Acts
 pub mod Events
 pub mod Uploads
+pub mod TraceTexts
+pub mod TraceNotes
 pub mod Traced
 pub mod KeptLaws
 pub mod Counted

@@ -13,6 +13,8 @@ pub mod Bytes
 pub mod Understood
 pub mod Power
 pub mod Tracing
+pub mod TraceWords
+pub mod TraceText
 pub mod KeptLines
 pub mod Refusing
 pub mod Comes

@@ -1,15 +1,25 @@
 //! The line of an action in a trace.
 
+ghost use Rattle.std.specs.Prelude.{◌≡◌, IfOk};
+ghost use Rattle.std.specs.String.{string_bytes};
+ghost use Rattle.dfu_link.specs.TraceText.{IsLineOf, step_text, time_in};
+ghost use Rattle.dfu_link.specs.TraceWords.{writes_text};
+
 use crate::fate::Fate;
+use crate::tracing::answers::push_answer;
 use crate::tracing::noting::Noting;
 use crate::tracing::step::Step;
-use crate::tracing::words::{push_action, push_answer, push_fate, push_phase, push_writes};
+use crate::tracing::words::{
+    push, push_action, push_fate, push_number, push_phase, push_writes,
+};
 use dfu_host::Action;
 use dfu_slots::SimMedium;
 use std::alloc::{AllocError, Global};
 
 /// How many milliseconds pass in an action.
-pub(crate) fn time_of(action: Action<'_>, fate: Fate<'_>) -> u32 {
+pub(crate) fn time_of(action: Action<'_>, fate: Fate<'_>) -> u32
+    ensures { result ≡ time_in action.entry fate.entry }
+{
     match (action, fate) {
         (_, Fate::Slip(ms)) => ms,
         (Action::Wait(ms), _) => ms,
@@ -34,19 +44,28 @@ pub(crate) fn step_line(
     step: &Step<'_>,
     out: &[u8],
     medium: &Noting<SimMedium>,
-) -> Result<String, AllocError> {
-    let Count { number, ms, writes } = count;
-    let mut line = format!(in alloc; "# {number} ")?;
+) -> Result<String, AllocError>
+    ensures text { IfOk result (λ line. string_bytes line ≡ step_text count.number count.ms fate.entry step.now out.now
+        (writes_text medium.now.notes medium.now.count count.writes)) }
+    ensures line { IfOk result (λ line. IsLineOf count.number count.ms fate.entry step.now out.now (string_bytes line)) }
+{
+    let mut line = String::new(alloc);
+    push_number(&mut line, alloc, "# ", count.number)?;
+    push(&mut line, " ")?;
     push_phase(&mut line, alloc, step.phase)?;
-    line.push_str("; ")?;
+    push(&mut line, "; ")?;
     push_action(&mut line, alloc, step.action)?;
-    line.push_str("; ")?;
+    push(&mut line, "; ")?;
     push_fate(&mut line, alloc, fate)?;
-    line.push_str("; ")?;
+    push(&mut line, "; ")?;
     push_answer(&mut line, alloc, step.action, fate, step.came, out)?;
-    let (before, after) = (step.before.name(), step.after.name());
-    line.push_str(&format!(in alloc; "; {before}; {after}; ")?)?;
-    push_writes(&mut line, alloc, medium, writes)?;
-    line.push_str(&format!(in alloc; "; {ms} ms\n")?)?;
+    push(&mut line, "; ")?;
+    push(&mut line, step.before.name())?;
+    push(&mut line, "; ")?;
+    push(&mut line, step.after.name())?;
+    push(&mut line, "; ")?;
+    push_writes(&mut line, alloc, medium, count.writes)?;
+    push_number(&mut line, alloc, "; ", count.ms)?;
+    push(&mut line, " ms\n")?;
     Ok(line)
 }

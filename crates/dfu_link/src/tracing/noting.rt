@@ -1,8 +1,9 @@
 //! A medium that notes its last writes.
 
-ghost use Rattle.std.specs.Prelude.{◌≡◌, IfOk};
+ghost use Rattle.std.specs.Prelude.{◌≡◌, ◌+◌, ◌%◌, ◌^◌, IfOk, slice_set};
 ghost use Rattle.dfu_slots.specs.Units.{IsMultiple};
 ghost use Rattle.dfu_slots.specs.Medium.{blank_medium};
+ghost use Rattle.dfu_link.specs.TraceWords.{note_at};
 
 use dfu_slots::{Failed, Faulty, Medium, NoMemory, SimMedium, Unit};
 use std::alloc::Global;
@@ -72,18 +73,24 @@ impl<M: Medium> Noting<M> {
     }
 
     /// How many writes were made.
-    pub(crate) fn count(&self) -> u64 {
+    pub(crate) fn count(&self) -> u64
+        ensures { result ≡ self.now.count }
+    {
         self.count
     }
 
     /// How many writes were made before the last one of two that the medium was disarmed. A medium is disarmed
     /// at the end of each action, so those after it are of the last action.
-    pub(crate) fn before(&self) -> u64 {
+    pub(crate) fn before(&self) -> u64
+        ensures { result ≡ self.now.before }
+    {
         self.before
     }
 
     /// The write with this number, counted from 0, of the last 16.
-    pub(crate) fn note(&self, number: u64) -> WriteNote {
+    pub(crate) fn note(&self, number: u64) -> WriteNote
+        ensures { result ≡ note_at self.now.notes number }
+    {
         self.notes[(number % 16) as usize]
     }
 
@@ -106,7 +113,11 @@ impl<M: Medium> Noting<M> {
 
     /// Notes a write.
     fn add(&mut self, note: WriteNote)
-        ensures { self.new.medium ≡ self.old.medium }
+        ensures medium { self.new.medium ≡ self.old.medium }
+        ensures notes { self.new.notes ≡ slice_set self.old.notes (self.old.count % 16) note }
+        ensures count { self.new.count ≡ (self.old.count + 1) % 2 ^ 64 }
+        ensures start { self.new.start ≡ self.old.start }
+        ensures before { self.new.before ≡ self.old.before }
     {
         self.notes[(self.count % 16) as usize] = note;
         self.count = self.count.wrapping_add(1);

@@ -1,107 +1,124 @@
-//! The words of a trace.
+//! The words of a trace, put together.
 
-use crate::back::Back;
+ghost use Rattle.std.specs.Prelude.{◌≡◌, ◌++◌, OnOk};
+ghost use Rattle.std.specs.Fmt.{decimal};
+ghost use Rattle.std.specs.String.{string_bytes};
+ghost use Rattle.dfu_link.specs.Texts.{hex_text};
+ghost use Rattle.dfu_link.specs.TraceText.{action_text, fate_text, harm_text, phase_text, request_text};
+ghost use Rattle.dfu_link.specs.TraceWords.{comma_text, note_text, writes_text};
+
 use crate::fate::Fate;
-use crate::tracing::noting::{Noting, WriteEnd, WriteNote};
-use dfu_device::Answer;
+use crate::tracing::names::{
+    comma_text, end_text, erases_text, request_name, request_of, setup_of,
+};
+use crate::tracing::noting::{Noting, WriteNote};
 use dfu_host::{Action, Phase};
 use dfu_slots::SimMedium;
-use dfu_wire::{Request, Setup, State, Status};
+use dfu_wire::Setup;
 use std::alloc::{AllocError, Global};
 
-/// The name of a phase, and the number of the block or part that it is at.
-fn phase_name(phase: Phase) -> (&'static str, Option<usize>) {
+/// Adds a text.
+#[inline(never)]
+pub(crate) fn push(line: &mut String, text: &str) -> Result<(), AllocError>
+    ensures { OnOk result (string_bytes line.new ≡ string_bytes line.old ++ text.now) }
+{
+    line.push_str(text)
+}
+
+/// Adds a text, and a number behind it.
+#[inline(never)]
+pub(crate) fn push_number(
+    line: &mut String,
+    alloc: Global,
+    text: &str,
+    number: u64,
+) -> Result<(), AllocError>
+    ensures { OnOk result (string_bytes line.new ≡ string_bytes line.old ++ (text.now ++ decimal number)) }
+{
+    push(line, text)?;
+    push(line, &number.to_string(alloc)?)
+}
+
+/// Adds a phase, with the number of the block or part that it is at.
+pub(crate) fn push_phase(line: &mut String, alloc: Global, phase: Phase) -> Result<(), AllocError>
+    ensures { OnOk result (string_bytes line.new ≡ string_bytes line.old ++ phase_text phase) }
+{
     match phase {
-        Phase::Find => ("Find", None),
-        Phase::FindAgain => ("FindAgain", None),
-        Phase::Detach => ("Detach", None),
-        Phase::Enter => ("Enter", None),
-        Phase::Clear => ("Clear", None),
-        Phase::Quit => ("Quit", None),
-        Phase::WaitFind(_) => ("WaitFind", None),
-        Phase::ResetFind => ("ResetFind", None),
-        Phase::Block(number) => ("Block", Some(number)),
-        Phase::Ask(number) => ("Ask", Some(number)),
-        Phase::Poll(number) => ("Poll", Some(number)),
-        Phase::WaitPoll(number, _) => ("WaitPoll", Some(number)),
-        Phase::Close => ("Close", None),
-        Phase::AskLast => ("AskLast", None),
-        Phase::Manifest => ("Manifest", None),
-        Phase::WaitManifest(_) => ("WaitManifest", None),
-        Phase::WaitLast(_) => ("WaitLast", None),
-        Phase::Trouble => ("Trouble", None),
-        Phase::Fetch(number) => ("Fetch", Some(number as usize)),
-        Phase::Compare(number) => ("Compare", Some(number as usize)),
-        Phase::Last(_) => ("Last", None),
-        Phase::LastUploaded => ("LastUploaded", None),
-        Phase::GiveUp => ("GiveUp", None),
-        Phase::Over(_) => ("Over", None),
-        Phase::OverUploaded => ("OverUploaded", None),
+        Phase::Find => push(line, "Find"),
+        Phase::FindAgain => push(line, "FindAgain"),
+        Phase::Detach => push(line, "Detach"),
+        Phase::Enter => push(line, "Enter"),
+        Phase::Clear => push(line, "Clear"),
+        Phase::Quit => push(line, "Quit"),
+        Phase::WaitFind(_) => push(line, "WaitFind"),
+        Phase::ResetFind => push(line, "ResetFind"),
+        Phase::Block(number) => push_number(line, alloc, "Block ", number as u64),
+        Phase::Ask(number) => push_number(line, alloc, "Ask ", number as u64),
+        Phase::Poll(number) => push_number(line, alloc, "Poll ", number as u64),
+        Phase::WaitPoll(number, _) => push_number(line, alloc, "WaitPoll ", number as u64),
+        Phase::Close => push(line, "Close"),
+        Phase::AskLast => push(line, "AskLast"),
+        Phase::Manifest => push(line, "Manifest"),
+        Phase::WaitManifest(_) => push(line, "WaitManifest"),
+        Phase::WaitLast(_) => push(line, "WaitLast"),
+        Phase::Trouble => push(line, "Trouble"),
+        Phase::Fetch(number) => push_number(line, alloc, "Fetch ", u64::from(number)),
+        Phase::Compare(number) => push_number(line, alloc, "Compare ", u64::from(number)),
+        Phase::Last(_) => push(line, "Last"),
+        Phase::LastUploaded => push(line, "LastUploaded"),
+        Phase::GiveUp => push(line, "GiveUp"),
+        Phase::Over(_) => push(line, "Over"),
+        Phase::OverUploaded => push(line, "OverUploaded"),
     }
 }
 
-/// Adds a phase.
-pub(crate) fn push_phase(line: &mut String, alloc: Global, phase: Phase) -> Result<(), AllocError> {
-    let (name, number) = phase_name(phase);
-    line.push_str(name)?;
-    if let Some(number) = number {
-        line.push_str(&format!(in alloc; " {number}")?)?;
-    }
-    Ok(())
+/// Adds a request, with wValue and wLength.
+fn push_request(line: &mut String, alloc: Global, setup: &Setup) -> Result<(), AllocError>
+    ensures { OnOk result (string_bytes line.new ≡ string_bytes line.old ++ request_text setup.now) }
+{
+    push(line, request_name(request_of(setup)))?;
+    push_number(line, alloc, " ", u64::from(setup.value))?;
+    push_number(line, alloc, " ", u64::from(setup.length))
 }
 
-/// The name of a request in the standard (USB DFU 1.1, section 3).
-fn request_name(request: Request) -> &'static str {
-    match request {
-        Request::Detach { .. } => "DETACH",
-        Request::Dnload { .. } => "DNLOAD",
-        Request::Upload { .. } => "UPLOAD",
-        Request::GetStatus { .. } => "GETSTATUS",
-        Request::ClrStatus => "CLRSTATUS",
-        Request::GetState { .. } => "GETSTATE",
-        Request::Abort => "ABORT",
-        Request::OtherClass | Request::NotDfu => "other",
-    }
-}
-
-/// Adds what a host asks for: a request with wValue and wLength, a wait with its milliseconds, or a reset.
+/// Adds what a host asks for: a request, a wait with its milliseconds, or a reset.
 pub(crate) fn push_action(
     line: &mut String,
     alloc: Global,
     action: Action<'_>,
-) -> Result<(), AllocError> {
+) -> Result<(), AllocError>
+    ensures { OnOk result (string_bytes line.new ≡ string_bytes line.old ++ action_text action.entry) }
+{
     match action {
-        Action::Send { setup, .. } => {
-            let setup = Setup::decode(&setup);
-            let (value, length) = (setup.value, setup.length);
-            line.push_str(request_name(setup.request()))?;
-            line.push_str(&format!(in alloc; " {value} {length}")?)
-        }
-        Action::Wait(ms) => line.push_str(&format!(in alloc; "wait {ms}")?),
-        Action::Reset => line.push_str("reset"),
-        Action::Done(_) => line.push_str("-"),
+        Action::Send { setup, .. } => push_request(line, alloc, &setup_of(&setup)),
+        Action::Wait(ms) => push_number(line, alloc, "wait ", u64::from(ms)),
+        Action::Reset => push(line, "reset"),
+        Action::Done(_) => push(line, "-"),
     }
 }
 
 /// Adds bytes as a script has them.
-fn push_hex(line: &mut String, alloc: Global, bytes: &[u8]) -> Result<(), AllocError> {
+fn push_hex(line: &mut String, alloc: Global, bytes: &[u8]) -> Result<(), AllocError>
+    ensures { OnOk result (string_bytes line.new ≡ string_bytes line.old ++ hex_text bytes.now) }
+{
     if bytes.is_empty() {
-        return line.push_str("-");
+        return push(line, "-");
     }
-    for byte in bytes {
-        line.push_str(&format!(in alloc; "{byte:02x}")?)?;
-    }
-    Ok(())
+    push(line, &hex::encode(alloc, bytes)?)
 }
 
+/// Adds a word, and a harmed write behind it.
 fn push_harm(
     line: &mut String,
     alloc: Global,
     word: &str,
     writes: u32,
     tear: &[u8],
-) -> Result<(), AllocError> {
-    line.push_str(&format!(in alloc; "{word} {writes} ")?)?;
+) -> Result<(), AllocError>
+    ensures { OnOk result (string_bytes line.new ≡ string_bytes line.old ++ (word.now ++ harm_text writes tear.now)) }
+{
+    push_number(line, alloc, word, u64::from(writes))?;
+    push(line, " ")?;
     push_hex(line, alloc, tear)
 }
 
@@ -110,86 +127,36 @@ pub(crate) fn push_fate(
     line: &mut String,
     alloc: Global,
     fate: Fate<'_>,
-) -> Result<(), AllocError> {
+) -> Result<(), AllocError>
+    ensures { OnOk result (string_bytes line.new ≡ string_bytes line.old ++ fate_text fate.entry) }
+{
     match fate {
-        Fate::Pass => line.push_str("pass"),
-        Fate::LostOut => line.push_str("lostout"),
-        Fate::LostBack => line.push_str("lostback"),
-        Fate::Twice => line.push_str("twice"),
-        Fate::TwiceLostBack => line.push_str("twicelostback"),
-        Fate::Slip(ms) => line.push_str(&format!(in alloc; "slip {ms}")?),
-        Fate::Cut { writes, tear } => push_harm(line, alloc, "cut", writes, tear),
-        Fate::Fail { writes, tear } => push_harm(line, alloc, "fail", writes, tear),
-        Fate::Lie { writes, tear } => push_harm(line, alloc, "lie", writes, tear),
+        Fate::Pass => push(line, "pass"),
+        Fate::LostOut => push(line, "lostout"),
+        Fate::LostBack => push(line, "lostback"),
+        Fate::Twice => push(line, "twice"),
+        Fate::TwiceLostBack => push(line, "twicelostback"),
+        Fate::Slip(ms) => push_number(line, alloc, "slip ", u64::from(ms)),
+        Fate::Cut { writes, tear } => push_harm(line, alloc, "cut ", writes, tear),
+        Fate::Fail { writes, tear } => push_harm(line, alloc, "fail ", writes, tear),
+        Fate::Lie { writes, tear } => push_harm(line, alloc, "lie ", writes, tear),
     }
 }
 
-/// The state of this number.
-fn state_of(number: u8) -> Option<State> {
-    let bytes = [0, 0, 0, 0, number, 0];
-    match Status::decode(&bytes) {
-        Ok(status) => Some(status.state()),
-        Err(_) => None,
-    }
-}
-
-/// Adds the bytes of an answer: a status, a state, or how many they are.
-fn push_bytes(
+/// Adds a write, behind another one or not.
+fn push_write(
     line: &mut String,
     alloc: Global,
-    action: Action<'_>,
-    out: &[u8],
-) -> Result<(), AllocError> {
-    let request = match action {
-        Action::Send { setup, .. } => Setup::decode(&setup).request(),
-        _ => Request::NotDfu,
-    };
-    if let (Request::GetStatus { .. }, Ok(status)) = (request, Status::decode(out)) {
-        let (code, poll, state) = (
-            status.code().name(),
-            status.poll_ms(),
-            status.state().name(),
-        );
-        return line.push_str(&format!(in alloc; "{code} {poll} {state}")?);
-    }
-    if let (Request::GetState { .. }, [number]) = (request, out) {
-        if let Some(state) = state_of(*number) {
-            return line.push_str(state.name());
-        }
-    }
-    let length = out.len();
-    line.push_str(&format!(in alloc; "{length} bytes")?)
-}
-
-/// Adds what the device answered.
-pub(crate) fn push_answer(
-    line: &mut String,
-    alloc: Global,
-    action: Action<'_>,
-    fate: Fate<'_>,
-    came: Back,
-    out: &[u8],
-) -> Result<(), AllocError> {
-    match (fate, came) {
-        (Fate::Cut { .. }, _) | (_, Back::Lost | Back::Restarted) => line.push_str("-"),
-        (_, Back::Answered(Answer::Ack)) => line.push_str("ack"),
-        (_, Back::Answered(Answer::Stall)) => line.push_str("stall"),
-        (_, Back::Answered(Answer::Bytes)) => push_bytes(line, alloc, action, out),
-    }
-}
-
-/// Adds a write: whether it erased, its bytes and place, and how it ended.
-fn push_write(line: &mut String, alloc: Global, note: WriteNote) -> Result<(), AllocError> {
-    if note.erases {
-        line.push_str("erased ")?;
-    }
-    let (len, at) = (note.len, note.at);
-    line.push_str(&format!(in alloc; "{len} at {at}")?)?;
-    match note.end {
-        WriteEnd::Worked => Ok(()),
-        WriteEnd::Failed => line.push_str(" failed"),
-        WriteEnd::Lied => line.push_str(" lied"),
-    }
+    is_behind: bool,
+    note: WriteNote,
+) -> Result<(), AllocError>
+    ensures { OnOk result (string_bytes line.new ≡ string_bytes line.old ++ (comma_text is_behind ++ note_text note)) }
+{
+    push(line, comma_text(is_behind))?;
+    push(line, erases_text(note.erases))?;
+    push_number(line, alloc, "", u64::from(note.len))?;
+    push_number(line, alloc, " at ", u64::from(note.at))?;
+    push(line, end_text(note.end))
 }
 
 /// Adds the writes of the medium from this one on, at most the last 16.
@@ -198,17 +165,16 @@ pub(crate) fn push_writes(
     alloc: Global,
     medium: &Noting<SimMedium>,
     from: u64,
-) -> Result<(), AllocError> {
+) -> Result<(), AllocError>
+    ensures { OnOk result (string_bytes line.new ≡ string_bytes line.old ++ writes_text medium.now.notes medium.now.count from) }
+{
     let to = medium.count();
     if from >= to {
-        return line.push_str("-");
+        return push(line, "-");
     }
     let first = from.max(to.saturating_sub(16));
     for number in first..to {
-        if number > from {
-            line.push_str(", ")?;
-        }
-        push_write(line, alloc, medium.note(number))?;
+        push_write(line, alloc, number > from, medium.note(number))?;
     }
     Ok(())
 }

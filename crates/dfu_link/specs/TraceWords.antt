@@ -1,0 +1,170 @@
+-- The words of a trace: what the bytes of a request ask for, what those of an answer say, and the writes of the medium.
+use Rattle.std.specs.Prelude.{ℕ, zero, suc, ◌+◌, ◌-◌, ◌*◌, ◌%◌, ◌==◌, ◌&&◌, nat_lt, max, Bool, true, false, if◌then◌else◌, List, [], ◌∷◌, ◌++◌, length, slice_get, slice_index, slice_index_or, Option, Some, None, codes}
+use Rattle.std.specs.Fmt.{decimal}
+use Rattle.dfu_wire.specs.declared.codes.Code.{Code}
+use Rattle.dfu_wire.specs.declared.codes.Code.TheVariants as code
+use Rattle.dfu_wire.specs.declared.requests.Request.{Request}
+use Rattle.dfu_wire.specs.declared.requests.Request.TheVariants as request
+use Rattle.dfu_wire.specs.declared.setups.Setup.{Setup}
+use Rattle.dfu_wire.specs.declared.states.State.{State}
+use Rattle.dfu_wire.specs.declared.states.State.TheVariants as state
+use Rattle.dfu_wire.specs.Code.{code_name}
+use Rattle.dfu_wire.specs.State.{state_name}
+use Rattle.dfu_wire.specs.Status.{StatusFields}
+use Rattle.dfu_link.specs.declared.tracing.noting.WriteEnd.{WriteEnd}
+use Rattle.dfu_link.specs.declared.tracing.noting.WriteEnd.TheVariants.{Worked, Failed, Lied}
+use Rattle.dfu_link.specs.declared.tracing.noting.WriteNote.{WriteNote}
+
+-- The setup that eight bytes are (USB DFU 1.1, section 3): numbers of two bytes have their low byte first.
+abbrev pub setup_of : List ℕ → Setup
+setup_of b = record {
+  kind = slice_index b 0;
+  request = slice_index b 1;
+  value = slice_index b 2 + 256 * slice_index b 3;
+  index = slice_index b 4 + 256 * slice_index b 5;
+  length = slice_index b 6 + 256 * slice_index b 7;
+}
+
+-- What a setup of kind 21h for interface 0 asks for: it sends to the device.
+abbrev pub sent_by : Setup → Request
+sent_by s =
+    if (s.request == 0) && (s.length == 0) then request.Detach s.value
+    else if s.request == 1 then request.Dnload s.value s.length
+    else if (s.request == 4) && (s.length == 0) then request.ClrStatus
+    else if (s.request == 6) && (s.length == 0) then request.Abort
+    else request.OtherClass
+
+-- What a setup of kind A1h for interface 0 asks for: it reads from the device.
+abbrev pub read_by : Setup → Request
+read_by s =
+    if s.request == 2 then request.Upload s.value s.length
+    else if s.request == 3 then request.GetStatus s.length
+    else if s.request == 5 then request.GetState s.length
+    else request.OtherClass
+
+-- What a setup asks for.
+unfoldable pub request_of : Setup → Request
+request_of s =
+    if s.index == 0 then (if s.kind == 0x21 then sent_by s else if s.kind == 0xa1 then read_by s else request.NotDfu) else request.NotDfu
+
+-- The name of a request in the standard (USB DFU 1.1, section 3), or `other` of what is none of the seven.
+abbrev pub request_name : Request → List ℕ
+request_name (request.Detach timeout) = codes "DETACH"
+request_name (request.Dnload block len) = codes "DNLOAD"
+request_name (request.Upload block len) = codes "UPLOAD"
+request_name (request.GetStatus len) = codes "GETSTATUS"
+request_name request.ClrStatus = codes "CLRSTATUS"
+request_name (request.GetState len) = codes "GETSTATE"
+request_name request.Abort = codes "ABORT"
+request_name request.OtherClass = codes "other"
+request_name request.NotDfu = codes "other"
+
+-- The states, by their numbers from 0 on.
+abbrev pub all_states : List State
+all_states =
+    state.AppIdle ∷ state.AppDetach ∷ state.DfuIdle ∷ state.DownloadSync ∷ state.DownloadBusy ∷ state.DownloadIdle ∷ state.ManifestSync
+    ∷ state.Manifest ∷ state.ManifestWaitReset ∷ state.UploadIdle ∷ state.Error ∷ []
+
+-- The status codes, by their numbers from 0 on.
+abbrev pub all_codes : List Code
+all_codes =
+    code.Ok ∷ code.Target ∷ code.File ∷ code.Write ∷ code.Erase ∷ code.CheckErased ∷ code.Prog ∷ code.Verify ∷ code.Address ∷ code.NotDone
+    ∷ code.Firmware ∷ code.Vendor ∷ code.Usbr ∷ code.Por ∷ code.Unknown ∷ code.StalledPkt ∷ []
+
+-- A status of these fields, if there are such a code and such a state.
+abbrev pub status_with : Option Code → (poll : ℕ) → Option State → Option StatusFields
+status_with (Some code) poll (Some state) = Some (record { code = code; poll_ms = poll; state = state })
+status_with (Some code) poll None = None
+status_with None poll state = None
+
+-- The status that bytes are (USB DFU 1.1, section 6.1.2), if they are one: the poll time has its low byte first.
+unfoldable pub status_in : List ℕ → Option StatusFields
+status_in b =
+    if length b == 6
+    then status_with (slice_get all_codes (slice_index b 0)) (slice_index b 1 + 256 * slice_index b 2 + 65536 * slice_index b 3)
+        (slice_get all_states (slice_index b 4))
+    else None
+
+-- The state that bytes are, if they are one: its number is their one byte.
+unfoldable pub state_in : List ℕ → Option State
+state_in [] = None
+state_in (number ∷ []) = slice_get all_states number
+state_in (number ∷ next ∷ more) = None
+
+-- How many bytes there are.
+abbrev pub count_text : List ℕ → List ℕ
+count_text bytes = decimal (length bytes) ++ codes " bytes"
+
+-- A status is told by its code, its poll time and its state; where the bytes are none, it is told how many they are.
+abbrev pub status_text : Option StatusFields → (bytes : List ℕ) → List ℕ
+status_text (Some s) bytes = code_name s.code ++ (codes " " ++ decimal s.poll_ms) ++ (codes " " ++ state_name s.state)
+status_text None bytes = count_text bytes
+
+-- A state is told by its name; where the bytes are none, it is told how many they are.
+abbrev pub state_text : Option State → (bytes : List ℕ) → List ℕ
+state_text (Some s) bytes = state_name s
+state_text None bytes = count_text bytes
+
+-- The bytes that answer a request: of GETSTATUS a status, of GETSTATE a state, and of all others how many they are.
+abbrev pub bytes_text : Request → (bytes : List ℕ) → List ℕ
+bytes_text (request.Detach timeout) bytes = count_text bytes
+bytes_text (request.Dnload block len) bytes = count_text bytes
+bytes_text (request.Upload block len) bytes = count_text bytes
+bytes_text (request.GetStatus len) bytes = status_text (status_in bytes) bytes
+bytes_text request.ClrStatus bytes = count_text bytes
+bytes_text (request.GetState len) bytes = state_text (state_in bytes) bytes
+bytes_text request.Abort bytes = count_text bytes
+bytes_text request.OtherClass bytes = count_text bytes
+bytes_text request.NotDfu bytes = count_text bytes
+
+-- Whether a write erased.
+abbrev pub erases_text : Bool → List ℕ
+erases_text true = codes "erased "
+erases_text false = []
+
+-- How a write ended.
+abbrev pub end_text : WriteEnd → List ℕ
+end_text Worked = []
+end_text Failed = codes " failed"
+end_text Lied = codes " lied"
+
+-- A write: whether it erased, how many bytes, where, and how it ended.
+abbrev pub note_text : WriteNote → List ℕ
+note_text note = erases_text note.erases ++ decimal note.len ++ (codes " at " ++ decimal note.at) ++ end_text note.end
+
+-- What stands before a write that comes behind another one.
+abbrev pub comma_text : (is_behind : Bool) → List ℕ
+comma_text true = codes ", "
+comma_text false = []
+
+-- Writes one after the other, the first of them behind another one or not.
+unfoldable pub listed : (is_behind : Bool) → List WriteNote → List ℕ
+listed is_behind [] = []
+listed is_behind (note ∷ notes) = comma_text is_behind ++ note_text note ++ listed true notes
+
+-- The writes of an action, where `more` says that earlier ones are left out; `-` where there are none.
+abbrev pub notes_text : (more : Bool) → List WriteNote → List ℕ
+notes_text more [] = codes "-"
+notes_text more (note ∷ notes) = listed more (note ∷ notes)
+
+-- No write.
+abbrev pub no_note : WriteNote
+no_note = record { erases = false; at = 0; len = 0; end = Worked }
+
+-- The write of this number, counted from 0, of a medium that has room for its last 16.
+abbrev pub note_at : (room : List WriteNote) → ℕ → WriteNote
+note_at room number = slice_index_or room (number % 16) no_note
+
+-- So many writes from this one on.
+unfoldable pub notes_from : (room : List WriteNote) → (first many : ℕ) → List WriteNote
+notes_from room first zero = []
+notes_from room first (suc many) = note_at room first ∷ notes_from room (first + 1) many
+
+-- The first write that is told, where `count` were made and those from `from` on are asked for: at most the last 16 are told.
+abbrev pub first_told : (count from : ℕ) → ℕ
+first_told count from = max from (count - 16)
+
+-- The writes from `from` on, of a medium that made `count`.
+abbrev pub writes_text : (room : List WriteNote) → (count from : ℕ) → List ℕ
+writes_text room count from =
+    notes_text (nat_lt from (first_told count from)) (notes_from room (first_told count from) (count - first_told count from))

@@ -1,0 +1,113 @@
+//! What a device answered, in the words of a trace.
+
+ghost use Rattle.std.specs.Prelude.{◌≡◌, ◌++◌, OnOk};
+ghost use Rattle.std.specs.String.{string_bytes};
+ghost use Rattle.dfu_link.specs.TraceText.{answer_text, back_text};
+ghost use Rattle.dfu_link.specs.TraceWords.{bytes_text, count_text, state_text, status_text};
+
+use crate::back::Back;
+use crate::fate::Fate;
+use crate::tracing::names::{request_in, state_in, status_in};
+use crate::tracing::words::{push, push_number};
+use dfu_device::Answer;
+use dfu_host::Action;
+use dfu_wire::{Request, State, Status};
+use std::alloc::{AllocError, Global};
+
+/// Adds how many bytes there are.
+fn push_count(line: &mut String, alloc: Global, bytes: &[u8]) -> Result<(), AllocError>
+    ensures { OnOk result (string_bytes line.new ≡ string_bytes line.old ++ count_text bytes.now) }
+{
+    push_number(line, alloc, "", bytes.len() as u64)?;
+    push(line, " bytes")
+}
+
+/// Adds the status that bytes are, or how many they are.
+fn push_status(
+    line: &mut String,
+    alloc: Global,
+    status: Option<Status>,
+    bytes: &[u8],
+) -> Result<(), AllocError>
+    ensures { OnOk result (string_bytes line.new ≡ string_bytes line.old ++ status_text status bytes.now) }
+{
+    let Some(status) = status else {
+        return push_count(line, alloc, bytes);
+    };
+    push(line, status.code().name())?;
+    push_number(line, alloc, " ", u64::from(status.poll_ms()))?;
+    push(line, " ")?;
+    push(line, status.state().name())
+}
+
+/// Adds the state that bytes are, or how many they are.
+fn push_state(
+    line: &mut String,
+    alloc: Global,
+    state: Option<State>,
+    bytes: &[u8],
+) -> Result<(), AllocError>
+    ensures { OnOk result (string_bytes line.new ≡ string_bytes line.old ++ state_text state bytes.now) }
+{
+    match state {
+        Some(state) => push(line, state.name()),
+        None => push_count(line, alloc, bytes),
+    }
+}
+
+/// Adds the bytes of an answer to a request.
+fn push_bytes(
+    line: &mut String,
+    alloc: Global,
+    request: Request,
+    out: &[u8],
+) -> Result<(), AllocError>
+    ensures { OnOk result (string_bytes line.new ≡ string_bytes line.old ++ bytes_text request out.now) }
+{
+    match request {
+        Request::GetStatus { .. } => push_status(line, alloc, status_in(out), out),
+        Request::GetState { .. } => push_state(line, alloc, state_in(out), out),
+        Request::Detach { .. }
+        | Request::Dnload { .. }
+        | Request::Upload { .. }
+        | Request::ClrStatus
+        | Request::Abort
+        | Request::OtherClass
+        | Request::NotDfu => push_count(line, alloc, out),
+    }
+}
+
+/// Adds what came back.
+fn push_back(
+    line: &mut String,
+    alloc: Global,
+    action: Action<'_>,
+    came: Back,
+    out: &[u8],
+) -> Result<(), AllocError>
+    ensures { OnOk result (string_bytes line.new ≡ string_bytes line.old ++ back_text action.entry came out.now) }
+{
+    match came {
+        Back::Answered(Answer::Ack) => push(line, "ack"),
+        Back::Answered(Answer::Stall) => push(line, "stall"),
+        Back::Answered(Answer::Bytes) => push_bytes(line, alloc, request_in(action), out),
+        Back::Lost | Back::Restarted => push(line, "-"),
+    }
+}
+
+/// Adds what the device answered.
+pub(crate) fn push_answer(
+    line: &mut String,
+    alloc: Global,
+    action: Action<'_>,
+    fate: Fate<'_>,
+    came: Back,
+    out: &[u8],
+) -> Result<(), AllocError>
+    ensures { OnOk result (string_bytes line.new ≡ string_bytes line.old ++ answer_text action.entry fate.entry came out.now) }
+{
+    match fate {
+        Fate::Cut { .. } => push(line, "-"),
+        _ => push_back(line, alloc, action, came, out),
+    }
+}

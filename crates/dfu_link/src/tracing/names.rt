@@ -1,0 +1,104 @@
+//! The names in a trace, and what its bytes say.
+
+ghost use Rattle.std.specs.Prelude.{◌≡◌, ◌∷◌, []};
+ghost use Rattle.dfu_link.specs.TraceText.{request_in};
+ghost use Rattle.dfu_link.specs.TraceWords.{comma_text, end_text, erases_text, request_name, request_of, setup_of, state_in, status_in};
+
+use crate::tracing::noting::WriteEnd;
+use dfu_host::Action;
+use dfu_wire::{Request, Setup, State, Status};
+
+/// The setup of these bytes.
+pub(crate) fn setup_of(bytes: &[u8; 8]) -> Setup
+    ensures { result ≡ setup_of bytes.now }
+{
+    Setup::decode(bytes)
+}
+
+/// What a setup asks for.
+pub(crate) fn request_of(setup: &Setup) -> Request
+    ensures { result ≡ request_of setup.now }
+{
+    setup.request()
+}
+
+/// The request of an action.
+pub(crate) fn request_in(action: Action<'_>) -> Request
+    ensures { result ≡ request_in action.entry }
+{
+    match action {
+        Action::Send { setup, .. } => request_of(&setup_of(&setup)),
+        Action::Wait(_) | Action::Reset | Action::Done(_) => Request::NotDfu,
+    }
+}
+
+/// The name of a request in the standard (USB DFU 1.1, section 3).
+pub(crate) fn request_name(request: Request) -> &'static str
+    ensures { result.now ≡ request_name request }
+{
+    match request {
+        Request::Detach { .. } => "DETACH",
+        Request::Dnload { .. } => "DNLOAD",
+        Request::Upload { .. } => "UPLOAD",
+        Request::GetStatus { .. } => "GETSTATUS",
+        Request::ClrStatus => "CLRSTATUS",
+        Request::GetState { .. } => "GETSTATE",
+        Request::Abort => "ABORT",
+        Request::OtherClass | Request::NotDfu => "other",
+    }
+}
+
+/// The status that these bytes are.
+pub(crate) fn status_in(bytes: &[u8]) -> Option<Status>
+    ensures { result ≡ status_in bytes.now }
+{
+    match Status::decode(bytes) {
+        Ok(status) => Some(status),
+        Err(_) => None,
+    }
+}
+
+/// The state of this number.
+fn state_at(number: u8) -> Option<State>
+    ensures { result ≡ state_in (number ∷ []) }
+{
+    match State::from_byte(number) {
+        Ok(state) => Some(state),
+        Err(_) => None,
+    }
+}
+
+/// The state that these bytes are.
+pub(crate) fn state_in(bytes: &[u8]) -> Option<State>
+    ensures { result ≡ state_in bytes.now }
+{
+    if bytes.len() != 1 {
+        return None;
+    }
+    state_at(bytes[0])
+}
+
+/// What stands before a write that erased.
+pub(crate) fn erases_text(erases: bool) -> &'static str
+    ensures { result.now ≡ erases_text erases }
+{
+    if erases { "erased " } else { "" }
+}
+
+/// How a write ended.
+pub(crate) fn end_text(end: WriteEnd) -> &'static str
+    ensures { result.now ≡ end_text end }
+{
+    match end {
+        WriteEnd::Worked => "",
+        WriteEnd::Failed => " failed",
+        WriteEnd::Lied => " lied",
+    }
+}
+
+/// What stands before a write, behind another one or not.
+pub(crate) fn comma_text(is_behind: bool) -> &'static str
+    ensures { result.now ≡ comma_text is_behind }
+{
+    if is_behind { ", " } else { "" }
+}
