@@ -120,14 +120,19 @@ answer_text asked (fate.Cut writes tear) came out = codes "-"
 answer_text asked (fate.Fail writes tear) came out = back_text asked came out
 answer_text asked (fate.Lie writes tear) came out = back_text asked came out
 
--- The line of an action: its number, the phase, what the host asks for, the fate, what the device answered, its states before and after,
--- the writes of its medium, and the milliseconds since the start.
+-- What an action of the host came to: the phase, what the host asks for, the fate, what the device answered, and its states before and
+-- after.
+abbrev pub course_text : GivenFate → Step → (out : List ℕ) → List ℕ
+course_text fate step out =
+    phase_text step.phase ++ (codes "; " ++ action_text step.action) ++ (codes "; " ++ fate_text fate)
+    ++ (codes "; " ++ answer_text step.action fate step.came out)
+    ++ (codes "; " ++ state_name step.before) ++ (codes "; " ++ state_name step.after)
+
+-- The line of an action: its number, what it came to, the writes of the medium, and the milliseconds since the start.
 unfoldable pub step_text : (number ms : ℕ) → GivenFate → Step → (out writes : List ℕ) → List ℕ
 step_text number ms fate step out writes =
-    codes "# " ++ decimal number ++ (codes " " ++ phase_text step.phase) ++ (codes "; " ++ action_text step.action)
-    ++ (codes "; " ++ fate_text fate) ++ (codes "; " ++ answer_text step.action fate step.came out)
-    ++ (codes "; " ++ state_name step.before) ++ (codes "; " ++ state_name step.after)
-    ++ (codes "; " ++ writes) ++ (codes "; " ++ decimal ms) ++ codes " ms\n"
+    codes "# " ++ decimal number ++ (codes " " ++ course_text fate step out) ++ (codes "; " ++ writes) ++ (codes "; " ++ decimal ms)
+    ++ codes " ms\n"
 
 -- A line is that of an action with some writes of the medium.
 pub record IsLineOf (number ms : ℕ) (fate : GivenFate) (step : Step) (out line : List ℕ) : Type 0 where

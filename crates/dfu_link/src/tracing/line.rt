@@ -1,8 +1,9 @@
 //! The line of an action in a trace.
 
-ghost use Rattle.std.specs.Prelude.{◌≡◌, IfOk};
+ghost use Rattle.std.specs.Prelude.{◌≡◌, ◌++◌, IfOk, OnOk, codes};
 ghost use Rattle.std.specs.String.{string_bytes};
-ghost use Rattle.dfu_link.specs.TraceText.{IsLineOf, step_text, time_in};
+ghost use Rattle.dfu_wire.specs.State.{state_name};
+ghost use Rattle.dfu_link.specs.TraceText.{IsLineOf, course_text, step_text, time_in};
 ghost use Rattle.dfu_link.specs.TraceWords.{writes_text};
 
 use crate::fate::Fate;
@@ -14,6 +15,7 @@ use crate::tracing::words::{
 };
 use dfu_host::Action;
 use dfu_slots::SimMedium;
+use dfu_wire::State;
 use std::alloc::{AllocError, Global};
 
 /// How many milliseconds pass in an action.
@@ -36,7 +38,37 @@ pub(crate) struct Count {
     pub writes: u64,
 }
 
+/// Adds the name of a state, behind what is told before it.
+fn push_state(line: &mut String, state: State) -> Result<(), AllocError>
+    ensures { OnOk result (string_bytes line.new ≡ string_bytes line.old ++ (codes "; " ++ state_name state)) }
+{
+    push(line, "; ")?;
+    push(line, state.name())
+}
+
+/// Adds what an action came to.
+fn push_course(
+    line: &mut String,
+    alloc: Global,
+    fate: Fate<'_>,
+    step: &Step<'_>,
+    out: &[u8],
+) -> Result<(), AllocError>
+    ensures { OnOk result (string_bytes line.new ≡ string_bytes line.old ++ course_text fate.entry step.now out.now) }
+{
+    push_phase(line, alloc, step.phase)?;
+    push(line, "; ")?;
+    push_action(line, alloc, step.action)?;
+    push(line, "; ")?;
+    push_fate(line, alloc, fate)?;
+    push(line, "; ")?;
+    push_answer(line, alloc, step.action, fate, step.came, out)?;
+    push_state(line, step.before)?;
+    push_state(line, step.after)
+}
+
 /// The line of an action, from its number to the time.
+#[tactic(auto, unfolding(crate::specs::TraceText::step_text))]
 pub(crate) fn step_line(
     alloc: Global,
     count: Count,
@@ -52,17 +84,7 @@ pub(crate) fn step_line(
     let mut line = String::new(alloc);
     push_number(&mut line, alloc, "# ", count.number)?;
     push(&mut line, " ")?;
-    push_phase(&mut line, alloc, step.phase)?;
-    push(&mut line, "; ")?;
-    push_action(&mut line, alloc, step.action)?;
-    push(&mut line, "; ")?;
-    push_fate(&mut line, alloc, fate)?;
-    push(&mut line, "; ")?;
-    push_answer(&mut line, alloc, step.action, fate, step.came, out)?;
-    push(&mut line, "; ")?;
-    push(&mut line, step.before.name())?;
-    push(&mut line, "; ")?;
-    push(&mut line, step.after.name())?;
+    push_course(&mut line, alloc, fate, step, out)?;
     push(&mut line, "; ")?;
     push_writes(&mut line, alloc, medium, count.writes)?;
     push_number(&mut line, alloc, "; ", count.ms)?;
