@@ -32,6 +32,7 @@ pub mod Events
 pub mod Uploads
 pub mod TraceTexts
 pub mod TraceNotes
+mod TraceRows
 pub mod Traced
 pub mod KeptLaws
 pub mod Counted

@@ -1,7 +1,7 @@
 -- What the words of a trace say of bytes is what the wire formats say.
-use Rattle.std.proofs.Common.{◌≡◌, ◌≢◌, ◌⊎◌, ℕ, zero, suc, ◌+◌, ◌*◌, ◌<◌, ◌≤◌, ◌==◌, ◌&&◌, Bool, true, false, List, [], ◌∷◌, ◌++◌, length, slice_index, Option, Some, None, refl, sym, ap, ◌∙◌, inl, inr, arith}
+use Rattle.std.proofs.Common.{◌≡◌, ◌≢◌, ℕ, ◌+◌, ◌*◌, ◌≤◌, ◌==◌, ◌&&◌, true, false, List, [], ◌∷◌, length, slice_index, Option, Some, None, refl, sym, ap, ◌∙◌, inl, inr, arith}
 use Rattle.std.specs.List.{slice_get}
-use Rattle.std.proofs.lemmas.Bool.{cases_eq, ne_eqb, eq-eqb}
+use Rattle.std.proofs.lemmas.Bool.{cases_eq, ne_eqb}
 use Rattle.std.proofs.lemmas.Option.{slice_get_past}
 use Rattle.dfu_wire.specs.declared.codes.Code.{Code}
 use Rattle.dfu_wire.specs.declared.codes.Code.TheVariants as code
@@ -16,7 +16,7 @@ use Rattle.dfu_wire.specs.Code.{code_byte}
 use Rattle.dfu_wire.specs.Request.{Asks, IsClass, IsNamed, IsForUs}
 use Rattle.dfu_wire.specs.State.{state_byte}
 use Rattle.dfu_wire.specs.Status.{StatusFields, IsStatus, FirstStatusFault}
-use Rattle.dfu_link.specs.TraceWords.{all_codes, all_states, read_by, request_of, sent_by, state_in, status_in, status_with}
+use Rattle.dfu_link.specs.TraceWords.{all_codes, all_states, request_of, state_in, status_in, status_with}
 
 -- The code of a number is the one that has it.
 code_found : (c : Code) → slice_get all_codes (code_byte c) ≡ Some c
@@ -79,7 +79,7 @@ pub status_is : (s : StatusFields) (b : List ℕ) → IsStatus s b → Some s �
 unfolding status_in
 status_is s b is =
     rw (is.length, is.code, is.state, code_found s.code, state_found s.state)
-        (λ i. Some (record { code = s.code; poll_ms = is.poll i; state = s.state }))
+    (λ i. Some (record { code = s.code; poll_ms = is.poll i; state = s.state }))
 
 no_state_with : (c : Option Code) (poll : ℕ) → status_with c poll None ≡ None
 no_state_with (Some c) poll = refl
@@ -93,7 +93,7 @@ no_status fault.Long b long = rw (ne_eqb (length b) 6 (λ six. absurd (omega (ar
 no_status fault.UnknownCode b bad = rw (bad.0, slice_get_past all_codes (slice_index b 0) bad.1) refl
 no_status fault.UnknownState b bad =
     rw (bad.0, slice_get_past all_states (slice_index b 4) bad.2)
-        (sym (no_state_with (slice_get all_codes (slice_index b 0)) (slice_index b 1 + 256 * slice_index b 2 + 65536 * slice_index b 3)))
+    (sym (no_state_with (slice_get all_codes (slice_index b 0)) (slice_index b 1 + 256 * slice_index b 2 + 65536 * slice_index b 3)))
 no_status fault.WrongLength b bad = absurd bad
 no_status fault.WrongType b bad = absurd bad
 no_status fault.PollTooLong b bad = absurd bad

@@ -1,5 +1,5 @@
 -- The line of a trace that tells an action: `# NUMBER PHASE; ACTION; FATE; ANSWER; BEFORE; AFTER; WRITES; TIME ms`, ended by 0Ah.
-use Rattle.std.specs.Prelude.{◌≡◌, ℕ, Bool, List, [], ◌++◌, codes}
+use Rattle.std.specs.Prelude.{◌≡◌, ℕ, Bool, List, ◌++◌, codes}
 use Rattle.std.specs.Fmt.{decimal}
 use Rattle.dfu_wire.specs.declared.requests.Request.{Request}
 use Rattle.dfu_wire.specs.declared.requests.Request.TheVariants.{NotDfu}

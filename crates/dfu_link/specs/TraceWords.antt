@@ -26,8 +26,8 @@ setup_of b = record {
 }
 
 -- What a setup of kind 21h for interface 0 asks for: it sends to the device.
-abbrev pub sent_by : Setup → Request
-sent_by s =
+abbrev pub out_request : Setup → Request
+out_request s =
     if (s.request == 0) && (s.length == 0) then request.Detach s.value
     else if s.request == 1 then request.Dnload s.value s.length
     else if (s.request == 4) && (s.length == 0) then request.ClrStatus
@@ -35,17 +35,19 @@ sent_by s =
     else request.OtherClass
 
 -- What a setup of kind A1h for interface 0 asks for: it reads from the device.
-abbrev pub read_by : Setup → Request
-read_by s =
+abbrev pub in_request : Setup → Request
+in_request s =
     if s.request == 2 then request.Upload s.value s.length
     else if s.request == 3 then request.GetStatus s.length
     else if s.request == 5 then request.GetState s.length
     else request.OtherClass
 
--- What a setup asks for.
+-- What a setup asks for: one of the seven requests, another of the class, or none of the class for interface 0.
 unfoldable pub request_of : Setup → Request
 request_of s =
-    if s.index == 0 then (if s.kind == 0x21 then sent_by s else if s.kind == 0xa1 then read_by s else request.NotDfu) else request.NotDfu
+    if s.index == 0
+    then (if s.kind == 0x21 then out_request s else if s.kind == 0xa1 then in_request s else request.NotDfu)
+    else request.NotDfu
 
 -- The name of a request in the standard (USB DFU 1.1, section 3), or `other` of what is none of the seven.
 abbrev pub request_name : Request → List ℕ
@@ -82,7 +84,7 @@ unfoldable pub status_in : List ℕ → Option StatusFields
 status_in b =
     if length b == 6
     then status_with (slice_get all_codes (slice_index b 0)) (slice_index b 1 + 256 * slice_index b 2 + 65536 * slice_index b 3)
-        (slice_get all_states (slice_index b 4))
+    (slice_get all_states (slice_index b 4))
     else None
 
 -- The state that bytes are, if they are one: its number is their one byte.
@@ -96,33 +98,33 @@ abbrev pub count_text : List ℕ → List ℕ
 count_text bytes = decimal (length bytes) ++ codes " bytes"
 
 -- A status is told by its code, its poll time and its state; where the bytes are none, it is told how many they are.
-abbrev pub status_text : Option StatusFields → (bytes : List ℕ) → List ℕ
-status_text (Some s) bytes = code_name s.code ++ (codes " " ++ decimal s.poll_ms) ++ (codes " " ++ state_name s.state)
-status_text None bytes = count_text bytes
+abbrev pub status_answer : Option StatusFields → (bytes : List ℕ) → List ℕ
+status_answer (Some s) bytes = code_name s.code ++ (codes " " ++ decimal s.poll_ms) ++ (codes " " ++ state_name s.state)
+status_answer None bytes = count_text bytes
 
 -- A state is told by its name; where the bytes are none, it is told how many they are.
-abbrev pub state_text : Option State → (bytes : List ℕ) → List ℕ
-state_text (Some s) bytes = state_name s
-state_text None bytes = count_text bytes
+abbrev pub state_answer : Option State → (bytes : List ℕ) → List ℕ
+state_answer (Some s) bytes = state_name s
+state_answer None bytes = count_text bytes
 
 -- The bytes that answer a request: of GETSTATUS a status, of GETSTATE a state, and of all others how many they are.
 abbrev pub bytes_text : Request → (bytes : List ℕ) → List ℕ
 bytes_text (request.Detach timeout) bytes = count_text bytes
 bytes_text (request.Dnload block len) bytes = count_text bytes
 bytes_text (request.Upload block len) bytes = count_text bytes
-bytes_text (request.GetStatus len) bytes = status_text (status_in bytes) bytes
+bytes_text (request.GetStatus len) bytes = status_answer (status_in bytes) bytes
 bytes_text request.ClrStatus bytes = count_text bytes
-bytes_text (request.GetState len) bytes = state_text (state_in bytes) bytes
+bytes_text (request.GetState len) bytes = state_answer (state_in bytes) bytes
 bytes_text request.Abort bytes = count_text bytes
 bytes_text request.OtherClass bytes = count_text bytes
 bytes_text request.NotDfu bytes = count_text bytes
 
--- Whether a write erased.
+-- A word stands before a write that erased.
 abbrev pub erases_text : Bool → List ℕ
 erases_text true = codes "erased "
 erases_text false = []
 
--- How a write ended.
+-- A word stands behind a write that failed, or that lied.
 abbrev pub end_text : WriteEnd → List ℕ
 end_text Worked = []
 end_text Failed = codes " failed"
@@ -132,26 +134,26 @@ end_text Lied = codes " lied"
 abbrev pub note_text : WriteNote → List ℕ
 note_text note = erases_text note.erases ++ decimal note.len ++ (codes " at " ++ decimal note.at) ++ end_text note.end
 
--- What stands before a write that comes behind another one.
+-- A comma stands before a write that is behind another one.
 abbrev pub comma_text : (is_behind : Bool) → List ℕ
 comma_text true = codes ", "
 comma_text false = []
 
--- Writes one after the other, the first of them behind another one or not.
-unfoldable pub listed : (is_behind : Bool) → List WriteNote → List ℕ
-listed is_behind [] = []
-listed is_behind (note ∷ notes) = comma_text is_behind ++ note_text note ++ listed true notes
+-- Writes in a row, the first of them behind another one or not.
+unfoldable pub notes_in_row : (is_behind : Bool) → List WriteNote → List ℕ
+notes_in_row is_behind [] = []
+notes_in_row is_behind (note ∷ notes) = comma_text is_behind ++ note_text note ++ notes_in_row true notes
 
 -- The writes of an action, where `more` says that earlier ones are left out; `-` where there are none.
 abbrev pub notes_text : (more : Bool) → List WriteNote → List ℕ
 notes_text more [] = codes "-"
-notes_text more (note ∷ notes) = listed more (note ∷ notes)
+notes_text more (note ∷ notes) = notes_in_row more (note ∷ notes)
 
--- No write.
+-- What a medium has room for before there is a write.
 abbrev pub no_note : WriteNote
 no_note = record { erases = false; at = 0; len = 0; end = Worked }
 
--- The write of this number, counted from 0, of a medium that has room for its last 16.
+-- The write of this number, counted from 0, where a medium has room for its last 16.
 abbrev pub note_at : (room : List WriteNote) → ℕ → WriteNote
 note_at room number = slice_index_or room (number % 16) no_note
 
@@ -160,11 +162,11 @@ unfoldable pub notes_from : (room : List WriteNote) → (first many : ℕ) → L
 notes_from room first zero = []
 notes_from room first (suc many) = note_at room first ∷ notes_from room (first + 1) many
 
--- The first write that is told, where `count` were made and those from `from` on are asked for: at most the last 16 are told.
+-- Of `count` writes those from `from` on are told, but at most the last 16: this is the first of them.
 abbrev pub first_told : (count from : ℕ) → ℕ
 first_told count from = max from (count - 16)
 
--- The writes from `from` on, of a medium that made `count`.
+-- The text of the writes from `from` on, of a medium that made `count`.
 abbrev pub writes_text : (room : List WriteNote) → (count from : ℕ) → List ℕ
 writes_text room count from =
     notes_text (nat_lt from (first_told count from)) (notes_from room (first_told count from) (count - first_told count from))

@@ -3,7 +3,7 @@
 ghost use Rattle.std.specs.Prelude.{◌≡◌, ◌++◌, OnOk};
 ghost use Rattle.std.specs.String.{string_bytes};
 ghost use Rattle.dfu_link.specs.TraceText.{answer_text, back_text};
-ghost use Rattle.dfu_link.specs.TraceWords.{bytes_text, count_text, state_text, status_text};
+ghost use Rattle.dfu_link.specs.TraceWords.{bytes_text, count_text, state_answer, status_answer};
 
 use crate::back::Back;
 use crate::fate::Fate;
@@ -29,7 +29,7 @@ fn push_status(
     status: Option<Status>,
     bytes: &[u8],
 ) -> Result<(), AllocError>
-    ensures { OnOk result (string_bytes line.new ≡ string_bytes line.old ++ status_text status bytes.now) }
+    ensures { OnOk result (string_bytes line.new ≡ string_bytes line.old ++ status_answer status bytes.now) }
 {
     let Some(status) = status else {
         return push_count(line, alloc, bytes);
@@ -47,7 +47,7 @@ fn push_state(
     state: Option<State>,
     bytes: &[u8],
 ) -> Result<(), AllocError>
-    ensures { OnOk result (string_bytes line.new ≡ string_bytes line.old ++ state_text state bytes.now) }
+    ensures { OnOk result (string_bytes line.new ≡ string_bytes line.old ++ state_answer state bytes.now) }
 {
     match state {
         Some(state) => push(line, state.name()),

@@ -10,9 +10,7 @@ use crate::fate::Fate;
 use crate::tracing::answers::push_answer;
 use crate::tracing::noting::Noting;
 use crate::tracing::step::Step;
-use crate::tracing::words::{
-    push, push_action, push_fate, push_number, push_phase, push_writes,
-};
+use crate::tracing::words::{push, push_action, push_fate, push_number, push_phase, push_writes};
 use dfu_host::Action;
 use dfu_slots::SimMedium;
 use dfu_wire::State;
@@ -39,7 +37,7 @@ pub(crate) struct Count {
 }
 
 /// Adds the name of a state, behind what is told before it.
-fn push_state(line: &mut String, state: State) -> Result<(), AllocError>
+fn push_state_name(line: &mut String, state: State) -> Result<(), AllocError>
     ensures { OnOk result (string_bytes line.new ≡ string_bytes line.old ++ (codes "; " ++ state_name state)) }
 {
     push(line, "; ")?;
@@ -63,8 +61,8 @@ fn push_course(
     push_fate(line, alloc, fate)?;
     push(line, "; ")?;
     push_answer(line, alloc, step.action, fate, step.came, out)?;
-    push_state(line, step.before)?;
-    push_state(line, step.after)
+    push_state_name(line, step.before)?;
+    push_state_name(line, step.after)
 }
 
 /// The line of an action, from its number to the time.

@@ -54,7 +54,8 @@ fn ended(lies: bool, answer: Result<(), Failed>) -> WriteEnd {
 impl<M: Medium> Noting<M> {
     /// A medium of which no write was noted.
     pub(crate) fn new(medium: M) -> Noting<M>
-        ensures { result.medium ≡ medium }
+        ensures medium { result.medium ≡ medium }
+        ensures count { result.count ≡ 0 }
     {
         let none = WriteNote {
             erases: false,
@@ -96,7 +97,9 @@ impl<M: Medium> Noting<M> {
 
     /// Whether the next write is the one that lies.
     fn lies(&mut self) -> bool
-        ensures { self.new.medium ≡ self.old.medium }
+        ensures medium { self.new.medium ≡ self.old.medium }
+        ensures notes { self.new.notes ≡ self.old.notes }
+        ensures count { self.new.count ≡ self.old.count }
     {
         match self.before_lie {
             None => false,

@@ -123,11 +123,7 @@ fn push_harm(
 }
 
 /// Adds a fate as a script has it.
-pub(crate) fn push_fate(
-    line: &mut String,
-    alloc: Global,
-    fate: Fate<'_>,
-) -> Result<(), AllocError>
+pub(crate) fn push_fate(line: &mut String, alloc: Global, fate: Fate<'_>) -> Result<(), AllocError>
     ensures { OnOk result (string_bytes line.new ≡ string_bytes line.old ++ fate_text fate.entry) }
 {
     match fate {

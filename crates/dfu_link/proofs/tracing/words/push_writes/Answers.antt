@@ -1,7 +1,7 @@
-use Rattle.std.proofs.Common.{◌≡◌, ℕ, ◌<◌, ◌≤◌, ◌-◌, ◌++◌, ◌∙◌, arith, ap, max, nat_lt, subst}
+use Rattle.std.proofs.Common.{◌≡◌, ℕ, ◌<◌, ◌≤◌, ◌-◌, ◌++◌, ◌∙◌, arith, ap, nat_lt, subst}
 use Rattle.std.specs.String.{string_bytes}
 use Rattle.dfu_link.specs.declared.tracing.noting.WriteNote.{WriteNote}
-use Rattle.dfu_link.specs.TraceWords.{comma_text, first_told, listed, note_text, notes_from}
+use Rattle.dfu_link.specs.TraceWords.{comma_text, first_told, notes_in_row, note_text, notes_from}
 use Rattle.dfu_link.proofs.TraceNotes.{told_all, told_more, told_none, told_nothing}
 use Rattle.dfu_link.proofs.tracing.words.push_writes.Goals as goal
 
@@ -29,7 +29,8 @@ returns c =
     let start = string_bytes c.args.line.now in
     let is : first ≡ first_told count from = omega (arith, c.max-first.ensures, c.saturating_sub.ensures, c.count-to.ensures) in
     let some : first < count = omega (arith, c.max-first.ensures, c.saturating_sub.ensures, c.count-to.ensures, c.if-from-to.false) in
-    let end : c.loop-number.number ≡ count = omega (arith, c.loop-number.auto.number-end, c.loop-number-test.false, some, c.count-to.ensures) in
+    let end : c.loop-number.number ≡ count =
+    omega (arith, c.loop-number.auto.number-end, c.loop-number-test.false, some, c.count-to.ensures) in
     told_all room count from first start _ is some
-    (subst (λ (n : ℕ). string_bytes c.loop-number.line ≡ start ++ listed (nat_lt from first) (notes_from room first (n - first))) end
+    (subst (λ (n : ℕ). string_bytes c.loop-number.line ≡ start ++ notes_in_row (nat_lt from first) (notes_from room first (n - first))) end
     c.loop-number.invariant)
