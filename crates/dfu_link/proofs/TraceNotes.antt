@@ -15,18 +15,18 @@ behind_more : (told : ℕ) → is_behind true told ≡ true
 behind_more zero = refl
 behind_more (suc told) = refl
 
-listed_more : (behind : Bool) (room : List WriteNote) (first many : ℕ) → notes_in_row behind (notes_from room first (suc many))
+more_in_row : (behind : Bool) (room : List WriteNote) (first many : ℕ) → notes_in_row behind (notes_from room first (suc many))
     ≡ notes_in_row behind (notes_from room first many) ++ (comma_text (is_behind behind many) ++ note_text (note_at room (first + many)))
 unfolding notes_in_row notes_from
-listed_more behind room first zero =
+more_in_row behind room first zero =
     append-nil (comma_text behind ++ note_text (note_at room first))
     ∙ ap (λ n. comma_text behind ++ note_text (note_at room n)) (sym (add-zero first))
-listed_more behind room first (suc many) =
+more_in_row behind room first (suc many) =
     let front = comma_text behind ++ note_text (note_at room first) in
     let rest = notes_in_row true (notes_from room (first + 1) many) in
     let last = comma_text true ++ note_text (note_at room (first + suc many)) in
     let same : first + 1 + many ≡ first + suc many = omega arith in
-    ap (λ (text : List ℕ). front ++ text) (listed_more true room (first + 1) many
+    ap (λ (text : List ℕ). front ++ text) (more_in_row true room (first + 1) many
     ∙ (λ i. rest ++ (comma_text (behind_more many i) ++ note_text (note_at room (same i)))))
     ∙ sym (append_assoc front rest last)
 
@@ -48,7 +48,7 @@ told_more room from first number start before after low high is more =
     let at : first + many ≡ number = omega (arith, high) in
     let comma : is_behind behind many ≡ nat_lt from number = behind_from from first many low ∙ ap (λ n. nat_lt from n) at in
     let grown : notes_in_row behind (notes_from room first (number + 1 - first)) ≡ rest ++ last =
-    ap (λ n. notes_in_row behind (notes_from room first n)) next ∙ listed_more behind room first many
+    ap (λ n. notes_in_row behind (notes_from room first n)) next ∙ more_in_row behind room first many
     ∙ (λ i. rest ++ (comma_text (comma i) ++ note_text (note_at room (at i)))) in
     more ∙ ap (λ (text : List ℕ). text ++ last) is ∙ append_assoc start rest last ∙ ap (λ (text : List ℕ). start ++ text) (sym grown)
 
@@ -60,11 +60,11 @@ told_none room from first start =
     let none : first - first ≡ 0 = omega arith in
     rw none (sym (append-nil start))
 
-all_listed : (more : Bool) (room : List WriteNote) (first many : ℕ) → 0 < many
+all_in_row : (more : Bool) (room : List WriteNote) (first many : ℕ) → 0 < many
     → notes_in_row more (notes_from room first many) ≡ notes_text more (notes_from room first many)
 unfolding notes_from
-all_listed more room first zero some = absurd (omega (arith, some))
-all_listed more room first (suc many) some = refl
+all_in_row more room first zero some = absurd (omega (arith, some))
+all_in_row more room first (suc many) some = refl
 
 -- Those that are told are all that are asked for.
 pub told_all : (room : List WriteNote) (count from first : ℕ) (start line : List ℕ) → first ≡ first_told count from → first < count
@@ -74,7 +74,7 @@ told_all room count from first start line is some told =
     let told_from = first_told count from in
     subst (λ (f : ℕ). line ≡ start ++ notes_in_row (nat_lt from f) (notes_from room f (count - f))) is told
     ∙ ap (λ (text : List ℕ). start ++ text)
-    (all_listed (nat_lt from told_from) room told_from (count - told_from) (omega (arith, is, some)))
+    (all_in_row (nat_lt from told_from) room told_from (count - told_from) (omega (arith, is, some)))
 
 -- Where none is asked for, none is told.
 pub told_nothing : (room : List WriteNote) (count from : ℕ) → count ≤ from → writes_text room count from ≡ codes "-"

@@ -123,13 +123,15 @@ tells_both : writes_text (written 16 112 Worked ∷ written 16 96 Worked ∷ rep
 unfolding notes_from notes_in_row digits
 tells_both = refl
 
--- Of 18 writes, of which the last 17 are asked for, the last 16 are told.
+-- Of 17 writes, an erase of each of 16 sectors and one of the block, the last 16 are told.
 tells_the_last : writes_text (
-    written 1 16 Worked ∷ written 1 17 Worked ∷ written 1 2 Worked ∷ written 1 3 Worked ∷ written 1 4 Worked ∷ written 1 5 Worked
-    ∷ written 1 6 Worked ∷ written 1 7 Worked ∷ written 1 8 Worked ∷ written 1 9 Worked ∷ written 1 10 Worked ∷ written 1 11 Worked
-    ∷ written 1 12 Worked ∷ written 1 13 Worked ∷ written 1 14 Worked ∷ written 1 15 Worked ∷ []
-    ) 18 1 ≡ codes ", 1 at 2, 1 at 3, 1 at 4, 1 at 5, 1 at 6, 1 at 7, 1 at 8, 1 at 9, 1 at 10, 1 at 11, 1 at 12, 1 at 13"
-    ++ codes ", 1 at 14, 1 at 15, 1 at 16, 1 at 17"
+    written 4096 5120 Worked ∷ erased 256 5376 Worked ∷ erased 256 5632 Worked ∷ erased 256 5888 Worked ∷ erased 256 6144 Worked
+    ∷ erased 256 6400 Worked ∷ erased 256 6656 Worked ∷ erased 256 6912 Worked ∷ erased 256 7168 Worked ∷ erased 256 7424 Worked
+    ∷ erased 256 7680 Worked ∷ erased 256 7936 Worked ∷ erased 256 8192 Worked ∷ erased 256 8448 Worked ∷ erased 256 8704 Worked
+    ∷ erased 256 8960 Worked ∷ []
+    ) 17 0 ≡ codes ", erased 256 at 5376, erased 256 at 5632, erased 256 at 5888, erased 256 at 6144, erased 256 at 6400, "
+    ++ codes "erased 256 at 6656, erased 256 at 6912, erased 256 at 7168, erased 256 at 7424, erased 256 at 7680, "
+    ++ codes "erased 256 at 7936, erased 256 at 8192, erased 256 at 8448, erased 256 at 8704, erased 256 at 8960, 4096 at 5120"
 unfolding notes_from notes_in_row digits
 tells_the_last = refl
 

@@ -1,7 +1,7 @@
 //! Scripts with a line for each action, worked out by hand.
 
 use super::rows::text_of;
-use dfu_link::script_traced;
+use dfu_link::{script_traced, script_traced_with};
 use std::alloc::Global;
 use std::process::Abort;
 use std::test::Fail;
@@ -86,17 +86,58 @@ erased 4096 at 20480 lied, 256 at 20480, erased 4096 at 16384, 256 at 16384, era
 image ffffffff
 ";
 
-#[test]
-fn erases_are_told(rt: HostRuntime) -> Result<(), Fail> {
-    let text = text_of(
-        rt.alloc(),
-        "unit 256/erase 4096/capacity 4096/offer W/go pass 10/go lie 0 ff",
-    )?;
-    let (answer, out) = script_traced(rt.alloc(), text.as_slice(), Vec::new(rt.alloc()));
+/// What a row prints with a trace from here on, where FILE stands for these bytes.
+fn traced_from(
+    rt: &impl Abort,
+    alloc: Global,
+    given: &[u8],
+    row: &str,
+    from: &str,
+    wanted: &str,
+) -> Result<(), Fail> {
+    let text = text_of(alloc, row)?;
+    let (answer, out) = script_traced_with(alloc, Some(given), text.as_slice(), Vec::new(alloc));
     assert!(rt; answer.is_ok());
-    match std::str::from_utf8(&out)?.find("# 11 ") {
-        Some(at) => assert_eq!(rt; std::str::from_utf8(&out)?.get(at..), Some(ERASED)),
+    match std::str::from_utf8(&out)?.find(from) {
+        Some(at) => assert_eq!(rt; std::str::from_utf8(&out)?.get(at..), Some(wanted)),
         None => panic!(rt; "the action isn't told"),
     }
     Ok(())
+}
+
+#[test]
+fn erases_are_told(rt: HostRuntime) -> Result<(), Fail> {
+    traced_from(
+        &rt,
+        rt.alloc(),
+        &[],
+        "unit 256/erase 4096/capacity 4096/offer W/go pass 10/go lie 0 ff",
+        "# 11 ",
+        ERASED,
+    )
+}
+
+/// A block of 16 sectors: each is erased, and then all are written at once. Of these 17 writes the first is left out. A slot
+/// has 256 + 256 + 4,096 bytes, so the data of the spare one begin at 5,120.
+const MANY: &str = "\
+# 7 WaitPoll 0; wait 5; pass; -; dfuDNBUSY; dfuDNLOAD-SYNC; , erased 256 at 5376, erased 256 at 5632, \
+erased 256 at 5888, erased 256 at 6144, erased 256 at 6400, erased 256 at 6656, erased 256 at 6912, \
+erased 256 at 7168, erased 256 at 7424, erased 256 at 7680, erased 256 at 7936, erased 256 at 8192, \
+erased 256 at 8448, erased 256 at 8704, erased 256 at 8960, 4096 at 5120; 5 ms
+image 00
+";
+
+/// 4,096 bytes FFh, with a suffix whose CRC another program gave.
+#[test]
+fn the_last_writes_are_told(rt: HostRuntime) -> Result<(), Fail> {
+    let mut file = vec![in rt.alloc(); 0xffu8; 4096]?;
+    file.extend_from_slice(b"\xff\xff\xff\xff\xff\xff\x00\x01\x55\x46\x44\x10\xd0\x6b\xd1\x2a")?;
+    traced_from(
+        &rt,
+        rt.alloc(),
+        &file,
+        "device 07 255 4096 1 5 10/unit 256/erase 256/capacity 4096/offer FILE/go pass 7",
+        "# 7 ",
+        MANY,
+    )
 }
