@@ -85,7 +85,8 @@ begins a m b there s u flash xs ys j asked len unit mode_is block same medium st
 pub called_from : (a : Asking) (flash out : List ℕ) (Row : Answer → List ℕ → Shown → Type 0) (now : Asking) (out' : List ℕ) (r : Reply)
     (d : Shown) (len : ℕ) → d ≡ device_in a flash → Comes d len d.slots flash flash out now out' r → IsDueRow len (device_in a flash) Row
     → Called a flash out Row now out' r
-called_from a flash out Row now out' r d len is comes due = from r (subst (λ (x : Shown). Comes x len x.slots flash flash out now out' r) is comes)
+called_from a flash out Row now out' r d len is comes due =
+    from r (subst (λ (x : Shown). Comes x len x.slots flash flash out now out' r) is comes)
   where
     from : (r : Reply) → Comes (device_in a flash) len (store_in a flash) flash flash out now out' r → Called a flash out Row now out' r
     from _ (comes_asks asks same out_is) = called_asks len asks same due out_is
@@ -107,7 +108,10 @@ module _ (a mid now : Asking) (flash : List ℕ) (d : Shown) (first : IsRest a m
     (sound : IsTrue (is_sound now.mode (length (block_in now)) d.slots)) (is : IsDevice a flash)
     (slots : d.slots ≡ store_in a flash) (config : d.config ≡ a.config) (none : a.work ≡ None) where
   store_kept : store_in now flash ≡ d.slots
-  store_kept = (λ i. store_of (mapped (record { unit = (second.unit ∙ first.unit) i; sector = ((second.sector ∙ first.sector) i).size }) flash) ((second.held ∙ first.held) i) ((second.end ∙ first.end) i)) ∙ sym slots
+  store_kept =
+      (λ i. store_of (mapped (record { unit = (second.unit ∙ first.unit) i; sector = ((second.sector ∙ first.sector) i).size }) flash)
+      ((second.held ∙ first.held) i) ((second.end ∙ first.end) i))
+      ∙ sym slots
 
   -- What is kept is the device that was.
   pub kept_device : device_in now flash ≡ d
@@ -132,7 +136,8 @@ module _ (a mid now : Asking) (flash : List ℕ) (d : Shown) (first : IsRest a m
 -- How a piece went.
 
 -- The piece that was asked for is the one that was taken.
-pub one_piece : (a : Asking) (w : Work) (x : Work) (ss : List Step) (p q : Step) → x ≡ w → ss ≡ steps_in a w → IsPiece (steps_in a x) x.done p
+pub one_piece : (a : Asking) (w : Work) (x : Work) (ss : List Step) (p q : Step) → x ≡ w → ss ≡ steps_in a w
+    → IsPiece (steps_in a x) x.done p
     → IsPiece ss w.done q → p ≡ q
 one_piece a w x ss p q same is first second = piece_one (steps_in a w) w.done p q
     (subst (λ (y : Work). IsPiece (steps_in a y) y.done p) same first) (subst (λ (l : List Step). IsPiece l w.done q) is second)
@@ -155,7 +160,8 @@ piece_left a w p piece = omega (
 )
 
 -- Where no step of it is left, none of its bytes is.
-pub none_left : (a : Asking) (w : Work) (ss : List Step) → ss ≡ steps_in a w → total (step_writes ss) ≤ w.done → total (writes_in a w) ≤ w.done
+pub none_left : (a : Asking) (w : Work) (ss : List Step) → ss ≡ steps_in a w → total (step_writes ss) ≤ w.done
+    → total (writes_in a w) ≤ w.done
 none_left a w ss same le = omega (arith, ap (λ (xs : List Step). total (step_writes xs)) same, ap total (writes_are a w), le)
 
 -- A device with a next piece is one that a piece can be taken of.
@@ -173,12 +179,14 @@ module _ (a : Asking) (len : ℕ) (s : SlotsState) (was before : List ℕ) (asks
   torn_there = subst (λ (l : List ℕ). Torn l p.write.at p.write.bytes flash) asks.flash_is torn
 
   -- It failed, or other bytes stand there: the row with that fault.
-  pub piece_failed : (fault : WriteFault) (now : Asking) (asked : Option ℕ) (x : Answer) (count : ℕ) (out out' : List ℕ) → asks.work.asked ≡ asked
+  pub piece_failed : (fault : WriteFault) (now : Asking) (asked : Option ℕ) (x : Answer) (count : ℕ) (out out' : List ℕ)
+      → asks.work.asked ≡ asked
       → IsBrokenOff fault a now → Gives now.mode asked x count out out'
       → HasEnded flash x count out out' now (λ y sent w'. Fails fault len (device_of a s) y sent w')
   piece_failed fault now asked x count out out' same off gives =
       broken_ended a now asks.work len s was flash asks.working x count out out' fault
-      (broken_carried (grain_in a) fault (writes_in a asks.work) was flash asks.work.done p.write (working_within a asks.work len s was asks.working)
+      (broken_carried (grain_in a) fault (writes_in a asks.work) was flash asks.work.done p.write
+      (working_within a asks.work len s was asks.working)
       (bit_in a asks.work p piece) torn_there) off
       (subst (λ (y : Option ℕ). Gives now.mode y x count out out') (sym same) gives)
 
@@ -190,7 +198,8 @@ module _ (a : Asking) (len : ℕ) (s : SlotsState) (was before : List ℕ) (asks
       let old = carried was (writes_in a asks.work) asks.work.done in
       let lied : FailedWrite NotVerified (mapped (grain_in a) old) p.write.at p.write.bytes (mapped (grain_in a) flash) =
       record { bytes = torn_there; failures = omega arith; fuse = refl; grain = refl; tag = refl } in
-      (was_written (mapped (grain_in a) old) p.write.at p.write.bytes (mapped (grain_in a) flash) (omega (arith, fits, torn_there.size)) (inr lied) stands).bytes
+      (was_written (mapped (grain_in a) old) p.write.at p.write.bytes (mapped (grain_in a) flash) (omega (arith, fits, torn_there.size))
+      (inr lied) stands).bytes
       ∙ sym (step_carried (writes_in a asks.work) was asks.work.done p.write (working_within a asks.work len s was asks.working)
       (bit_in a asks.work p piece))
 

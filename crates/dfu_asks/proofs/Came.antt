@@ -70,7 +70,8 @@ module _ (s now : SlotsState) (store : IsStore s) where
     pub put_broken : (fault : WriteFault) → CallFailed fault s (Put at bytes) now → PutLeaves s at bytes (broken fault) now
     put_broken fault failed = put_leaves {T = Unit {0}} {s = s} {v = s} (λ i. s) store now at bytes here (broken fault)
         (put_refuses {T = Unit {0}} s (broken fault) (λ e. absurd (no_other fault e), λ o. absurd (begun_closed s ready o)) at bytes
-        (λ e. absurd (not_large fault e), λ over. absurd (large s (at + length bytes) fits over.1))) (changes_broken fault s now (Put at bytes) failed)
+        (λ e. absurd (not_large fault e), λ over. absurd (large s (at + length bytes) fits over.1)))
+        (changes_broken fault s now (Put at bytes) failed)
 
   module _ (len : ℕ) (within : len ≤ s.put_end) (ready : is_begun s ≡ true) where
     -- A `commit` whose writes worked.
@@ -81,4 +82,5 @@ module _ (s now : SlotsState) (store : IsStore s) where
     -- A `commit` that was broken off.
     pub commit_broken : (fault : WriteFault) → CallFailed fault s (Commit len) now → CommitLeaves s len (broken fault) now
     commit_broken fault failed = commit_leaves {T = Unit {0}} {s = s} {v = s} (λ i. s) store now len within (broken fault)
-        (λ e. absurd (no_other fault e), λ o. absurd (begun_closed s ready o)) (not_large fault) (changes_broken fault s now (Commit len) failed)
+        (λ e. absurd (no_other fault e), λ o. absurd (begun_closed s ready o)) (not_large fault)
+        (changes_broken fault s now (Commit len) failed)

@@ -50,9 +50,11 @@ module _ (a now : Asking) (w : Work) (len : ℕ) (s : SlotsState) (was flash : L
       → Gives now.mode w.asked x count out out' → HasEnded flash x count out out' now (λ y sent w'. Works len (device_of a s) y sent w')
   all_ended all fin gives =
       ended a now w.asked flash x count out out'
-      (store_of (mapped (grain_in a) flash) (held_after (grain_in a) a.mode a.held.items (block_in a)) (end_after a.mode a.put_end (block_in a)))
+      (store_of (mapped (grain_in a) flash) (held_after (grain_in a) a.mode a.held.items (block_in a))
+      (end_after a.mode a.put_end (block_in a)))
       (done_mode a.config a.mode (length (block_in a))) (λ y sent w'. Works len (device_of a s) y sent w') fin.config
-      (λ i. store_of (mapped (record { unit = fin.unit i; sector = (fin.sector i).size }) flash) (fin.held i) (fin.end i)) fin.mode fin.block fin.work gives
+      (λ i. store_of (mapped (record { unit = fin.unit i; sector = (fin.sector i).size }) flash) (fin.held i) (fin.end i))
+      fin.mode fin.block fin.work gives
       (λ sent says. works a.config (grain_in a) (block_in a) a.held.items a.put_end w.job len s was flash working.medium working.store
       a.mode w.asked working.sound working.due all x sent says)
 
@@ -63,7 +65,8 @@ module _ (a now : Asking) (w : Work) (len : ℕ) (s : SlotsState) (was flash : L
   broken_ended fault broken off gives =
       ended a now w.asked flash x count out out' (store_on (mapped (grain_in a) flash)) (failed_mode fault a.mode)
       (λ y sent w'. Fails fault len (device_of a s) y sent w') off.config
-      (λ i. store_of (mapped (record { unit = off.unit i; sector = (off.sector i).size }) flash) (off.held i) (off.end i)) off.mode off.block off.work gives
+      (λ i. store_of (mapped (record { unit = off.unit i; sector = (off.sector i).size }) flash) (off.held i) (off.end i))
+      off.mode off.block off.work gives
       (λ sent says. fails a.config (grain_in a) (block_in a) a.held.items a.put_end w.job len s was flash working.medium working.store
       fault a.mode w.asked working.sound working.due broken x sent says)
 

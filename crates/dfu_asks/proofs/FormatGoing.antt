@@ -203,7 +203,8 @@ module _ (f : Formatting) (image was flash : List ℕ) (way : IsUnderWay f image
         let all : steps ≡ way.front ++ part = way.series ∙ ap (λ (ss : List Step). way.front ++ ss) (follows ∙ append-nil part) in
         let count : total writes ≤ before = omega
         (arith, ap (λ (ss : List Step). total (step_writes ss)) all, steps_total way.front part, ended) in
-        let came : AllWrites m writes (flash_of f flash) = subst (λ (l : List ℕ). AllWrites m writes (mapped (grain_within f) l)) (sym way.flash_is)
+        let came : AllWrites m writes (flash_of f flash) =
+        subst (λ (l : List ℕ). AllWrites m writes (mapped (grain_within f) l)) (sym way.flash_is)
         (all_carried (grain_within f) writes was before count) in
         let series : AllWrites m (format_series m image) (flash_of f flash) =
         subst (λ (ws : List Write). AllWrites m ws (flash_of f flash)) (format_writes_are m image) came in

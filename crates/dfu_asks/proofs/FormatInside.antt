@@ -32,13 +32,15 @@ module _ (s : MediumState) (image : List ℕ) (can : CanFormat s image) where
       inside_append 0 size (write_anew s.grain.sector (0 + gate_of s) head) (write_anew s.grain.sector 0 gate)
       (anew_inside s.grain.sector 0 size (0 + gate_of s) head edge (omega arith)
       (omega (arith, length-header_unit k 0 (length image) (register image) wide, can.sized.room, can.sized.even)))
-      (anew_inside s.grain.sector 0 size 0 gate edge (omega arith) (omega (arith, length-gate_unit k OPEN wide, can.sized.room, can.sized.even)))
+      (anew_inside s.grain.sector 0 size 0 gate edge (omega arith)
+      (omega (arith, length-gate_unit k OPEN wide, can.sized.room, can.sized.even)))
 
   -- The writes of a format lie within its medium.
   pub format_inside : AllInside 0 size (format_series s image)
   format_inside = inside_append 0 size (close_writes s.grain s.bytes)
       (image_writes s.grain image ++ open_writes s.grain 0 0 (length image) (register image)) (close_inside s can.sized)
-      (inside_append 0 size (image_writes s.grain image) (open_writes s.grain 0 0 (length image) (register image)) (image_inside s image can) open_inside)
+      (inside_append 0 size (image_writes s.grain image) (open_writes s.grain 0 0 (length image) (register image))
+      (image_inside s image can) open_inside)
 
   -- Whoever makes them all makes the image the active one.
   pub formatted : (now : MediumState) → AllWrites s (format_series s image) now → Active now image

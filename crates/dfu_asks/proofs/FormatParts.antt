@@ -38,7 +38,8 @@ pieces_parts : (sector n at : ℕ) (bytes : List ℕ) → length bytes ≤ n
     → piece_steps sector n at bytes ≡ some_steps sector at (take 4096 bytes) ++ piece_steps sector n (at + 4096) (drop 4096 bytes)
 pieces_parts sector n at [] le =
     pieces_none sector n at
-    ∙ sym ((λ i. some_steps sector at (take_all 4096 [] (omega arith) i) ++ piece_steps sector n (at + 4096) (drop_all 4096 [] (omega arith) i))
+    ∙ sym ((λ i. some_steps sector at (take_all 4096 [] (omega arith) i)
+    ++ piece_steps sector n (at + 4096) (drop_all 4096 [] (omega arith) i))
     ∙ pieces_none sector n (at + 4096))
 pieces_parts sector zero at (x ∷ xs) le = absurd (omega (arith, le))
 pieces_parts sector (suc n) at (x ∷ xs) le =
@@ -95,7 +96,8 @@ format_writes_are m image =
 
 -- What a part has in front of the parts behind it.
 abbrev pub IsFollowed : Grain → ℕ → List ℕ → ℕ → Phase → Phase → Type 0
-IsFollowed w size image crc this next = steps_from w size image crc this ≡ part_steps w size image crc this ++ steps_from w size image crc next
+IsFollowed w size image crc this next =
+    steps_from w size image crc this ≡ part_steps w size image crc this ++ steps_from w size image crc next
 
 module _ (w : Grain) (size : ℕ) (image : List ℕ) (crc : ℕ) where
   abbrev opening : List Step
@@ -105,7 +107,8 @@ module _ (w : Grain) (size : ℕ) (image : List ℕ) (crc : ℕ) where
   pub image_last : (from : ℕ) → length (filled w.unit image) ≤ from + 4096 → IsFollowed w size image crc (phase.Image from) phase.Header
   image_last from le =
       let first = some_steps w.sector (2 * gate_room w + from) (take 4096 (drop from (filled w.unit image))) in
-      ap (λ (ss : List Step). ss ++ opening) (image_parts w image from ∙ ap (λ (ss : List Step). first ++ ss) (image_over w image (from + 4096) le)
+      ap (λ (ss : List Step). ss ++ opening)
+      (image_parts w image from ∙ ap (λ (ss : List Step). first ++ ss) (image_over w image (from + 4096) le)
       ∙ append-nil first)
 
   -- Or more of it.

@@ -28,7 +28,8 @@ from_err (Some p) r Q G same err to = tt
 from_err None r Q G (rest, same) err to = to rest (subst (λ (x : Result Piece ℕ). IfErr x Q) same err)
 
 -- A bound may be wider.
-pub weaker : (done most : ℕ) → most ≤ 2 ^ 20 → (o : Option Piece) → IfSome o (λ p. done + p.len ≤ most) → IfSome o (λ p. done + p.len ≤ 2 ^ 20)
+pub weaker : (done most : ℕ) → most ≤ 2 ^ 20 → (o : Option Piece) → IfSome o (λ p. done + p.len ≤ most)
+    → IfSome o (λ p. done + p.len ≤ 2 ^ 20)
 weaker done most le (Some p) fits = omega (arith, le, fits)
 weaker done most le None fits = tt
 

@@ -155,7 +155,8 @@ module _ (s : SlotsState) (store : IsStore s) (w : Grain) (grain : s.medium.grai
       → (m : Mode) (asked : Option ℕ) (len : ℕ) → IsTrue (is_sound m (length b) s) → IsDue m asked len s j end held
       → AllInside place to (job_writes j w end held b)
   due_inside b held end j (mode.DownloadSync n number) asked len sound due = of_block b held end j n (next_in n (length b) s sound) due.1
-  due_inside b held end j (mode.DownloadBusy n number passed) asked len sound due = of_block b held end j n (next_in n (length b) s sound) due.1
+  due_inside b held end j (mode.DownloadBusy n number passed) asked len sound due =
+      of_block b held end j n (next_in n (length b) s sound) due.1
   due_inside b held end j (mode.ManifestSync n) asked len sound due = of_commit b held end j n (all_in n s sound) due.1
   due_inside b held end j (mode.Manifest n passed) asked len sound due = of_commit b held end j n (all_in n s sound) due.1
   due_inside b held end j m asked len sound due = absurd due
@@ -169,7 +170,8 @@ pub working_within : (a : Asking) (w : Work) (len : ℕ) (s : SlotsState) (flash
     → AreWithin (writes_in a w) (length flash)
 working_within a w len s flash k =
     let bytes : s.medium.bytes ≡ flash = ap (λ (x : MediumState). x.bytes) k.medium in
-    within_range (writes_in a w) (spare_at (gate_of s.medium) s.medium.bytes) (spare_at (gate_of s.medium) s.medium.bytes + slot_size s.medium.bytes)
+    within_range (writes_in a w) (spare_at (gate_of s.medium) s.medium.bytes)
+    (spare_at (gate_of s.medium) s.medium.bytes + slot_size s.medium.bytes)
     (length flash)
     (due_inside s k.store (grain_in a) (ap (λ (x : MediumState). x.grain) k.medium) (block_in a) a.held.items a.put_end w.job
     a.mode w.asked len k.sound k.due)

@@ -72,17 +72,21 @@ module _ (w : Grain) (at : ℕ) (held block : List ℕ) where
           size = omega (arith, size, back_length w held block);
           within = omega (arith, some, size, back_length w held block);
           place = omega (arith, place);
-          bytes_are = bytes ∙ sym (range_of_front all whole (head + n) (head + n + k) within) ∙ sym (range_behind (take whole all) head n k);
+          bytes_are =
+              bytes ∙ sym (range_of_front all whole (head + n) (head + n + k) within) ∙ sym (range_behind (take whole all) head n k);
         }
 
 -- A part of a step that is known by other terms.
-pub part_as : (at there : ℕ) (bytes is : List ℕ) (n : ℕ) (p : Step) → at ≡ there → bytes ≡ is → IsPart (program at bytes) n p → IsPart (program there is) n p
+pub part_as : (at there : ℕ) (bytes is : List ℕ) (n : ℕ) (p : Step) → at ≡ there → bytes ≡ is → IsPart (program at bytes) n p
+    → IsPart (program there is) n p
 part_as at there bytes is n p place same part = subst (λ (s : Step). IsPart s n p) (λ i. program (place i) (same i)) part
 
 -- So is a piece.
-pub piece_as : (sector at there : ℕ) (bytes is : List ℕ) (n : ℕ) (p : Step) → at ≡ there → bytes ≡ is → IsPiece (some_steps sector at bytes) n p
+pub piece_as : (sector at there : ℕ) (bytes is : List ℕ) (n : ℕ) (p : Step) → at ≡ there → bytes ≡ is
+    → IsPiece (some_steps sector at bytes) n p
     → IsPiece (some_steps sector there is) n p
-piece_as sector at there bytes is n p place same piece = subst (λ (ss : List Step). IsPiece ss n p) (λ i. some_steps sector (place i) (same i)) piece
+piece_as sector at there bytes is n p place same piece =
+    subst (λ (ss : List Step). IsPiece ss n p) (λ i. some_steps sector (place i) (same i)) piece
 
 -- And the bytes of it.
 pub total_as : (sector at there : ℕ) (bytes is : List ℕ) → at ≡ there → bytes ≡ is

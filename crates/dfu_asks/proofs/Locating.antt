@@ -91,7 +91,8 @@ module _ (sector at n done : ℕ) (large : 1 < sector) where
           }
 
       -- In the middle of a sector what is left of it comes next.
-      part : rest < sector → IsPart (record { erases = true; write = erase_write sector place }) rest (erase_step (place + rest) (sector - rest))
+      part : rest < sector
+          → IsPart (record { erases = true; write = erase_write sector place }) rest (erase_step (place + rest) (sector - rest))
       part lt =
           let whole = length-replicate {A = ℕ} sector 255 in
           let back = length-replicate {A = ℕ} (sector - rest) 255 in
@@ -120,7 +121,8 @@ module _ (sector at n done : ℕ) (large : 1 < sector) where
     pub walked_all : at + n ≤ place → (total (erases sector at n) + rest ≡ done) × (done ≤ rest + n + sector)
     walked_all past =
         let none : at + n - place ≡ 0 = omega (arith, past) in
-        let all : erases sector at n ≡ to.front = to.pieces ∙ ap (λ (k : ℕ). to.front ++ erases sector place k) none ∙ append-nil to.front in
+        let all : erases sector at n ≡ to.front =
+        to.pieces ∙ ap (λ (k : ℕ). to.front ++ erases sector place k) none ∙ append-nil to.front in
         (omega (arith, ap total all, to.count), omega (arith, to.count, to.span, to.high))
 
 -- The write itself, behind its erases.
@@ -142,7 +144,8 @@ nothing_erased sector at = by_test (sector == 0)
     by_test true = refl
     by_test false = refl
 
-module _ (sector at n done rest : ℕ) (count : total (if sector == 0 then [] else erases sector at n) + rest ≡ done) (low : done ≤ rest + n + sector) where
+module _ (sector at n done rest : ℕ) (count : total (if sector == 0 then [] else erases sector at n) + rest ≡ done)
+    (low : done ≤ rest + n + sector) where
   before_is : (bytes : List ℕ) → length bytes ≡ n → total (step_writes (marked true (before sector at bytes))) + rest ≡ done
   before_is bytes size = omega (
     arith,
@@ -168,7 +171,15 @@ module _ (sector at n done rest : ℕ) (count : total (if sector == 0 then [] el
       | inl none ↦
           let erased_none : total (if sector == 0 then [] else erases sector at n) ≡ 0 =
           ap (λ (k : ℕ). total (if sector == 0 then [] else erases sector at k)) (sym size ∙ none) ∙ nothing_erased sector at in
-          omega (arith, ap (λ (ss : List Step). total (step_writes ss)) (none_are sector at bytes none), erased_none, count, sum, size, none)
+          omega (
+            arith,
+            ap (λ (ss : List Step). total (step_writes ss)) (none_are sector at bytes none),
+            erased_none,
+            count,
+            sum,
+            size,
+            none,
+          )
       | inr some ↦
           omega (
             arith,

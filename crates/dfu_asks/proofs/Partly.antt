@@ -58,5 +58,6 @@ reached_last (s ∷ ss) v n few (inr (past, more)) left =
 pub piece_inside : (ws : List Write) (n : ℕ) (p : Write) (from to : ℕ) → AllInside from to ws → IsBitOf ws n p
     → (from ≤ p.at) × (p.at + length p.bytes ≤ to)
 piece_inside [] n p from to inside none = absurd none
-piece_inside (w ∷ ws) n p from to (low, high, inside) (inl part) = (omega (arith, low, part.place), omega (arith, high, part.place, part.within))
+piece_inside (w ∷ ws) n p from to (low, high, inside) (inl part) =
+    (omega (arith, low, part.place), omega (arith, high, part.place, part.within))
 piece_inside (w ∷ ws) n p from to (low, high, inside) (inr (past, piece)) = piece_inside ws (n - length w.bytes) p from to inside piece

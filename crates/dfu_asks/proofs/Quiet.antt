@@ -48,14 +48,16 @@ sure_plan c image (InUploadIdle place number) (Upload k size) off = upload_sure 
 sure_plan c image st GetState off = tt
 sure_plan c image st r off = tt
 
-sure_same : (p : Plan) (len : ℕ) (w : Shown) (a : Answer) (out : List ℕ) (w' : Shown) → IsSure p → Done p len w a out w' → (w'.slots ≡ w.slots) × (w'.config ≡ w.config)
+sure_same : (p : Plan) (len : ℕ) (w : Shown) (a : Answer) (out : List ℕ) (w' : Shown) → IsSure p → Done p len w a out w'
+    → (w'.slots ≡ w.slots) × (w'.config ≡ w.config)
 sure_same (Sure reply stage) len w a out w' sure done = (ap (λ (x : Shown). x.slots) done.1, ap (λ (x : Shown). x.config) done.1)
 sure_same (Writes before block reply stage bad) len w a out w' sure done = absurd sure
 sure_same (Commits taken reply stage bad) len w a out w' sure done = absurd sure
 
 setup_sure : (p : Setup) (q : Asked) (body : List ℕ) (w : Shown) → writes_now (profile w) w.stage (meant q body) ≡ false
     → IsSure (setup_plan w p q body)
-setup_sure p q body w off = either_way IsSure (is_served p q body) _ _ (sure_plan (profile w) (image_of w.slots) w.stage (meant q body) off) tt
+setup_sure p q body w off =
+    either_way IsSure (is_served p q body) _ _ (sure_plan (profile w) (image_of w.slots) w.stage (meant q body) off) tt
 
 other_request : (c : Profile) (st : Stage) (q : Asked) (body : List ℕ) → ((len : ℕ) → q ≡ asked.GetStatus len → ⊥)
     → writes_now c st (meant q body) ≡ false
@@ -64,7 +66,8 @@ other_request c (InManifestSync taken) (asked.GetStatus len) body other = absurd
 other_request c st q body other = refl
 
 -- A setup that asks for no status leaves the slot store.
-pub other_quiet : (p : Setup) (q : Asked) (setup body : List ℕ) (w : Shown) (a : Answer) (out : List ℕ) (w' : Shown) → IsSetup p setup → Asks p q
+pub other_quiet : (p : Setup) (q : Asked) (setup body : List ℕ) (w : Shown) (a : Answer) (out : List ℕ) (w' : Shown)
+    → IsSetup p setup → Asks p q
     → ((len : ℕ) → q ≡ asked.GetStatus len → ⊥) → Handles setup body w a out w' → (w'.slots ≡ w.slots) × (w'.config ≡ w.config)
 other_quiet p q setup body w a out w' reads asks other h =
     sure_same (setup_plan w p q body) (asked_length q) w a out w' (setup_sure p q body w (other_request (profile w) w.stage q body other))
@@ -78,7 +81,8 @@ now_due c image (InManifestSync taken) on = rw on refl
 now_due c image st on = absurd (false≢true on)
 
 -- What works out or fails is done.
-pub done_works : (p : Plan) (len : ℕ) (w : Shown) (a : Answer) (out : List ℕ) (w' : Shown) → WorksOut p len w a out w' → Done p len w a out w'
+pub done_works : (p : Plan) (len : ℕ) (w : Shown) (a : Answer) (out : List ℕ) (w' : Shown) → WorksOut p len w a out w'
+    → Done p len w a out w'
 done_works (Sure reply stage) len w a out w' none = absurd none
 done_works (Writes before block reply stage bad) len w a out w' done = inl done
 done_works (Commits taken reply stage bad) len w a out w' done = inl done

@@ -98,7 +98,8 @@ module _ (s : SlotsState) (store : IsStore s) (block : List ℕ) (fits : length 
         room = lb.common.room;
       }
 
-  first_broken : (fault : WriteFault) → BrokenWrites fault s.medium (writes_of s Begin ++ first_put) m → BlockBroken fault s 0 block (store_on m)
+  first_broken : (fault : WriteFault) → BrokenWrites fault s.medium (writes_of s Begin ++ first_put) m
+      → BlockBroken fault s 0 block (store_on m)
   first_broken fault all = elim (broken_parts fault (writes_of s Begin) first_put s.medium m all) [
     | inl early ↦ broken_begin fault early
     | inr late ↦ broken_second late.0 late.1.first fault late.1.second
@@ -131,7 +132,8 @@ module _ (s : SlotsState) (store : IsStore s) (shape : is_shaped s ≡ true) (n 
         spare = lp.front;
       }
 
-  further_broken : (fault : WriteFault) → BrokenWrites fault s.medium (writes_of s (Put n block)) m → BlockBroken fault s n block (store_on m)
+  further_broken : (fault : WriteFault) → BrokenWrites fault s.medium (writes_of s (Put n block)) m
+      → BlockBroken fault s n block (store_on m)
   further_broken fault all =
       let lp = put_broken s (store_on m) store n block here ready fits fault (record { writes = all; held_is = refl; end_is = refl }) in
       record {
@@ -161,32 +163,37 @@ module _ (s : SlotsState) (store : IsStore s) (shape : is_shaped s ≡ true) (n 
   block_written all = elim (cases_eq n 0) [
     | inl none ↦
         let e : (n == 0) ≡ true = ap (λ (k : ℕ). k == 0) none in
-        subst (λ (k : Bool). BlockWritten s n block (store_of m (put_rest s.medium.grain.unit (if k then [] else s.held) block) (n + length block))) (sym e)
+        subst (λ (k : Bool). BlockWritten s n block
+        (store_of m (put_rest s.medium.grain.unit (if k then [] else s.held) block) (n + length block))) (sym e)
         (subst (λ (k : ℕ). BlockWritten s k block (store_of m (put_rest s.medium.grain.unit [] block) (k + length block))) (sym none)
         (first_written s store block (omega (arith, fits)) m
         (subst (λ (k : Bool). AllWrites s.medium (if k then writes_of s Begin ++ put_writes s.medium.grain (data_place s 0) [] block
         else writes_of s (Put n block)) m) e all)))
     | inr some ↦
         let e : (n == 0) ≡ false = ne_eqb n 0 some in
-        subst (λ (k : Bool). BlockWritten s n block (store_of m (put_rest s.medium.grain.unit (if k then [] else s.held) block) (n + length block))) (sym e)
+        subst (λ (k : Bool). BlockWritten s n block
+        (store_of m (put_rest s.medium.grain.unit (if k then [] else s.held) block) (n + length block))) (sym e)
         (further_written s store shape n block (more some) (put_before some) fits m
         (subst (λ (k : Bool). AllWrites s.medium (if k then writes_of s Begin ++ put_writes s.medium.grain (data_place s 0) [] block
         else writes_of s (Put n block)) m) e all))
   ]
 
   -- Where one of them had a fault, the block was broken off by it.
-  pub block_broken : (fault : WriteFault) → BrokenWrites fault s.medium (block_series s n block) m → BlockBroken fault s n block (store_on m)
+  pub block_broken : (fault : WriteFault) → BrokenWrites fault s.medium (block_series s n block) m
+      → BlockBroken fault s n block (store_on m)
   block_broken fault all = elim (cases_eq n 0) [
     | inl none ↦
         let e : (n == 0) ≡ true = ap (λ (k : ℕ). k == 0) none in
         subst (λ (k : ℕ). BlockBroken fault s k block (store_on m)) (sym none)
         (first_broken s store block (omega (arith, fits)) m fault
-        (subst (λ (k : Bool). BrokenWrites fault s.medium (if k then writes_of s Begin ++ put_writes s.medium.grain (data_place s 0) [] block
+        (subst (λ (k : Bool). BrokenWrites fault s.medium
+        (if k then writes_of s Begin ++ put_writes s.medium.grain (data_place s 0) [] block
         else writes_of s (Put n block)) m) e all))
     | inr some ↦
         let e : (n == 0) ≡ false = ne_eqb n 0 some in
         further_broken s store shape n block (more some) (put_before some) fits m fault
-        (subst (λ (k : Bool). BrokenWrites fault s.medium (if k then writes_of s Begin ++ put_writes s.medium.grain (data_place s 0) [] block
+        (subst (λ (k : Bool). BrokenWrites fault s.medium
+        (if k then writes_of s Begin ++ put_writes s.medium.grain (data_place s 0) [] block
         else writes_of s (Put n block)) m) e all)
   ]
 
@@ -230,7 +237,8 @@ module _ (s : SlotsState) (store : IsStore s) (shape : is_shaped s ≡ true) (n 
         room = l.common.room;
       }
     where
-      kept : (fault : WriteFault) → OnErr (broken fault) ((image_of (store_on m) ≡ image_of s) ⊎ (image_of (store_on m) ≡ take n (spare_of s)))
+      kept : (fault : WriteFault)
+          → OnErr (broken fault) ((image_of (store_on m) ≡ image_of s) ⊎ (image_of (store_on m) ≡ take n (spare_of s)))
           → (image_of (store_on m) ≡ image_of s) ⊎ (image_of (store_on m) ≡ take n (spare_of s))
       kept Failed k = k
       kept NotVerified k = k

@@ -139,7 +139,8 @@ module _ (s : SlotsState) (store : IsStore s) (w : Grain) (grain : s.medium.grai
         cond-true (w.sector == 0) [] (erases w.sector place (length (gate_unit (gate_size w.unit) OPEN))) (ap (λ (k : ℕ). k == 0) none) in
         subst (λ (ws : List Write). slice_index (carried now ws n) place ≢ OPEN) (sym e) off
     | inr some ↦
-        let count : length (gate_unit (gate_size w.unit) OPEN) ≡ gate_size w.unit = length-gate_unit (gate_size w.unit) OPEN (unit_wide w.unit) in
+        let count : length (gate_unit (gate_size w.unit) OPEN) ≡ gate_size w.unit =
+        length-gate_unit (gate_size w.unit) OPEN (unit_wide w.unit) in
         let whole = subst (λ (x : Grain). IsWhole x (capacity_of s.medium)) grain store.has_image.active.sized.whole in
         let large : 256 ≤ w.sector = omega (arith, some, whole.pages) in
         let few : gate_size w.unit ≤ w.sector = omega (arith, large, gate_most w.unit) in
@@ -225,10 +226,14 @@ module _ (s : SlotsState) (store : IsStore s) (w : Grain) (grain : s.medium.grai
       → (m : Mode) (asked : Option ℕ) (len : ℕ) → IsTrue (is_sound m (length b) s) → IsDue m asked len s j end held
       → IsReached (job_steps j w end held b) k → k < total (job_writes j w end held b)
       → IsShut (carried s.medium.bytes (job_writes j w end held b) k)
-  due_shut b held end j k (mode.DownloadSync n number) asked len sound due reached left = of_block b held end j k n (next_in n (length b) s sound) due.1
-  due_shut b held end j k (mode.DownloadBusy n number passed) asked len sound due reached left = of_block b held end j k n (next_in n (length b) s sound) due.1
-  due_shut b held end j k (mode.ManifestSync n) asked len sound due reached left = of_commit b held end j k n (all_in n s sound) due.1 reached left
-  due_shut b held end j k (mode.Manifest n passed) asked len sound due reached left = of_commit b held end j k n (all_in n s sound) due.1 reached left
+  due_shut b held end j k (mode.DownloadSync n number) asked len sound due reached left =
+      of_block b held end j k n (next_in n (length b) s sound) due.1
+  due_shut b held end j k (mode.DownloadBusy n number passed) asked len sound due reached left =
+      of_block b held end j k n (next_in n (length b) s sound) due.1
+  due_shut b held end j k (mode.ManifestSync n) asked len sound due reached left =
+      of_commit b held end j k n (all_in n s sound) due.1 reached left
+  due_shut b held end j k (mode.Manifest n passed) asked len sound due reached left =
+      of_commit b held end j k n (all_in n s sound) due.1 reached left
   due_shut b held end j k m asked len sound due reached left = absurd due
 
 -- The next piece lies within a slot that is the spare one, or whose gate is closed.

@@ -45,7 +45,8 @@ anew_sound sector at bytes = by_test (sector == 0)
   where
     by_test : (b : Bool) → AreSound sector (marked true (if b then [] else erases sector at (length bytes)) ++ program at bytes ∷ [])
     by_test true = (λ e. absurd (false≢true e), tt)
-    by_test false = sound_append sector (marked true (erases sector at (length bytes))) (program at bytes ∷ []) (erases_sound sector at (length bytes))
+    by_test false =
+        sound_append sector (marked true (erases sector at (length bytes))) (program at bytes ∷ []) (erases_sound sector at (length bytes))
         (λ e. absurd (false≢true e), tt)
 
 pub some_sound : (sector at : ℕ) (bytes : List ℕ) → AreSound sector (some_steps sector at bytes)
@@ -63,7 +64,8 @@ close_sound w at edge = by_test (w.sector == 0) refl
       write = record { at = at; bytes = if b then gate_unit (gate_size w.unit) 0 else replicate w.sector 255 };
     })
     by_test true is = λ e. absurd (false≢true e)
-    by_test false is = λ e. (length-replicate {A = ℕ} w.sector 255, let some : w.sector ≢ 0 = eqb-false _ _ is in edge (omega (arith, some)))
+    by_test false is = λ e.
+        (length-replicate {A = ℕ} w.sector 255, let some : w.sector ≢ 0 = eqb-false _ _ is in edge (omega (arith, some)))
 
 put_sound : (w : Grain) (at : ℕ) (held block : List ℕ) → AreSound w.sector (put_steps w at held block)
 put_sound w at held block =
@@ -124,5 +126,6 @@ pub asks_sound : (a : Asking) (len : ℕ) (s : SlotsState) (was flash : List ℕ
     → IsPiece (steps_in a k.work) k.work.done p → IsSound a.sector.size p
 asks_sound a len s was flash k p piece =
     sound_piece a.sector.size (steps_in a k.work) k.work.done p
-    (due_sound s k.working.store (grain_in a) (ap (λ (x : MediumState). x.grain) k.working.medium) (block_in a) a.held.items a.put_end k.work.job
+    (due_sound s k.working.store (grain_in a) (ap (λ (x : MediumState). x.grain) k.working.medium)
+    (block_in a) a.held.items a.put_end k.work.job
     a.mode k.work.asked len k.working.due) k.reached piece

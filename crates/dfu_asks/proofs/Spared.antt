@@ -30,6 +30,7 @@ spare_closed m image slot at len a either shut low high =
     record { from = omega (arith, low, spare, is); to = omega (arith, high, spare, is) }
 
 -- A slot that was found to be the spare one.
-pub spare_found : (m : MediumState) (slot at len : ℕ) → spare_at (gate_of m) m.bytes ≡ slot → slot ≤ at → at + len ≤ slot + slot_size m.bytes
+pub spare_found : (m : MediumState) (slot at len : ℕ) → spare_at (gate_of m) m.bytes ≡ slot → slot ≤ at
+    → at + len ≤ slot + slot_size m.bytes
     → IsInSpare m at len
 spare_found m slot at len is low high = record { from = omega (arith, low, is); to = omega (arith, high, is) }

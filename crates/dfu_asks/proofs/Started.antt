@@ -29,7 +29,8 @@ module _ (s : SlotsState) (store : IsStore s) where
   data_size = data_length g s.medium.bytes place end_there (omega (arith, store.has_image.active.sized.room))
 
   -- It is what stands on the medium, and behind it what is held back.
-  pub put_is : take s.put_end (spare_of s) ≡ slice_range s.medium.bytes (place + 2 * g) (place + 2 * g + (s.put_end - length s.held)) ++ s.held
+  pub put_is : take s.put_end (spare_of s)
+      ≡ slice_range s.medium.bytes (place + 2 * g) (place + 2 * g + (s.put_end - length s.held)) ++ s.held
   put_is =
       let d = (spare_slot s).data_bytes in
       let k = held_at s in

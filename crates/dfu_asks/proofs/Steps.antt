@@ -34,7 +34,8 @@ anew_writes sector at bytes =
     writes_append (marked true (before sector at bytes)) (program at bytes ∷ [])
     ∙ ap (λ (ws : List Write). ws ++ record { at = at; bytes = bytes } ∷ []) (writes_marked true (before sector at bytes))
 
-if_writes : (b : Bool) (ss : List Step) (ws : List Write) → step_writes ss ≡ ws → step_writes (if b then [] else ss) ≡ (if b then [] else ws)
+if_writes : (b : Bool) (ss : List Step) (ws : List Write) → step_writes ss ≡ ws
+    → step_writes (if b then [] else ss) ≡ (if b then [] else ws)
 if_writes true ss ws same = refl
 if_writes false ss ws same = same
 
@@ -59,7 +60,8 @@ open_writes_are w at gen len crc =
     ∙ (λ i. anew_writes w.sector (at + gate_room w) header i ++ anew_writes w.sector at gate i)
 
 -- The steps of a job are its writes.
-pub job_writes_are : (j : Job) (w : Grain) (end : ℕ) (held block : List ℕ) → step_writes (job_steps j w end held block) ≡ job_writes j w end held block
+pub job_writes_are : (j : Job) (w : Grain) (end : ℕ) (held block : List ℕ)
+    → step_writes (job_steps j w end held block) ≡ job_writes j w end held block
 job_writes_are (job.Block spare true) w end held block =
     ap (λ (ws : List Write). record { at = spare; bytes = closed_gate w } ∷ ws) (put_writes_are w (held_place w spare end held) held block)
 job_writes_are (job.Block spare false) w end held block = put_writes_are w (held_place w spare end held) held block

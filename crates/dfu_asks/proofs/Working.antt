@@ -92,7 +92,8 @@ series_of_block s n j u end held block unit is =
     first : (n == 0) ≡ true → n ≡ 0 → choose (n == 0) (not (is_begun s)) ≡ chosen (n == 0)
     first e none =
         (λ i. choose (e i) (not_begun s i))
-        ∙ (λ i. writes_of s Begin ++ put_writes s.medium.grain (held_place s.medium.grain (spare_at (gate_of s.medium) s.medium.bytes) (none i) []) [] block)
+        ∙ (λ i. writes_of s Begin
+        ++ put_writes s.medium.grain (held_place s.medium.grain (spare_at (gate_of s.medium) s.medium.bytes) (none i) []) [] block)
         ∙ (λ i. chosen (sym e i))
 
     further : (n == 0) ≡ false → choose (n == 0) (not (is_begun s)) ≡ chosen (n == 0)
@@ -141,7 +142,8 @@ module _ (c : Setting) (w : Grain) (b held : List ℕ) (end : ℕ) (j : Job) (le
 
   -- All writes of a block.
   block_left : (n : ℕ) → IsNext s n (length b) → IsBlockJob n s j end held
-      → AllWrites (mapped w m) (job_writes j w end held b) (mapped w flash) → (capped end (length b) ≡ n + length b) × BlockWritten s n b left
+      → AllWrites (mapped w m) (job_writes j w end held b) (mapped w flash)
+      → (capped end (length b) ≡ n + length b) × BlockWritten s n b left
   block_left n next job all =
       let cap : capped end (length b) ≡ n + length b = omega (arith, job.end_is, small (n + length b) next.room) in
       let is : block_store s n b (mapped w flash) ≡ left =
@@ -150,7 +152,8 @@ module _ (c : Setting) (w : Grain) (b held : List ℕ) (end : ℕ) (j : Job) (le
         subst (λ (x : SlotsState). BlockWritten s n b x) is
             (block_written s store shape n b next.before next.room (mapped w flash)
             (subst (λ (x : MediumState). AllWrites x (block_series s n b) (mapped w flash)) (sym medium)
-            (subst (λ (ws : List Write). AllWrites (mapped w m) ws (mapped w flash)) (series_of_block s n j w end held b unit_is job) all))),
+            (subst (λ (ws : List Write). AllWrites (mapped w m) ws (mapped w flash))
+            (series_of_block s n j w end held b unit_is job) all))),
       )
 
   -- A broken write of a block.
@@ -159,7 +162,8 @@ module _ (c : Setting) (w : Grain) (b held : List ℕ) (end : ℕ) (j : Job) (le
   block_off fault n next job all =
       block_broken s store shape n b next.before next.room (mapped w flash) fault
       (subst (λ (x : MediumState). BrokenWrites fault x (block_series s n b) (mapped w flash)) (sym medium)
-      (subst (λ (ws : List Write). BrokenWrites fault (mapped w m) ws (mapped w flash)) (series_of_block s n j w end held b unit_is job) all))
+      (subst (λ (ws : List Write). BrokenWrites fault (mapped w m) ws (mapped w flash))
+      (series_of_block s n j w end held b unit_is job) all))
 
   -- All writes of a commit.
   commit_left : (n : ℕ) → IsAll s n → IsCommitJob n s j end held
@@ -167,7 +171,8 @@ module _ (c : Setting) (w : Grain) (b held : List ℕ) (end : ℕ) (j : Job) (le
   commit_left n whole job all =
       commit_done s store shape n whole.put whole.room (mapped w flash)
       (subst (λ (x : MediumState). AllWrites x (writes_of s (Commit n)) (mapped w flash)) (sym medium)
-      (subst (λ (ws : List Write). AllWrites (mapped w m) ws (mapped w flash)) (series_of_commit s n j w end held b unit_is whole.put job) all))
+      (subst (λ (ws : List Write). AllWrites (mapped w m) ws (mapped w flash))
+      (series_of_commit s n j w end held b unit_is whole.put job) all))
 
   -- A broken write of a commit.
   commit_broke : (fault : WriteFault) (n : ℕ) → IsAll s n → IsCommitJob n s j end held
@@ -175,7 +180,8 @@ module _ (c : Setting) (w : Grain) (b held : List ℕ) (end : ℕ) (j : Job) (le
   commit_broke fault n whole job all =
       commit_off s store shape n whole.put whole.room (mapped w flash) fault
       (subst (λ (x : MediumState). BrokenWrites fault x (writes_of s (Commit n)) (mapped w flash)) (sym medium)
-      (subst (λ (ws : List Write). BrokenWrites fault (mapped w m) ws (mapped w flash)) (series_of_commit s n j w end held b unit_is whole.put job) all))
+      (subst (λ (ws : List Write). BrokenWrites fault (mapped w m) ws (mapped w flash))
+      (series_of_commit s n j w end held b unit_is whole.put job) all))
 
   shaped_left : (x : SlotsState) → IsStore x → IsTrue (is_shaped x && true)
   shaped_left x st = sound_shape (is_shaped x) (shaped x st)
@@ -188,7 +194,8 @@ module _ (c : Setting) (w : Grain) (b held : List ℕ) (end : ℕ) (j : Job) (le
       → AllWrites (mapped w m) (job_writes j w end held b) (mapped w flash) → (a : Answer) (out : List ℕ)
       → IsAnswered (done_mode c d (length b)) asked a out
       → Ends c (store_of (mapped w flash) (held_after w d held b) (end_after d end b)) (done_mode c d (length b)) b
-      (Works len (shows c s d b) a out (shows c (store_of (mapped w flash) (held_after w d held b) (end_after d end b)) (done_mode c d (length b)) b))
+      (Works len (shows c s d b) a out
+      (shows c (store_of (mapped w flash) (held_after w d held b) (end_after d end b)) (done_mode c d (length b)) b))
   works (mode.DownloadSync n number) asked sound due all a out says =
       let next = next_in n (length b) s sound in
       let got = block_left n next due.1 all in
@@ -225,7 +232,8 @@ module _ (c : Setting) (w : Grain) (b held : List ℕ) (end : ℕ) (j : Job) (le
           },
         );
         store = got.1.store;
-        sound = written_sound (mode.DownloadSyncWritten (capped n (length b)) number) (length b) (capped n (length b)) number left (inl refl)
+        sound =
+            written_sound (mode.DownloadSyncWritten (capped n (length b)) number) (length b) (capped n (length b)) number left (inl refl)
             (omega (arith, cap, next.some)) (omega (arith, cap, next.room, got.1.room)) (shaped left got.1.store)
             (subst (λ (k : ℕ). is_put k left ≡ true) (sym cap) got.1.put);
       }
@@ -241,7 +249,8 @@ module _ (c : Setting) (w : Grain) (b held : List ℕ) (end : ℕ) (j : Job) (le
       }
   works (mode.Manifest n passed) asked sound due all a out says =
       let got = commit_left n (all_in n s sound) due.1 all in
-      tolerant c.functional.tolerant got (subst (λ (x : Option ℕ). IsAnswered (done_mode c (mode.Manifest n passed) (length b)) x a out) due.0 says)
+      tolerant c.functional.tolerant got
+      (subst (λ (x : Option ℕ). IsAnswered (done_mode c (mode.Manifest n passed) (length b)) x a out) due.0 says)
     where
       next_mode : Bool → Mode
       next_mode t = if t then mode.ManifestSyncComplete else mode.ManifestWaitReset
@@ -275,7 +284,14 @@ module _ (c : Setting) (w : Grain) (b held : List ℕ) (end : ℕ) (j : Job) (le
       record {
         comes = (
           subst (λ (x : Option ℕ). IsAnswered (mode.Error (write_code fault)) x a out) due.0 says [] [],
-          record { config_is = refl; room = got.room; stage_is = refl; calls = got.calls; image = got.image; failed = rose (store_on (mapped w flash)) refl },
+          record {
+            config_is = refl;
+            room = got.room;
+            stage_is = refl;
+            calls = got.calls;
+            image = got.image;
+            failed = rose (store_on (mapped w flash)) refl;
+          },
         );
         store = got.store;
         sound = shaped_left (store_on (mapped w flash)) got.store;
@@ -285,7 +301,14 @@ module _ (c : Setting) (w : Grain) (b held : List ℕ) (end : ℕ) (j : Job) (le
       record {
         comes = (
           subst (λ (x : Option ℕ). IsAnswered (mode.Error (write_code fault)) x a out) due.0 says,
-          record { config_is = refl; room = got.room; stage_is = refl; calls = got.calls; image = got.image; failed = rose (store_on (mapped w flash)) refl },
+          record {
+            config_is = refl;
+            room = got.room;
+            stage_is = refl;
+            calls = got.calls;
+            image = got.image;
+            failed = rose (store_on (mapped w flash)) refl;
+          },
         );
         store = got.store;
         sound = shaped_left (store_on (mapped w flash)) got.store;
@@ -295,7 +318,14 @@ module _ (c : Setting) (w : Grain) (b held : List ℕ) (end : ℕ) (j : Job) (le
       record {
         comes = (
           subst (λ (x : Option ℕ). IsAnswered (mode.Error (commit_code fault)) x a out) due.0 says [] [],
-          record { config_is = refl; room = got.room; stage_is = refl; calls = got.calls; image = got.image; failed = rose (store_on (mapped w flash)) refl },
+          record {
+            config_is = refl;
+            room = got.room;
+            stage_is = refl;
+            calls = got.calls;
+            image = got.image;
+            failed = rose (store_on (mapped w flash)) refl;
+          },
         );
         store = got.store;
         sound = shaped_left (store_on (mapped w flash)) got.store;
@@ -305,7 +335,14 @@ module _ (c : Setting) (w : Grain) (b held : List ℕ) (end : ℕ) (j : Job) (le
       record {
         comes = (
           subst (λ (x : Option ℕ). IsAnswered (mode.Error (commit_code fault)) x a out) due.0 says,
-          record { config_is = refl; room = got.room; stage_is = refl; calls = got.calls; image = got.image; failed = rose (store_on (mapped w flash)) refl },
+          record {
+            config_is = refl;
+            room = got.room;
+            stage_is = refl;
+            calls = got.calls;
+            image = got.image;
+            failed = rose (store_on (mapped w flash)) refl;
+          },
         );
         store = got.store;
         sound = shaped_left (store_on (mapped w flash)) got.store;

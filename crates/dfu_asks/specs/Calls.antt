@@ -46,7 +46,8 @@ pub data Comes (d : Shown) (len : ℕ) (s : SlotsState) (was flash out : List �
 -- A call of a device on this flash answered by this row; or the row writes, and its writes are asked for now, from the first on.
 pub data Called (a : Asking) (flash out : List ℕ) (Row : Answer → List ℕ → Shown → Type 0) (now : Asking) (out' : List ℕ)
     : Reply → Type 0 where
-  called_ended : (x : Answer) (count : ℕ) → HasEnded flash x count out out' now Row → Called a flash out Row now out' (reply.Answered x count)
+  called_ended : (x : Answer) (count : ℕ) → HasEnded flash x count out out' now Row
+      → Called a flash out Row now out' (reply.Answered x count)
   called_asks : (len : ℕ) → Asks now len (store_in a flash) flash flash → device_of now (store_in a flash) ≡ device_in a flash
       → IsDueRow len (device_in a flash) Row → out' ≡ out → Called a flash out Row now out' reply.Asks
 

@@ -7,7 +7,8 @@ use Rattle.dfu_device.specs.Table.{Plan, Sure, Writes, Commits, write_and_report
 use Rattle.dfu_device.specs.Shown.{Shown, profile}
 use Rattle.dfu_device.specs.Rows.{Answers, WroteBlock, FailedBlock, Committed, FailedCommit}
 
--- The row of a stage that writes: GETSTATUS with a time of 0 in dfuDNLOAD-SYNC and dfuMANIFEST-SYNC, the end of dfuDNBUSY and of dfuMANIFEST.
+-- The row of a stage that writes: GETSTATUS with a time of 0 in dfuDNLOAD-SYNC and dfuMANIFEST-SYNC,
+-- the end of dfuDNBUSY and of dfuMANIFEST.
 abbrev pub due_plan : Profile → Stage → Plan
 due_plan c (InDownloadSync before block number) = write_and_report c before block (InDownloadIdle (before ++ block) number)
 due_plan c (InDownloadBusy before block number passed) =

@@ -48,7 +48,8 @@ ComesTo grain f image was flash (Broken fault) = ⊥
 -- The program says how a piece of a format went, which was to be written where these bytes stood.
 pub data TookPiece (f f' : Formatting) (image was flash : List ℕ) (p : Write) (failed : Bool) : Progress → Type 0 where
   -- It stands there: the format asks on, or it is done.
-  format_well : (r : Progress) → failed ≡ false → slice_range flash p.at (p.at + length p.bytes) ≡ p.bytes → ComesTo (grain_within f) f' image was flash r
+  format_well : (r : Progress) → failed ≡ false → slice_range flash p.at (p.at + length p.bytes) ≡ p.bytes
+      → ComesTo (grain_within f) f' image was flash r
       → TookPiece f f' image was flash p failed r
   -- The write failed: the format was broken off by it.
   format_failed : failed ≡ true → BrokenWrites Failed (flash_of f was) (format_series (flash_of f was) image) (flash_of f flash)

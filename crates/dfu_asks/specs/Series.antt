@@ -14,7 +14,8 @@ held_before s n = if n == 0 then [] else s.held
 
 -- The writes of a block behind so many bytes; before the first one the spare is closed.
 abbrev pub block_series : SlotsState → ℕ → List ℕ → List Write
-block_series s n block = if n == 0 then writes_of s Begin ++ put_writes s.medium.grain (data_place s 0) [] block else writes_of s (Put n block)
+block_series s n block =
+    if n == 0 then writes_of s Begin ++ put_writes s.medium.grain (data_place s 0) [] block else writes_of s (Put n block)
 
 -- The store once they are made.
 abbrev pub block_store : SlotsState → ℕ → List ℕ → MediumState → SlotsState

@@ -127,7 +127,8 @@ impl Asking<'_> {
     ///
     /// `NoRoom` where the buffer has less than 6 bytes; else `NoDevice` where no write is due. Nothing changed then.
     pub fn took(&mut self, flash: &[u8], failed: bool, out: &mut [u8]) -> Result<Reply, Refusal>
-        ensures outcome { IfOk result (λ r. (len : ℕ) (s : SlotsState) (was before : List ℕ) (asks : Asks self.old len s was before) (p : Step) →
+        ensures outcome { IfOk result
+            (λ r. (len : ℕ) (s : SlotsState) (was before : List ℕ) (asks : Asks self.old len s was before) (p : Step) →
             IsPiece (steps_in self.old asks.work) asks.work.done p → Torn before p.write.at p.write.bytes flash.now →
             Took (device_of self.old s) len s was p.write failed flash.now out.old self.new out.new r) }
         ensures on { IfOk result (λ r. (w : Work) (p : Step) → self.old.work ≡ Some w → IsPiece (steps_in self.old w) w.done p →

@@ -41,7 +41,8 @@ impl<'b> Asking<'b> {
         ensures store { OnOk result (IsStore (store_in self.now flash.now)) }
         ensures no_store { OnErr result (¬ IsStore (store_in self.now flash.now)) }
         ensures no_medium { IfErr result (λ e. e ≡ Refusal.NoMedium → ¬ HasImage (mapped (grain_in self.now) flash.now)) }
-        ensures no_device { IfErr result (λ e. e ≢ Refusal.NoMedium → (e ≡ Refusal.NoDevice) × HasImage (mapped (grain_in self.now) flash.now)) }
+        ensures no_device { IfErr result
+            (λ e. e ≢ Refusal.NoMedium → (e ≡ Refusal.NoDevice) × HasImage (mapped (grain_in self.now) flash.now)) }
     {
         let Some(medium) = Mapped::with_sector(flash, self.unit, self.sector) else {
             return Err(Refusal::NoMedium);

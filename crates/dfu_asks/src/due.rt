@@ -15,7 +15,8 @@ use dfu_wire::{Request, Setup};
 // Whether a GETSTATUS writes in this mode.
 fn writes_at_once(config: Config, mode: Mode) -> bool
     ensures stage { IsTrue result → (spare block : List ℕ) (len : ℕ) → IsDueStage (stage_of mode spare block) (Some len) len }
-    ensures value { (s : SlotsState) (block : List ℕ) → result ≡ writes_now (profile (shows config s mode block)) (stage_of mode (spare_of s) block) GetStatus }
+    ensures value { (s : SlotsState) (block : List ℕ)
+        → result ≡ writes_now (profile (shows config s mode block)) (stage_of mode (spare_of s) block) GetStatus }
 {
     match mode {
         Mode::DownloadSync { .. } => config.busy_ms() == 0,

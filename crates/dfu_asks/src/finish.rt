@@ -46,7 +46,8 @@ pub(crate) fn code_of(mode: Mode) -> Code
 // The six bytes of the status of a mode in which no host is to wait.
 fn status_of(mode: Mode) -> [u8; 6]
     ensures answers { (spare block : List ℕ) (len : ℕ) →
-        Answers len (StatusOf (code_of (stage_of mode spare block)) 0 (state_of (stage_of mode spare block))) Answer.Bytes (take len result) }
+        Answers len (StatusOf (code_of (stage_of mode spare block)) 0 (state_of (stage_of mode spare block))) Answer.Bytes
+        (take len result) }
     ensures size { length result ≡ 6 }
 {
     let Ok(status) = Status::new(code_of(mode), 0, state_of(mode)) else {

@@ -159,7 +159,8 @@ impl Formatting {
             TookPiece self.old self.new image.now was flash.now p.write failed r) }
         ensures same { IfSome result (λ r. IsSameFormat self.old self.new) }
         ensures ended { IfSome result (λ r. r ≢ Progress.Asks → self.new.phase ≡ Phase.Ended) }
-        ensures taken { IfNone result ((was before : List ℕ) → length before ≡ length flash.now → ¬ AsksFormat self.old image.now was before) }
+        ensures taken { IfNone result ((was before : List ℕ) → length before ≡ length flash.now
+            → ¬ AsksFormat self.old image.now was before) }
         ensures unchanged { IfNone result (self.new ≡ self.old) }
     {
         let Some(piece) = self.due(flash, image) else {

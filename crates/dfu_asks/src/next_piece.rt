@@ -83,11 +83,13 @@ pub(crate) fn header_piece(
     done: usize,
 ) -> Result<Piece, usize>
     ensures ok { let w = grain_for stock.now in
-        IfOk result (λ p. IsPiece (anew_steps w.sector (spare + gate_room w) (header_unit (gate_size w.unit) generation len register)) done (asked p)) }
+        IfOk result (λ p. IsPiece (anew_steps w.sector (spare + gate_room w) (header_unit (gate_size w.unit) generation len register))
+        done (asked p)) }
     ensures fits { IfOk result (λ p. IsFit stock.now.sector.size p) }
     ensures end { IfOk result (λ p. done + p.len ≤ 2 ^ 18) }
     ensures behind { let w = grain_for stock.now in IfErr result (λ rest.
-        total (step_writes (anew_steps w.sector (spare + gate_room w) (header_unit (gate_size w.unit) generation len register))) + rest ≡ done) }
+        total (step_writes (anew_steps w.sector (spare + gate_room w) (header_unit (gate_size w.unit) generation len register))) + rest
+        ≡ done) }
     ensures past { IfErr result (λ rest. done ≤ rest + 2 ^ 18) }
 {
     let gate = gate_size(stock.unit);

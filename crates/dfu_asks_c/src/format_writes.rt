@@ -60,7 +60,8 @@ pub extern "C" fn dfu_asking_format_next(
     ask: &mut DfuAsk,
 ) -> i32
     ensures outcome { HandsFormat config.now device.now flash.now image.now result ask.new
-        ⊎ (RefusesFormat config.now device.now (λ f. (was : List ℕ) → ¬ AsksFormat f image.now was flash.now) result × (ask.new ≡ ask.old)) }
+        ⊎ (RefusesFormat config.now device.now (λ f. (was : List ℕ) → ¬ AsksFormat f image.now was flash.now) result
+        × (ask.new ≡ ask.old)) }
 {
     if !is_allowed(config) {
         return -2;

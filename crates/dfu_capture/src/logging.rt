@@ -158,7 +158,8 @@ fn log_one(
 }
 
 /// The log of a capture. Line N is what packet N says, counted from 1 as other programs do: a request of the class to the device, where the
-/// packet completes it; `reset`, where SET_ADDRESS gives the device an address; and else it is empty. The device is the one at `only`, or the one that gets requests of DFU at this interface.
+/// packet completes it; `reset`, where SET_ADDRESS gives the device an address; and else it is empty. The device is the one at `only`, or
+/// the one that gets requests of DFU at this interface.
 ///
 /// # Errors
 ///

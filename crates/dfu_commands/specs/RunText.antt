@@ -27,8 +27,8 @@ WritesStop NoMemory old new result = Wrote old new (fault_line suffix.NoMemory) 
 WritesStop Read old new result = Wrote old new (fault_line suffix.Read) Fault result
 WritesStop Write old new result = (new ≡ old) × (result ≡ Fault)
 
--- Where FILE stands for the bytes of this file, a script ran to its end and that is all that is written, or it stopped and the line of its fault is written behind what
--- it wrote.
+-- Where FILE stands for the bytes of this file, a script ran to its end and that is all that is written, or it stopped and the line of its
+-- fault is written behind what it wrote.
 pub data WritesRun (file given old new : Option (List ℕ)) (result : Exit) : Type 0 where
   runs : IfSome given (λ text. WroteRun file text old new) → result ≡ Done → WritesRun file given old new result
   stops : (mid : Option (List ℕ)) (fault : ScriptFault) →
@@ -54,4 +54,5 @@ pub data WritesWithHeadline (file given old new : Option (List ℕ)) (result : E
 pub data WritesTraced (file given new : Option (List ℕ)) (result : Exit) : Type 0 where
   traced_runs : IfSome given (λ text. WroteRun file text (Some []) (untraced new)) → result ≡ Done → WritesTraced file given new result
   traced_stops : (mid : Option (List ℕ)) (fault : ScriptFault) →
-      IfSome given (λ text. Falls file text (Some []) (untraced mid) fault) → WritesStop fault mid new result → WritesTraced file given new result
+      IfSome given (λ text. Falls file text (Some []) (untraced mid) fault) → WritesStop fault mid new result
+      → WritesTraced file given new result

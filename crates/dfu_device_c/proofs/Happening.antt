@@ -117,11 +117,13 @@ pub goes_or_not : (c : DfuConfig) (r : DfuDevice) (block medium setup body out :
     → On (unit_of c) r medium r' medium' (λ b b'. Goes c r block b Step number r' block' b')
     ⊎ Refuses c r block medium number r' block' medium'
 goes_or_not c r block medium setup body out e Step result number r' block' medium' out' same leads (inl on) =
-    subst (λ n. On (unit_of c) r medium r' medium' (λ b b'. Goes c r block b Step n r' block' b') ⊎ Refuses c r block medium n r' block' medium')
+    subst (λ n. On (unit_of c) r medium r' medium' (λ b b'. Goes c r block b Step n r' block' b')
+    ⊎ Refuses c r block medium n r' block' medium')
     (sym same) (inl (on_map (unit_of c) r medium r' medium' (λ b b'. Replies c r block b e setup body out result r' block' b' out')
     (λ b b'. Goes c r block b Step result r' block' b') leads on))
 goes_or_not c r block medium setup body out e Step result number r' block' medium' out' same leads (inr (refused, kept)) =
-    subst (λ n. On (unit_of c) r medium r' medium' (λ b b'. Goes c r block b Step n r' block' b') ⊎ Refuses c r block medium n r' block' medium')
+    subst (λ n. On (unit_of c) r medium r' medium' (λ b b'. Goes c r block b Step n r' block' b')
+    ⊎ Refuses c r block medium n r' block' medium')
     (sym same) (inr refused)
 
 -- A call that a setup came to was answered, or refused.
@@ -129,11 +131,13 @@ pub answered_or_not : (c : DfuConfig) (r : DfuDevice) (block medium setup body o
     (block' medium' out' : List ℕ) → number ≡ result → answer_room (setting_of c) ≤ length out
     → On (unit_of c) r medium r' medium' (λ b b'. Replies c r block b event.Setup setup body out result r' block' b' out')
     ⊎ (Refuses c r block medium result r' block' medium' × (out' ≡ out))
-    → On (unit_of c) r medium r' medium' (λ b b'. Answered c r block b out (λ a sent d d'. Handles setup body d a sent d') number r' block' b' out')
+    → On (unit_of c) r medium r' medium'
+    (λ b b'. Answered c r block b out (λ a sent d d'. Handles setup body d a sent d') number r' block' b' out')
     ⊎ (Refuses c r block medium number r' block' medium' × (out' ≡ out))
     ⊎ HasNoRoom c r block medium out number r' block' medium' out'
 answered_or_not c r block medium setup body out result number r' block' medium' out' same room (inl on) =
-    inl (subst (λ n. On (unit_of c) r medium r' medium' (λ b b'. Answered c r block b out (λ a sent d d'. Handles setup body d a sent d') n r' block' b' out'))
+    inl (subst (λ n. On (unit_of c) r medium r' medium'
+    (λ b b'. Answered c r block b out (λ a sent d d'. Handles setup body d a sent d') n r' block' b' out'))
     (sym same) (on_map (unit_of c) r medium r' medium' (λ b b'. Replies c r block b event.Setup setup body out result r' block' b' out')
     (λ b b'. Answered c r block b out (λ a sent d d'. Handles setup body d a sent d') result r' block' b' out')
     (λ b b' reply. answered_of c r block b setup body out result r' block' b' out' room reply) on))

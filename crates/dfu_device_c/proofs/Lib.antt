@@ -10,4 +10,3 @@ pub mod LongTakes
 pub mod Asked
 pub mod DueTimes
 pub mod TrueNotes
-pub mod Twos

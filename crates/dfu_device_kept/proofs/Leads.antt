@@ -50,7 +50,8 @@ PlanKept c p q body st (Commits taken reply next bad) =
     → Leads c p q body st (bad fault) (InError (commit_code fault)))
 
 -- A DNLOAD has as many bytes as its setup says.
-pub whole : (p : Setup) (number len : ℕ) (body : List ℕ) → Asks p (asked.Dnload number len) → is_served p (asked.Dnload number len) body ≡ true
+pub whole : (p : Setup) (number len : ℕ) (body : List ℕ) → Asks p (asked.Dnload number len)
+    → is_served p (asked.Dnload number len) body ≡ true
     → len ≡ length body
 whole p number len body asks served =
     asks.2 ∙ sym (eqb-true _ _ served ∙ cond-true (p.kind == 0x21) p.length 0 (eq-eqb _ _ asks.0.kind))

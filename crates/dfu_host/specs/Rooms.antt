@@ -29,7 +29,8 @@ TakesAsPartIn room h k kept seen.WasReset h' = Unit {0}
 TakesAsPartIn room h k kept seen.Restarted h' = Unit {0}
 TakesAsPartIn room h k kept seen.Left h' = Unit {0}
 
--- What is seen where a part is fetched is taken as that part, in a room of so many bytes. Of the phases that fetch none nothing is said here.
+-- What is seen where a part is fetched is taken as that part, in a room of so many bytes.
+-- Of the phases that fetch none nothing is said here.
 abbrev pub TakesPartIn : (room : ℕ) → HostState → Phase → Seen → HostState → Type 0
 TakesPartIn room h phase seen h' = elim (class_of phase) [
   | Common ↦ Unit {0}

@@ -15,8 +15,8 @@ use Rattle.dfu_host_c.specs.Told.{seen_at}
 use Rattle.dfu_host_c.specs.declared.action.DfuAction.{DfuAction}
 use Rattle.dfu_host_c.specs.declared.session.DfuSession.{DfuSession}
 
--- The session of a record took what was seen, as a row of the host's table; a part of an upload was stored in the buffer where it finds room,
--- and where it finds none, that was heard in its place.
+-- The session of a record took what was seen, as a row of the host's table; a part of an upload was stored in the buffer where it finds
+-- room, and where it finds none, that was heard in its place.
 pub record Took (r r' : DfuSession) (payload : Bor (List ℕ)) (buffer buffer' : List ℕ) (seen : ℕ) (bytes : Bor (List ℕ)) : Type 0 where
   pub parts : Parts
   pub word : Seen
@@ -57,4 +57,5 @@ pub record IsNext (r : DfuSession) (payload : Bor (List ℕ)) (a : DfuAction) : 
   pub parts : Parts
   pub stands : IsRecord r payload parts
   pub tells : (memory : List ℕ)
-      → Tells (payload_of parts.goal) (begins_at parts.transfer parts.phase) (deed (host_of memory parts).task (host_of memory parts).phase) a
+      → Tells (payload_of parts.goal) (begins_at parts.transfer parts.phase)
+      (deed (host_of memory parts).task (host_of memory parts).phase) a

@@ -61,7 +61,8 @@ pub extern "C" fn dfu_host_download(
     actions: u32,
     restarts: u16,
 ) -> i32
-    ensures outcome { Begins ToLoad first_download_fault file.now descriptor.now (ids_of device.now) (limits_of actions restarts) result session.new
+    ensures outcome { Begins ToLoad first_download_fault file.now descriptor.now (ids_of device.now)
+        (limits_of actions restarts) result session.new
         ⊎ (IsUnread file.now descriptor.now result × (session.new ≡ session.old))
         ⊎ (HostRefuses first_download_fault file.now descriptor.now (ids_of device.now) result × (session.new ≡ session.old)) }
 {
@@ -86,7 +87,8 @@ pub extern "C" fn dfu_host_verified(
     actions: u32,
     restarts: u16,
 ) -> i32
-    ensures outcome { Begins ToVerify first_verify_fault file.now descriptor.now (ids_of device.now) (limits_of actions restarts) result session.new
+    ensures outcome { Begins ToVerify first_verify_fault file.now descriptor.now (ids_of device.now)
+        (limits_of actions restarts) result session.new
         ⊎ (IsUnread file.now descriptor.now result × (session.new ≡ session.old))
         ⊎ (HostRefuses first_verify_fault file.now descriptor.now (ids_of device.now) result × (session.new ≡ session.old)) }
 {

@@ -21,7 +21,8 @@ use dfu_host::{Seen, Session};
 fn step(given: &DfuSession, host: &mut Session<'_>, kept: &mut [u8], seen: Seen<'_>) -> DfuSession
     requires { given.now.kept ≤ length kept.old }
     ensures row { HostRow (host_in given.now kept.old host.old) seen.entry (host_in result kept.new host.new) }
-    ensures room { TakesPartIn (length kept.old) (host_in given.now kept.old host.old) (host_in given.now kept.old host.old).phase seen.entry
+    ensures room { TakesPartIn (length kept.old) (host_in given.now kept.old host.old)
+        (host_in given.now kept.old host.old).phase seen.entry
         (host_in result kept.new host.new) }
     ensures stores { Stores host.old.transfer host.old.phase seen.entry given.now.kept kept.old result.kept kept.new }
     ensures written { IsWritten result host.new }

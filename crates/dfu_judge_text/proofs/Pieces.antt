@@ -38,7 +38,8 @@ on_told interface old mid new text c n d o s out told is some took = record {
   at = took.at;
   out = subst (λ (xs : List ℕ). Appends old new xs)
       (ap (λ (k : ℕ). c.out ++ departure_text k d) is
-      ∙ ap (λ (x : Option Departure). c.out ++ told_text s.number x) (sym some) ∙ sym took.out) (Appends-trans old mid new c.out (departure_text n d) out told);
+      ∙ ap (λ (x : Option Departure). c.out ++ told_text s.number x) (sym some) ∙ sym took.out)
+      (Appends-trans old mid new c.out (departure_text n d) out told);
 }
 
 broke_after : (old mid new : Option (List ℕ)) (xs ys : List ℕ) → Appends old mid xs → IsOutInPart mid new ys
@@ -54,7 +55,8 @@ broke_after old mid new xs ys told part = record {
 -- A byte came at which a departure wasn't told.
 pub falls_untold : (interface : ℕ) (old mid new : Option (List ℕ)) (text tail : List ℕ) (byte n : ℕ) (d : Departure)
     (o : Option Departure) (s s' : JudgingState) (f : LogFault) (g : Going interface old mid text s)
-    → Took interface (text ++ byte ∷ []) g.course o s' → o ≡ Some d → n ≡ s'.number → CannotTell (departure_text n d) mid new f → Falls interface old new (text ++ byte ∷ tail) f
+    → Took interface (text ++ byte ∷ []) g.course o s' → o ≡ Some d → n ≡ s'.number → CannotTell (departure_text n d) mid new f
+    → Falls interface old new (text ++ byte ∷ tail) f
 falls_untold interface old mid new text tail byte n d o s s' NoMemory g took some is same = record {
   front = text;
   rest = byte ∷ tail;

@@ -95,7 +95,8 @@ impl Judging {
         requires inner { byte ≢ 10 }
         ensures ok { (interface : ℕ) (text : List ℕ) (c : Course) → IsAt self.old text c → Judges interface text c
             → OnOk result (Took interface (text ++ byte ∷ []) c None self.new) }
-        ensures err { (interface : ℕ) (text : List ℕ) (c : Course) → IsAt self.old text c → IfErr result (λ f. (tail : List ℕ) → CannotGo interface text c (byte ∷ tail) f) }
+        ensures err { (interface : ℕ) (text : List ℕ) (c : Course) → IsAt self.old text c
+            → IfErr result (λ f. (tail : List ℕ) → CannotGo interface text c (byte ∷ tail) f) }
         ensures room { OnOk result (self.new.room + 1 ≡ self.old.room) }
     {
         if self.line.len() >= MAX_LINE {
@@ -132,7 +133,8 @@ impl Judging {
         requires some { 0 < self.old.room }
         ensures ok { (text : List ℕ) (c : Course) → IsAt self.old text c → Judges interface text c
             → IfOk result (λ o. Took interface (text ++ 10 ∷ []) c o self.new) }
-        ensures err { (text : List ℕ) (c : Course) → IsAt self.old text c → IfErr result (λ f. (tail : List ℕ) → CannotGo interface text c (10 ∷ tail) f) }
+        ensures err { (text : List ℕ) (c : Course) → IsAt self.old text c
+            → IfErr result (λ f. (tail : List ℕ) → CannotGo interface text c (10 ∷ tail) f) }
         ensures room { OnOk result (self.new.room + 1 ≡ self.old.room) }
     {
         let Some(line) = read_line(interface, &self.line) else {
@@ -159,7 +161,8 @@ impl Judging {
     pub(crate) fn take(&mut self, interface: u8, byte: u8) -> Result<Option<Departure>, LogFault>
         ensures ok { (text : List ℕ) (c : Course) → IsAt self.old text c → Judges interface text c
             → IfOk result (λ o. Took interface (text ++ byte ∷ []) c o self.new) }
-        ensures err { (text : List ℕ) (c : Course) → IsAt self.old text c → IfErr result (λ f. (tail : List ℕ) → CannotGo interface text c (byte ∷ tail) f) }
+        ensures err { (text : List ℕ) (c : Course) → IsAt self.old text c
+            → IfErr result (λ f. (tail : List ℕ) → CannotGo interface text c (byte ∷ tail) f) }
         ensures room { OnOk result (self.new.room + 1 ≡ self.old.room) }
     {
         if self.room == 0 {

@@ -55,7 +55,8 @@ module _ (s now : SlotsState) (store : IsStore s) (at : ℕ) (new : List ℕ) (h
       (writes_of s (Put at new))
   inside fits =
       put_inside s.medium.grain s.held new (store.has_image.active.spare + 2 * g) (store.has_image.active.spare + slot_size s.medium.bytes)
-      (data_place s (at - length s.held)) edge (omega (arith, place)) (omega (arith, place, fits, here, all_length, held_end s store.puts, store.has_image.active.sized.room))
+      (data_place s (at - length s.held)) edge (omega (arith, place))
+      (omega (arith, place, fits, here, all_length, held_end s store.puts, store.has_image.active.sized.room))
 
   -- After a `put` whose writes worked, or were broken off.
   module _ (came : Came s now (Put at new)) where
@@ -190,7 +191,8 @@ module _ (s now : SlotsState) (store : IsStore s) (at : ℕ) (new : List ℕ) (h
         let some = whole_le s.medium.grain s.held new in
         let e : k + length s.held ≡ at = held_end s store.puts ∙ sym here in
         let f : at + length new ≡ k + whole + length rest = omega (arith, e, long, some, all_length) in
-        ap (λ (l : List ℕ). take (at + length new) l) (spare_is now ∙ (λ i. written (spare_slot now).data_bytes (held_now i) (worked.held_is i)))
+        ap (λ (l : List ℕ). take (at + length new) l)
+        (spare_is now ∙ (λ i. written (spare_slot now).data_bytes (held_now i) (worked.held_is i)))
         ∙ ap (λ (n : ℕ). take n (written (spare_slot now).data_bytes (k + whole) rest)) f
         ∙ front_written (spare_slot now).data_bytes (k + whole) rest (omega (arith, data_size_now, data_size, room, some))
         ∙ ap (λ (l : List ℕ). l ++ rest) data_begins

@@ -19,7 +19,8 @@ pub edge_ahead : (m : MediumState) (at : ℕ) → IsEdge m.grain.sector at → I
 edge_ahead m at edge some p low high none = absurd (none at (omega arith) low (edge some))
 
 -- A byte of a range that was written with FFh.
-erased_byte : (old : List ℕ) (at n p : ℕ) → at + n ≤ length old → at ≤ p → p < at + n → slice_index (written old at (replicate n 255)) p ≡ 255
+erased_byte : (old : List ℕ) (at n p : ℕ) → at + n ≤ length old → at ≤ p → p < at + n
+    → slice_index (written old at (replicate n 255)) p ≡ 255
 erased_byte old at n p fits low high =
     let now = written old at (replicate n 255) in
     let size : length (replicate {A = ℕ} n 255) ≡ n = length-replicate {A = ℕ} n 255 in
@@ -85,7 +86,8 @@ module _ (sector : ℕ) (some : 0 < sector) where
           )
       begun {mid} (inr (missing, same)) =
           let inner : at % sector ≢ 0 = eqb-false _ _ missing in
-          subst (λ (m : MediumState). First s at m) (sym same) (refl, here_erased s.bytes at (omega (arith, fits)) inner erased, next_erased s.bytes at inner erased)
+          subst (λ (m : MediumState). First s at m) (sym same)
+          (refl, here_erased s.bytes at (omega (arith, fits)) inner erased, next_erased s.bytes at inner erased)
 
       further : (mid : MediumState) → First s at mid → AllWrites mid (erases sector (at + 1) n) e
           → (at + 1 + n ≤ length mid.bytes → length mid.bytes % sector ≡ 0 → AllWrites mid (erases sector (at + 1) n) e

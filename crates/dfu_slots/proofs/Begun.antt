@@ -26,7 +26,8 @@ erased_first n some old p fits =
     let size = length-replicate {A = ℕ} n 255 in
     let split : replicate {A = ℕ} n 255 ≡ 255 ∷ replicate (n - 1) 255 =
     (let e : n ≡ suc (n - 1) = omega (arith, some) in ap (λ (k : ℕ). replicate {A = ℕ} k 255) e) in
-    first_of_range (written old p (replicate n 255)) p (p + length (replicate n 255)) 255 (replicate (n - 1) 255) (omega (arith, size, some))
+    first_of_range (written old p (replicate n 255)) p (p + length (replicate n 255)) 255 (replicate (n - 1) 255)
+    (omega (arith, size, some))
     (written_range old p (replicate n 255) (omega (arith, size, fits)) ∙ split)
 
 -- A gate unit that was written decides whether the slot is open.
@@ -47,7 +48,8 @@ closed_most w = by_test (w.sector == 0) refl
     by_test false is = omega (arith, length-replicate {A = ℕ} w.sector 255)
 
 -- Written, it is closed.
-pub closed_written : (w : Grain) (old : List ℕ) (p : ℕ) → p + gate_room w ≤ length old → slice_index (written old p (closed_gate w)) p ≢ OPEN
+pub closed_written : (w : Grain) (old : List ℕ) (p : ℕ) → p + gate_room w ≤ length old
+    → slice_index (written old p (closed_gate w)) p ≢ OPEN
 closed_written w old p fits = by_test (w.sector == 0) refl
   where
     by_test : (b : Bool) → (w.sector == 0) ≡ b

@@ -65,7 +65,8 @@ module _ (w : Grain) (s : MediumState) (mine other : ℕ) (image : List ℕ) (a 
       (anew_inside w.sector other (other + slot_size s.bytes) (spare_at g s.bytes + g)
       (header_unit (gate_size u) (next_generation (generation (slot g s.bytes (active_at g s.bytes)))) len crc) edge (omega (arith, place))
       (omega (arith, place, a.sized.room, head)))
-      (anew_inside w.sector other (other + slot_size s.bytes) (spare_at g s.bytes) (gate_unit (gate_size u) OPEN) edge (omega (arith, place))
+      (anew_inside w.sector other (other + slot_size s.bytes) (spare_at g s.bytes) (gate_unit (gate_size u) OPEN) edge
+      (omega (arith, place))
       (omega (arith, place, a.sized.room, gate))) in
       inside_append other (other + slot_size s.bytes) part (commit_writes w s.bytes len crc)
       (some_inside w.sector other (other + slot_size s.bytes) from (filled u held) edge (omega (arith, place))
@@ -152,5 +153,6 @@ module _ (w : Grain) (s : MediumState) (mine other : ℕ) (image : List ℕ) (a 
         let first = late.1.first in
         let second = subst (λ (ws : List Write). BrokenWrites fault mid ws now) (same_writes mid first) late.1.second in
         subst (λ (l : List ℕ). ActiveAt g now.bytes mine other image ⊎ ActiveAt g now.bytes other mine l) (image_is mid first)
-        (commit_broken w mid mine other image (keeps mid first) (whole_kept mid first) (still_shut mid first) len (fits mid first) fault now second)
+        (commit_broken w mid mine other image (keeps mid first) (whole_kept mid first) (still_shut mid first) len
+        (fits mid first) fault now second)
   ]

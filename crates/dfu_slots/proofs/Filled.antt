@@ -51,13 +51,15 @@ part_series m now v unit at bytes buffer zeros zeros_are short is r series =
     let size = length bytes + zeros in
     let count : zeros ≡ fill_size m.grain.unit (length bytes) = zeros_are ∙ ap (λ (u : WriteUnit). fill_size u (length bytes)) unit in
     let behind : size - length bytes ≡ fill_size m.grain.unit (length bytes) = omega (arith, count) in
-    let fits : size ≤ 256 = omega (arith, filled_within m.grain.unit 256 bytes (multiple_unit m.grain.unit) short, length-filled m.grain.unit bytes, count) in
+    let fits : size ≤ 256 =
+    omega (arith, filled_within m.grain.unit 256 bytes (multiple_unit m.grain.unit) short, length-filled m.grain.unit bytes, count) in
     subst (λ (l : List ℕ). Series m (write_some m.grain.sector at l) r now)
     (ap (λ (l : List ℕ). take size l) is ∙ buffer_front bytes size 256 (omega arith) fits ∙ ap (λ (n : ℕ). bytes ++ replicate n 0) behind)
     series
 
 -- A byte 0 at the front of such a buffer is a gate unit that closes the gate, where the medium has no sectors.
-pub closed_front : (w : Grain) (size : ℕ) (buffer : List ℕ) → size ≡ gate_size w.unit → buffer ≡ (0 ∷ []) ++ replicate (256 - length {A = ℕ} (0 ∷ [])) 0
+pub closed_front : (w : Grain) (size : ℕ) (buffer : List ℕ) → size ≡ gate_size w.unit
+    → buffer ≡ (0 ∷ []) ++ replicate (256 - length {A = ℕ} (0 ∷ [])) 0
     → w.sector ≡ 0 → take size buffer ≡ closed_gate w
 closed_front w size buffer size_is is none =
     ap (λ (l : List ℕ). take size l) is

@@ -64,7 +64,8 @@ pieces_long n at to bytes s mid now long le fits room left others =
     let back = length-drop 4096 bytes in
     let more = others (omega (arith, back, le)) (omega (arith, back, fits, long)) (omega (arith, room, left.0.size)) in
     subst (λ (l : List ℕ). Left at to l s now) (take-append-drop 4096 bytes)
-    (pieces_join to at (take 4096 bytes) (drop 4096 bytes) s mid now (omega (arith, front, long)) (omega (arith, front, back, fits, long)) room
+    (pieces_join to at (take 4096 bytes) (drop 4096 bytes) s mid now (omega (arith, front, long))
+    (omega (arith, front, back, fits, long)) room
     left.0 left.1 more.0 more.1)
 
 -- The pieces stand there, and nothing changes in front of them, nor behind the sector in which they end.
@@ -182,7 +183,8 @@ module _ (w : Grain) (s m1 m2 m3 m4 now : MediumState) (image : List ℕ) (sized
   keeps_2 =
       let fits_2 : 0 + length (closed_gate w) ≤ length m1.bytes = omega (arith, closed_most w, size_1, sized.room) in
       keeps_wider 0 (0 + length (closed_gate w)) 0 g m1.bytes m2.bytes
-      (subst (λ (l : List ℕ). KeepsOutside 0 (0 + length (closed_gate w)) m1.bytes l) (sym is_2) (written_torn m1.bytes 0 (closed_gate w) fits_2))
+      (subst (λ (l : List ℕ). KeepsOutside 0 (0 + length (closed_gate w)) m1.bytes l) (sym is_2)
+      (written_torn m1.bytes 0 (closed_gate w) fits_2))
       (omega arith) (omega (arith, closed_most w))
 
   size_2 : length m2.bytes ≡ h + h

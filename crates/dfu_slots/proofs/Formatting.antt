@@ -95,8 +95,10 @@ module _ (s now : MediumState) (image : List ℕ) (can : CanFormat s image) (all
       (image_inside s image can))
       (inside_append 0 (length s.bytes) (write_anew s.grain.sector (0 + g) (header_unit k 0 (length image) (register image)))
       (write_anew s.grain.sector 0 (gate_unit k OPEN))
-      (anew_inside s.grain.sector 0 (length s.bytes) (0 + g) (header_unit k 0 (length image) (register image)) edge (omega arith) (omega (arith, head, can.sized.room, can.sized.even)))
-      (anew_inside s.grain.sector 0 (length s.bytes) 0 (gate_unit k OPEN) edge (omega arith) (omega (arith, gate, can.sized.room, can.sized.even)))) in
+      (anew_inside s.grain.sector 0 (length s.bytes) (0 + g) (header_unit k 0 (length image) (register image)) edge (omega arith)
+      (omega (arith, head, can.sized.room, can.sized.even)))
+      (anew_inside s.grain.sector 0 (length s.bytes) 0 (gate_unit k OPEN) edge (omega arith)
+      (omega (arith, gate, can.sized.room, can.sized.even)))) in
       (all_keep 0 (length s.bytes) (format_series s image) s now (omega arith) opening all).size
 
   -- It makes the image active.
@@ -136,7 +138,8 @@ module _ (s mid : MediumState) (image : List ℕ) (can : CanFormat s image) (at 
       (subst (λ (ws : List Write). BrokenWrites fault mid ws now) are (broken (length units) (omega arith))))
 
   -- All pieces are written.
-  module _ (filling : MediumState) (all : (n : ℕ) → length units ≤ n → AllWrites mid (piece_writes mid.grain.sector n at units) filling) where
+  module _ (filling : MediumState)
+      (all : (n : ℕ) → length units ≤ n → AllWrites mid (piece_writes mid.grain.sector n at units) filling) where
     in_place : AllWrites mid (image_writes s.grain image) filling
     in_place = subst (λ (ws : List Write). AllWrites mid ws filling) are (all (length units) (omega arith))
 
@@ -175,7 +178,8 @@ module _ (s mid : MediumState) (image : List ℕ) (can : CanFormat s image) (at 
         (arith, units_fit mid image (closed_can s mid image can closed), (closed_sized s mid can.sized closed).room) in
         let even = (closed_sized s mid can.sized closed).even in
         let stand = pieces_stand mid.grain.sector (length mid.bytes) (sized_edge mid (closed_sized s mid can.sized closed))
-        (length units) at units mid filling (omega arith) (omega (arith, here, room, even)) (omega arith) (all (length units) (omega arith)) in
+        (length units) at units mid filling (omega arith) (omega (arith, here, room, even)) (omega arith)
+        (all (length units) (omega arith)) in
         let front : take (length units) (slot g filling.bytes 0).data_bytes ≡ units =
         (let none : length units ≡ 0 + length units = omega arith in
         ap (λ (n : ℕ). take n (slot g filling.bytes 0).data_bytes) none)

@@ -41,7 +41,8 @@ told_listed : (f : ℕ → ℕ) → ((i : ℕ) → f i < 256) → (version regis
 unfolding listed
 told_listed f small version register t =
     let four : (n : ℕ) → (i : ℕ) → get_or (f n ∷ f (suc n) ∷ f (suc (suc n)) ∷ f (suc (suc (suc n))) ∷ []) i 0 < 256 =
-    λ n. four_small (f n) (f (suc n)) (f (suc (suc n))) (f (suc (suc (suc n)))) (small n) (small (suc n)) (small (suc (suc n))) (small (suc (suc (suc n)))) in
+    λ n. four_small (f n) (f (suc n)) (f (suc (suc n))) (f (suc (suc (suc n))))
+    (small n) (small (suc n)) (small (suc (suc n))) (small (suc (suc (suc n)))) in
     let len = sym (le_bytes_4 (f 4 ∷ f 5 ∷ f 6 ∷ f 7 ∷ []) (from_le_bytes w32 (f 4 ∷ f 5 ∷ f 6 ∷ f 7 ∷ [])) refl (four 4) refl) in
     let crc = sym (le_bytes_4 (f 8 ∷ f 9 ∷ f 10 ∷ f 11 ∷ []) register refl (four 8) (sym t.register_is)) in
     let zeros = sym (le_bytes_4 (f 12 ∷ f 13 ∷ f 14 ∷ f 15 ∷ []) 0 refl (four 12) (sym t.rest)) in
@@ -56,7 +57,8 @@ told_header h long small version register told =
     (told_listed (λ i. get_or h i 0) small version register (subst (λ (l : List ℕ). Told l version register) is told))
 
 -- A header has these parts.
-pub header_told : (h : List ℕ) (version gen len register : ℕ) → register < 2 ^ 32 → h ≡ header version gen len register → Told h version register
+pub header_told : (h : List ℕ) (version gen len register : ℕ) → register < 2 ^ 32 → h ≡ header version gen len register
+    → Told h version register
 header_told h version gen len register fits is = record {
   version_is = ap (λ (l : List ℕ). get_or l 1 0) is;
   third = ap (λ (l : List ℕ). get_or l 2 0) is;

@@ -7,7 +7,7 @@ pub mod Commit
 mod Committed
 mod Comparing
 mod Counting
-mod Headers
+pub mod Headers
 pub mod Filled
 pub mod Formatted
 pub mod Formatting

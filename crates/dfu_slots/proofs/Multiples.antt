@@ -156,10 +156,12 @@ module _ (s : SlotsState) (puts : HasPuts s) where
   held_end = omega (arith, puts.part, part_le s.medium.grain.unit s.put_end)
 
   held_multiple : IsMultiple s.medium.grain.unit (held_at s)
-  held_multiple = subst (λ (n : ℕ). IsMultiple s.medium.grain.unit (s.put_end - n)) (sym puts.part) (multiple_part s.medium.grain.unit s.put_end)
+  held_multiple =
+      subst (λ (n : ℕ). IsMultiple s.medium.grain.unit (s.put_end - n)) (sym puts.part) (multiple_part s.medium.grain.unit s.put_end)
 
   -- Filled up with zeros, they end within the data of a slot.
-  pub held_fits : IsMultiple s.medium.grain.unit (capacity_of s.medium) → held_at s + length (filled s.medium.grain.unit s.held) ≤ capacity_of s.medium
+  pub held_fits : IsMultiple s.medium.grain.unit (capacity_of s.medium)
+      → held_at s + length (filled s.medium.grain.unit s.held) ≤ capacity_of s.medium
   held_fits whole = filled_fits s.medium.grain.unit (held_at s) (capacity_of s.medium) s.held held_multiple whole
       (omega (arith, held_end, puts.fits))
 

@@ -162,7 +162,8 @@ pub record OnTheWay (old mid : MediumState) (at : ℕ) (bytes : List ℕ) (place
       → WrittenTo old mid old.grain.sector n at (filled old.grain.unit bytes) place (filled old.grain.unit rest)
 
 -- Before the first piece.
-pub way_begins : (s : MediumState) (at : ℕ) (bytes : List ℕ) → IsSized s → IsAhead s at → at + length (filled s.grain.unit bytes) ≤ length s.bytes
+pub way_begins : (s : MediumState) (at : ℕ) (bytes : List ℕ) → IsSized s → IsAhead s at
+    → at + length (filled s.grain.unit bytes) ≤ length s.bytes
     → at + length bytes < 2 ^ 32 → IsMultiple s.grain.unit at → OnTheWay s s at bytes at bytes
 way_begins s at bytes sized ahead within room whole = record {
   grain = refl;

@@ -132,7 +132,8 @@ module _ (m : MediumState) (v : WriteUnit) (unit : v ≡ m.grain.unit) (at : ℕ
   -- It works, and the further whole units follow it.
   pub full_series : {T : Type 0} (mid now : MediumState) (r : Result T WriteFault) (x y h rest : List ℕ) → x ≡ y → y ≡ held ++ h
       → h ≡ take (size - k) bytes → rest ≡ drop (size - k) bytes
-      → AllWrites m (write_some m.grain.sector at x) mid → Series mid (write_some mid.grain.sector (at + size) (take (count - size) rest)) r now
+      → AllWrites m (write_some m.grain.sector at x) mid
+      → Series mid (write_some mid.grain.sector (at + size) (take (count - size) rest)) r now
       → Series m (put_writes m.grain at held bytes) r now
   full_series mid now r x y h rest one two three back came series =
       subst (λ (ws : List Write). Series m ws r now) (writes_of_full m.grain at held bytes count count_of size of_unit some short full)

@@ -74,5 +74,8 @@ module _ (w : Grain) (n : ℕ) (whole : IsWhole w n) where
   room_multiple = by_sector (cases_eq w.sector 0)
     where
       by_sector : (w.sector ≡ 0) ⊎ (w.sector ≢ 0) → IsMultiple w.unit (gate_room w)
-      by_sector (inl none) = let e : gate_size w.unit ≡ gate_room w = omega (arith, none) in subst (λ (k : ℕ). IsMultiple w.unit k) e (multiple_gate w.unit)
-      by_sector (inr some) = subst (λ (k : ℕ). IsMultiple w.unit k) (sym (room_sector (omega (arith, some)))) (multiple_pages w.unit w.sector whole.pages)
+      by_sector (inl none) =
+          let e : gate_size w.unit ≡ gate_room w = omega (arith, none) in
+          subst (λ (k : ℕ). IsMultiple w.unit k) e (multiple_gate w.unit)
+      by_sector (inr some) =
+          subst (λ (k : ℕ). IsMultiple w.unit k) (sym (room_sector (omega (arith, some)))) (multiple_pages w.unit w.sector whole.pages)

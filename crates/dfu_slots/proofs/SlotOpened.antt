@@ -28,7 +28,8 @@ module _ (m mid : MediumState) (at size room gen len crc : ℕ) (head : List ℕ
   first_is = λ i. write_anew m.grain.sector (at + room_is i) (head_is i ++ replicate (size_is i - length (head_is i)) 0)
 
   -- The write of the header fails.
-  pub header_broken : (fault : WriteFault) → BrokenWrites fault m written_header mid → BrokenWrites fault m (open_writes m.grain at gen len crc) mid
+  pub header_broken : (fault : WriteFault) → BrokenWrites fault m written_header mid
+      → BrokenWrites fault m (open_writes m.grain at gen len crc) mid
   header_broken fault broken = broken_first fault header_writes gate_writes m mid
       (subst (λ (ws : List Write). BrokenWrites fault m ws mid) first_is broken)
 

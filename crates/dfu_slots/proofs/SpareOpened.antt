@@ -62,7 +62,8 @@ module _ (m : MediumState) (held : List ℕ) (end : ℕ) (sized : IsSized m) (pu
     grain = all_grain (write_some m.grain.sector at (filled m.grain.unit shown)) m mid came
 
     size : length mid.bytes ≡ length m.bytes
-    size = (some_keeps m.grain.sector (length m.bytes) at (filled m.grain.unit shown) (sized_edge m sized) held_within m mid (omega arith) came).size
+    size = (some_keeps m.grain.sector (length m.bytes) at (filled m.grain.unit shown) (sized_edge m sized) held_within m mid
+        (omega arith) came).size
 
     -- Once it is written, the medium has the length that it had.
     pub held_sized : IsSized mid

@@ -78,7 +78,8 @@ impl<M: Medium> Slots<M> {
 
     /// Puts a store together of a medium, the bytes held back, and where the puts end. They are a store's exactly where
     /// the medium has an active image, the end is at most the capacity, as many bytes are held back as the end is
-    /// over a multiple of the unit, and, with sectors, those behind what was written are FFh up to the next sector. Of each open slot of version 2 it reads the whole image. It writes nothing.
+    /// over a multiple of the unit, and, with sectors, those behind what was written are FFh up to the next sector. Of each open slot of
+    /// version 2 it reads the whole image. It writes nothing.
     ///
     /// # Errors
     ///

@@ -21,22 +21,26 @@ Grown bytes old inside rest line = (text : List ℕ) × (line ≡ old ++ text)
 
 -- At first nothing was added, and all descriptors are left.
 pub begins : (bytes old : List ℕ) → Grown bytes old false bytes old
-begins bytes old = ([], sym (append-nil old), λ r w. subst (λ (a : Result (List ℕ) WireFault). Walks false bytes a) (sym (after_nothing r)) w)
+begins bytes old =
+    ([], sym (append-nil old), λ r w. subst (λ (a : Result (List ℕ) WireFault). Walks false bytes a) (sym (after_nothing r)) w)
 
 -- A descriptor that adds its text is behind those before it.
 pub grows : (bytes old : List ℕ) (inside now : Bool) (rest front back line new : List ℕ) → Grown bytes old inside rest line →
-    2 ≤ slice_index rest 0 → slice_index rest 0 ≤ length rest → front ≡ take (slice_index rest 0) rest → back ≡ drop (slice_index rest 0) rest →
+    2 ≤ slice_index rest 0 → slice_index rest 0 ≤ length rest → front ≡ take (slice_index rest 0) rest
+    → back ≡ drop (slice_index rest 0) rest →
     Added inside front line new (Ok now) → Grown bytes old now back new
 grows bytes old inside now rest front back line new (text, is, all) long fits in_front behind (more, adds, then) = (
   text ++ more,
   then ∙ ap (λ (l : List ℕ). l ++ more) is ∙ append_assoc old text more,
   λ r w. subst (λ (a : Result (List ℕ) WireFault). Walks false bytes a) (after_twice text more r) (all (after more r)
-      (goes_on long fits (subst (λ (d : List ℕ). Adds inside d now (Ok more)) in_front adds) (subst (λ (b : List ℕ). Walks now b r) behind w))),
+      (goes_on long fits (subst (λ (d : List ℕ). Adds inside d now (Ok more)) in_front adds)
+      (subst (λ (b : List ℕ). Walks now b r) behind w))),
 )
 
 -- A descriptor that can't be read ends it.
 pub stops_at : (bytes old : List ℕ) (inside : Bool) (rest front line new : List ℕ) (e : WireFault) → Grown bytes old inside rest line →
-    2 ≤ slice_index rest 0 → slice_index rest 0 ≤ length rest → front ≡ take (slice_index rest 0) rest → Added inside front line new (Err e) →
+    2 ≤ slice_index rest 0 → slice_index rest 0 ≤ length rest → front ≡ take (slice_index rest 0) rest
+    → Added inside front line new (Err e) →
     Walks false bytes (Err e)
 stops_at bytes old inside rest front line new e (text, is, all) long fits in_front adds =
     all (Err e) (stops long fits (subst (λ (d : List ℕ). Adds inside d inside (Err e)) in_front adds))
@@ -56,7 +60,8 @@ pub all_read : (bytes back old new : List ℕ) → 9 ≤ length bytes → slice_
     total_length bytes ≡ length bytes → back ≡ drop 9 bytes → old ≡ configuration_line (slice_index bytes 5) →
     Walked back old new (Ok tt) → Configured bytes (Ok new)
 all_read bytes back old new long kind nine total behind first (text, walks, is) = subst (λ (t : List ℕ). Configured bytes (Ok t))
-    (ap (λ (l : List ℕ). l ++ text) (sym first) ∙ sym is) (whole long kind nine total (subst (λ (b : List ℕ). Walks false b (Ok text)) behind walks))
+    (ap (λ (l : List ℕ). l ++ text) (sym first) ∙ sym is)
+    (whole long kind nine total (subst (λ (b : List ℕ). Walks false b (Ok text)) behind walks))
 
 -- Where one of them can't be read, its fault is that of the whole.
 pub one_unread : (bytes back old new : List ℕ) (e : WireFault) → 9 ≤ length bytes → slice_index bytes 1 ≡ 2 → slice_index bytes 0 ≡ 9 →

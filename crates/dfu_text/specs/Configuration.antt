@@ -66,7 +66,8 @@ pub data Configured (bytes : List ℕ) : Result (List ℕ) WireFault → Type 0 
   long : 9 ≤ length bytes → slice_index bytes 1 ≡ 2 → slice_index bytes 0 ≡ 9 → total_length bytes < length bytes →
       Configured bytes (Err fault.Long)
   whole : {rest : Result (List ℕ) WireFault} → 9 ≤ length bytes → slice_index bytes 1 ≡ 2 → slice_index bytes 0 ≡ 9 →
-      total_length bytes ≡ length bytes → Walks false (drop 9 bytes) rest → Configured bytes (after (configuration_line (slice_index bytes 5)) rest)
+      total_length bytes ≡ length bytes → Walks false (drop 9 bytes) rest
+      → Configured bytes (after (configuration_line (slice_index bytes 5)) rest)
 
 -- A descriptor added its text to a line, and the next one is within an interface for upgrades or not; or it can't be read.
 abbrev pub Added : (inside : Bool) (d old new : List ℕ) → Result Bool WireFault → Type 0

@@ -158,13 +158,13 @@ fn show_configuration<W: Write>(alloc: Global, hex: &str, writer: &mut W) -> Exi
 ///   - `functional download Y upload Y tolerant Y will-detach Y detach N transfer N version HHHH`, a functional descriptor;
 ///   - `status CODE poll N state STATE string N`, an answer to GETSTATUS;
 ///   - `state STATE`, an answer to GETSTATE;
-///   - `setup REQUEST kind HH number HH value N index N length N`, the eight bytes of a setup: REQUEST is what it asks for at any interface,
-///     `other-class` or `not-dfu`;
+///   - `setup REQUEST kind HH number HH value N index N length N`, the eight bytes of a setup: REQUEST is what it asks for at any
+///     interface, `other-class` or `not-dfu`;
 ///   - `configuration N`, a configuration descriptor with all that follows it, and then `interface N alternate N mode MODE string N`, MODE
 ///     being `run-time`, `dfu` or `other`, and `functional ..` as above, in the order of the bytes.
 ///
-/// They are looked for in this order. Where an allocation is refused the line is `refused NoMemory`, with Refused. Where the writer fails it
-/// answers Fault, and a front of the text is out, not all of it.
+/// They are looked for in this order. Where an allocation is refused the line is `refused NoMemory`, with Refused. Where the writer fails
+/// it answers Fault, and a front of the text is out, not all of it.
 pub fn show_text<W: Write>(alloc: Global, kind: &str, hex: &str, writer: &mut W) -> Exit
     ensures functional { kind.now ≡ codes "functional"
         → WritesBytes WritesFunctional hex.now (W.contents writer.old) (W.contents writer.new) result }

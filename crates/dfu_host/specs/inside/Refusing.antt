@@ -9,7 +9,8 @@ use Rattle.dfu_host.specs.declared.seen.Seen.TheVariants as seen
 use Rattle.dfu_host.specs.InParts.{kept_at}
 use Rattle.dfu_host.specs.Rooms.{overflows}
 
--- Bytes that come in a phase are refused as a room of so many bytes says: those of a part that was asked for exactly where it finds no room.
+-- Bytes that come in a phase are refused as a room of so many bytes says:
+-- those of a part that was asked for exactly where it finds no room.
 abbrev pub RefusesBytes : (room t : ℕ) → Phase → (memory bytes : List ℕ) → (refused : Bool) → Type 0
 RefusesBytes room t (phase.Fetch k) memory bytes refused = refused ≡ overflows room t k (kept_at k memory) bytes
 RefusesBytes room t other memory bytes refused = Unit {0}

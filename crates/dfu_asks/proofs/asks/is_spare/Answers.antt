@@ -24,26 +24,30 @@ returns-then-flash-slot-clause-yes c = λ t image a.
       | then-at-half w ↦ omega (arith, w.slot-is)
       | else-at-half w ↦ omega (arith, w.if-at-half.false, w.slot-is)
     ] in
-    spare_closed (mapped (record { unit = c.args.unit; sector = c.args.sector.size }) flash) image slot c.args.at c.args.len a either c.if-flash-slot.true low (omega (arith, c.if-at-len.false))
+    spare_closed (mapped (record { unit = c.args.unit; sector = c.args.sector.size }) flash)
+    image slot c.args.at c.args.len a either c.if-flash-slot.true low (omega (arith, c.if-at-len.false))
 
 pub returns-in-Ok-clause-yes : goal.returns-in-Ok-clause-yes
 returns-in-Ok-clause-yes c = λ t image a.
     let flash = c.args.flash.now in
     let slot = c.if-at-half.slot in
-    let m : c.in-Ok.slots.medium ≡ mapped (record { unit = c.args.unit; sector = c.args.sector.size }) flash = c.in-Ok.ensures.ok ∙ c.in-Some.ensures.some in
+    let m : c.in-Ok.slots.medium ≡ mapped (record { unit = c.args.unit; sector = c.args.sector.size }) flash =
+    c.in-Ok.ensures.ok ∙ c.in-Some.ensures.some in
     let is : spare_at (gate_of (mapped (record { unit = c.args.unit; sector = c.args.sector.size }) flash)) flash ≡ slot =
     sym (ap (λ (x : MediumState). spare_at (gate_of x) x.bytes) m) ∙ sym c.spare_place.ensures ∙ sym c.from.ensures ∙ eq_from _ _ t in
     let low : slot ≤ c.args.at = elim c.if-at-half.branch [
       | then-at-half w ↦ omega (arith, w.slot-is)
       | else-at-half w ↦ omega (arith, w.if-at-half.false, w.slot-is)
     ] in
-    spare_found (mapped (record { unit = c.args.unit; sector = c.args.sector.size }) flash) slot c.args.at c.args.len is low (omega (arith, c.if-at-len.false))
+    spare_found (mapped (record { unit = c.args.unit; sector = c.args.sector.size }) flash) slot c.args.at c.args.len is low
+    (omega (arith, c.if-at-len.false))
 
 pub returns-in-Ok-clause-no : goal.returns-in-Ok-clause-no
 returns-in-Ok-clause-no c = λ t k either low high.
     let flash = c.args.flash.now in
     let slot = c.if-at-half.slot in
-    let m : c.in-Ok.slots.medium ≡ mapped (record { unit = c.args.unit; sector = c.args.sector.size }) flash = c.in-Ok.ensures.ok ∙ c.in-Some.ensures.some in
+    let m : c.in-Ok.slots.medium ≡ mapped (record { unit = c.args.unit; sector = c.args.sector.size }) flash =
+    c.in-Ok.ensures.ok ∙ c.in-Some.ensures.some in
     let is : c.from.result ≡ spare_at (gate_of (mapped (record { unit = c.args.unit; sector = c.args.sector.size }) flash)) flash =
     c.from.ensures ∙ c.spare_place.ensures ∙ ap (λ (x : MediumState). spare_at (gate_of x) x.bytes) m in
     let same : k ≡ slot = elim c.if-at-half.branch [

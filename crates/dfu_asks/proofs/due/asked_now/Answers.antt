@@ -10,7 +10,8 @@ pub returns-then-writes_at_once-clause-some : goal.returns-then-writes_at_once-c
 returns-then-writes_at_once-clause-some c = λ s block.
     let p = c.decode-setup.result in
     let none : length c.args.body.now ≡ 0 = eqb-true _ _ (sym c.is_empty.ensures ∙ c.if-is_empty.true) in
-    status_due p c.in-GetStatus.length c.args.setup.now c.args.body.now (shows c.args.config s c.args.mode block) c.decode-setup.ensures.fields
+    status_due p c.in-GetStatus.length c.args.setup.now c.args.body.now (shows c.args.config s c.args.mode block)
+    c.decode-setup.ensures.fields
     (subst (λ (q : Asked). Asks p q) c.in-GetStatus.is c.request.ensures.asks) none
     (sym (c.writes_at_once.ensures.value s block) ∙ c.if-writes_at_once.true)
 

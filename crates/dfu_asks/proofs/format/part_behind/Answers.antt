@@ -19,8 +19,11 @@ returns-then-len-eq0-clause-some c w size crc image same len other = header_tota
 
 pub returns-else-len-eq0-clause-some : goal.returns-else-len-eq0-clause-some
 returns-else-len-eq0-clause-some c w size crc image same len other =
-    front_total w image 0 (omega
-    (arith, c.if-len-eq0.false, filled_size w.unit c.args.unit image c.args.len (c.args.len + fill_size c.args.unit c.args.len) same len refl))
+    front_total w image 0 (omega (
+      arith,
+      c.if-len-eq0.false,
+      filled_size w.unit c.args.unit image c.args.len (c.args.len + fill_size c.args.unit c.args.len) same len refl,
+    ))
 
 pub returns-then-next-filled_len-clause-parts : goal.returns-then-next-filled_len-clause-parts
 returns-then-next-filled_len-clause-parts c w size crc image same len =
@@ -29,14 +32,20 @@ returns-then-next-filled_len-clause-parts c w size crc image same len =
 
 pub returns-then-next-filled_len-clause-some : goal.returns-then-next-filled_len-clause-some
 returns-then-next-filled_len-clause-some c w size crc image same len other =
-    front_total w image (c.in-Image.from + 4096) (omega
-    (arith, c.if-next-filled_len.true, filled_size w.unit c.args.unit image c.args.len c.filled_len.result same len c.filled_len.ensures.value))
+    front_total w image (c.in-Image.from + 4096) (omega (
+      arith,
+      c.if-next-filled_len.true,
+      filled_size w.unit c.args.unit image c.args.len c.filled_len.result same len c.filled_len.ensures.value,
+    ))
 
 pub returns-else-next-filled_len-clause-parts : goal.returns-else-next-filled_len-clause-parts
 returns-else-next-filled_len-clause-parts c w size crc image same len =
     subst (λ (p : Phase). IsFollowed w size image crc p phase.Header) (sym c.in-Image.is)
-    (image_last w size image crc c.in-Image.from (omega
-    (arith, c.if-next-filled_len.false, filled_size w.unit c.args.unit image c.args.len c.filled_len.result same len c.filled_len.ensures.value)))
+    (image_last w size image crc c.in-Image.from (omega (
+      arith,
+      c.if-next-filled_len.false,
+      filled_size w.unit c.args.unit image c.args.len c.filled_len.result same len c.filled_len.ensures.value,
+    )))
 
 pub returns-else-next-filled_len-clause-some : goal.returns-else-next-filled_len-clause-some
 returns-else-next-filled_len-clause-some c w size crc image same len other = header_total w _ 0 (length image) crc

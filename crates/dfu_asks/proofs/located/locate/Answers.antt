@@ -15,7 +15,8 @@ returns-in-Behind c =
     let some : 0 < n = omega (arith, c.if-size-eq0.false) in
     let e = c.in-Behind.ensures in
     subst (λ (k : ℕ). LeadsTo k c.args.at c.args.len c.args.done c.locate_write-in-Behind.result) c.size-size.ensures.value
-    (within_leads n c.args.at c.args.len c.args.done c.in-Behind.rest (behind_count n c.args.at c.args.len c.args.done c.in-Behind.rest some e.0)
+    (within_leads n c.args.at c.args.len c.args.done c.in-Behind.rest
+    (behind_count n c.args.at c.args.len c.args.done c.in-Behind.rest some e.0)
     (omega (arith, e.1)) c.locate_write-in-Behind.result c.locate_write-in-Behind.ensures)
 
 pub returns-in_default : goal.returns-in_default

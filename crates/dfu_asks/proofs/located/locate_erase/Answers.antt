@@ -8,7 +8,8 @@ use Rattle.dfu_asks.proofs.located.locate_erase.Goals as goal
 
 pub loop-place-init : goal.loop-place-init
 loop-place-init c =
-    let first = walked_first c.args.sector c.args.at c.args.len c.args.done c.requires.large c.from-size.result c.from-size.ensures c.if-behind-eq0.place in
+    let first = walked_first c.args.sector c.args.at c.args.len c.args.done c.requires.large c.from-size.result c.from-size.ensures
+    c.if-behind-eq0.place in
     elim c.if-behind-eq0.branch [
       | then-behind-eq0 w ↦ first.0 w.if-behind-eq0.true w.place-is
       | else-behind-eq0 w ↦ first.1 w.if-behind-eq0.false w.place-is
@@ -31,7 +32,8 @@ returns-then-rest-size c =
 
 pub loop-place-preserved : goal.loop-place-preserved
 loop-place-preserved c =
-    subst (λ (n : ℕ). Walked c.args.sector c.args.at c.args.len c.args.done (c.loop-place.place + n) (c.loop-place.rest - n)) (sym c.from-size.ensures)
+    subst (λ (n : ℕ). Walked c.args.sector c.args.at c.args.len c.args.done (c.loop-place.place + n) (c.loop-place.rest - n))
+    (sym c.from-size.ensures)
     (walked_more c.args.sector c.args.at c.args.len c.args.done c.requires.large c.loop-place.place c.loop-place.rest c.loop-place.invariant
     c.loop-place-test.true (omega (arith, c.from-size.ensures, c.if-rest-size.false)))
 

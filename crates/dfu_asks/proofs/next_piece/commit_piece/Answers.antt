@@ -31,13 +31,16 @@ returns-in-Ok-header-clause-some c =
     let part : take n c.fill_up-part.result ≡ filled s.unit h =
     ap (λ (l : List ℕ). take n l) c.fill_up-part.ensures ∙ padded h n 256 (omega arith) c.fill_size.ensures.most
     ∙ ap (λ (k : ℕ). h ++ replicate k 0) (omega (arith, c.fill_size.ensures.value)) in
-    let count : total (step_writes (some_steps w.sector (held_place w c.args.spare s.put_end h) (filled s.unit h))) + c.in-Err.rest ≡ c.args.done =
+    let count : total (step_writes (some_steps w.sector (held_place w c.args.spare s.put_end h) (filled s.unit h))) + c.in-Err.rest
+    ≡ c.args.done =
     omega (
       arith,
-      total_as w.sector c.held_place-at.result (held_place w c.args.spare s.put_end h) (take n c.fill_up-part.result) (filled s.unit h) at part,
+      total_as w.sector c.held_place-at.result (held_place w c.args.spare s.put_end h) (take n c.fill_up-part.result)
+          (filled s.unit h) at part,
       c.in-Err.ensures.behind,
     ) in
-    commit_second w c.args.spare s.put_end c.args.generation c.args.register h s.block.now c.args.done c.in-Err.rest (asked c.in-Ok-header.piece)
+    commit_second w c.args.spare s.put_end c.args.generation c.args.register h s.block.now c.args.done c.in-Err.rest
+    (asked c.in-Ok-header.piece)
     count c.in-Ok-header.ensures.ok
 
 pub returns-in-Ok-gate_piece-clause-some : goal.returns-in-Ok-gate_piece-clause-some
@@ -50,10 +53,12 @@ returns-in-Ok-gate_piece-clause-some c =
     let part : take n c.fill_up-part.result ≡ filled s.unit h =
     ap (λ (l : List ℕ). take n l) c.fill_up-part.ensures ∙ padded h n 256 (omega arith) c.fill_size.ensures.most
     ∙ ap (λ (k : ℕ). h ++ replicate k 0) (omega (arith, c.fill_size.ensures.value)) in
-    let count : total (step_writes (some_steps w.sector (held_place w c.args.spare s.put_end h) (filled s.unit h))) + c.in-Err.rest ≡ c.args.done =
+    let count : total (step_writes (some_steps w.sector (held_place w c.args.spare s.put_end h) (filled s.unit h))) + c.in-Err.rest
+    ≡ c.args.done =
     omega (
       arith,
-      total_as w.sector c.held_place-at.result (held_place w c.args.spare s.put_end h) (take n c.fill_up-part.result) (filled s.unit h) at part,
+      total_as w.sector c.held_place-at.result (held_place w c.args.spare s.put_end h) (take n c.fill_up-part.result)
+          (filled s.unit h) at part,
       c.in-Err.ensures.behind,
     ) in
     commit_third w c.args.spare s.put_end c.args.generation c.args.register h s.block.now c.args.done c.in-Err.rest c.in-Err-header.rest
@@ -69,10 +74,12 @@ returns-in-Err-gate_piece-clause-none c =
     let part : take n c.fill_up-part.result ≡ filled s.unit h =
     ap (λ (l : List ℕ). take n l) c.fill_up-part.ensures ∙ padded h n 256 (omega arith) c.fill_size.ensures.most
     ∙ ap (λ (k : ℕ). h ++ replicate k 0) (omega (arith, c.fill_size.ensures.value)) in
-    let count : total (step_writes (some_steps w.sector (held_place w c.args.spare s.put_end h) (filled s.unit h))) + c.in-Err.rest ≡ c.args.done =
+    let count : total (step_writes (some_steps w.sector (held_place w c.args.spare s.put_end h) (filled s.unit h))) + c.in-Err.rest
+    ≡ c.args.done =
     omega (
       arith,
-      total_as w.sector c.held_place-at.result (held_place w c.args.spare s.put_end h) (take n c.fill_up-part.result) (filled s.unit h) at part,
+      total_as w.sector c.held_place-at.result (held_place w c.args.spare s.put_end h) (take n c.fill_up-part.result)
+          (filled s.unit h) at part,
       c.in-Err.ensures.behind,
     ) in
     omega (

@@ -44,4 +44,5 @@ returns-clause-behind c =
     (λ i. some_steps w.sector (c.from.ensures i) (top i))
     ∙ anew_are w.sector c.args.spare unit
     (omega (arith, length-gate_unit (gate_size s.unit) OPEN (unit_wide s.unit), unit_wide s.unit)) in
-    subst (λ (ss : List Step). IfErr c.write_piece.result (λ rest. total (step_writes ss) + rest ≡ c.args.done)) same c.write_piece.ensures.behind
+    subst (λ (ss : List Step). IfErr c.write_piece.result (λ rest. total (step_writes ss) + rest ≡ c.args.done))
+    same c.write_piece.ensures.behind

@@ -22,12 +22,17 @@ returns-clause-ok c =
     ap (λ (l : List ℕ). take g l) (c.fill_up-unit.ensures ∙ ap (λ (l : List ℕ). l ++ replicate (256 - length l) 0) c.header.ensures)
     ∙ padded head g 256 (omega (arith, size)) (omega (arith, c.gate_size-gate.ensures.most))
     ∙ ap (λ (k : ℕ). head ++ replicate (k - 16) 0) size in
-    let place : c.from.result + c.gate_room.result ≡ c.args.spare + gate_room w = omega (arith, c.from.ensures, c.gate_room.ensures.value) in
+    let place : c.from.result + c.gate_room.result ≡ c.args.spare + gate_room w =
+    omega (arith, c.from.ensures, c.gate_room.ensures.value) in
     let same : some_steps w.sector (c.from.result + c.gate_room.result) (take g c.fill_up-unit.result)
     ≡ anew_steps w.sector (c.args.spare + gate_room w) unit =
     (λ i. some_steps w.sector (place i) (top i))
     ∙ anew_are w.sector (c.args.spare + gate_room w) unit
-    (omega (arith, length-header_unit (gate_size s.unit) c.args.generation c.args.len c.args.register (unit_wide s.unit), unit_wide s.unit)) in
+    (omega (
+      arith,
+      length-header_unit (gate_size s.unit) c.args.generation c.args.len c.args.register (unit_wide s.unit),
+      unit_wide s.unit,
+    )) in
     subst (λ (ss : List Step). IfOk c.write_piece.result (λ p. IsPiece ss c.args.done (asked p))) same c.write_piece.ensures.ok
 
 pub returns-clause-behind : goal.returns-clause-behind
@@ -42,10 +47,16 @@ returns-clause-behind c =
     ap (λ (l : List ℕ). take g l) (c.fill_up-unit.ensures ∙ ap (λ (l : List ℕ). l ++ replicate (256 - length l) 0) c.header.ensures)
     ∙ padded head g 256 (omega (arith, size)) (omega (arith, c.gate_size-gate.ensures.most))
     ∙ ap (λ (k : ℕ). head ++ replicate (k - 16) 0) size in
-    let place : c.from.result + c.gate_room.result ≡ c.args.spare + gate_room w = omega (arith, c.from.ensures, c.gate_room.ensures.value) in
+    let place : c.from.result + c.gate_room.result ≡ c.args.spare + gate_room w =
+    omega (arith, c.from.ensures, c.gate_room.ensures.value) in
     let same : some_steps w.sector (c.from.result + c.gate_room.result) (take g c.fill_up-unit.result)
     ≡ anew_steps w.sector (c.args.spare + gate_room w) unit =
     (λ i. some_steps w.sector (place i) (top i))
     ∙ anew_are w.sector (c.args.spare + gate_room w) unit
-    (omega (arith, length-header_unit (gate_size s.unit) c.args.generation c.args.len c.args.register (unit_wide s.unit), unit_wide s.unit)) in
-    subst (λ (ss : List Step). IfErr c.write_piece.result (λ rest. total (step_writes ss) + rest ≡ c.args.done)) same c.write_piece.ensures.behind
+    (omega (
+      arith,
+      length-header_unit (gate_size s.unit) c.args.generation c.args.len c.args.register (unit_wide s.unit),
+      unit_wide s.unit,
+    )) in
+    subst (λ (ss : List Step). IfErr c.write_piece.result (λ rest. total (step_writes ss) + rest ≡ c.args.done))
+    same c.write_piece.ensures.behind

@@ -18,7 +18,8 @@ returns-in-Erase-clause-some c =
     let hd = c.head_size-head.result in
     let value : hd ≡ head_size s.unit h b = c.head_size-head.ensures.value in
     put_first w c.args.at h b c.args.done (asked c.erase_piece.result)
-    (subst (λ (p : Step). IsPiece (some_steps w.sector c.args.at (take (head_size s.unit h b) (h ++ b))) c.args.done p) (sym c.erase_piece.ensures.step)
+    (subst (λ (p : Step). IsPiece (some_steps w.sector c.args.at (take (head_size s.unit h b) (h ++ b))) c.args.done p)
+    (sym c.erase_piece.ensures.step)
     (c.in-Erase.ensures.0 (take (head_size s.unit h b) (h ++ b)) (front_length w h b ∙ sym value)))
 
 pub returns-in-Program-clause-some : goal.returns-in-Program-clause-some
@@ -54,13 +55,15 @@ returns-in-Erase-locate-clause-some c =
     let place : c.args.at + hd ≡ c.args.at + head_size s.unit h b = ap (λ (k : ℕ). c.args.at + k) value in
     let left : length h + length b - (length h + length b) % size - hd ≡ whole_part s.unit (length (h ++ b)) - head_size s.unit h b =
     λ i. whole i - value i in
-    let behind : total (step_writes (some_steps w.sector c.args.at (take (head_size s.unit h b) (h ++ b)))) + c.in-Behind.rest ≡ c.args.done =
+    let behind : total (step_writes (some_steps w.sector c.args.at (take (head_size s.unit h b) (h ++ b)))) + c.in-Behind.rest
+    ≡ c.args.done =
     c.in-Behind.ensures.0 (take (head_size s.unit h b) (h ++ b)) (front_length w h b ∙ sym value) in
     let back = drop (head_size s.unit h b) (take (whole_part s.unit (length (h ++ b))) (h ++ b)) in
     let there : length back ≡ length h + length b - (length h + length b) % size - hd = back_length w h b ∙ sym left in
     let p = asked c.erase_piece-in-Erase-locate.result in
     let piece : IsPiece (some_steps w.sector (c.args.at + hd) back) c.in-Behind.rest p =
-    subst (λ (q : Step). IsPiece (some_steps w.sector (c.args.at + hd) back) c.in-Behind.rest q) (sym c.erase_piece-in-Erase-locate.ensures.step)
+    subst (λ (q : Step). IsPiece (some_steps w.sector (c.args.at + hd) back) c.in-Behind.rest q)
+    (sym c.erase_piece-in-Erase-locate.ensures.step)
     (c.in-Erase-locate.ensures.0 back there) in
     put_second w c.args.at h b c.args.done c.in-Behind.rest p behind
     (piece_as w.sector (c.args.at + hd) (c.args.at + head_size s.unit h b) back back c.in-Behind.rest p place (λ i. back) piece)
@@ -80,7 +83,8 @@ returns-in-Program-locate-clause-some c =
     let place : c.args.at + hd ≡ c.args.at + head_size s.unit h b = ap (λ (k : ℕ). c.args.at + k) value in
     let left : length h + length b - (length h + length b) % size - hd ≡ whole_part s.unit (length (h ++ b)) - head_size s.unit h b =
     λ i. whole i - value i in
-    let behind : total (step_writes (some_steps w.sector c.args.at (take (head_size s.unit h b) (h ++ b)))) + c.in-Behind.rest ≡ c.args.done =
+    let behind : total (step_writes (some_steps w.sector c.args.at (take (head_size s.unit h b) (h ++ b)))) + c.in-Behind.rest
+    ≡ c.args.done =
     c.in-Behind.ensures.0 (take (head_size s.unit h b) (h ++ b)) (front_length w h b ∙ sym value) in
     let back = drop (head_size s.unit h b) (take (whole_part s.unit (length (h ++ b))) (h ++ b)) in
     let there : length back ≡ length h + length b - (length h + length b) % size - hd = back_length w h b ∙ sym left in
@@ -112,7 +116,8 @@ returns-in-Behind-locate-clause-none c =
     let place : c.args.at + hd ≡ c.args.at + head_size s.unit h b = ap (λ (k : ℕ). c.args.at + k) value in
     let left : length h + length b - (length h + length b) % size - hd ≡ whole_part s.unit (length (h ++ b)) - head_size s.unit h b =
     λ i. whole i - value i in
-    let behind : total (step_writes (some_steps w.sector c.args.at (take (head_size s.unit h b) (h ++ b)))) + c.in-Behind.rest ≡ c.args.done =
+    let behind : total (step_writes (some_steps w.sector c.args.at (take (head_size s.unit h b) (h ++ b)))) + c.in-Behind.rest
+    ≡ c.args.done =
     c.in-Behind.ensures.0 (take (head_size s.unit h b) (h ++ b)) (front_length w h b ∙ sym value) in
     let back = drop (head_size s.unit h b) (take (whole_part s.unit (length (h ++ b))) (h ++ b)) in
     let there : length back ≡ length h + length b - (length h + length b) % size - hd = back_length w h b ∙ sym left in

@@ -25,9 +25,11 @@ returns-in-Some-powered c =
             (omega (arith, len)) (omega (arith, len)) (says.block.1 ∙ ap (λ (n : ℕ). take n block) (sym len));
         work = says.parts.0;
         device = settle k a (λ (x : Asking). IsDevice x flash) config unit says.is;
-        shows = settle k a (λ (x : Asking). device_in x flash ≡ powered_on x.config (mapped (record { unit = x.unit; sector = c.args.sector }) flash))
+        shows = settle k a
+            (λ (x : Asking). device_in x flash ≡ powered_on x.config (mapped (record { unit = x.unit; sector = c.args.sector }) flash))
             config unit
             (says.device
-            ∙ (λ i. powered_on (sym says.parts.2 i) (mapped (record { unit = sym says.parts.1 i; sector = c.in-Some-new.ensures.some i }) flash)));
+            ∙ (λ i. powered_on (sym says.parts.2 i)
+            (mapped (record { unit = sym says.parts.1 i; sector = c.in-Some-new.ensures.some i }) flash)));
       });
     }

@@ -10,7 +10,8 @@ use Rattle.dfu_asks_c.proofs.power.powered.Goals as goal
 pub returns-in-Ok-clause-is : goal.returns-in-Ok-clause-is
 returns-in-Ok-clause-is c =
     let m = mapped (record { unit = c.args.unit; sector = c.args.sector.size }) c.args.flash.now in
-    let has : HasImage m = subst (λ (n : ℕ). HasImage (mapped (record { unit = c.args.unit; sector = n }) c.args.flash.now)) c.size.ensures.value
+    let has : HasImage m =
+    subst (λ (n : ℕ). HasImage (mapped (record { unit = c.args.unit; sector = n }) c.args.flash.now)) c.size.ensures.value
     (subst HasImage c.in_ok-medium.ensures.some c.in-Ok.ensures.has_image) in
     let none = c.new.ensures in
     let store : IsStore (store_of m c.new.result.items 0) =

@@ -16,7 +16,8 @@ returns-then-will_stall c =
             (λ m has. found_one c.mode_of.result c.in-Some.mode m c.in-Some.is (c.mode_of.ensures.only m has))
             (λ p image spare unwritten body limits holds fits. c.will_stall.ensures p image spare unwritten body
             (same_limits p c.functional_of.result _ _ _ _ c.functional_of.ensures
-            (c.room_in.ensures ∙ ap (λ (u : WriteUnit). c.args.size / 2 - 2 * gate_room (record { unit = u; sector = c.args.device.now.sector }))
+            (c.room_in.ensures
+            ∙ ap (λ (u : WriteUnit). c.args.size / 2 - 2 * gate_room (record { unit = u; sector = c.args.device.now.sector }))
             c.unit_of.ensures) limits) holds fits)
             (pos 1) (λ is. refl) (λ is. absurd (true≢false (sym c.if-will_stall.true ∙ is))),
       );
@@ -32,7 +33,8 @@ returns-else-will_stall c =
             (λ m has. found_one c.mode_of.result c.in-Some.mode m c.in-Some.is (c.mode_of.ensures.only m has))
             (λ p image spare unwritten body limits holds fits. c.will_stall.ensures p image spare unwritten body
             (same_limits p c.functional_of.result _ _ _ _ c.functional_of.ensures
-            (c.room_in.ensures ∙ ap (λ (u : WriteUnit). c.args.size / 2 - 2 * gate_room (record { unit = u; sector = c.args.device.now.sector }))
+            (c.room_in.ensures
+            ∙ ap (λ (u : WriteUnit). c.args.size / 2 - 2 * gate_room (record { unit = u; sector = c.args.device.now.sector }))
             c.unit_of.ensures) limits) holds fits)
             (pos 0) (λ is. absurd (true≢false (sym is ∙ c.if-will_stall.false))) (λ is. refl),
       );

@@ -12,4 +12,5 @@ pub returns-in-Ok-clause-run : goal.returns-in-Ok-clause-run
 returns-in-Ok-clause-run g c = λ e. traced_runs (met _ _ _ e (rw c.in-Ok.is at c.script_traced_with-answer.ensures.ok)) refl
 
 pub returns-in-Err-clause-run : goal.returns-in-Err-clause-run
-returns-in-Err-clause-run g c = λ e. traced_stops _ c.in-Err.fault (met _ _ _ e (rw c.in-Err.is at c.script_traced_with-answer.ensures.fault)) c.stop_text-exit.ensures
+returns-in-Err-clause-run g c =
+    λ e. traced_stops _ c.in-Err.fault (met _ _ _ e (rw c.in-Err.is at c.script_traced_with-answer.ensures.fault)) c.stop_text-exit.ensures

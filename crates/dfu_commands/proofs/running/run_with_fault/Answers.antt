@@ -2,7 +2,8 @@ use Rattle.dfu_commands.specs.RunText.{stops, to_the_stop, start_holds}
 use Rattle.dfu_commands.proofs.running.run_with_fault.Goals as goal
 
 pub returns-in-Err-clause-run : goal.returns-in-Err-clause-run
-returns-in-Err-clause-run g c = stops (g.W.Write.contents c.script_with.new.writer) c.in-Err.fault c.in-Err.ensures.fault c.stop_text.ensures
+returns-in-Err-clause-run g c =
+    stops (g.W.Write.contents c.script_with.new.writer) c.in-Err.fault c.in-Err.ensures.fault c.stop_text.ensures
 
 pub returns-in-Err-clause-legal : goal.returns-in-Err-clause-legal
 returns-in-Err-clause-legal g c =

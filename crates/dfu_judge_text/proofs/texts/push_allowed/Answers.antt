@@ -9,4 +9,5 @@ pub loop-row-init : goal.loop-row-init
 loop-row-init c = line_none _ _
 
 pub loop-row-preserved : goal.loop-row-preserved
-loop-row-preserved c = line_more (allowed_text c.args.departure.now) _ c.loop-row.row-index _ _ _ _ (omega arith) c.loop-row.invariant c.in_ok-push_if_allowed.ensures
+loop-row-preserved c = line_more (allowed_text c.args.departure.now) _ c.loop-row.row-index _ _ _ _
+    (omega arith) c.loop-row.invariant c.in_ok-push_if_allowed.ensures

@@ -9,4 +9,5 @@ pub loop-reading-init : goal.loop-reading-init
 loop-reading-init c = line_none _ _
 
 pub loop-reading-preserved : goal.loop-reading-preserved
-loop-reading-preserved c = line_more (reading_text c.args.readings) _ c.loop-reading.reading-index _ _ _ _ (omega arith) c.loop-reading.invariant c.in_ok-push_reading.ensures
+loop-reading-preserved c = line_more (reading_text c.args.readings) _ c.loop-reading.reading-index _ _ _ _
+    (omega arith) c.loop-reading.invariant c.in_ok-push_reading.ensures

@@ -9,4 +9,5 @@ pub loop-place-init : goal.loop-place-init
 loop-place-init c = line_none _ _
 
 pub loop-place-preserved : goal.loop-place-preserved
-loop-place-preserved c = line_more (state_text c.args.at.now) _ c.loop-place.place-index _ _ _ _ (omega arith) c.loop-place.invariant c.in_ok-push_state.ensures
+loop-place-preserved c =
+    line_more (state_text c.args.at.now) _ c.loop-place.place-index _ _ _ _ (omega arith) c.loop-place.invariant c.in_ok-push_state.ensures

@@ -11,7 +11,8 @@ loop-place-init g c =
     let m = g.M.Medium.state c.args.medium.now in
     let n = c.args.len in
     let end = sized_edge m c.requires.sized c.requires.some in
-    let begins = erased_first m m.grain.sector c.args.at n c.requires.some c.requires.within end c.sector-sector.result c.sector-sector.ensures
+    let begins =
+    erased_first m m.grain.sector c.args.at n c.requires.some c.requires.within end c.sector-sector.result c.sector-sector.ensures
     c.if-behind-eq0.place in
     elim c.if-behind-eq0.branch [
       | then-behind-eq0 w ↦ begins.0 w.if-behind-eq0.true w.place-is

@@ -7,7 +7,8 @@ use Rattle.dfu_slots.proofs.Pieces.{OnTheWay, way_begins, way_on, way_broken, wa
 use Rattle.dfu_slots.proofs.format.write_pieces.Goals as goal
 
 pub loop-rest-init : goal.loop-rest-init
-loop-rest-init g c = way_begins (g.M.Medium.state c.args.medium.now) c.args.at c.args.bytes.now c.requires.sized c.requires.ahead c.requires.within c.requires.room
+loop-rest-init g c = way_begins (g.M.Medium.state c.args.medium.now) c.args.at c.args.bytes.now
+    c.requires.sized c.requires.ahead c.requires.within c.requires.room
     c.requires.place
 
 pub write_anew-requires-clause-whole : goal.write_anew-requires-clause-whole

@@ -12,7 +12,8 @@ returns g c =
     (arith, c.data_at.ensures, c.requires.spare, c.len-2.ensures.value) in (
       λ t. record {
         fits = omega (arith, c.if-end-capacity_of.false, c.capacity_of.ensures);
-        part = sym c.len.ensures.value ∙ c.if-len-end.false ∙ ap (λ (k : ℕ). c.args.end % k) (c.size.ensures.value ∙ ap unit_size c.unit.ensures);
+        part = sym c.len.ensures.value ∙ c.if-len-end.false
+            ∙ ap (λ (k : ℕ). c.args.end % k) (c.size.ensures.value ∙ ap unit_size c.unit.ensures);
         ahead = subst (λ (p : ℕ). IsAhead m p) here (c.is_ahead.ensures.0 t);
       },
       λ puts. c.is_ahead.ensures.1 (subst (λ (p : ℕ). IsAhead m p) (sym here) puts.ahead),

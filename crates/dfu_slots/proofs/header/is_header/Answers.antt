@@ -23,6 +23,7 @@ returns c =
         register_is = sym c.register_in.ensures ∙ c.if-register_in-register.false;
         rest = sym c.rest_in.ensures ∙ eqb-true _ _ t;
       }),
-      λ is. eq-eqb _ _ (c.rest_in.ensures ∙ (header_told h c.args.version (get_or h 0 0) (from_le_bytes w32 (take 4 (drop 4 h))) c.args.register
+      λ is. eq-eqb _ _
+          (c.rest_in.ensures ∙ (header_told h c.args.version (get_or h 0 0) (from_le_bytes w32 (take 4 (drop 4 h))) c.args.register
           (omega (arith, c.ranges.register.fits)) is).rest),
     )

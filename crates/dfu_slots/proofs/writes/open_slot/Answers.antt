@@ -45,7 +45,8 @@ write_unit-requires-in-Ok-clause-place g c =
     (g.M.Medium.state c.write_unit.new.medium) c.args.at c.gate_size-size.result c.gate_of.result c.args.generation c.args.len
     (register (take c.args.len (slot_of (g.M.Medium.state c.args.medium.now) c.args.at).data_bytes)) c.make_header-header.result
     (c.gate_size-size.ensures.value ∙ ap gate_size c.unit.ensures) c.gate_of.ensures (c.make_header-header.ensures
-    ∙ ap (λ (n : ℕ). header 2 c.args.generation c.args.len n) c.register_of.ensures) c.requires.sized c.requires.slot c.in-Ok.ensures c.requires.place
+    ∙ ap (λ (n : ℕ). header 2 c.args.generation c.args.len n) c.register_of.ensures)
+    c.requires.sized c.requires.slot c.in-Ok.ensures c.requires.place
 
 pub write_unit-requires-in-Ok-clause-whole : goal.write_unit-requires-in-Ok-clause-whole
 write_unit-requires-in-Ok-clause-whole g c =
@@ -61,7 +62,8 @@ write_unit-requires-in-Ok-clause-ahead g c =
     (g.M.Medium.state c.write_unit.new.medium) c.args.at c.gate_size-size.result c.gate_of.result c.args.generation c.args.len
     (register (take c.args.len (slot_of (g.M.Medium.state c.args.medium.now) c.args.at).data_bytes)) c.make_header-header.result
     (c.gate_size-size.ensures.value ∙ ap gate_size c.unit.ensures) c.gate_of.ensures (c.make_header-header.ensures
-    ∙ ap (λ (n : ℕ). header 2 c.args.generation c.args.len n) c.register_of.ensures) c.requires.sized c.requires.slot c.in-Ok.ensures c.requires.sector
+    ∙ ap (λ (n : ℕ). header 2 c.args.generation c.args.len n) c.register_of.ensures)
+    c.requires.sized c.requires.slot c.in-Ok.ensures c.requires.sector
 
 pub write_unit-requires-clause-ahead : goal.write_unit-requires-clause-ahead
 write_unit-requires-clause-ahead g c =

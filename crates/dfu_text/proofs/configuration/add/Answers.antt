@@ -9,12 +9,19 @@ returns-then-descriptor-lt9 c = short_interface (search rules) (search rules)
 
 pub returns-then-descriptor : goal.returns-then-descriptor
 returns-then-descriptor c = elim c.then-descriptor.branch [
-  | then-descriptor-via-then-descriptor w ↦ ([], other_interface (search rules) (search rules) (λ u. w.if-descriptor.true u.0), search rules)
-  | then-descriptor-via-else-descriptor+then-descriptor-ne1 w ↦ ([], other_interface (search rules) (search rules) (λ u. w.if-descriptor-ne1.true u.1), search rules)
+  | then-descriptor-via-then-descriptor w ↦
+      ([], other_interface (search rules) (search rules) (λ u. w.if-descriptor.true u.0), search rules)
+  | then-descriptor-via-else-descriptor+then-descriptor-ne1 w ↦
+      ([], other_interface (search rules) (search rules) (λ u. w.if-descriptor-ne1.true u.1), search rules)
 ]
 
 pub returns-then-descriptor-eq-INTERFACE : goal.returns-then-descriptor-eq-INTERFACE
-returns-then-descriptor-eq-INTERFACE c = (interface_line (slice_index c.args.descriptor.now 2) (slice_index c.args.descriptor.now 3) (slice_index c.args.descriptor.now 7) (slice_index c.args.descriptor.now 8), upgrade (search rules) (search rules) (search rules), search rules)
+returns-then-descriptor-eq-INTERFACE c = (
+  interface_line (slice_index c.args.descriptor.now 2) (slice_index c.args.descriptor.now 3)
+      (slice_index c.args.descriptor.now 7) (slice_index c.args.descriptor.now 8),
+  upgrade (search rules) (search rules) (search rules),
+  search rules,
+)
 
 pub returns-then-not-inside : goal.returns-then-not-inside
 returns-then-not-inside c = elim c.then-not-inside.branch [

@@ -20,9 +20,11 @@ pub returns-then-bytes-total-2-clause-fault : goal.returns-then-bytes-total-2-cl
 returns-then-bytes-total-2-clause-fault c = long (search rules) (search rules) (search rules) (search rules)
 
 pub returns-in-Ok-clause-text : goal.returns-in-Ok-clause-text
-returns-in-Ok-clause-text c = all_read c.args.bytes.now c.split_at.result.1.now (string_bytes c.in_ok-line.line) (string_bytes c.walk.new.line)
+returns-in-Ok-clause-text c =
+    all_read c.args.bytes.now c.split_at.result.1.now (string_bytes c.in_ok-line.line) (string_bytes c.walk.new.line)
     (search rules) (search rules) (search rules) (search rules) (search rules) (search rules) (search rules)
 
 pub returns-in-Err-clause-fault : goal.returns-in-Err-clause-fault
-returns-in-Err-clause-fault c = one_unread c.args.bytes.now c.split_at.result.1.now (string_bytes c.in_ok-line.line) (string_bytes c.walk.new.line)
+returns-in-Err-clause-fault c =
+    one_unread c.args.bytes.now c.split_at.result.1.now (string_bytes c.in_ok-line.line) (string_bytes c.walk.new.line)
     c.in-Err.fault (search rules) (search rules) (search rules) (search rules) (search rules) (search rules)

@@ -15,7 +15,8 @@ pub returns-then-rest-length : goal.returns-then-rest-length
 returns-then-rest-length c = c.loop-rest.invariant.2 _ (short (search rules) (search rules) (search rules))
 
 pub returns-in-Err : goal.returns-in-Err
-returns-in-Err c = stops_at _ _ c.loop-rest.inside c.loop-rest.rest.now c.split_at.result.0.now _ (string_bytes c.add.new.line) c.in-Err.fault
+returns-in-Err c =
+    stops_at _ _ c.loop-rest.inside c.loop-rest.rest.now c.split_at.result.0.now _ (string_bytes c.add.new.line) c.in-Err.fault
     c.loop-rest.invariant (search rules) (search rules) (search rules) (search rules)
 
 pub loop-rest-smaller : goal.loop-rest-smaller

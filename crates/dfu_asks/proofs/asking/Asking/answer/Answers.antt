@@ -15,9 +15,11 @@ returns-in-Some c =
     let m = c.args.self.now.mode in
     let size : length bytes ≡ 6 = c.status_of-bytes.ensures.size in
     let is : count ≡ min len 6 = c.min-count.ensures ∙ ap (λ (n : ℕ). min n 6) c.from.ensures in
-    let front : take count bytes ≡ take len bytes = ap (λ (k : ℕ). take k bytes) (is ∙ ap (λ (k : ℕ). min len k) (sym size)) ∙ take_min len bytes in
+    let front : take count bytes ≡ take len bytes =
+    ap (λ (k : ℕ). take k bytes) (is ∙ ap (λ (k : ℕ). min len k) (sym size)) ∙ take_min len bytes in
     let says : IsAnswered m c.args.asked answer.Bytes (take count bytes) =
-    rw c.in-Some.is (λ spare block. subst (λ (l : List ℕ). Answers len (StatusOf (code_of (stage_of m spare block)) 0 (state_of (stage_of m spare block))) answer.Bytes l)
+    rw c.in-Some.is (λ spare block.
+    subst (λ (l : List ℕ). Answers len (StatusOf (code_of (stage_of m spare block)) 0 (state_of (stage_of m spare block))) answer.Bytes l)
     (sym front) (c.status_of-bytes.ensures.answers spare block len)) in
     record {
       sent = take count bytes;

@@ -25,7 +25,8 @@ returns-in-Some-handle_into-clause-outcome c =
     called_ended x count (kept_ended a0 c.assemble.new.self c.keep.new.self flash d' c.in_ok-device.ensures.rest c.keep.ensures.rest
     c.keep.ensures.device c.keep.ensures.sound c.in_ok-device.ensures.is quiet.0 quiet.1
     (no_work a0.work (sym c.is_some.ensures ∙ c.if-is_some.false))
-    x count c.args.out.now c.handle_into.new.out h.sent (λ y sent w'. Handles setup body (device_in a0 flash) y sent w') h.count_is h.out_is row)
+    x count c.args.out.now c.handle_into.new.out h.sent (λ y sent w'. Handles setup body (device_in a0 flash) y sent w')
+    h.count_is h.out_is row)
 
 pub returns-in-Some-clause-outcome : goal.returns-in-Some-clause-outcome
 returns-in-Some-clause-outcome c =
@@ -37,7 +38,8 @@ returns-in-Some-clause-outcome c =
     let rest = c.in_ok-device.ensures.rest in
     let len = c.in-Some.asked in
     let slots : d.slots ≡ store_in a0 flash = ap (λ (w : Shown). w.slots) ok in
-    called_from a0 flash c.args.out.now (λ y sent w'. Handles c.args.setup.now c.args.body.now (device_in a0 flash) y sent w') c.start.new.self
+    called_from a0 flash c.args.out.now (λ y sent w'. Handles c.args.setup.now c.args.body.now (device_in a0 flash) y sent w')
+    c.start.new.self
     c.start.new.out c.start.result d len ok
     (c.start.ensures.outcome len flash (slots ∙ sym (rest_store a0 a1 flash rest))
     (subst IsStore (sym slots) c.in_ok-device.ensures.is.store)

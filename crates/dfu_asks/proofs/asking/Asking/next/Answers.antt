@@ -64,7 +64,8 @@ returns-then-not-is_sound-clause-none c = λ w p is piece sound.
     let q = asked c.in_ok-piece.piece in
     let one : p ≡ q = one_piece a v w (steps_for v.job c.stock.result) p q (same_work w v (sym is ∙ c.in_ok-work.was))
     (c.stock.ensures.steps v) piece c.in_ok-piece.ensures.some in
-    absurd (is_false c.is_sound.result c.if-not-is_sound.true (c.is_sound.ensures.1 (subst (λ (y : Step). IsSound a.sector.size y) one sound)))
+    absurd (is_false c.is_sound.result c.if-not-is_sound.true
+    (c.is_sound.ensures.1 (subst (λ (y : Step). IsSound a.sector.size y) one sound)))
 
 pub returns-then-not-is_sound-clause-goes : goal.returns-then-not-is_sound-clause-goes
 returns-then-not-is_sound-clause-goes c = λ len s was k.
@@ -72,7 +73,8 @@ returns-then-not-is_sound-clause-goes c = λ len s was k.
     let v = c.in_ok-work.work in
     let q = asked c.in_ok-piece.piece in
     let same : k.work ≡ v = same_work k.work v (sym k.work_is ∙ c.in_ok-work.was) in
-    let there : IsPiece (steps_in a v) v.done q = subst (λ (ss : List Step). IsPiece ss v.done q) (c.stock.ensures.steps v) c.in_ok-piece.ensures.some in
+    let there : IsPiece (steps_in a v) v.done q =
+    subst (λ (ss : List Step). IsPiece ss v.done q) (c.stock.ensures.steps v) c.in_ok-piece.ensures.some in
     let piece : IsPiece (steps_in a k.work) k.work.done q = subst (λ (x : Work). IsPiece (steps_in a x) x.done q) (sym same) there in
     is_false c.is_sound.result c.if-not-is_sound.true (c.is_sound.ensures.1 (asks_sound a len s was c.args.flash.now k q piece))
 
@@ -87,7 +89,8 @@ returns-else-is_spare-clause-none c = λ w p is piece sound slot either low high
     let one : p ≡ q = one_piece a v w (steps_for v.job c.stock.result) p q (same_work w v (sym is ∙ c.in_ok-work.was))
     (c.stock.ensures.steps v) piece c.in_ok-piece.ensures.some in
     let place : p.write.at ≡ q.write.at = ap (λ (y : Step). y.write.at) one in
-    let size : length p.write.bytes ≡ c.in_ok-piece.piece.len = ap (λ (y : Step). length y.write.bytes) one ∙ c.in_ok-piece.ensures.fits.count in
+    let size : length p.write.bytes ≡ c.in_ok-piece.piece.len =
+    ap (λ (y : Step). length y.write.bytes) one ∙ c.in_ok-piece.ensures.fits.count in
     c.is_spare.ensures.no (is_off c.is_spare.result c.if-is_spare.false) slot either (omega (arith, low, place))
     (omega (arith, high, place, size))
 
@@ -97,7 +100,8 @@ returns-else-is_spare-clause-goes c = λ len s was k.
     let v = c.in_ok-work.work in
     let q = asked c.in_ok-piece.piece in
     let same : k.work ≡ v = same_work k.work v (sym k.work_is ∙ c.in_ok-work.was) in
-    let there : IsPiece (steps_in a v) v.done q = subst (λ (ss : List Step). IsPiece ss v.done q) (c.stock.ensures.steps v) c.in_ok-piece.ensures.some in
+    let there : IsPiece (steps_in a v) v.done q =
+    subst (λ (ss : List Step). IsPiece ss v.done q) (c.stock.ensures.steps v) c.in_ok-piece.ensures.some in
     let piece : IsPiece (steps_in a k.work) k.work.done q = subst (λ (x : Work). IsPiece (steps_in a x) x.done q) (sym same) there in
     let g = asks_goes a len s was c.args.flash.now k q piece in
     let no = c.is_spare.ensures.no (is_off c.is_spare.result c.if-is_spare.false) g.slot g.either g.low

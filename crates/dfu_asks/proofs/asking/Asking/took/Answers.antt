@@ -31,7 +31,8 @@ returns-then-not-stands-clause-outcome c = λ len s was before asks p piece torn
     let fail = c.fail-answer-then-not-stands in
     took_lied fail.result.0 fail.result.1 c.if-failed.false
     (λ st. is_false c.stands.result c.if-not-stands.true
-    (c.stands.ensures.stands.1 (subst (λ (y : Step). slice_range c.args.flash.now y.write.at (y.write.at + length y.write.bytes) ≡ y.write.bytes) one st)))
+    (c.stands.ensures.stands.1
+    (subst (λ (y : Step). slice_range c.args.flash.now y.write.at (y.write.at + length y.write.bytes) ≡ y.write.bytes) one st)))
     refl
     (piece_failed a len s was before asks p piece c.args.flash.now torn NotVerified fail.new.self w.asked
     fail.result.0 fail.result.1 c.args.out.now fail.new.out (ap (λ (x : Work). x.asked) same) fail.ensures.broken fail.ensures.gives)
@@ -48,7 +49,8 @@ returns-clause-outcome c = λ len s was before asks p piece torn.
     (c.stock.ensures.steps w) piece c.in-Some-next_piece.ensures.some in
     let on = is_true c.stands.result c.if-not-stands.false in
     let there : slice_range flash p.write.at (p.write.at + length p.write.bytes) ≡ p.write.bytes =
-    subst (λ (y : Step). slice_range flash y.write.at (y.write.at + length y.write.bytes) ≡ y.write.bytes) (sym one) (c.stands.ensures.stands.0 on) in
+    subst (λ (y : Step). slice_range flash y.write.at (y.write.at + length y.write.bytes) ≡ y.write.bytes) (sym one)
+    (c.stands.ensures.stands.0 on) in
     let size : length p.write.bytes ≡ n = ap (λ (y : Step). length y.write.bytes) one ∙ c.in-Some-next_piece.ensures.fits.count in
     let fits : p.write.at + length p.write.bytes ≤ length flash =
     omega (arith, c.stands.ensures.within on, ap (λ (y : Step). y.write.at) one, size) in
@@ -91,7 +93,9 @@ returns-then-not-stands-clause-on c = λ w p is piece.
     (c.stock.ensures.steps v) piece c.in-Some-next_piece.ensures.some in (
       λ asks. cc,
       λ on. absurd (is_false c.stands.result c.if-not-stands.true
-          (c.stands.ensures.stands.1 (subst (λ (y : Step). slice_range c.args.flash.now y.write.at (y.write.at + length y.write.bytes) ≡ y.write.bytes) one on.stands))),
+          (c.stands.ensures.stands.1
+          (subst (λ (y : Step). slice_range c.args.flash.now y.write.at (y.write.at + length y.write.bytes) ≡ y.write.bytes)
+          one on.stands))),
     )
 
 pub returns-clause-on : goal.returns-clause-on
@@ -102,7 +106,8 @@ returns-clause-on c = λ w p is piece.
     let one : p ≡ asked c.in-Some-next_piece.piece =
     one_piece a v w (steps_for v.job c.stock.result) p (asked c.in-Some-next_piece.piece) same
     (c.stock.ensures.steps v) piece c.in-Some-next_piece.ensures.some in
-    let size : length p.write.bytes ≡ c.in-Some-next_piece.piece.len = ap (λ (y : Step). length y.write.bytes) one ∙ c.in-Some-next_piece.ensures.fits.count in
+    let size : length p.write.bytes ≡ c.in-Some-next_piece.piece.len =
+    ap (λ (y : Step). length y.write.bytes) one ∙ c.in-Some-next_piece.ensures.fits.count in
     let all : total (writes_in a w) ≡ total (writes_in a v) = ap (λ (x : Work). total (writes_in a x)) same in
     let done : w.done ≡ v.done = ap (λ (x : Work). x.done) same in (
       λ asks. record {
@@ -122,7 +127,8 @@ returns-clause-further c = λ asks w p is piece.
     let one : p ≡ asked c.in-Some-next_piece.piece =
     one_piece a v w (steps_for v.job c.stock.result) p (asked c.in-Some-next_piece.piece) same
     (c.stock.ensures.steps v) piece c.in-Some-next_piece.ensures.some in
-    let size : length p.write.bytes ≡ c.in-Some-next_piece.piece.len = ap (λ (y : Step). length y.write.bytes) one ∙ c.in-Some-next_piece.ensures.fits.count in
+    let size : length p.write.bytes ≡ c.in-Some-next_piece.piece.len =
+    ap (λ (y : Step). length y.write.bytes) one ∙ c.in-Some-next_piece.ensures.fits.count in
     c.advance.ensures.kept asks
     ∙ (λ i. Some (record { job = (sym same i).job; asked = (sym same i).asked; done = (sym same i).done + sym size i }))
 

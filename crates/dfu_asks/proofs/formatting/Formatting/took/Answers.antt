@@ -27,7 +27,8 @@ returns-then-not-stands-clause-outcome c = λ was before asks p piece torn.
     let one : p ≡ q = piece_one (steps_left f (length was) image) f.done p q piece (in_left f (length was) image f.done q part) in
     format_lied c.if-failed.false
     (λ st. is_false c.stands.result c.if-not-stands.true
-    (c.stands.ensures.stands.1 (subst (λ (y : Step). slice_range flash y.write.at (y.write.at + length y.write.bytes) ≡ y.write.bytes) one st)))
+    (c.stands.ensures.stands.1
+    (subst (λ (y : Step). slice_range flash y.write.at (y.write.at + length y.write.bytes) ≡ y.write.bytes) one st)))
     (way_broken f image was before asks.way p piece flash torn NotVerified)
 
 pub returns-clause-outcome : goal.returns-clause-outcome
@@ -43,7 +44,8 @@ returns-clause-outcome c = λ was before asks p piece torn.
     let one : p ≡ q = piece_one (steps_left f (length was) image) f.done p q piece (in_left f (length was) image f.done q part) in
     let on = is_true c.stands.result c.if-not-stands.false in
     let there : slice_range flash p.write.at (p.write.at + length p.write.bytes) ≡ p.write.bytes =
-    subst (λ (y : Step). slice_range flash y.write.at (y.write.at + length y.write.bytes) ≡ y.write.bytes) (sym one) (c.stands.ensures.stands.0 on) in
+    subst (λ (y : Step). slice_range flash y.write.at (y.write.at + length y.write.bytes) ≡ y.write.bytes) (sym one)
+    (c.stands.ensures.stands.0 on) in
     let count : length p.write.bytes ≡ n = ap (λ (y : Step). length y.write.bytes) one ∙ c.in-Some.ensures.fits.count in
     let fits : p.write.at + length p.write.bytes ≤ length flash =
     omega (arith, c.stands.ensures.within on, ap (λ (y : Step). y.write.at) one, count) in

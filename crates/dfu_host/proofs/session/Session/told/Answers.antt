@@ -62,4 +62,5 @@ returns-clause-room c = λ memory memory' room kept full.
     c.after-self-inside.ensures.state memory memory' (part_of seen) (c.hear-heard.ensures.keeps memory memory' stored)
     c.hear-heard.ensures.compares in
     subst (λ (z : Parts). TakesPartIn room (host_of memory z) (host_of memory z).phase seen now) c.self.view_is
-    (takes_part_in room memory task p seen c.args.refused c.hear-heard.result now (c.hear-heard.ensures.by memory memory' stored) refuses same)
+    (takes_part_in room memory task p seen c.args.refused c.hear-heard.result now
+    (c.hear-heard.ensures.by memory memory' stored) refuses same)

@@ -12,7 +12,8 @@ pub returns-in-Kept : goal.returns-in-Kept
 returns-in-Kept c text course is =
     let at = subst (λ (s : JudgingState). IsAt s text course) (sym c.self.view_is) is in (
       c.verdict-verdict.ensures.is course.events at.whole,
-      subst (λ (v : Verdict). ArePlaces (readings_of v) course.events c.places.result) (sym c.in-Kept.is) (c.places.ensures course.events at.whole),
+      subst (λ (v : Verdict). ArePlaces (readings_of v) course.events c.places.result) (sym c.in-Kept.is)
+          (c.places.ensures course.events at.whole),
     )
 
 pub returns-in-KeptBy : goal.returns-in-KeptBy
@@ -26,5 +27,6 @@ pub returns-in-NotKept : goal.returns-in-NotKept
 returns-in-NotKept c text course is =
     let at = subst (λ (s : JudgingState). IsAt s text course) (sym c.self.view_is) is in (
       c.verdict-verdict.ensures.is course.events at.whole,
-      subst (λ (v : Verdict). ArePlaces (readings_of v) course.events c.places-in-NotKept.result) (sym c.in-NotKept.is) (c.places-in-NotKept.ensures course.events at.whole),
+      subst (λ (v : Verdict). ArePlaces (readings_of v) course.events c.places-in-NotKept.result) (sym c.in-NotKept.is)
+          (c.places-in-NotKept.ensures course.events at.whole),
     )
