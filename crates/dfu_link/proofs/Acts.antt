@@ -127,7 +127,8 @@ gone_by {c = c} {harm = harm} {x = x} {h = h} {h' = h'} {w = w} {last = last} {w
     (record { last = last; acted = subst (λ (z : Shown). HostActs h c z last h') start acted; device = left }))
 
 -- What the device answers in an action by the course of its fate, on a medium that is armed for it.
-pub answered_by : {course c : Course} {harm x : Harm} {h : HostState} {w start w' : Shown} (last : Shown) {came : Back} {out : List ℕ} → c ≡ course
+pub answered_by : {course c : Course} {harm x : Harm} {h : HostState} {w start w' : Shown}
+    (last : Shown) {came : Back} {out : List ℕ} → c ≡ course
     → x ≡ harm → start ≡ armed w (fuse_of c.harming x) → Replies (deed h.task h.phase) c start last came out → w' ≡ left_by c.harming last
     → RepliesArmed h course harm w w' came out
 answered_by {c = c} {harm = harm} {x = x} {h = h} {w = w} {w' = w'} last {came = came} {out = out} e k start replies left =

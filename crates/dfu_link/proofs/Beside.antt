@@ -21,7 +21,7 @@ use Rattle.dfu_link.specs.Texts.{uploaded_line, told_line, answer_line, line_of_
 use Rattle.dfu_link.specs.Said.{Said, Show}
 use Rattle.dfu_link.specs.ScriptRun.{AllCome, none_comes, then_comes, Point, LineActs, skips, limits_to as acts_limits, plays, goes_on as acts_on, shows as acts_shows, expects as acts_expects, LinesRun, stays, then_runs}
 use Rattle.dfu_link.specs.ScriptLegal.{begun_with, Vouches, GoesWith, reported, EventsGo, no_event, one_event, LineGoes, does_nothing, limits_to, lets_come, goes_on, shows, expects, LinesGo, no_line, one_line}
-use Rattle.dfu_link.proofs.MoveLaws.{replicate_more}
+use Rattle.dfu_link.proofs.PlayLaws.{replicate_more}
 use Rattle.dfu_link.proofs.Saying.{only_offered}
 use Rattle.dfu_link.proofs.Steady.{comes_follow, comes_sure, uploads_give}
 

@@ -88,7 +88,8 @@ fails_on (Some e) [] ys f old mid new told h = short_now e ys f old mid new told
 fails_on e (x ∷ xs) ys f old mid new told h = nothing_fails e ys (x ∷ (xs ++ ys)) f mid new old new h
 
 -- A text falls short after another was printed.
-pub fails_after : {e e' : Option Expectation} {old mid : Option (List ℕ)} {xs : List ℕ} (ys : List ℕ) (new : Option (List ℕ)) (f : ScriptFault)
+pub fails_after : {e e' : Option Expectation} {old mid : Option (List ℕ)} {xs : List ℕ} (ys : List ℕ)
+    (new : Option (List ℕ)) (f : ScriptFault)
     → Prints e old xs e' mid
     → Fails e' ys mid new f → Fails e (xs ++ ys) old new f
 fails_after {e = e} {old = old} {mid = mid} {xs = xs} ys new f h fails =

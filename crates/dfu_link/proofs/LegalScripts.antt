@@ -43,7 +43,8 @@ starts_beside {settings = settings} {first = first} starts = record {
 }
 
 -- What went along from the start on is a legal run.
-runs_legally : {g : Option (List ℕ)} {text : List ℕ} {settings : Settings} {after done : List (List ℕ)} {first : Shown} {shown : List ℕ} {end : Point}
+runs_legally : {g : Option (List ℕ)} {text : List ℕ} {settings : Settings} {after done : List (List ℕ)}
+    {first : Shown} {shown : List ℕ} {end : Point}
     → SetsUp g text settings after → Starts settings first
     → (all : LinesGone settings.image first.config [] (point settings (at_rest first)) (begun_with settings.image) done shown end)
     → RunsLegally g text after done shown end all.after

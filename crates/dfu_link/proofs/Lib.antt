@@ -32,7 +32,6 @@ pub mod Events
 pub mod Uploads
 pub mod TraceTexts
 pub mod TraceNotes
-mod TraceRows
 pub mod Traced
 pub mod KeptLaws
 pub mod Counted
@@ -51,6 +50,10 @@ pub mod ExpectLaws
 pub mod HexLaws
 pub mod SourceLaws
 pub mod GivenLaws
+pub mod ToldLines
+pub mod TellingLaws
+pub mod PlayLaws
+pub mod StepLaws
 pub mod MoveLaws
 pub mod Spending
 pub mod PassingOn
@@ -63,6 +66,8 @@ pub mod ScriptsHold
 pub mod LineBrings
 pub mod PrintedTexts
 pub mod Printing
+pub mod CleanTexts
+pub mod TracedTexts
 pub mod TracedScripts
 mod DoneOnce
 mod Harmed

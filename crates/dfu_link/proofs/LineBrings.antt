@@ -197,11 +197,13 @@ go_says (word ∷ words) said h =
     fate_case (codes "until") _ _ _ word words said h (until_brings words said) (λ h. absurd cc))))))))))
 
 -- The first word of a line is this one or another.
-word_case : {K : Type 0} (given : Option (List ℕ)) (s : List ℕ) (k : K) (rest : Option K) (f : K → Option Said) (word : List ℕ) (words : List (List ℕ)) (said : Said)
+word_case : {K : Type 0} (given : Option (List ℕ)) (s : List ℕ) (k : K) (rest : Option K) (f : K → Option Said) (word : List ℕ)
+    (words : List (List ℕ)) (said : Said)
     → (cond (bytes_eq word s) (Some k) rest >>= f) ≡ Some said → (f k ≡ Some said → said_brings said ≡ words_bring given (s ∷ words))
     → ((rest >>= f) ≡ Some said → said_brings said ≡ words_bring given (word ∷ words)) → said_brings said ≡ words_bring given (word ∷ words)
 word_case given s k rest f word words said h one other = if_case (bytes_eq word s) k rest f said h
-    (λ is made. subst (λ (w : List ℕ). said_brings said ≡ words_bring given (w ∷ words)) (sym ((bytes_eq-Decides word s).0 is)) (one made)) other
+    (λ is made. subst (λ (w : List ℕ). said_brings said ≡ words_bring given (w ∷ words))
+    (sym ((bytes_eq-Decides word s).0 is)) (one made)) other
 
 some_unless : {A : Type 0} (t : Bool) (x y : A) → cond t None (Some x) ≡ Some y → x ≡ y
 some_unless true x y h = absurd cc

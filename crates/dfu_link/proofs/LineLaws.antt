@@ -6,7 +6,7 @@ use Rattle.dfu_link.specs.Words.{lines_of, endless, is_newline}
 use Rattle.dfu_link.proofs.WordLaws.{none_passes}
 
 -- One byte more that ends no line.
-endless_cons : (b : ℕ) (bs : List ℕ) → is_newline b ≡ false → endless bs ≡ true → endless (b ∷ bs) ≡ true
+pub endless_cons : (b : ℕ) (bs : List ℕ) → is_newline b ≡ false → endless bs ≡ true → endless (b ∷ bs) ≡ true
 endless_cons b bs other h = ap (λ (t : Bool). cond t false (endless bs)) other ∙ h
 
 first_false : (t : Bool) (rest : Bool) → cond t false rest ≡ true → t ≡ false
@@ -14,11 +14,11 @@ first_false true rest h = cc
 first_false false rest h = refl
 
 -- The first byte ends no line.
-endless_first : (b : ℕ) (bs : List ℕ) → endless (b ∷ bs) ≡ true → is_newline b ≡ false
+pub endless_first : (b : ℕ) (bs : List ℕ) → endless (b ∷ bs) ≡ true → is_newline b ≡ false
 endless_first b bs h = first_false (is_newline b) (endless bs) h
 
 -- Nor do those after it.
-endless_rest : (b : ℕ) (bs : List ℕ) → endless (b ∷ bs) ≡ true → endless bs ≡ true
+pub endless_rest : (b : ℕ) (bs : List ℕ) → endless (b ∷ bs) ≡ true → endless bs ≡ true
 endless_rest b bs h = ap (λ (t : Bool). cond t false (endless bs)) (sym (endless_first b bs h)) ∙ h
 
 -- In bytes of which none ends a line no line ends.

@@ -77,7 +77,7 @@ state_endless state.ManifestWaitReset = refl
 state_endless state.UploadIdle = refl
 state_endless state.Error = refl
 
-code_endless : (c : Code) → endless (code_name c) ≡ true
+pub code_endless : (c : Code) → endless (code_name c) ≡ true
 code_endless code.Ok = refl
 code_endless code.Target = refl
 code_endless code.File = refl

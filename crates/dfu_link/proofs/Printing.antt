@@ -99,11 +99,13 @@ line_prints (headline.passes_line {times = times} holds) = prints_passes times (
 line_prints {p = p} (headline.show_line known) = prints_image (state_words p.at.device) (state_words_endless p.at.device) known
 
 -- By the words of the line.
-line_told : {factory : List ℕ} {past past' : List Begun} {p q : Point} {printed : List ℕ} (g : Option (List ℕ)) (line : List ℕ) {said : Said}
+line_told : {factory : List ℕ} {past past' : List Begun} {p q : Point} {printed : List ℕ} (g : Option (List ℕ))
+    (line : List ℕ) {said : Said}
     → line_of g line ≡ Some said → headline.LineHolds factory past p said printed past' q
     → LinePrints factory past p.at (brought g line) printed past' q.at
 line_told {factory = factory} {past = past} {past' = past'} {p = p} {q = q} {printed = printed} g line {said = said} is holds =
-    subst (λ (brings : Brings). LinePrints factory past p.at brings printed past' q.at) (sym (line_brings g line said is)) (line_prints holds)
+    subst (λ (brings : Brings). LinePrints factory past p.at brings printed past' q.at) (sym (line_brings g line said is))
+    (line_prints holds)
 
 -- A line leaves the bytes that are given.
 line_keeps : {factory : List ℕ} {past : List Begun} {p : Point} {said : Said} {printed : List ℕ} {past' : List Begun} {q : Point}
@@ -247,7 +249,8 @@ part_prints {p = p} known (headline.in_events {line = line} {events = events} {p
     let same = sym (same_events p.limits events) ∙ ap (map session_by) split ∙ map-append session_by played left in
     in_events (map session_by left) (line_brings p.given line (Does events) says ∙ ap Events same) (events_print holds) out
 part_prints {p = p} known (headline.in_passes {line = line} says holds out) = in_line (line_told p.given line says holds) out
-part_prints {p = p} known (headline.in_show {line = line} says out) = in_line (line_told {p = p} p.given line says (headline.show_line known)) out
+part_prints {p = p} known (headline.in_show {line = line} says out) =
+    in_line (line_told {p = p} p.given line says (headline.show_line known)) out
 part_prints known (headline.in_image out) = in_image out
 
 -- And so did one that stopped.
@@ -270,7 +273,8 @@ wrote_printed g (Some text) old new (Err f) ok = tt
 
 -- And where it is a fault, what is out was.
 pub stopped_printed : (g given : Option (List ℕ)) (old new : Option (List ℕ)) (r : Result Unit ScriptFault)
-    → IfSome given (λ text. OnErr r (headline.StopsWithHeadline g text old new)) → IfSome given (λ text. OnErr r (StopsPrinted g text old new))
+    → IfSome given (λ text. OnErr r (headline.StopsWithHeadline g text old new))
+    → IfSome given (λ text. OnErr r (StopsPrinted g text old new))
 stopped_printed g None old new r stopped = tt
 stopped_printed g (Some text) old new (Ok done) stopped = tt
 stopped_printed g (Some text) old new (Err f) stopped = part_printed g text old new stopped

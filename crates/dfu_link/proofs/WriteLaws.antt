@@ -1,5 +1,5 @@
 -- What is out of texts that are written one after the other.
-use Rattle.std.proofs.Common.{ℕ, List, [], ◌++◌, length-append, Option, Some, None, sym, ap, ◌∙◌, arith}
+use Rattle.std.proofs.Common.{ℕ, List, [], ◌++◌, length-append, Option, Some, None, refl, sym, ap, ◌∙◌, arith}
 use Rattle.std.proofs.lemmas.List.{append_assoc, append-nil}
 use Rattle.std.specs.Io.KnownBytes.{Appends, Keeps}
 use Rattle.std.specs.Prelude.{Result, Ok, Err, OnErr, OnOk, IfErr}
@@ -50,6 +50,11 @@ pub on_err_map : {A E : Type 0} (r : Result A E) (P Q : Type 0) → (P → Q) �
 on_err_map (Ok x) P Q f h = tt
 on_err_map (Err e) P Q f h = f h
 
+-- What follows of each fault holds of an error.
+pub on_err_from : {A E : Type 0} (r : Result A E) (P : E → Type 0) (Q : Type 0) → ((e : E) → P e → Q) → IfErr r P → OnErr r Q
+on_err_from (Ok x) P Q f h = tt
+on_err_from (Err e) P Q f h = f e h
+
 -- What holds of success may be weakened.
 pub on_ok_map : {A E : Type 0} (r : Result A E) (P Q : Type 0) → (P → Q) → OnOk r P → OnOk r Q
 on_ok_map (Ok x) P Q f h = f h
@@ -71,3 +76,8 @@ appends_kept None mid new xs h k = tt
 appends_kept (Some a) None new xs h k = absurd h
 appends_kept (Some a) (Some b) None xs h k = absurd k
 appends_kept (Some a) (Some b) (Some c) xs h k = k ∙ h
+
+-- What is held is kept where nothing is written.
+pub keeps_same : (held : Option (List ℕ)) → Keeps held held
+keeps_same None = tt
+keeps_same (Some a) = refl

@@ -33,11 +33,13 @@ pub record HasBroken (b : Bench) (next : Option Expectation) (events : List Happ
 
 -- It stopped in what a line prints: among its events, in what `go until report` prints, or in the line of `show`.
 pub data BreaksIn (p : Point) (line : List ℕ) (old new : Option (List ℕ)) (fault : ScriptFault) : Type 0 where
-  in_events : {events : EventLine} → line_of p.given line ≡ Some (Does events) → HasBroken p.at p.next (events_of p.limits events) old new fault
+  in_events : {events : EventLine} → line_of p.given line ≡ Some (Does events)
+      → HasBroken p.at p.next (events_of p.limits events) old new fault
       → BreaksIn p line old new fault
   in_passes : {out : List ℕ} {q : Point} → line_of p.given line ≡ Some GoesOn → LineActs 0 (record p { next = None }) GoesOn out q
       → IsOutInPart old new out → Fails p.next out old new fault → BreaksIn p line old new fault
-  in_show : line_of p.given line ≡ Some Show → IsOutInPart old new (show_line p.at.device) → Fails p.next (show_line p.at.device) old new fault
+  in_show : line_of p.given line ≡ Some Show → IsOutInPart old new (show_line p.at.device)
+      → Fails p.next (show_line p.at.device) old new fault
       → BreaksIn p line old new fault
 
 -- A line sets something about the device.
@@ -110,7 +112,8 @@ pub record SettingFalls (given : Option (List ℕ)) (text : List ℕ) (fault : S
   pub falls : GivesNone settings.given (1 + length done) rest fault
   pub stops : StopsAfter text done fault
 
--- No device can be set up like this, or the room has no whole units or no whole sectors, or the image has more bytes than there is room for.
+-- No device can be set up like this, or the room has no whole units or no whole sectors,
+-- or the image has more bytes than there is room for.
 pub data CannotStart (s : Settings) : Type 0 where
   refused : (fault : ConfigFault) → FirstFault fault s.device → CannotStart s
   not_whole : ¬ IsMultiple s.grain.unit s.capacity → CannotStart s

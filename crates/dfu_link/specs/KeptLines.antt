@@ -40,16 +40,15 @@ abbrev pub untraced : Option (List ℕ) → Option (List ℕ)
 untraced None = None
 untraced (Some text) = Some (without_trace text)
 
--- Whether two places are the same.
-abbrev pub is_same : Place → Place → Bool
-is_same Start Start = true
-is_same Kept Kept = true
-is_same Dropped Dropped = true
-is_same place other = false
+-- Whether a text stands at the start of a line.
+abbrev pub is_at_start : Place → Bool
+is_at_start Start = true
+is_at_start Kept = false
+is_at_start Dropped = false
 
--- What is seen of what a writer holds that stands at this place, or is broken: the text without its lines that begin with `#`, where what
--- it holds is known and stands there.
-abbrev pub seen_at : (is_broken : Bool) → Place → Option (List ℕ) → Option (List ℕ)
-seen_at is_broken place None = None
-seen_at true place (Some text) = Some (without_trace text)
-seen_at false place (Some text) = if is_same (place_in Start text) place then Some (without_trace text) else None
+-- What is seen of what a writer holds: the text without its lines that begin with `#`, where what it holds is known, and is whole lines
+-- unless the writer is broken.
+abbrev pub seen_of : (is_broken : Bool) → Option (List ℕ) → Option (List ℕ)
+seen_of is_broken None = None
+seen_of true (Some text) = Some (without_trace text)
+seen_of false (Some text) = if is_at_start (place_in Start text) then Some (without_trace text) else None

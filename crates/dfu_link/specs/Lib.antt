@@ -35,6 +35,8 @@ pub mod Texts
 pub mod TextLimit
 pub mod Expecting
 pub mod ScriptRun
+pub mod TracedRun
+pub mod TracedStop
 pub mod Falls
 pub mod ScriptLegal
 pub mod ScriptHeadline

@@ -33,8 +33,8 @@ abbrev pub offered_bytes : offereds.Offered → List ℕ
 offered_bytes (offered.Spelled text) = hex_bytes text
 offered_bytes (offered.Given bytes) = bytes.now
 
--- What a configuration line sets: who the device is, what it is like, how its medium is written and erased, how many bytes an image may have,
--- or the image that it has at first.
+-- What a configuration line sets: who the device is, what it is like, how its medium is written and erased, how many bytes an image may
+-- have, or the image that it has at first.
 pub data ConfigLine : Type 0 where
   TheIds : Ids → ConfigLine
   TheDevice : Functional → (least busy manifest : ℕ) → ConfigLine

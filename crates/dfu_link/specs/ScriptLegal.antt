@@ -70,7 +70,8 @@ pub data LinesGo (factory : List ℕ) (p : Point) (m : Machine) : List (List ℕ
 
 -- A device started on what the text sets up, and then these lines were done, with these reports and this text: the machine began with the
 -- factory image and nothing else, and made a legal run with these reports, and it vouches for the bench at the start and at the end.
-pub record RunsLegally (given : Option (List ℕ)) (text : List ℕ) (after done : List (List ℕ)) (shown : List ℕ) (end : Point) (m : Machine) : Type 0 where
+pub record RunsLegally (given : Option (List ℕ)) (text : List ℕ) (after done : List (List ℕ)) (shown : List ℕ) (end : Point)
+    (m : Machine) : Type 0 where
   pub settings : Settings
   pub sets_up : SetsUp given text settings after
   pub first : Shown

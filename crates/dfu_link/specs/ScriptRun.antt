@@ -22,8 +22,8 @@ use Rattle.dfu_link.specs.Said.{ConfigLine, TheIds, TheDevice, TheUnit, TheSecto
 use Rattle.dfu_link.specs.Lines.{line_of}
 use Rattle.dfu_link.specs.Expecting.{Expectation, Meets, still}
 
--- What is set before the first event line or `show`: the device, how its medium is written and erased, how many bytes an image may have, the
--- image at first, and the limits of sessions. The bytes that FILE stands for are given, if any are, and no line sets them.
+-- What is set before the first event line or `show`: the device, how its medium is written and erased, how many bytes an image may have,
+-- the image at first, and the limits of sessions. The bytes that FILE stands for are given, if any are, and no line sets them.
 pub record Settings : Type 0 where
   pub device : Setting
   pub grain : Grain
@@ -89,8 +89,8 @@ IsReady s (line ∷ lines) = HasToAct (line_of s.given line)
 abbrev pub blank : Grain → ℕ → MediumState
 blank grain capacity = blank_medium grain (2 * (2 * gate_room grain + capacity))
 
--- The device starts: it is allowed, the room has whole units and sectors, the image fits, and it stands in appIDLE on a blank medium that was
--- formatted with the image, which is the active one of its bytes.
+-- The device starts: it is allowed, the room has whole units and sectors, the image fits, and it stands in appIDLE on a blank medium that
+-- was formatted with the image, which is the active one of its bytes.
 pub record Starts (s : Settings) (d : Shown) : Type 0 where
   pub config : d.config ≡ record s.device { functional = of_this_version s.device.functional }
   pub allowed : IsAllowed d.config
@@ -148,8 +148,10 @@ pub data LineActs (k : ℕ) : Point → Said → List ℕ → Point → Type 0 w
       → Meets p.next out → LineActs k p (Does events) out (printed p out b)
   goes_on : {p : Point} {mid b : Bench} {answer : Result Answered LinkFault} (times : ℕ)
       → AllCome p.at (replicate times (Goes Pass unharmed)) [] mid → Comes mid (Goes Pass unharmed) b answer → ShowsActive b
-      → answer_line answer ≢ [] → Meets p.next (answer_line answer) → LineActs k p GoesOn (answer_line answer) (printed p (answer_line answer) b)
-  shows : {p : Point} → Meets p.next (show_line p.at.device) → LineActs k p Show (show_line p.at.device) (printed p (show_line p.at.device) p.at)
+      → answer_line answer ≢ [] → Meets p.next (answer_line answer)
+      → LineActs k p GoesOn (answer_line answer) (printed p (answer_line answer) b)
+  shows : {p : Point} → Meets p.next (show_line p.at.device)
+      → LineActs k p Show (show_line p.at.device) (printed p (show_line p.at.device) p.at)
   expects : {p : Point} {text : List ℕ} → p.next ≡ None → LineActs k p (Expects text) []
       (record p { next = Some (record { number = k; text = text }) })
 

@@ -1,5 +1,5 @@
 -- What an action of the host came to, as a trace tells it.
-use Rattle.std.specs.Prelude.{◌≡◌, ℕ, List, Option, Some, Result}
+use Rattle.std.specs.Prelude.{◌≡◌, ℕ, List, Option, Some}
 use Rattle.dfu_device.specs.Stage.{state_of}
 use Rattle.dfu_device.specs.Shown.{Shown}
 use Rattle.dfu_device.specs.Rows.{Elapses}
@@ -13,15 +13,13 @@ use Rattle.dfu_host.specs.Wire.{IsAsked, Spells}
 use Rattle.dfu_link.specs.declared.back.Back.{Back}
 use Rattle.dfu_link.specs.declared.back.Back.TheVariants.{Lost}
 use Rattle.dfu_link.specs.declared.fate.Fate.{Fate as GivenFate}
-use Rattle.dfu_link.specs.declared.fault.LinkFault.{LinkFault}
 use Rattle.dfu_link.specs.declared.tracing.step.Step.{Step}
-use Rattle.dfu_link.specs.Happening.{Harm, Goes, fate_of, harm_in}
+use Rattle.dfu_link.specs.Happening.{Harm, fate_of, harm_in}
 use Rattle.dfu_link.specs.Course.{Course, course_of}
-use Rattle.dfu_link.specs.Play.{Answered, waits_for}
+use Rattle.dfu_link.specs.Play.{waits_for}
 use Rattle.dfu_link.specs.Bench.{Bench}
 use Rattle.dfu_link.specs.Standing.{session_of}
 use Rattle.dfu_link.specs.Bytes.{fuse_of, armed, bus_was_reset, Reaches, Slips, left_by}
-use Rattle.dfu_link.specs.Comes.{Comes}
 
 -- What a device answers to an action, by its rows: to a request what it answers last, if it sees it. A wait and a reset have no answer.
 abbrev pub Replies : Deed → Course → Shown → Shown → Back → List ℕ → Type 0
@@ -43,20 +41,12 @@ pub record Asks (live : Option HostState) (phase : Phase) (action : Action) : Ty
   pub in_phase : IsPhase host.phase phase
   pub spells : Spells (deed host.task host.phase) action
 
--- An action of the host of this bench, by this fate, is a play that leads to that bench. The step has its phase, what it asks for, what the
+-- This is the step of an action by this fate that leads from one bench to another: it has the phase of the host, what it asks for, what the
 -- device answers, and the states of the device before and after.
 pub record IsStep (b : Bench) (fate : GivenFate) (step : Step) (out : List ℕ) (b' : Bench) : Type 0 where
   pub live : Option HostState
   pub session : b.session ≡ session_of live
   pub asks : Asks live step.phase step.action
-  pub answer : Result Answered LinkFault
-  pub comes : Comes b (Goes (fate_of fate) (harm_in fate)) b' answer
   pub replies : RepliesArmed asks.host (course_of (fate_of fate)) (harm_in fate) b.device b'.device step.came out
   pub before : step.before ≡ state_of b.device.stage
   pub after : step.after ≡ state_of b'.device.stage
-
--- Some play is this step.
-pub record IsOfPlay (fate : GivenFate) (step : Step) (out : List ℕ) : Type 0 where
-  pub from : Bench
-  pub to : Bench
-  pub is : IsStep from fate step out to

@@ -59,7 +59,8 @@ first (word ∷ words) = Some (word, words)
 
 -- What stands behind the first word of a line and one space, where there is such a space.
 unfoldable pub text_behind : List ℕ → Option (List ℕ)
-text_behind line = position is_no_space line >>= λ start. position is_space (drop start line) >>= λ end. Some (drop (end + 1) (drop start line))
+text_behind line =
+    position is_no_space line >>= λ start. position is_space (drop start line) >>= λ end. Some (drop (end + 1) (drop start line))
 
 -- This, where no further word is left.
 abbrev pub ends : {A : Type 0} → A → List (List ℕ) → Option A

@@ -2,5 +2,6 @@ pub mod Acting
 pub mod Source
 pub mod SetupView
 pub mod Expected
+pub mod Telling
 pub mod Moving
 pub mod Forming

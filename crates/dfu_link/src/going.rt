@@ -54,7 +54,8 @@ pub(crate) fn carry_out<M: Faulty>(
     requires on { IsOn host.old.phase }
     requires unarmed { device.old.slots.medium.fuse ≡ Whole }
     ensures acts { HostActsArmed host.old (course_of (fate_of fate.entry)) (harm_in fate.entry) device.old device.new host.new }
-    ensures replies { RepliesArmed host.old (course_of (fate_of fate.entry)) (harm_in fate.entry) device.old device.new result out.new.items }
+    ensures replies { RepliesArmed host.old (course_of (fate_of fate.entry))
+        (harm_in fate.entry) device.old device.new result out.new.items }
 {
     let course = course_by(fate);
     arm(device, course);

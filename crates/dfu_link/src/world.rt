@@ -1,6 +1,6 @@
 //! A device and a host on a link.
 
-ghost use Rattle.std.specs.Prelude.{◌≡◌, [], IfOk, IfErr, IfSome};
+ghost use Rattle.std.specs.Prelude.{◌≡◌, [], IfOk, IfErr, IfNone, IfSome};
 ghost use Rattle.dfu_slots.specs.Medium.Fuse.{Whole};
 ghost use Rattle.dfu_link.specs.Bench.{Nobody};
 ghost use Rattle.dfu_link.specs.Bytes.{armed};
@@ -122,6 +122,7 @@ impl<'f, M: Faulty> World<'f, M> {
     ) -> (Result<Option<Report>, LinkFault>, Option<Step<'f>>)
         ensures play { HasCome self.old (Goes (fate_of fate.entry) (harm_in fate.entry)) self.new result.0 }
         ensures step { IfSome result.1 (λ s. IsStep self.old.bench fate.entry s out.new.items self.new.bench) }
+        ensures none { IfNone result.1 (self.old.bench.session ≡ Nobody) }
         ensures active { ShowsActive self.new.bench }
     {
         let before = self.device.state();

@@ -4,6 +4,8 @@ ghost use Rattle.std.specs.Prelude.{◌≡◌, [], Some, None, OnOk, OnErr, IfEr
 ghost use Rattle.dfu_link.specs.ScriptRun.{WroteRun};
 ghost use Rattle.dfu_link.specs.Falls.{Falls};
 ghost use Rattle.dfu_link.specs.KeptLines.{untraced};
+ghost use Rattle.dfu_link.specs.TracedRun.{WroteTraced};
+ghost use Rattle.dfu_link.specs.TracedStop.{StopsTraced};
 ghost use Rattle.dfu_link.specs.ScriptLegal.{WroteLegal, StopsLegally};
 ghost use Rattle.dfu_link.specs.ScriptHeadline.{WroteHeadline, StopsWithHeadline};
 ghost use Rattle.dfu_link.specs.Printed.{WrotePrinted, StopsPrinted};
@@ -26,9 +28,11 @@ pub fn script<R: Read + Drop, W: Write>(
     // What was written is a run of what was read.
     ensures ok { IfSome (R.remaining reader) (λ text. OnOk result (WroteRun None text (W.contents writer.old) (W.contents writer.new))) }
     // Which fault comes when, and what is out then.
-    ensures fault { IfSome (R.remaining reader) (λ text. IfErr result (λ f. Falls None text (W.contents writer.old) (W.contents writer.new) f)) }
+    ensures fault { IfSome (R.remaining reader)
+        (λ text. IfErr result (λ f. Falls None text (W.contents writer.old) (W.contents writer.new) f)) }
     // The session machine goes along: what was written is what it reports, and the image that it has active.
-    ensures legal { IfSome (R.remaining reader) (λ text. OnOk result (WroteLegal None text (W.contents writer.old) (W.contents writer.new))) }
+    ensures legal { IfSome (R.remaining reader)
+        (λ text. OnOk result (WroteLegal None text (W.contents writer.old) (W.contents writer.new))) }
     // It does so as far as a script goes that stops.
     ensures stopped { IfSome (R.remaining reader)
         (λ text. OnErr result (StopsLegally None text (W.contents writer.old) (W.contents writer.new))) }
@@ -65,6 +69,12 @@ pub fn script_traced<R: Read + Drop, W: Write + Drop>(
     // Which fault comes when, and what is out then without those lines.
     ensures fault { IfSome (R.remaining reader) (λ text. W.contents writer ≡ Some [] →
         IfErr result.0 (λ f. Falls None text (Some []) (untraced (W.contents result.1)) f)) }
+    // All that was written: of each action its line, with what is printed of it behind.
+    ensures traced { IfSome (R.remaining reader) (λ text. W.contents writer ≡ Some [] →
+        OnOk result.0 (WroteTraced None text (Some []) (W.contents result.1))) }
+    // So it is as far as a script goes that stops.
+    ensures traced_so_far { IfSome (R.remaining reader) (λ text. W.contents writer ≡ Some [] →
+        OnErr result.0 (StopsTraced None text (Some []) (W.contents result.1))) }
 {
     script_traced_with::<R, W>(alloc, None, reader, writer)
 }

@@ -8,6 +8,7 @@ ghost use Rattle.dfu_link.specs.inside.Expected.{expectation_of, Prints, CannotE
 
 use crate::scripting::fault::ScriptFault;
 use crate::scripting::output::write_out;
+use arrayvec::ArrayVec;
 use dfu_host::Limits;
 use std::alloc::Global;
 use std::io::Write;
@@ -22,12 +23,14 @@ pub(crate) struct Expectation {
 }
 
 /// What holds for the lines to come: the bytes that FILE stands for, if they are given, the limits of
-/// later sessions, and which line is expected.
+/// later sessions, and which line is expected. And room for an answer of which a trace tells: to make it
+/// clears 4,096 bytes, so it is made once.
 #[derive(Drop)]
 pub(crate) struct Ahead<'g> {
     pub given: Option<&'g [u8]>,
     pub limits: Limits,
     pub next: Option<Expectation>,
+    pub answer: ArrayVec<u8, 4096>,
 }
 
 /// Expects a line. Nothing was expected before.
@@ -81,7 +84,8 @@ fn write_expected<W: Write>(
     ensures ok { OnOk result (Appends (W.contents writer.old) (W.contents writer.new) text.now) }
     ensures same { OnOk result (text.now ≡ expected.now.text.items ++ 10 ∷ []) }
     ensures err { OnErr result (IsOutInPart (W.contents writer.old) (W.contents writer.new) text.now) }
-    ensures fault { IfErr result (λ f. Fails (expectation_of (Some expected.now)) text.now (W.contents writer.old) (W.contents writer.new) f) }
+    ensures fault { IfErr result
+        (λ f. Fails (expectation_of (Some expected.now)) text.now (W.contents writer.old) (W.contents writer.new) f) }
 {
     if is_line(&expected.text, text) {
         return write_out(writer, text);

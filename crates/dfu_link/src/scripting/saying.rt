@@ -1,6 +1,6 @@
 //! The lines of reports and of refused events.
 
-ghost use Rattle.std.specs.Prelude.{◌≡◌, OnOk, OnErr, IfErr};
+ghost use Rattle.std.specs.Prelude.{◌≡◌, ◌≢◌, Ok, None, true, false, OnOk, OnErr, IfErr};
 ghost use Rattle.std.specs.Io.KnownBytes.{Appends};
 ghost use Rattle.dfu_suffix.specs.Writing.{IsOutInPart};
 ghost use Rattle.dfu_link.specs.Expecting.{Fails};
@@ -107,4 +107,15 @@ pub(crate) fn say_next<W: Write>(
         return Err(ScriptFault::NoMemory);
     };
     write_next(writer, next, &line)
+}
+
+/// Whether nothing is printed of an event.
+pub(crate) fn is_silent(answer: Result<Option<Report>, LinkFault>) -> bool
+    ensures silent { result ≡ true → answer ≡ Ok None }
+    ensures told { result ≡ false → answer ≢ Ok None }
+{
+    match answer {
+        Ok(None) => true,
+        Ok(Some(_)) | Err(_) => false,
+    }
 }

@@ -114,7 +114,8 @@ fn read_line<R: Read + Drop>(
     requires number { before + room.old ≤ 16777216 }
     ensures ok { IfOk result (λ more. Next (source_state pieces.old.left room.old before line.old.items) more
         (source_state pieces.new.left room.new (before + 1) line.new.items)) }
-    ensures fault { IfErr result (λ f. (given : Option (List ℕ)) → StopsSource given (source_state pieces.old.left room.old before line.old.items) f) }
+    ensures fault { IfErr result (λ f. (given : Option (List ℕ))
+        → StopsSource given (source_state pieces.old.left room.old before line.old.items) f) }
     ensures room { room.new ≤ room.old }
     ensures less { result ≡ Ok true → room.new < room.old }
     ensures capacity { vec_capacity line.old ≤ vec_capacity line.new }

@@ -5,6 +5,9 @@ ghost use Rattle.dfu_link.specs.Said.{given_bytes};
 ghost use Rattle.dfu_link.specs.ScriptRun.{WroteRun};
 ghost use Rattle.dfu_link.specs.Falls.{Falls};
 ghost use Rattle.dfu_link.specs.KeptLines.{untraced};
+ghost use Rattle.dfu_link.specs.TracedRun.{IsTraced, WroteTraced};
+ghost use Rattle.dfu_link.specs.TracedStop.{IsPartTraced, StopsTraced};
+ghost use Rattle.dfu_link.specs.inside.Telling.{Traces};
 ghost use Rattle.dfu_link.specs.ScriptLegal.{WroteLegal, StopsLegally};
 ghost use Rattle.dfu_link.specs.ScriptHeadline.{WroteHeadline, StopsWithHeadline};
 ghost use Rattle.dfu_link.specs.Printed.{WrotePrinted, StopsPrinted};
@@ -23,6 +26,7 @@ use crate::scripting::starting::start;
 use crate::tracing::noting::Noting;
 use crate::tracing::telling::{Loud, Quiet, Telling};
 use crate::tracing::traced::Traced;
+use arrayvec::ArrayVec;
 use dfu_host::Limits;
 use dfu_slots::SimMedium;
 use std::alloc::Global;
@@ -56,14 +60,21 @@ fn configure<R: Read + Drop>(
 }
 
 /// Runs what a reader gives, where FILE stands for these bytes.
-fn run_lines<T: Telling<Noting<SimMedium>, W>, R: Read + Drop, W: Write>(
+fn run_lines<T: Telling<Noting<SimMedium>, W>, R: Read + Drop, W>(
     alloc: Global,
     given: Option<&[u8]>,
     reader: R,
     writer: &mut W,
 ) -> Result<(), ScriptFault>
-    ensures ok { IfSome (R.remaining reader) (λ text. OnOk result (WroteRun (given_bytes given.entry) text (W.contents writer.old) (W.contents writer.new))) }
-    ensures fault { IfSome (R.remaining reader) (λ text. IfErr result (λ f. Falls (given_bytes given.entry) text (W.contents writer.old) (W.contents writer.new) f)) }
+    ensures ok { IfSome (R.remaining reader) (λ text. OnOk result (WroteRun (given_bytes given.entry) text (T.held writer.old).seen
+        (T.held writer.new).seen)) }
+    ensures traced { IfSome (R.remaining reader) (λ text. OnOk result (Traces (IsTraced (given_bytes given.entry) text) (T.held writer.old)
+        (T.held writer.new))) }
+    ensures part { IfSome (R.remaining reader) (λ text. OnErr result (Traces (λ c out c'. IsPartTraced (given_bytes given.entry) text c out)
+        (T.held writer.old) (T.held writer.new))) }
+    ensures works { OnOk result ((T.held writer.new).works ≡ (T.held writer.new).on) }
+    ensures fault { IfSome (R.remaining reader) (λ text. IfErr result (λ f. Falls (given_bytes given.entry) text (T.held writer.old).seen
+        (T.held writer.new).seen f)) }
 {
     let mut source = Source::new(alloc, reader)?;
     let mut setup = beginning(given);
@@ -73,6 +84,7 @@ fn run_lines<T: Telling<Noting<SimMedium>, W>, R: Read + Drop, W: Write>(
         given: setup.given,
         limits: setup.limits,
         next: None,
+        answer: ArrayVec::new(),
     };
     run_on::<T, R, Noting<SimMedium>, W>(alloc, device, &mut source, more, ahead, writer)
 }
@@ -101,11 +113,14 @@ pub fn script_with<R: Read + Drop, W: Write>(
     writer: &mut W,
 ) -> Result<(), ScriptFault>
     // What was written is a run of what was read.
-    ensures ok { IfSome (R.remaining reader) (λ text. OnOk result (WroteRun (given_bytes given.entry) text (W.contents writer.old) (W.contents writer.new))) }
+    ensures ok { IfSome (R.remaining reader)
+        (λ text. OnOk result (WroteRun (given_bytes given.entry) text (W.contents writer.old) (W.contents writer.new))) }
     // Which fault comes when, and what is out then.
-    ensures fault { IfSome (R.remaining reader) (λ text. IfErr result (λ f. Falls (given_bytes given.entry) text (W.contents writer.old) (W.contents writer.new) f)) }
+    ensures fault { IfSome (R.remaining reader)
+        (λ text. IfErr result (λ f. Falls (given_bytes given.entry) text (W.contents writer.old) (W.contents writer.new) f)) }
     // The session machine goes along: what was written is what it reports, and the image that it has active.
-    ensures legal { IfSome (R.remaining reader) (λ text. OnOk result (WroteLegal (given_bytes given.entry) text (W.contents writer.old) (W.contents writer.new))) }
+    ensures legal { IfSome (R.remaining reader)
+        (λ text. OnOk result (WroteLegal (given_bytes given.entry) text (W.contents writer.old) (W.contents writer.new))) }
     // It does so as far as a script goes that stops.
     ensures stopped { IfSome (R.remaining reader)
         (λ text. OnErr result (StopsLegally (given_bytes given.entry) text (W.contents writer.old) (W.contents writer.new))) }
@@ -152,6 +167,12 @@ pub fn script_traced_with<R: Read + Drop, W: Write + Drop>(
     // Which fault comes when, and what is out then without those lines.
     ensures fault { IfSome (R.remaining reader) (λ text. W.contents writer ≡ Some [] →
         IfErr result.0 (λ f. Falls (given_bytes given.entry) text (Some []) (untraced (W.contents result.1)) f)) }
+    // All that was written: of each action its line, with what is printed of it behind.
+    ensures traced { IfSome (R.remaining reader) (λ text. W.contents writer ≡ Some [] →
+        OnOk result.0 (WroteTraced (given_bytes given.entry) text (Some []) (W.contents result.1))) }
+    // So it is as far as a script goes that stops.
+    ensures traced_so_far { IfSome (R.remaining reader) (λ text. W.contents writer ≡ Some [] →
+        OnErr result.0 (StopsTraced (given_bytes given.entry) text (Some []) (W.contents result.1))) }
 {
     let mut traced = Traced::new(alloc, writer);
     let answer = run_lines::<Loud, R, Traced<W>>(alloc, given, reader, &mut traced);

@@ -1,13 +1,14 @@
 //! What a host that is live asks for.
 
-ghost use Rattle.std.specs.Prelude.{IfSome};
+ghost use Rattle.std.specs.Prelude.{◌≡◌, None, IfNone, IfSome};
 ghost use Rattle.dfu_link.specs.Tracing.{Asks};
 
 use dfu_host::{Action, Host, Phase};
 
 /// The phase of a host that is live, and what it asks for.
 pub(crate) fn asked<'f>(host: &Option<Host<'f>>) -> Option<(Phase, Action<'f>)>
-    ensures { IfSome result (λ a. Asks host.now a.0 a.1) }
+    ensures some { IfSome result (λ a. Asks host.now a.0 a.1) }
+    ensures none { IfNone result (host.now ≡ None) }
 {
     match host {
         None => None,

@@ -1,11 +1,11 @@
 //! A medium that notes its last writes.
-
-ghost use Rattle.std.specs.Prelude.{◌≡◌, ◌+◌, ◌%◌, ◌^◌, IfOk, slice_set};
+ghost use Rattle.std.specs.Prelude.{◌≡◌, ◌+◌, ◌%◌, ◌≤◌, length, take, replicate, IfOk, OnOk, OnErr};
 ghost use Rattle.dfu_slots.specs.Units.{IsMultiple};
-ghost use Rattle.dfu_slots.specs.Medium.{blank_medium};
-ghost use Rattle.dfu_link.specs.TraceWords.{note_at};
+ghost use Rattle.dfu_slots.specs.Medium.{blank_medium, FailedWrite, WroteOrLied, IsWritable};
+ghost use Rattle.dfu_slots.specs.Medium.Fuse.{Armed, Lying, Whole};
+ghost use Rattle.dfu_link.specs.TraceWords.{note_at, room_with, note_of, write_note, erase_note, end_of, is_next_lie, next_before_lie, next_count};
 
-use dfu_slots::{Failed, Faulty, Medium, NoMemory, SimMedium, Unit};
+use dfu_slots::{Failed, Faulty, Medium, NoMemory, SimMedium, Unit, WriteFault};
 use std::alloc::Global;
 
 /// How many writes are noted.
@@ -43,7 +43,9 @@ pub(crate) struct Noting<M: Medium> {
 }
 
 /// How a write ended that was to lie or not.
-fn ended(lies: bool, answer: Result<(), Failed>) -> WriteEnd {
+fn ended(lies: bool, answer: Result<(), Failed>) -> WriteEnd
+    ensures { result ≡ end_of lies answer }
+{
     match answer {
         Ok(()) if lies => WriteEnd::Lied,
         Ok(()) => WriteEnd::Worked,
@@ -95,11 +97,10 @@ impl<M: Medium> Noting<M> {
         self.notes[(number % 16) as usize]
     }
 
-    /// Whether the next write is the one that lies.
+    /// Counts the next write, and says whether it is the one that lies.
     fn lies(&mut self) -> bool
-        ensures medium { self.new.medium ≡ self.old.medium }
-        ensures notes { self.new.notes ≡ self.old.notes }
-        ensures count { self.new.count ≡ self.old.count }
+        ensures lies { result ≡ is_next_lie self.old.before_lie }
+        ensures counts_down { self.new ≡ record self.old { before_lie = next_before_lie self.old.before_lie } }
     {
         match self.before_lie {
             None => false,
@@ -114,15 +115,21 @@ impl<M: Medium> Noting<M> {
         }
     }
 
-    /// Notes a write.
-    fn add(&mut self, note: WriteNote)
-        ensures medium { self.new.medium ≡ self.old.medium }
-        ensures notes { self.new.notes ≡ slice_set self.old.notes (self.old.count % 16) note }
-        ensures count { self.new.count ≡ (self.old.count + 1) % 2 ^ 64 }
-        ensures start { self.new.start ≡ self.old.start }
-        ensures before { self.new.before ≡ self.old.before }
+    /// Notes a write that answered so.
+    fn add(&mut self, erases: bool, at: u32, len: u32, answer: Result<(), Failed>)
+        ensures { self.new ≡ record self.old {
+          before_lie = next_before_lie self.old.before_lie;
+          count = next_count self.old.count;
+          notes = room_with self.old.notes self.old.count (note_of erases at len self.old.before_lie answer);
+        } }
     {
-        self.notes[(self.count % 16) as usize] = note;
+        let end = ended(self.lies(), answer);
+        self.notes[(self.count % 16) as usize] = WriteNote {
+            erases,
+            at,
+            len,
+            end,
+        };
         self.count = self.count.wrapping_add(1);
     }
 }
@@ -170,46 +177,71 @@ impl<M: Medium> Medium for Noting<M> {
         self.medium.read(at, out);
     }
 
-    fn write(&mut self, at: u32, bytes: &[u8]) -> Result<(), Failed> {
-        let lies = self.lies();
+    // The write is noted: its place, its length (2^32 - 1 where that does not fit) and how it ended.
+    fn write(&mut self, at: u32, bytes: &[u8]) -> Result<(), Failed>
+        requires within { at + length bytes.now ≤ length (M.state self.old.medium).bytes }
+        requires place { IsMultiple (M.state self.old.medium).grain.unit at }
+        requires whole { IsMultiple (M.state self.old.medium).grain.unit (length bytes.now) }
+        requires blank { IsWritable (M.state self.old.medium) at (length bytes.now) }
+        ensures ok { OnOk result (WroteOrLied (M.state self.old.medium) at bytes.now (M.state self.new.medium)) }
+        ensures failed { OnErr result (FailedWrite WriteFault.Failed (M.state self.old.medium) at bytes.now (M.state self.new.medium)) }
+        ensures noted { self.new ≡ record self.old {
+          medium = self.new.medium;
+          before_lie = next_before_lie self.old.before_lie;
+          count = next_count self.old.count;
+          notes = room_with self.old.notes self.old.count (write_note at (length bytes.now) self.old.before_lie result);
+        } }
+    {
         let answer = self.medium.write(at, bytes);
         let len = u32::try_from(bytes.len()).unwrap_or(u32::MAX);
-        self.add(WriteNote {
-            erases: false,
-            at,
-            len,
-            end: ended(lies, answer),
-        });
+        self.add(false, at, len, answer);
         answer
     }
 
-    // An erase is a write of FFh over its sector.
-    fn erase(&mut self, at: u32) -> Result<(), Failed> {
-        let lies = self.lies();
+    // An erase is a write of FFh over its sector, and is noted as one that erased.
+    fn erase(&mut self, at: u32) -> Result<(), Failed>
+        requires within { at + (M.state self.old.medium).grain.sector ≤ length (M.state self.old.medium).bytes }
+        requires place { at % (M.state self.old.medium).grain.sector ≡ 0 }
+        ensures ok { let m = M.state self.old.medium in
+            OnOk result (WroteOrLied m at (replicate m.grain.sector 255) (M.state self.new.medium)) }
+        ensures failed { let m = M.state self.old.medium in
+            OnErr result (FailedWrite WriteFault.Failed m at (replicate m.grain.sector 255) (M.state self.new.medium)) }
+        ensures noted { self.new ≡ record self.old {
+          medium = self.new.medium;
+          before_lie = next_before_lie self.old.before_lie;
+          count = next_count self.old.count;
+          notes = room_with self.old.notes self.old.count (erase_note at (M.state self.old.medium).grain.sector self.old.before_lie result);
+        } }
+    {
         let answer = self.medium.erase(at);
         let len = self.medium.sector();
-        self.add(WriteNote {
-            erases: true,
-            at,
-            len,
-            end: ended(lies, answer),
-        });
+        self.add(true, at, len, answer);
         answer
     }
 }
 
 impl<M: Faulty> Faulty for Noting<M> {
-    fn arm(&mut self, writes: u32, tear: &[u8], stop: bool) {
+    fn arm(&mut self, writes: u32, tear: &[u8], stop: bool)
+        ensures state { M.state self.new.medium ≡ record (M.state self.old.medium) { fuse = Armed writes (take 4096 tear.now) stop } }
+        ensures lie { self.new ≡ record self.old { medium = self.new.medium; before_lie = None } }
+    {
         self.before_lie = None;
         self.medium.arm(writes, tear, stop);
     }
 
-    fn arm_lie(&mut self, writes: u32, tear: &[u8]) {
+    fn arm_lie(&mut self, writes: u32, tear: &[u8])
+        ensures state { M.state self.new.medium ≡ record (M.state self.old.medium) { fuse = Lying writes (take 4096 tear.now) } }
+        ensures lie { self.new ≡ record self.old { medium = self.new.medium; before_lie = Some writes } }
+    {
         self.before_lie = Some(writes);
         self.medium.arm_lie(writes, tear);
     }
 
-    fn disarm(&mut self) {
+    fn disarm(&mut self)
+        ensures state { M.state self.new.medium ≡ record (M.state self.old.medium) { fuse = Whole } }
+        ensures marks { self.new
+            ≡ record self.old { medium = self.new.medium; start = self.old.count; before = self.old.start; before_lie = None } }
+    {
         self.before = self.start;
         self.start = self.count;
         self.before_lie = None;

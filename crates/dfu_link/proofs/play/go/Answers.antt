@@ -20,7 +20,8 @@ end-requires g c =
 pub returns-clause-comes : goal.returns-clause-comes
 returns-clause-comes g c = rw c.in-Some.is (go_comes (fate_of c.args.fate) (harm_in c.args.fate) _ _ _ _ _ c.args.gave.now c.end.new.gave _
     (subst (λ (h : Option HostState). SendsBytes (session_of h)) c.in-Some.is c.requires.sized)
-    (subst (λ (h : Option HostState). IsCountedIn (session_of h)) c.in-Some.is c.requires.counted) c.requires.unarmed c.carry_out-came.ensures.acts
+    (subst (λ (h : Option HostState). IsCountedIn (session_of h)) c.in-Some.is c.requires.counted)
+    c.requires.unarmed c.carry_out-came.ensures.acts
     c.end.ensures.session c.end.ensures.given c.end.ensures.report)
 
 -- Two hosts that are there are the same.

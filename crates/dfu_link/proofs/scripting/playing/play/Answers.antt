@@ -1,45 +1,63 @@
-use Rattle.std.proofs.Common.{◌++◌, ◌∷◌, [], List, sym, subst}
-use Rattle.std.proofs.lemmas.Result.{err_from_is_err_and}
-use Rattle.std.specs.Prelude.{replicate}
-use Rattle.dfu_link.specs.Happening.{happening, Happening}
+use Rattle.std.proofs.Common.{◌∷◌, [], arith}
+use Rattle.dfu_suffix.specs.Writing.{IsOutInPart}
+use Rattle.dfu_link.specs.Happening.{happening}
 use Rattle.dfu_link.specs.Texts.{told_line}
-use Rattle.dfu_link.specs.ScriptRun.{none_comes}
-use Rattle.dfu_link.specs.inside.Expected.{expectation_of}
+use Rattle.dfu_link.specs.Expecting.{Fails}
+use Rattle.dfu_link.specs.Falls.{HasBroken}
+use Rattle.dfu_link.specs.TracedRun.{AllTraced, none_traced}
+use Rattle.dfu_link.specs.TracedStop.{SomeTraced}
+use Rattle.dfu_link.specs.inside.Expected.{expectation_of, Prints}
+use Rattle.dfu_link.specs.inside.Telling.{Traces, IsJust, Leads}
 use Rattle.dfu_link.specs.inside.Moving.{HasPlayed}
-use Rattle.dfu_link.proofs.ExpectLaws.{prints_none, prints_more}
-use Rattle.dfu_link.proofs.MoveLaws.{replicate_more, plays_one, broken}
+use Rattle.dfu_link.proofs.WriteLaws.{keeps_same, on_err, on_ok_map, if_err_map, if_err_both}
+use Rattle.dfu_link.proofs.TellingLaws.{traces_none, untold_leads, plain_untold}
+use Rattle.dfu_link.proofs.PlayLaws.{played_none, played_more, part_more, broken_once}
 use Rattle.dfu_link.proofs.scripting.playing.play.Goals as goal
 
-pub loop-turn-init : goal.loop-turn-init
-loop-turn-init g c = record { out = []; plays = none_comes; prints = prints_none (expectation_of c.args.next.now) (g.W.Write.contents c.args.writer.now) }
-
-pub loop-turn-preserved : goal.loop-turn-preserved
-loop-turn-preserved g c =
+pub returns-clause-ok : goal.returns-clause-ok
+returns-clause-ok g c =
+    let b = c.args.world.now.bench in
+    let e = happening c.args.event in
     let x = expectation_of c.args.next.now in
-    let y = expectation_of c.say_next.new.next in
-    let e = happening c.args.event in
-    let old = g.W.Write.contents c.args.writer.now in
-    let mid = g.W.Write.contents c.loop-turn.writer in
-    let new = g.W.Write.contents c.say_next.new.writer in
-    let before = c.loop-turn.invariant in
+    let y = expectation_of c.say.new.next in
+    let old = g.T.Telling.held c.args.writer.now in
+    let kept = old in
+    let new = g.T.Telling.held c.say.new.writer in
     let text = told_line c.step-answer.result c.step-answer.new.self.up in
-    let more : HasPlayed c.args.world.now.bench x (replicate c.loop-turn.turn e ++ e ∷ []) old c.step-answer.new.self.bench y new = record {
-      out = before.out ++ text;
-      plays = plays_one c.args.world.now.bench c.loop-turn.world c.step-answer.new.self (replicate c.loop-turn.turn e) e before.out
-          c.step-answer.result before.plays c.step-answer.ensures.play c.step-answer.ensures.active;
-      prints = prints_more before.prints (rw c.uploaded.ensures at c.in_ok-say_next.ensures.ok);
-    } in
-    subst (λ (es : List Happening). HasPlayed c.args.world.now.bench x es old c.step-answer.new.self.bench y new)
-    (sym (replicate_more c.loop-turn.turn e)) more
+    let leads = traces_none (Leads c.args.world.now.bench e c.step-answer.new.self.bench text) old
+    (untold_leads c.args.world.now c.step-answer.new.self c.step-answer.result old.clock old.clock c.step-answer.ensures.play
+    (plain_untold c.args.world.now.bench old.clock e c.requires)) in
+    let says : Traces (IsJust text) kept new = rw c.uploaded.ensures at c.say.ensures.traces in
+    on_ok_map c.say.result (Prints x kept.seen text y new.seen) (HasPlayed b x (e ∷ []) old c.step-answer.new.self.bench y new)
+    (λ prints. played_more c.step-answer.result (played_none b x old) c.step-answer.ensures.play c.step-answer.ensures.active
+    (keeps_same old.seen) leads prints says)
+    (rw c.uploaded.ensures at c.say.ensures.ok)
 
-pub returns-in_err-say_next-clause-fault : goal.returns-in_err-say_next-clause-fault
-returns-in_err-say_next-clause-fault g c =
+pub returns-clause-fault : goal.returns-clause-fault
+returns-clause-fault g c =
+    let x = expectation_of c.args.next.now in
+    let old = g.T.Telling.held c.args.writer.now in
+    let kept = old in
+    let new = g.T.Telling.held c.say.new.writer in
+    let text = told_line c.step-answer.result c.step-answer.new.self.up in
+    if_err_map c.say.result (λ f. Fails x text kept.seen new.seen f × IsOutInPart kept.seen new.seen text)
+    (λ f. HasBroken c.args.world.now.bench x (happening c.args.event ∷ []) old.seen new.seen f)
+    (λ f both. broken_once c.step-answer.result f c.step-answer.ensures.play c.step-answer.ensures.active
+    (keeps_same old.seen) both.1 both.0)
+    (if_err_both c.say.result (λ f. Fails x text kept.seen new.seen f) (IsOutInPart kept.seen new.seen text)
+    (rw c.uploaded.ensures at c.say.ensures.fault) (rw c.uploaded.ensures at c.say.ensures.err))
+
+pub returns-clause-part : goal.returns-clause-part
+returns-clause-part g c =
+    let b = c.args.world.now.bench in
     let e = happening c.args.event in
-    let old = g.W.Write.contents c.args.writer.now in
-    let mid = g.W.Write.contents c.loop-turn.writer in
-    let new = g.W.Write.contents c.say_next.new.writer in
-    let failed = err_from_is_err_and c.from_residual.result c.from_residual.ensures.1 in
-    let fault = c.in_err-say_next.field-0.0 in
-    rw (failed.1, failed.2) (broken c.args.world.now.bench c.loop-turn.world c.step-answer.new.self e c.loop-turn.turn c.args.times
-    c.step-answer.result old mid new fault c.loop-turn.invariant c.loop-turn-test.true c.step-answer.ensures.play c.step-answer.ensures.active
-    (rw c.uploaded.ensures at c.in_err-say_next.ensures.err) (rw c.uploaded.ensures at c.in_err-say_next.ensures.fault))
+    let old = g.T.Telling.held c.args.writer.now in
+    let kept = old in
+    let new = g.T.Telling.held c.say.new.writer in
+    let text = told_line c.step-answer.result c.step-answer.new.self.up in
+    let leads = traces_none (Leads c.args.world.now.bench e c.step-answer.new.self.bench text) old
+    (untold_leads c.args.world.now c.step-answer.new.self c.step-answer.result old.clock old.clock c.step-answer.ensures.play
+    (plain_untold c.args.world.now.bench old.clock e c.requires)) in
+    let says : Traces (IsJust text) kept new = rw c.uploaded.ensures at c.say.ensures.traces in
+    on_err c.say.result (Traces (λ k out k'. SomeTraced b k (e ∷ []) out) old new)
+    (part_more {e = e} 0 1 (omega arith) (traces_none (λ k out k'. AllTraced b k [] out b k') old none_traced) leads says)

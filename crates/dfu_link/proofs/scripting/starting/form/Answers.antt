@@ -21,7 +21,8 @@ unreachable-requires c =
       pages = c.args.sector.pages;
       bound = c.args.sector.most;
     } in
-    let same : c.in-Ok.medium.medium ≡ blank w n = c.in-Ok.ensures ∙ made_blank w n c.medium_len-len.result c.medium_len-len.ensures.value in
+    let same : c.in-Ok.medium.medium ≡ blank w n =
+    c.in-Ok.ensures ∙ made_blank w n c.medium_len-len.result c.medium_len-len.ensures.value in
     (subst (λ f. IsFormatFault f c.in-Ok.medium.medium c.args.image.now) c.in-WrongSize.is c.in-Err.ensures.fault)
     (subst IsSized (sym same) (blank_sized w n c.args.room.some c.args.room.most whole))
 

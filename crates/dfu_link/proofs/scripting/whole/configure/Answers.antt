@@ -16,7 +16,8 @@ settings-preserved-in-Some-Blank g c =
     let goes_on : c.in_ok-next.field-0 ≡ true = grind (arith, c.if-not-branch.false) in
     let given : GivesLine c.settings.source c.next.new.self = subst (λ (more : Bool). Next c.settings.source more c.next.new.self) goes_on
     c.in_ok-next.ensures.ok in
-    prepared_then Blank c.settings.invariant given (ap (line_of (given_bytes c.settings.setup.given)) (sym c.line.ensures) ∙ (c.in-Some-Blank.ensures
+    prepared_then Blank c.settings.invariant given
+    (ap (line_of (given_bytes c.settings.setup.given)) (sym c.line.ensures) ∙ (c.in-Some-Blank.ensures
     ∙ ap (λ (s : Line). Some (said_of s)) c.in-Some-Blank.field-0-is)) refl
 
 pub settings-preserved-in_ok-set-in-Some-Set : goal.settings-preserved-in_ok-set-in-Some-Set
@@ -24,7 +25,8 @@ settings-preserved-in_ok-set-in-Some-Set g c =
     let goes_on : c.in_ok-next.field-0 ≡ true = grind (arith, c.if-not-branch.false) in
     let given : GivesLine c.settings.source c.next.new.self = subst (λ (more : Bool). Next c.settings.source more c.next.new.self) goes_on
     c.in_ok-next.ensures.ok in
-    prepared_then (Sets (config_line_of c.in-Some-Set.setting)) c.settings.invariant given (ap (line_of (given_bytes c.settings.setup.given)) (sym c.line.ensures)
+    prepared_then (Sets (config_line_of c.in-Some-Set.setting)) c.settings.invariant given
+    (ap (line_of (given_bytes c.settings.setup.given)) (sym c.line.ensures)
     ∙ (c.in-Some-Set.ensures ∙ ap (λ (s : Line). Some (said_of s)) c.in-Some-Set.field-0-is))
     (ap (λ (t : Settings). Some t) (sym c.in_ok-set-in-Some-Set.ensures.ok))
 
@@ -34,5 +36,6 @@ settings-preserved g c =
     let given : GivesLine c.settings.source c.next.new.self = subst (λ (more : Bool). Next c.settings.source more c.next.new.self) goes_on
     c.in_ok-next.ensures.ok in
     prepared_then (LimitsTo c.in-Some-Limits.actions c.in-Some-Limits.restarts) c.settings.invariant given
-    (ap (line_of (given_bytes c.settings.setup.given)) (sym c.line.ensures) ∙ (c.in-Some-Limits.ensures ∙ ap (λ (s : Line). Some (said_of s)) c.in-Some-Limits.field-0-is))
+    (ap (line_of (given_bytes c.settings.setup.given)) (sym c.line.ensures)
+    ∙ (c.in-Some-Limits.ensures ∙ ap (λ (s : Line). Some (said_of s)) c.in-Some-Limits.field-0-is))
     (ap (λ (t : Settings). Some t) (sym c.set_limits.ensures))

@@ -5,4 +5,5 @@ use Rattle.dfu_link.proofs.tracing.words.push_writes.Given as goal
 
 abbrev pub invariant-loop-number : goal.invariant-loop-number
 invariant-loop-number l =
-    string_bytes l.line ≡ string_bytes l.fn.line ++ notes_in_row (nat_lt l.from l.first) (notes_from l.medium.notes l.first (l.number - l.first))
+    string_bytes l.line ≡ string_bytes l.fn.line ++ notes_in_row (nat_lt l.from l.first)
+    (notes_from l.medium.notes l.first (l.number - l.first))

@@ -16,5 +16,5 @@ invariant_of-self-2 g c = record {
 }
 
 pub returns-clause-step : goal.returns-clause-step
-returns-clause-step g c = rw (← c.self.view_is) (is_step refl c.in-Some.ensures c.go-told.ensures.comes c.go-told.ensures.replies
-    c.state-before.ensures c.state-after.ensures)
+returns-clause-step g c = rw (← c.self.view_is) (is_step refl c.in-Some.ensures.some c.go-told.ensures.replies c.state-before.ensures
+    c.state-after.ensures)

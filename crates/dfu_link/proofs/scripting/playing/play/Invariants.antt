@@ -1,9 +1,0 @@
-use Rattle.std.specs.Prelude.{replicate}
-use Rattle.dfu_link.specs.Happening.{happening}
-use Rattle.dfu_link.specs.inside.Expected.{expectation_of}
-use Rattle.dfu_link.specs.inside.Moving.{HasPlayed}
-use Rattle.dfu_link.proofs.scripting.playing.play.Given as goal
-
-abbrev pub invariant-loop-turn : goal.invariant-loop-turn
-invariant-loop-turn g l = HasPlayed l.fn.world.bench (expectation_of l.fn.next) (replicate l.turn (happening l.event)) (g.W.Write.contents l.fn.writer)
-    l.world.bench (expectation_of l.next) (g.W.Write.contents l.writer)
