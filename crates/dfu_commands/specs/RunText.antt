@@ -8,6 +8,8 @@ use Rattle.dfu_link.specs.Falls.{Falls}
 use Rattle.dfu_link.specs.KeptLines.{untraced}
 use Rattle.dfu_link.specs.ScriptLegal.{WroteLegal, StopsLegally}
 use Rattle.dfu_link.specs.ScriptHeadline.{WroteHeadline, StopsWithHeadline}
+use Rattle.dfu_link.specs.TracedRun.{WroteTraced}
+use Rattle.dfu_link.specs.TracedStop.{StopsTraced}
 use Rattle.dfu_text.specs.declared.exit.Exit.{Exit}
 use Rattle.dfu_text.specs.declared.exit.Exit.TheVariants.{Done, Refused, Fault}
 use Rattle.dfu_text.specs.AnswerLines.{fault_line}
@@ -49,10 +51,12 @@ pub data WritesWithHeadline (file given old new : Option (List ℕ)) (result : E
       IfSome given (λ text. StopsWithHeadline file text old mid) → WritesStop fault mid new result →
       WritesWithHeadline file given old new result
 
--- A script with a trace was written to a writer that held nothing: without the lines of the trace it ran to its end, or it stopped, and the
--- line of its fault is written behind what it wrote.
+-- A script with a trace was written to a writer that held nothing: of each action its line, with what is printed of it behind. It ran
+-- to its end, and that is all; or it stopped, and behind what it wrote comes the line of its fault. Where the lines of the trace are
+-- left out, it is what the script writes with none.
 pub data WritesTraced (file given new : Option (List ℕ)) (result : Exit) : Type 0 where
-  traced_runs : IfSome given (λ text. WroteRun file text (Some []) (untraced new)) → result ≡ Done → WritesTraced file given new result
+  traced_runs : IfSome given (λ text. WroteRun file text (Some []) (untraced new)) →
+      IfSome given (λ text. WroteTraced file text (Some []) new) → result ≡ Done → WritesTraced file given new result
   traced_stops : (mid : Option (List ℕ)) (fault : ScriptFault) →
-      IfSome given (λ text. Falls file text (Some []) (untraced mid) fault) → WritesStop fault mid new result
-      → WritesTraced file given new result
+      IfSome given (λ text. Falls file text (Some []) (untraced mid) fault) →
+      IfSome given (λ text. StopsTraced file text (Some []) mid) → WritesStop fault mid new result → WritesTraced file given new result

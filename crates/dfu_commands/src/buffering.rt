@@ -34,8 +34,8 @@ pub(crate) fn run_buffered_with_fault<R: Read + Drop, W: Write + Drop>(
     reader: R,
     mut buffer: BufWriter<W>,
 ) -> (Exit, Option<ScriptFault>, W)
-    ensures { RunsBuffered (given_bytes file.entry) (R.remaining reader) (writer_contents W.contents buffer)
-        (W.contents result.2) result.0 }
+    ensures { RunsBuffered (given_bytes file.entry) (R.remaining reader) (writer_contents W.contents buffer) (W.contents result.2)
+        result.0 }
 {
     let (exit, fault) = run_with_fault(alloc, file, reader, &mut buffer);
     match buffer.into_inner() {
@@ -55,8 +55,8 @@ pub(crate) fn run_traced_buffered<R: Read + Drop, W: Write + Drop>(
     reader: R,
     buffer: BufWriter<W>,
 ) -> (Exit, Option<ScriptFault>, W)
-    ensures { writer_contents W.contents buffer ≡ Some []
-        → RunsTraced (given_bytes file.entry) (R.remaining reader) (W.contents result.2) result.0 }
+    ensures { writer_contents W.contents buffer ≡ Some [] →
+        RunsTraced (given_bytes file.entry) (R.remaining reader) (W.contents result.2) result.0 }
 {
     let (exit, fault, buffer) = run_traced_with_fault(alloc, file, reader, buffer);
     match buffer.into_inner() {
