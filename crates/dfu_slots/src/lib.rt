@@ -17,6 +17,7 @@ mod places;
 mod puts;
 mod read;
 mod register;
+mod rest;
 mod sim;
 mod slots;
 mod steps;
@@ -25,6 +26,7 @@ mod writes;
 
 pub use fault::{FormatFault, OpenFault, PutFault, WriteFault};
 pub use medium::{Failed, Faulty, Medium};
+pub use rest::Rest;
 pub use sim::{NoMemory, SimMedium};
 pub use slots::Slots;
 pub use unit::Unit;
