@@ -20,6 +20,8 @@ use Rattle.dfu_link.specs.Course.{Course}
 use Rattle.dfu_link.specs.Happening.{Harm}
 use Rattle.dfu_link.specs.Play.{heard_over, waits_for}
 use Rattle.dfu_link.specs.Bytes.{fuse_of, armed, bus_was_reset, HearsBack, Reaches, came_back, ended_back, Sends, Waits, Slips, ResetsBus, Acts, left_by, HostActs, HostActsArmed}
+use Rattle.dfu_link.specs.declared.tracing.noting.LastWrites.{LastWrites}
+use Rattle.dfu_link.specs.Made.{WritesBetween}
 use Rattle.dfu_link.specs.Tracing.{Replies, RepliesArmed}
 use Rattle.dfu_link.specs.inside.Acting.{seen_over}
 
@@ -126,11 +128,19 @@ gone_by {c = c} {harm = harm} {x = x} {h = h} {h' = h'} {w = w} {last = last} {w
     subst (λ (d : Course). HostActsArmed h d harm w w' h') e (subst (λ (y : Harm). HostActsArmed h c y w w' h') k
     (record { last = last; acted = subst (λ (z : Shown). HostActs h c z last h') start acted; device = left }))
 
--- What the device answers in an action by the course of its fate, on a medium that is armed for it.
+-- What the device answers in an action by the course of its fate, and what its medium writes, on a medium that is armed for it.
 pub answered_by : {course c : Course} {harm x : Harm} {h : HostState} {w start w' : Shown}
-    (last : Shown) {came : Back} {out : List ℕ} → c ≡ course
-    → x ≡ harm → start ≡ armed w (fuse_of c.harming x) → Replies (deed h.task h.phase) c start last came out → w' ≡ left_by c.harming last
-    → RepliesArmed h course harm w w' came out
-answered_by {c = c} {harm = harm} {x = x} {h = h} {w = w} {w' = w'} last {came = came} {out = out} e k start replies left =
-    subst (λ (d : Course). RepliesArmed h d harm w w' came out) e (subst (λ (y : Harm). RepliesArmed h c y w w' came out) k
-    (record { last = last; replies = subst (λ (z : Shown). Replies (deed h.task h.phase) c z last came out) start replies; device = left }))
+    (last : Shown) {came : Back} {out : List ℕ} {writes : LastWrites} → c ≡ course
+    → x ≡ harm → start ≡ armed w (fuse_of c.harming x) → Replies (deed h.task h.phase) c start last came out
+    → WritesBetween start.slots.medium last.slots.medium writes → w' ≡ left_by c.harming last
+    → RepliesArmed h course harm w w' came out writes
+answered_by {c = c} {harm = harm} {x = x} {h = h} {w = w} {w' = w'} last {came = came} {out = out} {writes = writes} e k start replies wrote
+    left =
+    subst (λ (d : Course). RepliesArmed h d harm w w' came out writes) e
+    (subst (λ (y : Harm). RepliesArmed h c y w w' came out writes) k
+    (record {
+      last = last;
+      replies = subst (λ (z : Shown). Replies (deed h.task h.phase) c z last came out) start replies;
+      wrote = subst (λ (z : Shown). WritesBetween z.slots.medium last.slots.medium writes) start wrote;
+      device = left;
+    }))

@@ -32,10 +32,12 @@ pub mod Events
 pub mod Uploads
 pub mod TraceTexts
 pub mod TraceNotes
+pub mod Notings
 pub mod Traced
 pub mod KeptLaws
 pub mod Counted
 pub mod Agreeing
+pub mod Placed
 pub mod Steady
 pub mod Config
 pub mod Chains

@@ -1,5 +1,5 @@
 -- What is printed by a writer of a trace.
-use Rattle.std.proofs.Common.{◌≡◌, ◌≢◌, ℕ, ◌+◌, ◌≤◌, Bool, true, false, List, [], ◌∷◌, ◌++◌, length, Option, Some, None, refl, sym, ap, ◌∙◌, subst, arith, ◌-◌, ◌%◌, ◌^◌, min}
+use Rattle.std.proofs.Common.{◌≡◌, ◌≢◌, ℕ, ◌+◌, ◌≤◌, Bool, true, false, List, [], ◌∷◌, ◌++◌, length, Option, Some, None, refl, sym, ap, ◌∙◌, arith, ◌-◌, ◌%◌, ◌^◌, min}
 use Rattle.std.proofs.lemmas.List.{append-nil}
 use Rattle.std.specs.Io.KnownBytes.{Appends}
 use Rattle.dfu_suffix.specs.Writing.{IsOutInPart}
@@ -13,8 +13,7 @@ use Rattle.dfu_link.specs.declared.tracing.place.Place.TheVariants.{Start}
 use Rattle.dfu_link.specs.declared.scripting.fault.ScriptFault.{ScriptFault}
 use Rattle.dfu_link.specs.declared.scripting.fault.ScriptFault.TheVariants.{BadLine, LateConfig, BadConfig, Expected, NonePrinted, TooLarge, NoMemory, Read, Write}
 use Rattle.dfu_link.specs.inside.Expected.{Prints}
-use Rattle.dfu_link.specs.TraceWords.{notes_text}
-use Rattle.dfu_link.specs.TraceText.{time_in, step_text, IsLineOf}
+use Rattle.dfu_link.specs.TraceText.{time_in, step_text}
 use Rattle.dfu_link.specs.TracedRun.{IsTold, after_time}
 use Rattle.dfu_link.specs.inside.Telling.{Traces, IsCounted, IsJust, held_loud}
 use Rattle.dfu_link.proofs.WriteLaws.{appends_none}
@@ -121,20 +120,19 @@ time_out time is_broken count last all number ms on = record {
 }
 
 -- The line of an action is that with the clock behind the action.
-pub told_out : {fate : GivenFate} {step : Step} {out : List ℕ} (is_broken broke : Bool) (count mid last : Count) (old new : Option (List ℕ))
+pub told_out : (fate : GivenFate) (step : Step) (out : List ℕ) (is_broken broke : Bool) (count mid last : Count) (old new : Option (List ℕ))
     → mid.number ≡ (count.number + 1) % 2 ^ 64 → mid.ms ≡ min (count.ms + time_in step.action fate) (2 ^ 64 - 1)
     → last.number ≡ mid.number → last.ms ≡ mid.ms
     → Traces (IsCounted fate step out) (held_loud is_broken mid old) (held_loud broke mid new)
     → Traces (IsTold fate step out) (held_loud is_broken count old) (held_loud broke last new)
-told_out {fate = fate} {step = step} {out = out} is_broken broke count mid last old new number ms number' ms' traces on =
+told_out fate step out is_broken broke count mid last old new number ms number' ms' traces on =
     let a = traces refl in
     record {
       on = refl;
       text = a.text;
       is = (
         λ i. record { number = (number' ∙ number) i; ms = (ms' ∙ ms) i },
-        subst (λ (n : ℕ). IsLineOf n last.ms fate step out a.text) (sym number')
-            (subst (λ (n : ℕ). IsLineOf mid.number n fate step out a.text) (sym ms') a.is.0),
+        a.is.0 ∙ (λ i. step_text (sym number' i) (sym ms' i) fate step out),
       );
       out = record {
         front = a.out.front;
@@ -145,11 +143,6 @@ told_out {fate = fate} {step = step} {out = out} is_broken broke count mid last 
         none = a.out.none;
       };
     }
-
--- A line of an action with no writes is a line of it.
-pub some_line : (number ms : ℕ) (fate : GivenFate) (step : Step) (out : List ℕ)
-    → IsLineOf number ms fate step out (step_text number ms fate step out (notes_text false []))
-some_line number ms fate step out = record { more = false; notes = []; is = refl }
 
 -- A front of a text that is clean was written.
 front_seen : {text : List ℕ} (old new : Option (List ℕ)) (front rest : List ℕ) → IsClean text → text ≡ front ++ rest → Appends old new front

@@ -12,6 +12,7 @@ pub mod CleanRun
 pub mod Bytes
 pub mod Understood
 pub mod Power
+pub mod Made
 pub mod Tracing
 pub mod TraceWords
 pub mod TraceText

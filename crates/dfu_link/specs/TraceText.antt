@@ -1,5 +1,5 @@
 -- The line of a trace that tells an action: `# NUMBER PHASE; ACTION; FATE; ANSWER; BEFORE; AFTER; WRITES; TIME ms`, ended by 0Ah.
-use Rattle.std.specs.Prelude.{◌≡◌, ℕ, Bool, List, ◌++◌, codes}
+use Rattle.std.specs.Prelude.{ℕ, List, ◌++◌, codes}
 use Rattle.std.specs.Fmt.{decimal}
 use Rattle.dfu_wire.specs.declared.requests.Request.{Request}
 use Rattle.dfu_wire.specs.declared.requests.Request.TheVariants.{NotDfu}
@@ -14,7 +14,6 @@ use Rattle.dfu_link.specs.declared.back.Back.{Back}
 use Rattle.dfu_link.specs.declared.back.Back.TheVariants as back
 use Rattle.dfu_link.specs.declared.fate.Fate.{Fate as GivenFate}
 use Rattle.dfu_link.specs.declared.fate.Fate.TheVariants as fate
-use Rattle.dfu_link.specs.declared.tracing.noting.WriteNote.{WriteNote}
 use Rattle.dfu_link.specs.declared.tracing.step.Step.{Step}
 use Rattle.dfu_link.specs.Texts.{hex_text}
 use Rattle.dfu_link.specs.TraceWords.{setup_of, request_of, request_name, bytes_text, notes_text}
@@ -128,14 +127,8 @@ course_text fate step out =
     ++ (codes "; " ++ answer_text step.action fate step.came out)
     ++ (codes "; " ++ state_name step.before) ++ (codes "; " ++ state_name step.after)
 
--- The line of an action: its number, what it came to, the writes of the medium, and the milliseconds since the start.
-unfoldable pub step_text : (number ms : ℕ) → GivenFate → Step → (out writes : List ℕ) → List ℕ
-step_text number ms fate step out writes =
-    codes "# " ++ decimal number ++ (codes " " ++ course_text fate step out) ++ (codes "; " ++ writes) ++ (codes "; " ++ decimal ms)
-    ++ codes " ms\n"
-
--- A line is that of an action with some writes of the medium.
-pub record IsLineOf (number ms : ℕ) (fate : GivenFate) (step : Step) (out line : List ℕ) : Type 0 where
-  pub more : Bool
-  pub notes : List WriteNote
-  pub is : line ≡ step_text number ms fate step out (notes_text more notes)
+-- The line of an action: its number, what it came to, the last writes of the medium, and the milliseconds since the start.
+unfoldable pub step_text : (number ms : ℕ) → GivenFate → Step → (out : List ℕ) → List ℕ
+step_text number ms fate step out =
+    codes "# " ++ decimal number ++ (codes " " ++ course_text fate step out)
+    ++ (codes "; " ++ notes_text step.writes.more step.writes.notes.items) ++ (codes "; " ++ decimal ms) ++ codes " ms\n"

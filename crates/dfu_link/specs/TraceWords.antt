@@ -1,5 +1,5 @@
 -- The words of a trace: what the bytes of a request ask for, what those of an answer say, and the writes of the medium.
-use Rattle.std.specs.Prelude.{ℕ, zero, suc, ◌+◌, ◌-◌, ◌*◌, ◌%◌, ◌==◌, ◌&&◌, ◌^◌, nat_lt, min, max, Bool, true, false, if◌then◌else◌, List, [], ◌∷◌, ◌++◌, length, slice_get, slice_index, slice_index_or, slice_set, Option, Some, None, Result, Ok, Err, codes}
+use Rattle.std.specs.Prelude.{ℕ, ◌+◌, ◌*◌, ◌==◌, ◌&&◌, Bool, true, false, if◌then◌else◌, List, [], ◌∷◌, ◌++◌, length, slice_get, slice_index, Option, Some, None, codes}
 use Rattle.std.specs.Fmt.{decimal}
 use Rattle.dfu_wire.specs.declared.codes.Code.{Code}
 use Rattle.dfu_wire.specs.declared.codes.Code.TheVariants as code
@@ -11,7 +11,6 @@ use Rattle.dfu_wire.specs.declared.states.State.TheVariants as state
 use Rattle.dfu_wire.specs.Code.{code_name}
 use Rattle.dfu_wire.specs.State.{state_name}
 use Rattle.dfu_wire.specs.Status.{StatusFields}
-use Rattle.dfu_slots.specs.declared.medium.Failed as medium
 use Rattle.dfu_link.specs.declared.tracing.noting.WriteEnd.{WriteEnd}
 use Rattle.dfu_link.specs.declared.tracing.noting.WriteEnd.TheVariants.{Worked, Failed, Lied}
 use Rattle.dfu_link.specs.declared.tracing.noting.WriteNote.{WriteNote}
@@ -149,64 +148,3 @@ notes_in_row is_behind (note ∷ notes) = comma_text is_behind ++ note_text note
 abbrev pub notes_text : (more : Bool) → List WriteNote → List ℕ
 notes_text more [] = codes "-"
 notes_text more (note ∷ notes) = notes_in_row more (note ∷ notes)
-
--- How a write ended, by whether it was to lie and by what it answered.
-abbrev pub end_of : (lies : Bool) → Result (Unit {0}) medium.Failed → WriteEnd
-end_of false (Ok done) = Worked
-end_of true (Ok done) = Lied
-end_of lies (Err failed) = Failed
-
--- Whether the next write is the one that is to lie: no other comes before it.
-abbrev pub is_next_lie : (before_lie : Option ℕ) → Bool
-is_next_lie None = false
-is_next_lie (Some zero) = true
-is_next_lie (Some (suc more)) = false
-
--- After a write one less comes before the one that is to lie; after that one no other is to.
-abbrev pub next_before_lie : (before_lie : Option ℕ) → Option ℕ
-next_before_lie None = None
-next_before_lie (Some zero) = None
-next_before_lie (Some (suc more)) = Some more
-
--- A write more was made: the count of them wraps behind the largest number of 64 bits.
-abbrev pub next_count : (count : ℕ) → ℕ
-next_count count = (count + 1) % 2 ^ 64
-
--- What is noted of a write or an erase, where so many come before the write that is to lie.
-abbrev pub note_of : (erases : Bool) (at len : ℕ) (before_lie : Option ℕ) → Result (Unit {0}) medium.Failed → WriteNote
-note_of erases at len before_lie answer =
-    record { erases = erases; at = at; len = len; end = end_of (is_next_lie before_lie) answer }
-
--- Of a write its length is noted, and the largest number of 32 bits where that does not fit.
-abbrev pub write_note : (at len : ℕ) (before_lie : Option ℕ) → Result (Unit {0}) medium.Failed → WriteNote
-write_note at len before_lie answer = note_of false at (min len (2 ^ 32 - 1)) before_lie answer
-
--- Of an erase the length of a sector is noted.
-abbrev pub erase_note : (at sector : ℕ) (before_lie : Option ℕ) → Result (Unit {0}) medium.Failed → WriteNote
-erase_note at sector before_lie answer = note_of true at sector before_lie answer
-
--- The room after the write of this number, which takes the place of the one 16 before it.
-abbrev pub room_with : (room : List WriteNote) → ℕ → WriteNote → List WriteNote
-room_with room number note = slice_set room (number % 16) note
-
--- What a medium has room for before there is a write.
-abbrev pub no_note : WriteNote
-no_note = record { erases = false; at = 0; len = 0; end = Worked }
-
--- The write of this number, counted from 0, where a medium has room for its last 16.
-abbrev pub note_at : (room : List WriteNote) → ℕ → WriteNote
-note_at room number = slice_index_or room (number % 16) no_note
-
--- So many writes from this one on.
-unfoldable pub notes_from : (room : List WriteNote) → (first many : ℕ) → List WriteNote
-notes_from room first zero = []
-notes_from room first (suc many) = note_at room first ∷ notes_from room (first + 1) many
-
--- Of `count` writes those from `from` on are told, but at most the last 16: this is the first of them.
-abbrev pub first_told : (count from : ℕ) → ℕ
-first_told count from = max from (count - 16)
-
--- The text of the writes from `from` on, of a medium that made `count`.
-abbrev pub writes_text : (room : List WriteNote) → (count from : ℕ) → List ℕ
-writes_text room count from =
-    notes_text (nat_lt from (first_told count from)) (notes_from room (first_told count from) (count - first_told count from))

@@ -10,7 +10,7 @@ use Rattle.dfu_link.specs.Bench.{Bench, Nobody}
 use Rattle.dfu_link.specs.Play.{Answered}
 use Rattle.dfu_link.specs.Comes.{Comes}
 use Rattle.dfu_link.specs.Tracing.{IsStep}
-use Rattle.dfu_link.specs.TraceText.{time_in, IsLineOf}
+use Rattle.dfu_link.specs.TraceText.{time_in, step_text}
 use Rattle.dfu_link.specs.Texts.{answer_line, image_line, show_line}
 use Rattle.dfu_link.specs.Said.{Said, Blank, Sets, LimitsTo, Does, GoesOn, Show, Expects}
 use Rattle.dfu_link.specs.Lines.{line_of}
@@ -35,7 +35,7 @@ after_action c ms = record (after_time c ms) { number = (c.number + 1) % 2 ^ 64 
 
 -- This is the line of a step by this fate, whose answer had these bytes, with the clock behind it.
 abbrev pub IsTold : GivenFate → Step → (out : List ℕ) → Clock → (line : List ℕ) → Clock → Type 0
-IsTold fate step out c line c' = (c' ≡ after_action c (time_in step.action fate)) × IsLineOf c'.number c'.ms fate step out line
+IsTold fate step out c line c' = (c' ≡ after_action c (time_in step.action fate)) × (line ≡ step_text c'.number c'.ms fate step out)
 
 -- This is the line of an action that leads from one bench to another: it tells of that step, by the fate of the event.
 pub record ActionTold (b : Bench) (c : Clock) (event : Happening) (b' : Bench) (c' : Clock) (line : List ℕ) : Type 0 where

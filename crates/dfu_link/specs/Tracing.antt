@@ -13,12 +13,14 @@ use Rattle.dfu_host.specs.Wire.{IsAsked, Spells}
 use Rattle.dfu_link.specs.declared.back.Back.{Back}
 use Rattle.dfu_link.specs.declared.back.Back.TheVariants.{Lost}
 use Rattle.dfu_link.specs.declared.fate.Fate.{Fate as GivenFate}
+use Rattle.dfu_link.specs.declared.tracing.noting.LastWrites.{LastWrites}
 use Rattle.dfu_link.specs.declared.tracing.step.Step.{Step}
 use Rattle.dfu_link.specs.Happening.{Harm, fate_of, harm_in}
 use Rattle.dfu_link.specs.Course.{Course, course_of}
 use Rattle.dfu_link.specs.Play.{waits_for}
 use Rattle.dfu_link.specs.Bench.{Bench}
 use Rattle.dfu_link.specs.Standing.{session_of}
+use Rattle.dfu_link.specs.Made.{WritesBetween}
 use Rattle.dfu_link.specs.Bytes.{fuse_of, armed, bus_was_reset, Reaches, Slips, left_by}
 
 -- What a device answers to an action, by its rows: to a request what it answers last, if it sees it. A wait and a reset have no answer.
@@ -28,10 +30,12 @@ Replies (Wait ms) course w w' came out = (came ≡ Lost) × Elapses (waits_for c
 Replies Reset course w w' came out = (came ≡ Lost) × Slips course.handling (bus_was_reset w) w'
 Replies (Done report) course w w' came out = ⊥
 
--- So a device answers that is armed for the action, and then left as it has to be.
-pub record RepliesArmed (h : HostState) (course : Course) (harm : Harm) (w w' : Shown) (came : Back) (out : List ℕ) : Type 0 where
+-- So a device answers that is armed for the action, and then left as it has to be. These are the last writes that its medium makes in it.
+pub record RepliesArmed (h : HostState) (course : Course) (harm : Harm) (w w' : Shown) (came : Back) (out : List ℕ) (writes : LastWrites)
+    : Type 0 where
   pub last : Shown
   pub replies : Replies (deed h.task h.phase) course (armed w (fuse_of course.harming harm)) last came out
+  pub wrote : WritesBetween (armed w (fuse_of course.harming harm)).slots.medium last.slots.medium writes
   pub device : w' ≡ left_by course.harming last
 
 -- A host is live in this phase and asks for this.
@@ -42,11 +46,11 @@ pub record Asks (live : Option HostState) (phase : Phase) (action : Action) : Ty
   pub spells : Spells (deed host.task host.phase) action
 
 -- This is the step of an action by this fate that leads from one bench to another: it has the phase of the host, what it asks for, what the
--- device answers, and the states of the device before and after.
+-- device answers, the states of the device before and after, and the last writes of its medium.
 pub record IsStep (b : Bench) (fate : GivenFate) (step : Step) (out : List ℕ) (b' : Bench) : Type 0 where
   pub live : Option HostState
   pub session : b.session ≡ session_of live
   pub asks : Asks live step.phase step.action
-  pub replies : RepliesArmed asks.host (course_of (fate_of fate)) (harm_in fate) b.device b'.device step.came out
+  pub replies : RepliesArmed asks.host (course_of (fate_of fate)) (harm_in fate) b.device b'.device step.came out step.writes
   pub before : step.before ≡ state_of b.device.stage
   pub after : step.after ≡ state_of b'.device.stage

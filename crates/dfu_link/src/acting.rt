@@ -16,11 +16,11 @@ use crate::course::{Course, Handling, Harming};
 use arrayvec::ArrayVec;
 use dfu_device::{Answer, Device};
 use dfu_host::{Action, Host, Seen};
-use dfu_slots::Faulty;
+use dfu_slots::Medium;
 
 /// The device handles a request, or doesn't see it. Where it does, its answer's bytes stand in
 /// `out`.
-fn reach<M: Faulty>(
+fn reach<M: Medium>(
     device: &mut Device<M>,
     setup: &[u8; 8],
     body: &[u8],
@@ -76,7 +76,7 @@ fn seen_after(harming: Harming, seen: Seen<'static>) -> Seen<'static>
 }
 
 /// A wait of the host: where a time slips in it passes in its place.
-fn wait<M: Faulty>(device: &mut Device<M>, ms: u32, course: Course<'_>) -> Seen<'static>
+fn wait<M: Medium>(device: &mut Device<M>, ms: u32, course: Course<'_>) -> Seen<'static>
     ensures hears { (d : Deed) (heard : Heard) → Hears d result heard
         → Waits ms (course_in course.entry) device.old device.new heard }
     ensures row { Elapses (waits_for course.entry.handling ms) device.old device.new }
@@ -86,7 +86,7 @@ fn wait<M: Faulty>(device: &mut Device<M>, ms: u32, course: Course<'_>) -> Seen<
 }
 
 /// The time that slips in after a reset of the bus passes.
-fn slip<M: Faulty>(device: &mut Device<M>, handling: Handling)
+fn slip<M: Medium>(device: &mut Device<M>, handling: Handling)
     ensures { Slips handling device.old device.new }
 {
     match handling {
@@ -96,7 +96,7 @@ fn slip<M: Faulty>(device: &mut Device<M>, handling: Handling)
 }
 
 /// A reset of the bus by the host, and the time that slips in after it.
-fn reset_bus<M: Faulty>(device: &mut Device<M>, course: Course<'_>) -> Seen<'static>
+fn reset_bus<M: Medium>(device: &mut Device<M>, course: Course<'_>) -> Seen<'static>
     ensures hears { (d : Deed) (heard : Heard) → Hears d result heard
         → ResetsBus (course_in course.entry) device.old device.new heard }
     ensures row { Slips course.entry.handling (bus_was_reset device.old) device.new }
@@ -122,7 +122,7 @@ fn tell(host: &mut Host<'_>, back: Back, out: &[u8])
 /// The next action of a host that is not done, by its course. Who harms a write has armed the
 /// medium for it. `out` is room for an answer; what it holds at first isn't read. It tells what the
 /// device answered, if it did, whether that came back or not.
-pub(crate) fn act<M: Faulty>(
+pub(crate) fn act<M: Medium>(
     device: &mut Device<M>,
     host: &mut Host<'_>,
     course: Course<'_>,

@@ -1,7 +1,8 @@
 //! What each event makes of a device and a host.
 
-ghost use Rattle.std.specs.Prelude.{◌≡◌, Some};
+ghost use Rattle.std.specs.Prelude.{◌≡◌, ◌≢◌, Some, None, Ok};
 ghost use Rattle.dfu_host.specs.Host.{HostState};
+ghost use Rattle.dfu_link.specs.Bench.{ShowsActive};
 ghost use Rattle.dfu_link.specs.Course.{course_of};
 ghost use Rattle.dfu_link.specs.Play.{given, told, aborted};
 ghost use Rattle.dfu_link.specs.Standing.{session_of, given_by, bench_of, link_state, IsOnIn, SendsBytes, IsCountedIn, IsSteady};
@@ -15,9 +16,10 @@ use crate::back::Back;
 use crate::event::Event;
 use crate::fate::Fate;
 use crate::fault::LinkFault;
-use crate::going::carry_out;
+use crate::going::{carry_out, carry_out_noting};
 use crate::offering::begin;
 use crate::power::power_cycle;
+use crate::tracing::noting::LastWrites;
 use crate::uploading::upload;
 use arrayvec::ArrayVec;
 use dfu_device::Device;
@@ -106,30 +108,50 @@ fn abort(host: &mut Option<Host<'_>>) -> Result<Option<Report>, LinkFault>
     }
 }
 
-/// The host takes its next action. `out` is room for an answer. It tells what the device answered too,
-/// if it did.
-pub(crate) fn go<'f, M: Faulty>(
+/// The host takes its next action. `out` is room for an answer.
+fn go<'f, M: Faulty>(
     device: &mut Device<M>,
     host: &mut Option<Host<'f>>,
     gave: &mut Option<Host<'f>>,
     fate: Fate<'_>,
     out: &mut ArrayVec<u8, 4096>,
-) -> (Result<Option<Report>, LinkFault>, Back)
+) -> Result<Option<Report>, LinkFault>
     requires { IsSteady (bench_of device.old host.old) }
-    ensures comes { HasCome (link_state device.old host.old gave.old) (Goes (fate_of fate.entry) (harm_in fate.entry))
-        (link_state device.new host.new gave.new) result.0 }
-    ensures replies { (h : HostState) → host.old ≡ Some h → RepliesArmed h (course_of (fate_of fate.entry)) (harm_in fate.entry)
-        device.old device.new result.1 out.new.items }
+    ensures { HasCome (link_state device.old host.old gave.old) (Goes (fate_of fate.entry) (harm_in fate.entry))
+        (link_state device.new host.new gave.new) result }
 {
-    let came = match host {
-        None => return (Err(LinkFault::NoHost), Back::Lost),
+    match host {
+        None => return Err(LinkFault::NoHost),
         Some(live) => carry_out(device, live, fate, out),
+    }
+    Ok(end(host, gave))
+}
+
+/// The same where a host is live, on a device that is handed over and comes back, with the report, what it answered, if it did, and
+/// the last writes that its medium made of the action.
+pub(crate) fn go_noting<'f, M: Faulty>(
+    device: Device<M>,
+    host: &mut Option<Host<'f>>,
+    gave: &mut Option<Host<'f>>,
+    fate: Fate<'_>,
+    out: &mut ArrayVec<u8, 4096>,
+) -> (Device<M>, Option<Report>, Back, LastWrites)
+    requires steady { IsSteady (bench_of device host.old) }
+    requires live { host.old ≢ None }
+    ensures comes { HasCome (link_state device host.old gave.old) (Goes (fate_of fate.entry) (harm_in fate.entry))
+        (link_state result.0 host.new gave.new) (Ok result.1) }
+    ensures replies { (h : HostState) → host.old ≡ Some h → RepliesArmed h (course_of (fate_of fate.entry)) (harm_in fate.entry)
+        device result.0 result.2 out.new.items result.3 }
+{
+    let (device, came, writes) = match host {
+        None => unreachable!(),
+        Some(live) => carry_out_noting(device, live, fate, out),
     };
-    (Ok(end(host, gave)), came)
+    (device, end(host, gave), came, writes)
 }
 
 /// An event comes. A refused one changes nothing. `out` is room for an answer.
-pub(crate) fn play<'f, M: Faulty>(
+fn come<'f, M: Faulty>(
     alloc: Global,
     device: &mut Device<M>,
     host: &mut Option<Host<'f>>,
@@ -145,10 +167,7 @@ pub(crate) fn play<'f, M: Faulty>(
         Event::OfferVerified { file, limits } => offer(device, host, Aim::Verify, file, limits),
         Event::Upload { limits } => upload(alloc, device, host, limits),
         Event::Abort => abort(host),
-        Event::Go(fate) => {
-            let (told, _) = go(device, host, gave, fate, out);
-            told
-        }
+        Event::Go(fate) => go(device, host, gave, fate, out),
         Event::Time(ms) => {
             device.elapse(ms);
             Ok(None)
@@ -162,4 +181,24 @@ pub(crate) fn play<'f, M: Faulty>(
             Ok(restart(host, gave))
         }
     }
+}
+
+/// The same, with what the device shows then.
+pub(crate) fn play<'f, M: Faulty>(
+    alloc: Global,
+    device: &mut Device<M>,
+    host: &mut Option<Host<'f>>,
+    gave: &mut Option<Host<'f>>,
+    event: Event<'f, '_>,
+    out: &mut ArrayVec<u8, 4096>,
+) -> Result<Option<Report>, LinkFault>
+    requires { IsSteady (bench_of device.old host.old) }
+    ensures comes { HasCome (link_state device.old host.old gave.old) (happening event.entry) (link_state device.new host.new gave.new)
+        result }
+    ensures active { ShowsActive (bench_of device.new host.new) }
+{
+    let told = come(alloc, device, host, gave, event, out);
+    // Called for its clause `image`, which `active` needs; what it answers isn't used.
+    let _ = device.slots().capacity();
+    told
 }

@@ -2,6 +2,7 @@
 
 pub(crate) mod answers;
 pub(crate) mod asking;
+pub(crate) mod laying;
 pub(crate) mod line;
 pub(crate) mod names;
 pub(crate) mod noting;

@@ -1,6 +1,6 @@
 //! A device and a host on a link.
 
-ghost use Rattle.std.specs.Prelude.{◌≡◌, [], IfOk, IfErr, IfNone, IfSome};
+ghost use Rattle.std.specs.Prelude.{◌≡◌, [], true, false, IfOk, IfErr, IfNone, IfSome};
 ghost use Rattle.dfu_slots.specs.Medium.Fuse.{Whole};
 ghost use Rattle.dfu_link.specs.Bench.{Nobody};
 ghost use Rattle.dfu_link.specs.Bytes.{armed};
@@ -18,7 +18,7 @@ use crate::event::Event;
 use crate::fate::Fate;
 use crate::fault::LinkFault;
 use crate::laws::image_shown;
-use crate::play::{go, play};
+use crate::play::{go_noting, play};
 use crate::tracing::asking::asked;
 use crate::tracing::step::Step;
 use arrayvec::ArrayVec;
@@ -34,7 +34,8 @@ use std::marker::Model;
 #[derive(Drop)]
 pub struct World<'f, M: Faulty> {
     alloc: Global,
-    device: Device<M>,
+    // There is always one: it is taken out for an action of which a trace tells, and then put back.
+    device: Option<Device<M>>,
     host: Option<Host<'f>>,
     // The host of the last session that reported Uploaded, if one did.
     gave: Option<Host<'f>>,
@@ -44,13 +45,14 @@ pub struct World<'f, M: Faulty> {
 
 impl<'f, M: Faulty> Model for World<'f, M> {
     ghost use Rattle.dfu_link.specs.Bench.{LinkState};
-    ghost use Rattle.dfu_link.specs.Standing.{bench_of, link_state, Holds};
+    ghost use Rattle.dfu_link.specs.Standing.{link_state};
+    ghost use Rattle.dfu_link.specs.inside.Placed.{device_in, Stands};
 
     ghost Value = { LinkState };
 
-    ghost view = { λ w. link_state w.device w.host w.gave };
+    ghost view = { λ w. link_state (device_in w.device) w.host w.gave };
 
-    ghost invariant = { λ w. Holds (bench_of w.device w.host) };
+    ghost invariant = { λ w. Stands w.device w.host };
 }
 
 impl<'f, M: Faulty> World<'f, M> {
@@ -66,7 +68,7 @@ impl<'f, M: Faulty> World<'f, M> {
         let _ = device.slots().capacity();
         World {
             alloc,
-            device,
+            device: Some(device),
             host: None,
             gave: None,
             out: ArrayVec::new(),
@@ -98,19 +100,19 @@ impl<'f, M: Faulty> World<'f, M> {
         ensures gives { Gives self.old self.new result }
         ensures active { ShowsActive self.new.bench }
     {
-        let told = play(
-            self.alloc,
-            &mut self.device,
-            &mut self.host,
-            &mut self.gave,
-            event,
-            &mut self.out,
-        );
         // Called for its law, which `legal` needs: no image but the one that is shown is active.
         image_shown();
-        // Called for its clause `image`, which `active` needs; what it answers isn't used.
-        let _ = self.device.slots().capacity();
-        told
+        match &mut self.device {
+            Some(device) => play(
+                self.alloc,
+                device,
+                &mut self.host,
+                &mut self.gave,
+                event,
+                &mut self.out,
+            ),
+            None => unreachable!(),
+        }
     }
 
     /// The host's next action, as `step` has it come with Go, and what it came to where a session is
@@ -125,23 +127,33 @@ impl<'f, M: Faulty> World<'f, M> {
         ensures none { IfNone result.1 (self.old.bench.session ≡ Nobody) }
         ensures active { ShowsActive self.new.bench }
     {
-        let before = self.device.state();
-        let asked = asked(&self.host);
-        let (told, came) = go(&mut self.device, &mut self.host, &mut self.gave, fate, out);
-        // Called for its clause `image`, which `active` needs; what it answers isn't used.
-        let _ = self.device.slots().capacity();
-        let Some((phase, action)) = asked else {
-            return (told, None);
+        let Some((phase, action)) = asked(&self.host) else {
+            return (Err(LinkFault::NoHost), None);
         };
-        let after = self.device.state();
+        let Some(device) = self.device.take() else {
+            unreachable!()
+        };
+        let before = device.state();
+        let (device, report, came, writes) = go_noting(
+            device,
+            &mut self.host,
+            &mut self.gave,
+            fate,
+            out,
+        );
+        // Called for its clause `image`, which `active` needs; what it answers isn't used.
+        let _ = device.slots().capacity();
+        let after = device.state();
+        self.device = Some(device);
         let step = Step {
             phase,
             action,
             came,
             before,
             after,
+            writes,
         };
-        (told, Some(step))
+        (Ok(report), Some(step))
     }
 
     /// What the last session gave that reported Uploaded: the device's active image at that time.
@@ -160,7 +172,10 @@ impl<'f, M: Faulty> World<'f, M> {
         ensures device { result.now ≡ self.now.bench.device }
         ensures active { ShowsActive self.now.bench }
     {
-        &self.device
+        match &self.device {
+            Some(device) => device,
+            None => unreachable!(),
+        }
     }
 
     /// The device back, without what was uploaded. Where a session is live, the link back as it is.
@@ -170,9 +185,39 @@ impl<'f, M: Faulty> World<'f, M> {
         // The medium of the device isn't armed.
         ensures unarmed { IfOk result (λ device. device.slots.medium.fuse ≡ Whole) }
     {
-        match self.host {
-            None => Ok(self.device),
+        match &self.host {
+            None => Ok(self.release()),
             Some(_) => Err(self),
+        }
+    }
+
+    /// Whether a session is live.
+    pub(crate) fn is_live(&self) -> bool
+        ensures live { result ≡ true → IsLive self.now.bench.session }
+        ensures none { result ≡ false → self.now.bench.session ≡ Nobody }
+    {
+        match &self.host {
+            None => false,
+            Some(_) => true,
+        }
+    }
+
+    /// The device by itself. Within `into_device` it would be moved piece by piece, in half a megabyte of code.
+    #[inline(never)]
+    pub(crate) fn release(self) -> Device<M>
+        ensures device { result ≡ self.entry.bench.device }
+        ensures unarmed { result.slots.medium.fuse ≡ Whole }
+    {
+        let World {
+            alloc: _,
+            device,
+            host: _,
+            gave: _,
+            out: _,
+        } = self;
+        match device {
+            Some(device) => device,
+            None => unreachable!(),
         }
     }
 }

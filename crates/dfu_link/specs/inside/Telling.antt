@@ -5,7 +5,7 @@ use Rattle.dfu_link.specs.Bench.{Bench}
 use Rattle.dfu_link.specs.Happening.{Happening, Offers, Uploads, Aborts, Goes, Passes, Resets, Cuts}
 use Rattle.dfu_link.specs.declared.fate.Fate.{Fate as GivenFate}
 use Rattle.dfu_link.specs.declared.tracing.step.Step.{Step}
-use Rattle.dfu_link.specs.TraceText.{IsLineOf}
+use Rattle.dfu_link.specs.TraceText.{step_text}
 use Rattle.dfu_link.specs.KeptLines.{seen_of}
 use Rattle.dfu_link.specs.TracedRun.{Clock, at_start, EventTraced}
 use Rattle.dfu_link.specs.declared.tracing.line.Count.{Count}
@@ -63,7 +63,7 @@ IsJust text c out c' = (out ≡ text) × (c' ≡ c)
 
 -- This is the line of a step by this fate, whose answer had these bytes, with the clock that stands there.
 abbrev pub IsCounted : GivenFate → Step → (out : List ℕ) → Clock → List ℕ → Clock → Type 0
-IsCounted fate step out c line c' = IsLineOf c.number c.ms fate step out line × (c' ≡ c)
+IsCounted fate step out c line c' = (line ≡ step_text c.number c.ms fate step out) × (c' ≡ c)
 
 -- With what is printed of an event behind it, this is what is written of the event.
 abbrev pub Leads : Bench → Happening → Bench → (printed : List ℕ) → Clock → List ℕ → Clock → Type 0

@@ -109,9 +109,8 @@ fn follow<'f, T: Telling<M, W>, R: Read + Drop, M: Faulty, W>(
 {
     let mut world = world;
     'lines: loop {
-        match world.into_device() {
-            Ok(device) => return Ok(Some(device)),
-            Err(live) => world = live,
+        if !world.is_live() {
+            return Ok(Some(world.release()));
         }
         if !source.next()? {
             T::image(writer, &mut ahead.next, world.device())?;

@@ -63,7 +63,7 @@ fn pass_time<'f, T: Telling<M, W>, M: Faulty, W>(
         (T.held writer.new).seen f) }
 {
     let answer = world.step(Event::Time(ms));
-    T::pass(writer, ms, world.device());
+    T::pass(writer, ms);
     T::say(writer, next, answer, world.uploaded())
 }
 
@@ -86,7 +86,7 @@ fn take<'f, T: Telling<M, W>, M: Faulty, W>(
     }
     let (answer, step) = world.take_action(fate, room);
     if let Some(step) = step {
-        T::tell(writer, fate, &step, room.as_slice(), world.device());
+        T::tell(writer, fate, &step, room.as_slice());
     }
     answer
 }

@@ -13,7 +13,6 @@ use crate::scripting::fault::ScriptFault;
 use crate::scripting::hex_text::HexText;
 use crate::scripting::line::{Room, Sector};
 use crate::scripting::setup::Setup;
-use crate::tracing::noting::Noting;
 use dfu_device::{Config, Device};
 use dfu_slots::{FormatFault, SimMedium, Slots, Unit};
 use std::alloc::Global;
@@ -66,7 +65,7 @@ fn form(
     sector: Sector,
     room: Room,
     image: &[u8],
-) -> Result<Slots<Noting<SimMedium>>, ScriptFault>
+) -> Result<Slots<SimMedium>, ScriptFault>
     ensures ok { IfOk result (λ slots. Formed (grain_of unit sector) room.bytes image.now slots) }
     ensures fault { IfErr result (λ f. FormFalls (grain_of unit sector) room.bytes image.now f) }
 {
@@ -77,7 +76,7 @@ fn form(
         return Err(ScriptFault::BadConfig);
     }
     let len = medium_len(unit, sector, room);
-    let Ok(medium) = Noting::with_sectors(alloc, len, unit, sector.bytes) else {
+    let Ok(medium) = SimMedium::with_sectors(alloc, len, unit, sector.bytes) else {
         return Err(ScriptFault::NoMemory);
     };
     match Slots::format(medium, image) {
@@ -91,10 +90,7 @@ fn form(
 }
 
 /// Starts the device, in appIDLE on a formatted medium in memory.
-pub(crate) fn start(
-    alloc: Global,
-    setup: &Setup<'_>,
-) -> Result<Device<Noting<SimMedium>>, ScriptFault>
+pub(crate) fn start(alloc: Global, setup: &Setup<'_>) -> Result<Device<SimMedium>, ScriptFault>
     ensures ok { IfOk result (λ d. Starts (settings_of setup.now) d) }
     ensures unarmed { IfOk result (λ d. IsUnarmed d) }
     ensures fault { IfErr result (λ f. StartFalls (settings_of setup.now) f) }

@@ -23,7 +23,6 @@ use crate::scripting::reading::parse;
 use crate::scripting::setup::{Setup, beginning, set, set_limits};
 use crate::scripting::source::Source;
 use crate::scripting::starting::start;
-use crate::tracing::noting::Noting;
 use crate::tracing::telling::{Loud, Quiet, Telling};
 use crate::tracing::traced::Traced;
 use arrayvec::ArrayVec;
@@ -60,7 +59,7 @@ fn configure<R: Read + Drop>(
 }
 
 /// Runs what a reader gives, where FILE stands for these bytes.
-fn run_lines<T: Telling<Noting<SimMedium>, W>, R: Read + Drop, W>(
+fn run_lines<T: Telling<SimMedium, W>, R: Read + Drop, W>(
     alloc: Global,
     given: Option<&[u8]>,
     reader: R,
@@ -86,7 +85,7 @@ fn run_lines<T: Telling<Noting<SimMedium>, W>, R: Read + Drop, W>(
         next: None,
         answer: ArrayVec::new(),
     };
-    run_on::<T, R, Noting<SimMedium>, W>(alloc, device, &mut source, more, ahead, writer)
+    run_on::<T, R, SimMedium, W>(alloc, device, &mut source, more, ahead, writer)
 }
 
 /// Runs a script: reads it line by line, and does each line before the next one is read. Lines that

@@ -3,16 +3,13 @@
 ghost use Rattle.std.specs.Prelude.{◌≡◌, ◌++◌, IfOk, OnOk, codes};
 ghost use Rattle.std.specs.String.{string_bytes};
 ghost use Rattle.dfu_wire.specs.State.{state_name};
-ghost use Rattle.dfu_link.specs.TraceText.{IsLineOf, course_text, step_text, time_in};
-ghost use Rattle.dfu_link.specs.TraceWords.{writes_text};
+ghost use Rattle.dfu_link.specs.TraceText.{course_text, step_text, time_in};
 
 use crate::fate::Fate;
 use crate::tracing::answers::push_answer;
-use crate::tracing::noting::Noting;
 use crate::tracing::step::Step;
 use crate::tracing::words::{push, push_action, push_fate, push_number, push_phase, push_writes};
 use dfu_host::Action;
-use dfu_slots::SimMedium;
 use dfu_wire::State;
 use std::alloc::{AllocError, Global};
 
@@ -27,13 +24,11 @@ pub(crate) fn time_of(action: Action<'_>, fate: Fate<'_>) -> u32
     }
 }
 
-/// What a line of the trace tells beside the action: its number, the milliseconds since the start, and how
-/// many writes the medium had made before it.
+/// What a line of the trace tells beside the action: its number, and the milliseconds since the start.
 #[derive(Clone, Copy)]
 pub(crate) struct Count {
     pub number: u64,
     pub ms: u64,
-    pub writes: u64,
 }
 
 /// Adds the name of a state, behind what is told before it.
@@ -73,18 +68,15 @@ pub(crate) fn step_line(
     fate: Fate<'_>,
     step: &Step<'_>,
     out: &[u8],
-    medium: &Noting<SimMedium>,
 ) -> Result<String, AllocError>
-    ensures text { IfOk result (λ line. string_bytes line ≡ step_text count.number count.ms fate.entry step.now out.now
-        (writes_text medium.now.notes medium.now.count count.writes)) }
-    ensures line { IfOk result (λ line. IsLineOf count.number count.ms fate.entry step.now out.now (string_bytes line)) }
+    ensures { IfOk result (λ line. string_bytes line ≡ step_text count.number count.ms fate.entry step.now out.now) }
 {
     let mut line = String::new(alloc);
     push_number(&mut line, alloc, "# ", count.number)?;
     push(&mut line, " ")?;
     push_course(&mut line, alloc, fate, step, out)?;
     push(&mut line, "; ")?;
-    push_writes(&mut line, alloc, medium, count.writes)?;
+    push_writes(&mut line, alloc, &step.writes)?;
     push_number(&mut line, alloc, "; ", count.ms)?;
     push(&mut line, " ms\n")?;
     Ok(line)

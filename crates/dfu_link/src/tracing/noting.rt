@@ -1,26 +1,27 @@
-//! A medium that notes its last writes.
-ghost use Rattle.std.specs.Prelude.{◌≡◌, ◌+◌, ◌%◌, ◌≤◌, length, take, replicate, IfOk, OnOk, OnErr};
-ghost use Rattle.dfu_slots.specs.Units.{IsMultiple};
-ghost use Rattle.dfu_slots.specs.Medium.{blank_medium, FailedWrite, WroteOrLied, IsWritable};
-ghost use Rattle.dfu_slots.specs.Medium.Fuse.{Armed, Lying, Whole};
-ghost use Rattle.dfu_link.specs.TraceWords.{note_at, room_with, note_of, write_note, erase_note, end_of, is_next_lie, next_before_lie, next_count};
+//! A medium that notes its writes, laid over another one.
+ghost use Rattle.std.specs.Prelude.{◌≡◌, List, [], ◌∷◌, ◌++◌};
+ghost use Rattle.dfu_slots.specs.declared.unit.Unit.TheVariants.{Byte};
+ghost use Rattle.dfu_slots.specs.Units.{in_place};
+ghost use Rattle.dfu_slots.specs.Medium.{MediumState, blank_medium};
+ghost use Rattle.dfu_slots.specs.OneWrite.{IsKnown};
+ghost use Rattle.dfu_link.specs.declared.tracing.noting.WriteNote.{WriteNote as Note};
+ghost use Rattle.dfu_link.specs.Made.{AreLast, WritesBetween, lie_in};
+ghost use Rattle.dfu_link.specs.inside.Noting.{end_of, is_next_lie, next_before_lie};
 
-use dfu_slots::{Failed, Faulty, Medium, NoMemory, SimMedium, Unit, WriteFault};
-use std::alloc::Global;
-
-/// How many writes are noted.
-const KEPT: usize = 16;
+use arrayvec::ArrayVec;
+use dfu_slots::{Failed, Medium, Unit};
+use std::marker::{Brand, Model, PhantomData};
 
 /// How a write ended.
 #[derive(Clone, Copy, Debug, PartialEq, Eq)]
 pub(crate) enum WriteEnd {
     Worked,
     Failed,
-    /// It answered that it worked, and was harmed.
+    /// The medium was told to lie in it: it answered that it worked, whatever it left.
     Lied,
 }
 
-/// A write: whether it erased, how many bytes, where, and how it ended.
+/// A write: whether it erased, where, how many bytes, and how it ended.
 #[derive(Clone, Copy, Debug, PartialEq, Eq)]
 pub(crate) struct WriteNote {
     pub erases: bool,
@@ -29,17 +30,47 @@ pub(crate) struct WriteNote {
     pub end: WriteEnd,
 }
 
-/// A medium, and its last writes.
+impl Default for WriteNote {
+    fn default() -> WriteNote {
+        WriteNote {
+            erases: false,
+            at: 0,
+            len: 0,
+            end: WriteEnd::Worked,
+        }
+    }
+}
+
+/// The last writes of a medium.
 #[derive(Drop)]
-pub(crate) struct Noting<M: Medium> {
-    pub medium: M,
-    notes: [WriteNote; KEPT],
-    count: u64,
-    // How many were made when the medium was disarmed last, and the time before.
-    start: u64,
-    before: u64,
-    // How many writes come before the one that lies, where one is to.
-    before_lie: Option<u32>,
+pub(crate) struct LastWrites {
+    /// The last 16 of them, in their order.
+    pub notes: ArrayVec<WriteNote, 16>,
+    /// Whether there were others before these.
+    pub more: bool,
+}
+
+impl LastWrites {
+    /// No write.
+    fn none() -> LastWrites
+        ensures { AreLast [] result }
+    {
+        LastWrites {
+            notes: ArrayVec::new(),
+            more: false,
+        }
+    }
+
+    /// One write more.
+    fn add(&mut self, note: WriteNote)
+        ensures { (notes : List Note) → AreLast notes self.old → AreLast (notes ++ note ∷ []) self.new }
+    {
+        if self.notes.is_full() {
+            self.notes.remove(0);
+            self.more = true;
+        }
+        self.notes.push(note);
+    }
 }
 
 /// How a write ended that was to lie or not.
@@ -53,109 +84,87 @@ fn ended(lies: bool, answer: Result<(), Failed>) -> WriteEnd
     }
 }
 
-impl<M: Medium> Noting<M> {
-    /// A medium of which no write was noted.
-    pub(crate) fn new(medium: M) -> Noting<M>
-        ensures medium { result.medium ≡ medium }
-        ensures count { result.count ≡ 0 }
+/// Counts the next write, and says whether it is the one that lies.
+fn lies(before_lie: &mut Option<u32>) -> bool
+    ensures lies { result ≡ is_next_lie before_lie.old }
+    ensures counts_down { before_lie.new ≡ next_before_lie before_lie.old }
+{
+    match *before_lie {
+        None => false,
+        Some(0) => {
+            *before_lie = None;
+            true
+        }
+        Some(more) => {
+            *before_lie = Some(more - 1);
+            false
+        }
+    }
+}
+
+/// How a medium stood before the writes that are noted.
+pub(crate) trait Base {
+    ghost base: { MediumState };
+}
+
+impl Base for Brand {
+    ghost base = { blank_medium (in_place Byte) 0 };
+}
+
+/// A medium, and its writes since it stood as `B` says.
+#[derive(Drop)]
+pub(crate) struct Noting<B: Base, M: Medium> {
+    medium: M,
+    writes: LastWrites,
+    // How many writes come before the one that lies, where one is to.
+    before_lie: Option<u32>,
+    since: PhantomData<B>,
+}
+
+impl<B: Base, M: Medium> Model for Noting<B, M> {
+    ghost use Rattle.dfu_slots.specs.Medium.{MediumState};
+    ghost use Rattle.dfu_link.specs.inside.Noting.{IsNoting};
+
+    ghost Value = { MediumState };
+
+    ghost view = { λ n. M.state n.medium };
+
+    ghost invariant = { λ n. IsNoting B.base (M.state n.medium) n.writes n.before_lie };
+}
+
+impl<B: Base, M: Medium> Noting<B, M> {
+    /// Notes the writes of a medium from now on. So many come before the one that it is told to lie in, if it is.
+    pub(crate) fn new(medium: M, before_lie: Option<u32>) -> Noting<B, M>
+        requires base { B.base ≡ M.state medium }
+        requires lie { before_lie ≡ lie_in (M.state medium).fuse }
+        requires known { IsKnown (M.state medium).fuse }
+        ensures { result ≡ M.state medium }
     {
-        let none = WriteNote {
-            erases: false,
-            at: 0,
-            len: 0,
-            end: WriteEnd::Worked,
-        };
         Noting {
             medium,
-            notes: [none; KEPT],
-            count: 0,
-            start: 0,
-            before: 0,
-            before_lie: None,
+            writes: LastWrites::none(),
+            before_lie,
+            since: PhantomData,
         }
     }
 
-    /// How many writes were made.
-    pub(crate) fn count(&self) -> u64
-        ensures { result ≡ self.now.count }
+    /// The medium, and the last of its writes.
+    pub(crate) fn into_parts(self) -> (M, LastWrites)
+        ensures medium { M.state result.0 ≡ self }
+        ensures wrote { WritesBetween B.base self result.1 }
     {
-        self.count
-    }
-
-    /// How many writes were made before the last one of two that the medium was disarmed. A medium is disarmed
-    /// at the end of each action, so those after it are of the last action.
-    pub(crate) fn before(&self) -> u64
-        ensures { result ≡ self.now.before }
-    {
-        self.before
-    }
-
-    /// The write with this number, counted from 0, of the last 16.
-    pub(crate) fn note(&self, number: u64) -> WriteNote
-        ensures { result ≡ note_at self.now.notes number }
-    {
-        self.notes[(number % 16) as usize]
-    }
-
-    /// Counts the next write, and says whether it is the one that lies.
-    fn lies(&mut self) -> bool
-        ensures lies { result ≡ is_next_lie self.old.before_lie }
-        ensures counts_down { self.new ≡ record self.old { before_lie = next_before_lie self.old.before_lie } }
-    {
-        match self.before_lie {
-            None => false,
-            Some(0) => {
-                self.before_lie = None;
-                true
-            }
-            Some(more) => {
-                self.before_lie = Some(more - 1);
-                false
-            }
-        }
-    }
-
-    /// Notes a write that answered so.
-    fn add(&mut self, erases: bool, at: u32, len: u32, answer: Result<(), Failed>)
-        ensures { self.new ≡ record self.old {
-          before_lie = next_before_lie self.old.before_lie;
-          count = next_count self.old.count;
-          notes = room_with self.old.notes self.old.count (note_of erases at len self.old.before_lie answer);
-        } }
-    {
-        let end = ended(self.lies(), answer);
-        self.notes[(self.count % 16) as usize] = WriteNote {
-            erases,
-            at,
-            len,
-            end,
-        };
-        self.count = self.count.wrapping_add(1);
+        let Noting {
+            medium,
+            writes,
+            before_lie: _,
+            since: _,
+        } = self;
+        (medium, writes)
     }
 }
 
-impl Noting<SimMedium> {
-    /// A medium in memory as `SimMedium::with_sectors` makes it, of which no write was noted.
-    ///
-    /// # Errors
-    ///
-    /// `NoMemory` where there is no memory for the bytes and a sector.
-    pub(crate) fn with_sectors(
-        alloc: Global,
-        len: u32,
-        unit: Unit,
-        sector: u32,
-    ) -> Result<Noting<SimMedium>, NoMemory>
-        requires { IsMultiple unit len }
-        ensures { IfOk result (λ noting. noting.medium ≡ blank_medium (record { unit = unit; sector = sector }) len) }
-    {
-        let medium = SimMedium::with_sectors(alloc, len, unit, sector)?;
-        Ok(Noting::new(medium))
-    }
-}
-
-impl<M: Medium> Medium for Noting<M> {
-    ghost state = { λ m. M.state m.medium };
+impl<B: Base, M: Medium> Medium for Noting<B, M> {
+    ghost state = { λ m. m };
 
     fn len(&self) -> u32 {
         self.medium.len()
@@ -177,74 +186,29 @@ impl<M: Medium> Medium for Noting<M> {
         self.medium.read(at, out);
     }
 
-    // The write is noted: its place, its length (2^32 - 1 where that does not fit) and how it ended.
-    fn write(&mut self, at: u32, bytes: &[u8]) -> Result<(), Failed>
-        requires within { at + length bytes.now ≤ length (M.state self.old.medium).bytes }
-        requires place { IsMultiple (M.state self.old.medium).grain.unit at }
-        requires whole { IsMultiple (M.state self.old.medium).grain.unit (length bytes.now) }
-        requires blank { IsWritable (M.state self.old.medium) at (length bytes.now) }
-        ensures ok { OnOk result (WroteOrLied (M.state self.old.medium) at bytes.now (M.state self.new.medium)) }
-        ensures failed { OnErr result (FailedWrite WriteFault.Failed (M.state self.old.medium) at bytes.now (M.state self.new.medium)) }
-        ensures noted { self.new ≡ record self.old {
-          medium = self.new.medium;
-          before_lie = next_before_lie self.old.before_lie;
-          count = next_count self.old.count;
-          notes = room_with self.old.notes self.old.count (write_note at (length bytes.now) self.old.before_lie result);
-        } }
-    {
+    fn write(&mut self, at: u32, bytes: &[u8]) -> Result<(), Failed> {
+        // Called for its clause: a medium has fewer than 2^32 bytes, and so has a write within it.
+        let _ = self.medium.len();
         let answer = self.medium.write(at, bytes);
-        let len = u32::try_from(bytes.len()).unwrap_or(u32::MAX);
-        self.add(false, at, len, answer);
+        self.writes.add(WriteNote {
+            erases: false,
+            at,
+            len: bytes.len() as u32,
+            end: ended(lies(&mut self.before_lie), answer),
+        });
         answer
     }
 
     // An erase is a write of FFh over its sector, and is noted as one that erased.
-    fn erase(&mut self, at: u32) -> Result<(), Failed>
-        requires within { at + (M.state self.old.medium).grain.sector ≤ length (M.state self.old.medium).bytes }
-        requires place { at % (M.state self.old.medium).grain.sector ≡ 0 }
-        ensures ok { let m = M.state self.old.medium in
-            OnOk result (WroteOrLied m at (replicate m.grain.sector 255) (M.state self.new.medium)) }
-        ensures failed { let m = M.state self.old.medium in
-            OnErr result (FailedWrite WriteFault.Failed m at (replicate m.grain.sector 255) (M.state self.new.medium)) }
-        ensures noted { self.new ≡ record self.old {
-          medium = self.new.medium;
-          before_lie = next_before_lie self.old.before_lie;
-          count = next_count self.old.count;
-          notes = room_with self.old.notes self.old.count (erase_note at (M.state self.old.medium).grain.sector self.old.before_lie result);
-        } }
-    {
-        let answer = self.medium.erase(at);
+    fn erase(&mut self, at: u32) -> Result<(), Failed> {
         let len = self.medium.sector();
-        self.add(true, at, len, answer);
+        let answer = self.medium.erase(at);
+        self.writes.add(WriteNote {
+            erases: true,
+            at,
+            len,
+            end: ended(lies(&mut self.before_lie), answer),
+        });
         answer
-    }
-}
-
-impl<M: Faulty> Faulty for Noting<M> {
-    fn arm(&mut self, writes: u32, tear: &[u8], stop: bool)
-        ensures state { M.state self.new.medium ≡ record (M.state self.old.medium) { fuse = Armed writes (take 4096 tear.now) stop } }
-        ensures lie { self.new ≡ record self.old { medium = self.new.medium; before_lie = None } }
-    {
-        self.before_lie = None;
-        self.medium.arm(writes, tear, stop);
-    }
-
-    fn arm_lie(&mut self, writes: u32, tear: &[u8])
-        ensures state { M.state self.new.medium ≡ record (M.state self.old.medium) { fuse = Lying writes (take 4096 tear.now) } }
-        ensures lie { self.new ≡ record self.old { medium = self.new.medium; before_lie = Some writes } }
-    {
-        self.before_lie = Some(writes);
-        self.medium.arm_lie(writes, tear);
-    }
-
-    fn disarm(&mut self)
-        ensures state { M.state self.new.medium ≡ record (M.state self.old.medium) { fuse = Whole } }
-        ensures marks { self.new
-            ≡ record self.old { medium = self.new.medium; start = self.old.count; before = self.old.start; before_lie = None } }
-    {
-        self.before = self.start;
-        self.start = self.count;
-        self.before_lie = None;
-        self.medium.disarm();
     }
 }

@@ -1,11 +1,12 @@
 //! What an action of the host came to.
 
 use crate::back::Back;
+use crate::tracing::noting::LastWrites;
 use dfu_host::{Action, Phase};
 use dfu_wire::State;
 
 /// What an action of the host came to.
-#[derive(Clone, Copy)]
+#[derive(Drop)]
 pub(crate) struct Step<'f> {
     /// The phase of the host before it.
     pub phase: Phase,
@@ -17,4 +18,6 @@ pub(crate) struct Step<'f> {
     pub before: State,
     /// The state of the device after it.
     pub after: State,
+    /// The last writes of its medium.
+    pub writes: LastWrites,
 }

@@ -15,12 +15,11 @@ use crate::scripting::expectation::Expectation;
 use crate::scripting::fault::ScriptFault;
 use crate::scripting::saying::say_next;
 use crate::scripting::showing::{image_next, show_next};
-use crate::tracing::noting::Noting;
 use crate::tracing::step::Step;
 use crate::tracing::traced::Traced;
 use dfu_device::Device;
 use dfu_host::Report;
-use dfu_slots::{Medium, SimMedium};
+use dfu_slots::Medium;
 use std::io::Write;
 
 /// How a writer is told of the actions of a host, if it is, and how what is printed gets to it.
@@ -32,13 +31,13 @@ pub(crate) trait Telling<M: Medium, W> {
     fn is_on() -> bool
         ensures { (writer : W) → (held writer).on ≡ result };
 
-    /// Tells of an action by this fate, after which the device stands so.
-    fn tell(writer: &mut W, fate: Fate<'_>, step: &Step<'_>, out: &[u8], device: &Device<M>)
+    /// Tells of an action by this fate.
+    fn tell(writer: &mut W, fate: Fate<'_>, step: &Step<'_>, out: &[u8])
         ensures printed { Keeps (held writer.old).seen (held writer.new).seen }
         ensures traces { Traces (IsTold fate.entry step.now out.now) (held writer.old) (held writer.new) };
 
     /// Tells that so many milliseconds passed between two actions.
-    fn pass(writer: &mut W, ms: u32, device: &Device<M>)
+    fn pass(writer: &mut W, ms: u32)
         ensures printed { Keeps (held writer.old).seen (held writer.new).seen }
         ensures traces { Traces (λ c text c'. (text ≡ []) × (c' ≡ after_time c ms)) (held writer.old) (held writer.new) };
 
@@ -95,9 +94,9 @@ impl<M: Medium, W: Write> Telling<M, W> for Quiet {
         false
     }
 
-    fn tell(_: &mut W, _: Fate<'_>, _: &Step<'_>, _: &[u8], _: &Device<M>) {}
+    fn tell(_: &mut W, _: Fate<'_>, _: &Step<'_>, _: &[u8]) {}
 
-    fn pass(_: &mut W, _: u32, _: &Device<M>) {}
+    fn pass(_: &mut W, _: u32) {}
 
     fn say(
         writer: &mut W,
@@ -128,25 +127,19 @@ impl<M: Medium, W: Write> Telling<M, W> for Quiet {
 /// A writer of a trace is told.
 pub(crate) struct Loud;
 
-impl<W: Write + Drop> Telling<Noting<SimMedium>, Traced<W>> for Loud {
+impl<M: Medium, W: Write + Drop> Telling<M, Traced<W>> for Loud {
     ghost held = { λ t. held_loud t.is_broken t.count (W.contents t.writer) };
 
     fn is_on() -> bool {
         true
     }
 
-    fn tell(
-        writer: &mut Traced<W>,
-        fate: Fate<'_>,
-        step: &Step<'_>,
-        out: &[u8],
-        device: &Device<Noting<SimMedium>>,
-    ) {
-        writer.tell(fate, step, out, device.slots().medium());
+    fn tell(writer: &mut Traced<W>, fate: Fate<'_>, step: &Step<'_>, out: &[u8]) {
+        writer.tell(fate, step, out);
     }
 
-    fn pass(writer: &mut Traced<W>, ms: u32, device: &Device<Noting<SimMedium>>) {
-        writer.pass(ms, device.slots().medium());
+    fn pass(writer: &mut Traced<W>, ms: u32) {
+        writer.pass(ms);
     }
 
     fn say(
@@ -161,7 +154,7 @@ impl<W: Write + Drop> Telling<Noting<SimMedium>, Traced<W>> for Loud {
     fn show(
         writer: &mut Traced<W>,
         next: &mut Option<Expectation>,
-        device: &Device<Noting<SimMedium>>,
+        device: &Device<M>,
     ) -> Result<(), ScriptFault> {
         writer.show(next, device)
     }
@@ -169,7 +162,7 @@ impl<W: Write + Drop> Telling<Noting<SimMedium>, Traced<W>> for Loud {
     fn image(
         writer: &mut Traced<W>,
         next: &mut Option<Expectation>,
-        device: &Device<Noting<SimMedium>>,
+        device: &Device<M>,
     ) -> Result<(), ScriptFault> {
         writer.image(next, device)
     }

@@ -17,12 +17,11 @@ use crate::scripting::fault::ScriptFault;
 use crate::scripting::saying::{is_silent, say_next};
 use crate::scripting::showing::{image_next, show_next};
 use crate::tracing::line::{Count, step_line, time_of};
-use crate::tracing::noting::Noting;
 use crate::tracing::place::is_dropped;
 use crate::tracing::step::Step;
 use dfu_device::Device;
 use dfu_host::Report;
-use dfu_slots::{Medium, SimMedium};
+use dfu_slots::Medium;
 use dfu_suffix::write_whole;
 use std::alloc::Global;
 use std::io::Write;
@@ -46,11 +45,7 @@ impl<W: Write + Drop> Traced<W> {
         Traced {
             writer,
             is_broken: false,
-            count: Count {
-                number: 0,
-                ms: 0,
-                writes: 0,
-            },
+            count: Count { number: 0, ms: 0 },
             alloc,
         }
     }
@@ -77,7 +72,7 @@ impl<W: Write + Drop> Traced<W> {
     }
 
     /// Writes the line of an action, which is counted.
-    fn put_step(&mut self, fate: Fate<'_>, step: &Step<'_>, out: &[u8], medium: &Noting<SimMedium>)
+    fn put_step(&mut self, fate: Fate<'_>, step: &Step<'_>, out: &[u8])
         ensures printed { Keeps (seen_of self.old.is_broken (W.contents self.old.writer))
             (seen_of self.new.is_broken (W.contents self.new.writer)) }
         ensures traces { Traces (IsCounted fate.entry step.now out.now)
@@ -85,20 +80,14 @@ impl<W: Write + Drop> Traced<W> {
             (held_loud self.new.is_broken self.new.count (W.contents self.new.writer)) }
         ensures count { self.new.count ≡ self.old.count }
     {
-        match step_line(self.alloc, self.count, fate, step, out, medium) {
+        match step_line(self.alloc, self.count, fate, step, out) {
             Ok(line) => self.put_line(line.as_bytes()),
             Err(_) => self.is_broken = true,
         }
     }
 
     /// Tells of an action.
-    pub(crate) fn tell(
-        &mut self,
-        fate: Fate<'_>,
-        step: &Step<'_>,
-        out: &[u8],
-        medium: &Noting<SimMedium>,
-    )
+    pub(crate) fn tell(&mut self, fate: Fate<'_>, step: &Step<'_>, out: &[u8])
         ensures printed { Keeps (seen_of self.old.is_broken (W.contents self.old.writer))
             (seen_of self.new.is_broken (W.contents self.new.writer)) }
         ensures traces { Traces (IsTold fate.entry step.now out.now)
@@ -108,13 +97,11 @@ impl<W: Write + Drop> Traced<W> {
         let time = time_of(step.action, fate);
         self.count.number = self.count.number.wrapping_add(1);
         self.count.ms = self.count.ms.saturating_add(u64::from(time));
-        self.count.writes = self.count.writes.max(medium.before());
-        self.put_step(fate, step, out, medium);
-        self.count.writes = medium.count();
+        self.put_step(fate, step, out);
     }
 
     /// Tells that time passed.
-    pub(crate) fn pass(&mut self, ms: u32, medium: &Noting<SimMedium>)
+    pub(crate) fn pass(&mut self, ms: u32)
         ensures printed { Keeps (seen_of self.old.is_broken (W.contents self.old.writer))
             (seen_of self.new.is_broken (W.contents self.new.writer)) }
         ensures traces { Traces (λ c text c'. (text ≡ []) × (c' ≡ after_time c ms))
@@ -122,7 +109,6 @@ impl<W: Write + Drop> Traced<W> {
             (held_loud self.new.is_broken self.new.count (W.contents self.new.writer)) }
     {
         self.count.ms = self.count.ms.saturating_add(u64::from(ms));
-        self.count.writes = medium.count();
     }
 
     /// Writes what is printed of an event next, where this was uploaded last.

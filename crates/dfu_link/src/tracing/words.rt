@@ -1,19 +1,18 @@
 //! The words of a trace, put together.
 
-ghost use Rattle.std.specs.Prelude.{◌≡◌, ◌++◌, OnOk};
+ghost use Rattle.std.specs.Prelude.{◌≡◌, ◌++◌, true, OnOk};
 ghost use Rattle.std.specs.Fmt.{decimal};
 ghost use Rattle.std.specs.String.{string_bytes};
 ghost use Rattle.dfu_link.specs.Texts.{hex_text};
 ghost use Rattle.dfu_link.specs.TraceText.{action_text, fate_text, harm_text, phase_text, request_text};
-ghost use Rattle.dfu_link.specs.TraceWords.{comma_text, note_text, writes_text};
+ghost use Rattle.dfu_link.specs.TraceWords.{comma_text, note_text, notes_in_row, notes_text};
 
 use crate::fate::Fate;
 use crate::tracing::names::{
     comma_text, end_text, erases_text, request_name, request_of, setup_of,
 };
-use crate::tracing::noting::{Noting, WriteNote};
+use crate::tracing::noting::{LastWrites, WriteNote};
 use dfu_host::{Action, Phase};
-use dfu_slots::SimMedium;
 use dfu_wire::Setup;
 use std::alloc::{AllocError, Global};
 
@@ -155,22 +154,30 @@ fn push_write(
     push(line, end_text(note.end))
 }
 
-/// Adds the writes of the medium from this one on, at most the last 16.
+/// Adds writes that are behind another one.
+fn push_more(line: &mut String, alloc: Global, notes: &[WriteNote]) -> Result<(), AllocError>
+    ensures { OnOk result (string_bytes line.new ≡ string_bytes line.old ++ notes_in_row true notes.now) }
+{
+    for i in 0..notes.len() {
+        push_write(line, alloc, true, notes[i])?;
+    }
+    Ok(())
+}
+
+/// Adds the last writes of a medium.
+#[tactic(auto, unfolding(crate::specs::TraceWords::notes_in_row))]
 pub(crate) fn push_writes(
     line: &mut String,
     alloc: Global,
-    medium: &Noting<SimMedium>,
-    from: u64,
+    writes: &LastWrites,
 ) -> Result<(), AllocError>
-    ensures { OnOk result (string_bytes line.new ≡ string_bytes line.old ++ writes_text medium.now.notes medium.now.count from) }
+    ensures { OnOk result (string_bytes line.new ≡ string_bytes line.old ++ notes_text writes.now.more writes.now.notes.items) }
 {
-    let to = medium.count();
-    if from >= to {
-        return push(line, "-");
+    match writes.notes.as_slice().split_first() {
+        None => push(line, "-"),
+        Some((first, more)) => {
+            push_write(line, alloc, writes.more, *first)?;
+            push_more(line, alloc, more)
+        }
     }
-    let first = from.max(to.saturating_sub(16));
-    for number in first..to {
-        push_write(line, alloc, number > from, medium.note(number))?;
-    }
-    Ok(())
 }

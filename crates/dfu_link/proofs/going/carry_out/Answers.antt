@@ -1,10 +1,6 @@
-use Rattle.dfu_link.proofs.Acts.{gone_by, answered_by}
+use Rattle.dfu_link.proofs.Acts.{gone_by}
 use Rattle.dfu_link.proofs.going.carry_out.Goals as goal
 
-pub returns-clause-acts : goal.returns-clause-acts
-returns-clause-acts g c = gone_by c.course_by-course.ensures.course c.course_by-course.ensures.harm c.arm.ensures c.act-came.ensures.acts
+pub returns : goal.returns
+returns g c = gone_by c.course_by-course.ensures.course c.course_by-course.ensures.harm c.arm.ensures c.act.ensures.acts
     c.settle.ensures
-
-pub returns-clause-replies : goal.returns-clause-replies
-returns-clause-replies g c = answered_by _ c.course_by-course.ensures.course c.course_by-course.ensures.harm c.arm.ensures
-    c.act-came.ensures.replies c.settle.ensures

@@ -1,40 +1,24 @@
-use Rattle.std.proofs.Common.{◌≡◌, ◌∙◌, sym, Option, None, Some, subst}
+use Rattle.std.proofs.Common.{subst, Option}
 use Rattle.dfu_host.specs.Host.{HostState}
 use Rattle.dfu_link.specs.Course.{course_of}
 use Rattle.dfu_link.specs.Happening.{fate_of, harm_in}
 use Rattle.dfu_link.specs.Standing.{session_of, SendsBytes, IsCountedIn}
-use Rattle.dfu_link.specs.Tracing.{RepliesArmed}
 use Rattle.dfu_link.proofs.Counted.{acted_counted}
 use Rattle.dfu_link.proofs.Events.{go_comes, go_refused}
 use Rattle.dfu_link.proofs.play.go.Goals as goal
 
-pub returns-in-None-clause-comes : goal.returns-in-None-clause-comes
-returns-in-None-clause-comes g c = rw c.in-None.is (go_refused _ _ _ c.args.gave.now)
+pub returns-in-None : goal.returns-in-None
+returns-in-None g c = rw c.in-None.is (go_refused _ _ _ c.args.gave.now)
 
 pub end-requires : goal.end-requires
 end-requires g c =
     acted_counted (course_of (fate_of c.args.fate)) _ _ _ _
     (subst (λ (h : Option HostState). SendsBytes (session_of h)) c.in-Some.is c.requires.sized)
-    (subst (λ (h : Option HostState). IsCountedIn (session_of h)) c.in-Some.is c.requires.counted) c.carry_out-came.ensures.acts.acted
+    (subst (λ (h : Option HostState). IsCountedIn (session_of h)) c.in-Some.is c.requires.counted) c.carry_out.ensures.acted
 
-pub returns-clause-comes : goal.returns-clause-comes
-returns-clause-comes g c = rw c.in-Some.is (go_comes (fate_of c.args.fate) (harm_in c.args.fate) _ _ _ _ _ c.args.gave.now c.end.new.gave _
+pub returns : goal.returns
+returns g c = rw c.in-Some.is (go_comes (fate_of c.args.fate) (harm_in c.args.fate) _ _ _ _ _ c.args.gave.now c.end.new.gave _
     (subst (λ (h : Option HostState). SendsBytes (session_of h)) c.in-Some.is c.requires.sized)
     (subst (λ (h : Option HostState). IsCountedIn (session_of h)) c.in-Some.is c.requires.counted)
-    c.requires.unarmed c.carry_out-came.ensures.acts
+    c.requires.unarmed c.carry_out.ensures
     c.end.ensures.session c.end.ensures.given c.end.ensures.report)
-
--- Two hosts that are there are the same.
-same_host : (x y : HostState) → ◌≡◌ {A = Option HostState} (Some x) (Some y) → x ≡ y
-same_host x y e = cc
-
-none_is : (y : HostState) → ◌≡◌ {A = Option HostState} None (Some y) → ⊥
-none_is y e = cc
-
-pub returns-clause-replies : goal.returns-clause-replies
-returns-clause-replies g c = λ h is. subst
-    (λ (x : HostState). RepliesArmed x (course_of (fate_of c.args.fate)) (harm_in c.args.fate) c.args.device.now c.carry_out-came.new.device
-    c.carry_out-came.result c.carry_out-came.new.out.items) (same_host _ h (sym c.in-Some.is ∙ is)) c.carry_out-came.ensures.replies
-
-pub returns-in-None-clause-replies : goal.returns-in-None-clause-replies
-returns-in-None-clause-replies g c = λ h is. absurd (none_is h (sym c.in-None.is ∙ is))

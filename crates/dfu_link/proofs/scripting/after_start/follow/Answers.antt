@@ -1,8 +1,8 @@
-use Rattle.std.proofs.Common.{◌≡◌, sym, ◌∙◌, ap, subst, arith, Bool, true, false, List, ℕ}
+use Rattle.std.proofs.Common.{◌≡◌, sym, subst, arith, Bool, true, false, List, ℕ}
 use Rattle.std.proofs.lemmas.Result.{err_from_is_err_and}
 use Rattle.dfu_suffix.specs.Writing.{IsOutInPart}
 use Rattle.dfu_device.specs.Shown.{Shown}
-use Rattle.dfu_link.specs.Bench.{Bench, LinkState}
+use Rattle.dfu_link.specs.Bench.{Bench}
 use Rattle.dfu_link.specs.Said.{given_bytes}
 use Rattle.dfu_link.specs.Texts.{image_line}
 use Rattle.dfu_link.specs.ScriptRun.{at_rest}
@@ -36,16 +36,13 @@ returns-in_err-image-clause-fault g c =
     let mid = g.T.Telling.held c.lines.writer in
     let new = g.T.Telling.held c.image.new.writer in
     let broke : IsOutInPart mid.seen new.seen (image_line c.lines.world.bench.device) = subst
-    (λ (d : Shown). IsOutInPart mid.seen new.seen (image_line d))
-    (c.device.ensures.device ∙ ap (λ (x : LinkState). x.bench.device) (c.in-Err.ensures.err).1)
-    c.in_err-image.ensures.err in
+    (λ (d : Shown). IsOutInPart mid.seen new.seen (image_line d)) c.device.ensures.device c.in_err-image.ensures.err in
     let fails : Fails (expectation_of c.lines.ahead.next) (image_line c.lines.world.bench.device)
     mid.seen new.seen c.in_err-image.field-0.0 = subst
     (λ (d : Shown). Fails (expectation_of c.lines.ahead.next) (image_line d) mid.seen new.seen c.in_err-image.field-0.0)
-    (c.device.ensures.device ∙ ap (λ (x : LinkState). x.bench.device) (c.in-Err.ensures.err).1)
-    c.in_err-image.ensures.fault in
+    c.device.ensures.device c.in_err-image.ensures.fault in
     let says = subst (λ (d : Shown). Traces (IsJust (image_line d)) mid new)
-    (c.device.ensures.device ∙ ap (λ (x : LinkState). x.bench.device) (c.in-Err.ensures.err).1)
+    c.device.ensures.device
     c.in_err-image.ensures.traces in
     rw (failed.1, failed.2) (image_falls c.in_err-image.field-0.0 c.lines.invariant.moves ended fails broke says)
 
@@ -59,10 +56,10 @@ returns-then-not-branch-clause-ok g c =
     let y = expectation_of c.image.new.next in
     let told : Prints x mid.seen (image_line c.lines.world.bench.device) y new.seen = subst
     (λ (d : Shown). Prints x mid.seen (image_line d) y new.seen)
-    (c.device.ensures.device ∙ ap (λ (x : LinkState). x.bench.device) (c.in-Err.ensures.err).1)
+    c.device.ensures.device
     c.in_ok-image.ensures.ok in
     let says = subst (λ (d : Shown). Traces (IsJust (image_line d)) mid new)
-    (c.device.ensures.device ∙ ap (λ (x : LinkState). x.bench.device) (c.in-Err.ensures.err).1)
+    c.device.ensures.device
     c.in_ok-image.ensures.traces in
     ends_now c.lines.invariant.moves ended told says
 
@@ -76,14 +73,12 @@ returns-in_err-live_line-clause-fault g c =
     let mid = g.T.Telling.held c.lines.writer in
     let new = g.T.Telling.held c.live_line.new.writer in
     let f = c.in_err-live_line.field-0.0 in
-    let there : LineFalls p c.number.result c.line.result.now mid.seen new.seen f = subst (λ (x : LinkState). LineFalls (at_point l x.bench)
-    c.number.result c.line.result.now mid.seen new.seen f) (c.in-Err.ensures.err).1 c.in_err-live_line.ensures.fault in
+    let there : LineFalls p c.number.result c.line.result.now mid.seen new.seen f = c.in_err-live_line.ensures.fault in
     let falls : LineFalls p c.next.new.self.number c.next.new.self.line mid.seen new.seen f = subst
     (λ (n : ℕ). LineFalls p n c.next.new.self.line mid.seen new.seen f) c.number.ensures
     (subst (λ (xs : List ℕ). LineFalls p c.number.result xs mid.seen new.seen f) c.line.ensures there) in
     let part = subst (λ (xs : List ℕ). Traces (λ k out k'. LinePart p k xs out) mid new) c.line.ensures
-    (subst (λ (x : LinkState). Traces (λ k out k'. LinePart (at_point l x.bench) k c.line.result.now out) mid new) (c.in-Err.ensures.err).1
-    c.in_err-live_line.ensures.part) in
+    c.in_err-live_line.ensures.part in
     rw (failed.1, failed.2) (given_falls c.in_err-live_line.field-0.0 c.lines.invariant.moves given falls part)
 
 pub lines-preserved : goal.lines-preserved
@@ -97,19 +92,18 @@ lines-preserved g c =
     let step : Steps c.next.new.self.number (at_point l c.lines.world.bench) c.next.new.self.line mid q new = subst
     (λ (n : ℕ). Steps n (at_point l c.lines.world.bench) c.next.new.self.line mid q new) c.number.ensures
     (subst (λ (xs : List ℕ). Steps c.number.result (at_point l c.lines.world.bench) xs mid q new) c.line.ensures
-    (subst (λ (x : LinkState). Steps c.number.result (at_point l x.bench) c.line.result.now mid q new) (c.in-Err.ensures.err).1
-    c.in_ok-live_line.ensures.ok)) in
+    c.in_ok-live_line.ensures.ok) in
     record {
       room = omega (arith, c.lines.invariant.room, c.next.ensures.room);
       moves = moves_then c.lines.invariant.moves given step;
     }
 
-pub returns-in-Ok-clause-ok : goal.returns-in-Ok-clause-ok
-returns-in-Ok-clause-ok g c =
+pub returns-then-not-is_live-clause-ok : goal.returns-then-not-is_live-clause-ok
+returns-then-not-is_live-clause-ok g c =
     let b = c.lines.world.bench in
-    let over = c.in-Ok.ensures.ok in
-    let rests : b ≡ at_rest c.in-Ok.device = λ i. record { device = sym over.1 i; session = over.0 i } in (
-      c.in-Ok.ensures.unarmed,
+    let none = c.is_live.ensures.none c.if-not-is_live.true in
+    let rests : b ≡ at_rest c.release.result = λ i. record { device = sym c.release.ensures.device i; session = none i } in (
+      c.release.ensures.unarmed,
       subst
           (λ (x : Bench). Moves (at_point c.args.ahead.now c.args.world.bench) c.args.source.now (g.T.Telling.held c.args.writer.now)
           (at_point c.lines.ahead x) c.lines.source (g.T.Telling.held c.lines.writer)) rests c.lines.invariant.moves,

@@ -21,17 +21,17 @@ unreachable-requires c =
       pages = c.args.sector.pages;
       bound = c.args.sector.most;
     } in
-    let same : c.in-Ok.medium.medium ≡ blank w n =
+    let same : c.in-Ok.medium ≡ blank w n =
     c.in-Ok.ensures ∙ made_blank w n c.medium_len-len.result c.medium_len-len.ensures.value in
-    (subst (λ f. IsFormatFault f c.in-Ok.medium.medium c.args.image.now) c.in-WrongSize.is c.in-Err.ensures.fault)
+    (subst (λ f. IsFormatFault f c.in-Ok.medium c.args.image.now) c.in-WrongSize.is c.in-Err.ensures.fault)
     (subst IsSized (sym same) (blank_sized w n c.args.room.some c.args.room.most whole))
 
 pub unreachable-requires-in-Failed : goal.unreachable-requires-in-Failed
 unreachable-requires-in-Failed c =
-    let m = c.in-Ok.medium.medium in
+    let m = c.in-Ok.medium in
     let unarmed : m.fuse ≡ Whole = ap (λ (s : MediumState). s.fuse) c.in-Ok.ensures in
     let broken = c.in-Err.ensures.failed c.in-Failed.is in
-    broken_whole broken.0 m c.in-Err.spoilt.medium (format_series m c.args.image.now) unarmed broken.1
+    broken_whole broken.0 m c.in-Err.spoilt (format_series m c.args.image.now) unarmed broken.1
 
 pub returns-in-Ok-format-clause-ok : goal.returns-in-Ok-format-clause-ok
 returns-in-Ok-format-clause-ok c =
@@ -40,7 +40,7 @@ returns-in-Ok-format-clause-ok c =
     let b = blank w n in
     let image = c.args.image.now in
     let s = c.in-Ok-format.slots in
-    let same : c.in-Ok.medium.medium ≡ b = c.in-Ok.ensures ∙ made_blank w n c.medium_len-len.result c.medium_len-len.ensures.value in
+    let same : c.in-Ok.medium ≡ b = c.in-Ok.ensures ∙ made_blank w n c.medium_len-len.result c.medium_len-len.ensures.value in
     let writes : AllWrites b (format_series b image) s.medium = subst (λ (x : MediumState). AllWrites x (format_series x image) s.medium)
     same c.in-Ok-format.ensures.writes in
     let can : CanFormat b image = subst (λ (x : MediumState). CanFormat x image) same c.in-Ok-format.ensures.formats in

@@ -1,20 +1,21 @@
-use Rattle.std.proofs.Common.{refl}
+use Rattle.std.proofs.Common.{refl, sym, ◌∙◌}
+use Rattle.dfu_link.proofs.Events.{go_refused}
+use Rattle.dfu_link.proofs.Placed.{stands_steady, stands_placed}
 use Rattle.dfu_link.proofs.Steady.{come_steady}
 use Rattle.dfu_link.proofs.Traced.{is_step}
 use Rattle.dfu_link.proofs.world.World.take_action.Goals as goal
 
-pub invariant_of-self : goal.invariant_of-self
-invariant_of-self g c = record {
-  steady = come_steady c.self.invariant.steady c.go-told.ensures.comes;
-  active = rw (← c.slots.ensures.slots) c.capacity.ensures.image;
-}
+pub returns-in_default-clause-play : goal.returns-in_default-clause-play
+returns-in_default-clause-play g c = rw (← c.self.view_is) (rw (c.in_default.ensures.none) (go_refused _ _ _ c.self.inside.gave))
 
-pub invariant_of-self-2 : goal.invariant_of-self-2
-invariant_of-self-2 g c = record {
-  steady = come_steady c.self.invariant.steady c.go-told.ensures.comes;
-  active = rw (← c.slots.ensures.slots) c.capacity.ensures.image;
-}
+pub invariant_of-self : goal.invariant_of-self
+invariant_of-self g c =
+    let is = sym c.take.ensures.value ∙ c.in-Some-take.is in
+    stands_placed (come_steady (stands_steady is c.self.invariant) c.go_noting-device.ensures.comes)
+    (rw (← c.slots.ensures.slots) c.capacity.ensures.image)
 
 pub returns-clause-step : goal.returns-clause-step
-returns-clause-step g c = rw (← c.self.view_is) (is_step refl c.in-Some.ensures.some c.go-told.ensures.replies c.state-before.ensures
-    c.state-after.ensures)
+returns-clause-step g c =
+    let is = sym c.take.ensures.value ∙ c.in-Some-take.is in
+    rw (← c.self.view_is) (rw is (is_step refl c.in-Some.ensures.some c.go_noting-device.ensures.replies
+    c.state-before.ensures c.state-after.ensures))

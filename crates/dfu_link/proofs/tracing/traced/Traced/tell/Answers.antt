@@ -10,11 +10,9 @@ returns-clause-traces g c =
     let last = c.put_step.new.self in
     let all = g.W.Write.contents self.writer in
     let new = g.W.Write.contents last.writer in
-    let mid : Count =
-    record { number = (self.count.number + 1) % 2 ^ 64; ms = c.saturating_add-self.result; writes = c.max-self.result } in
-    let end : Count = record { number = last.count.number; ms = last.count.ms; writes = c.count-self.result } in
+    let mid : Count = record { number = (self.count.number + 1) % 2 ^ 64; ms = c.saturating_add-self.result } in
     let traces = subst (λ (k : Count). Traces (IsCounted c.args.fate c.args.step.now c.args.out.now) (held_loud self.is_broken mid all)
     (held_loud last.is_broken k new)) c.put_step.ensures.count c.put_step.ensures.traces in
-    told_out {step = c.args.step.now} self.is_broken last.is_broken self.count mid end all new refl
+    told_out c.args.fate c.args.step.now c.args.out.now self.is_broken last.is_broken self.count mid last.count all new refl
     (c.saturating_add-self.ensures ∙ ap (λ (n : ℕ). min (self.count.ms + n) (2 ^ 64 - 1)) (c.from.ensures ∙ c.time_of-time.ensures))
     (ap (λ (k : Count). k.number) c.put_step.ensures.count) (ap (λ (k : Count). k.ms) c.put_step.ensures.count) traces

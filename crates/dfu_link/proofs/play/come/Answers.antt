@@ -1,6 +1,6 @@
 use Rattle.dfu_link.proofs.Events.{time_comes, reset_comes, cut_comes}
 use Rattle.dfu_link.proofs.Uploads.{abort_comes}
-use Rattle.dfu_link.proofs.play.play.Goals as goal
+use Rattle.dfu_link.proofs.play.come.Goals as goal
 
 pub returns-in-Time : goal.returns-in-Time
 returns-in-Time g c = rw c.in-Time.is (time_comes _ _ _ _ c.args.gave.now c.requires.unarmed c.elapse.ensures.row)
