@@ -9,7 +9,7 @@ export USB_IMAGE="$work/old"
 
 # file BYTES: `payload`, and `file.dfu` made of it by dfu-suffix.
 file() {
-    head -c "$1" /dev/urandom > payload
+    random "$1" > payload
     cp payload file.dfu
     dfu-suffix -v 1209 -p 0001 -d 0100 -a file.dfu > said 2>&1
 }

@@ -5,8 +5,9 @@
 . ./common.sh
 export DM_DISABLE_UDEV=1 # no rule of udev answers dmsetup here
 printf 'the old image' > old
-head -c 12001 /dev/urandom > one
-head -c 12007 /dev/urandom > two
+# A byte stands in front that no prefix of dfu-prefix begins with: dfu-util's programs would take that for no part of the image.
+{ printf D; head -c 12000 /dev/urandom; } > one
+{ printf D; head -c 12006 /dev/urandom; } > two
 suffixed one two
 disk=/dev/vda
 sectors=$(blockdev --getsz $disk)

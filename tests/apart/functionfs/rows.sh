@@ -5,7 +5,8 @@
 . ./common.sh
 printf 'the old image' > old
 printf 'a new image of 26 bytes ..' > new
-head -c 50001 /dev/urandom > large
+# A byte stands in front that no prefix of dfu-prefix begins with: dfu-util's programs would take that for no part of the image.
+{ printf D; head -c 50000 /dev/urandom; } > large
 suffixed new large
 cat > installed << 'END'
 #!/bin/sh

@@ -3,7 +3,8 @@ passed=0
 failed=0
 printf 'the old image' > old
 printf 'a new image of 26 bytes ..' > new
-head -c 50001 /dev/urandom > large
+# A byte stands in front that no prefix of dfu-prefix begins with: dfu-util's programs would take that for no part of the image.
+{ printf D; head -c 50000 /dev/urandom; } > large
 for name in new large; do
     cp $name $name.dfu
     dfu-suffix -v 1209 -p 0001 -d 0100 -a $name.dfu > said
