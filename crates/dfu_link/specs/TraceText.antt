@@ -16,7 +16,7 @@ use Rattle.dfu_link.specs.declared.fate.Fate.{Fate as GivenFate}
 use Rattle.dfu_link.specs.declared.fate.Fate.TheVariants as fate
 use Rattle.dfu_link.specs.declared.tracing.step.Step.{Step}
 use Rattle.dfu_link.specs.Texts.{hex_text}
-use Rattle.dfu_link.specs.TraceWords.{setup_of, request_of, request_name, bytes_text, notes_text}
+use Rattle.dfu_link.specs.TraceWords.{setup_of, request_of, asked_text, bytes_text, notes_text}
 
 -- How many milliseconds an action waits for.
 abbrev pub waited_in : Action → ℕ
@@ -67,7 +67,7 @@ phase_text phase.OverUploaded = codes "OverUploaded"
 
 -- A request has its name, wValue and wLength.
 abbrev pub request_text : Setup → List ℕ
-request_text s = request_name (request_of s) ++ (codes " " ++ decimal s.value) ++ (codes " " ++ decimal s.length)
+request_text s = asked_text (request_of s) ++ (codes " " ++ decimal s.value) ++ (codes " " ++ decimal s.length)
 
 -- What the host asks for: a request, a wait with its milliseconds, or a reset.
 abbrev pub action_text : Action → List ℕ

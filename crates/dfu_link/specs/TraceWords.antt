@@ -9,6 +9,7 @@ use Rattle.dfu_wire.specs.declared.setups.Setup.{Setup}
 use Rattle.dfu_wire.specs.declared.states.State.{State}
 use Rattle.dfu_wire.specs.declared.states.State.TheVariants as state
 use Rattle.dfu_wire.specs.Code.{code_name}
+use Rattle.dfu_wire.specs.Request.{request_name}
 use Rattle.dfu_wire.specs.State.{state_name}
 use Rattle.dfu_wire.specs.Status.{StatusFields}
 use Rattle.dfu_link.specs.declared.tracing.noting.WriteEnd.{WriteEnd}
@@ -49,17 +50,11 @@ request_of s =
     then (if s.kind == 0x21 then out_request s else if s.kind == 0xa1 then in_request s else request.NotDfu)
     else request.NotDfu
 
--- The name of a request in the standard (USB DFU 1.1, section 3), or `other` of what is none of the seven.
-abbrev pub request_name : Request → List ℕ
-request_name (request.Detach timeout) = codes "DETACH"
-request_name (request.Dnload block len) = codes "DNLOAD"
-request_name (request.Upload block len) = codes "UPLOAD"
-request_name (request.GetStatus len) = codes "GETSTATUS"
-request_name request.ClrStatus = codes "CLRSTATUS"
-request_name (request.GetState len) = codes "GETSTATE"
-request_name request.Abort = codes "ABORT"
-request_name request.OtherClass = codes "other"
-request_name request.NotDfu = codes "other"
+-- A request has its name in the standard (USB DFU 1.1, section 3), and what is none of the seven is `other`.
+abbrev pub asked_text : Request → List ℕ
+asked_text request.OtherClass = codes "other"
+asked_text request.NotDfu = codes "other"
+asked_text named = request_name named
 
 -- The states, by their numbers from 0 on.
 abbrev pub all_states : List State

@@ -4,11 +4,11 @@ use Rattle.std.specs.Fmt.{decimal}
 use Rattle.hex.specs.declared.error.FromHexError.{FromHexError}
 use Rattle.hex.specs.declared.error.FromHexError.TheVariants as hex_error
 use Rattle.dfu_wire.specs.Code.{code_name}
+use Rattle.dfu_wire.specs.Request.{request_name}
 use Rattle.dfu_wire.specs.State.{state_name}
 use Rattle.dfu_wire.specs.Status.{StatusFields}
 use Rattle.dfu_wire.specs.declared.functionals.Functional.{Functional}
 use Rattle.dfu_wire.specs.declared.requests.Request.{Request}
-use Rattle.dfu_wire.specs.declared.requests.Request.TheVariants as request
 use Rattle.dfu_wire.specs.declared.setups.Setup.{Setup}
 use Rattle.dfu_wire.specs.declared.states.State.{State}
 use Rattle.dfu_wire.specs.declared.fault.WireFault.{WireFault}
@@ -38,18 +38,6 @@ status_line s string =
 -- The line for a state is `state STATE`.
 unfoldable pub state_line : State → List ℕ
 state_line s = codes "state " ++ state_name s ++ 10 ∷ []
-
--- What a setup asks for: one of the seven requests, another request of the class, or none of the class.
-abbrev pub request_name : Request → List ℕ
-request_name (request.Detach timeout) = codes "DETACH"
-request_name (request.Dnload block len) = codes "DNLOAD"
-request_name (request.Upload block len) = codes "UPLOAD"
-request_name (request.GetStatus len) = codes "GETSTATUS"
-request_name request.ClrStatus = codes "CLRSTATUS"
-request_name (request.GetState len) = codes "GETSTATE"
-request_name request.Abort = codes "ABORT"
-request_name request.OtherClass = codes "other-class"
-request_name request.NotDfu = codes "not-dfu"
 
 -- The line for a setup is `setup REQUEST kind HH number HH value N index N length N`.
 unfoldable pub setup_line : Setup → Request → List ℕ

@@ -2,7 +2,7 @@
 
 ghost use Rattle.std.specs.Prelude.{◌≡◌, ◌++◌, IfOk, OnOk};
 ghost use Rattle.std.specs.String.{string_bytes};
-ghost use Rattle.dfu_text.specs.ShowLines.{bad_hex_line, functional_line, request_name, setup_line, state_line, status_line, wire_line, yes_no};
+ghost use Rattle.dfu_text.specs.ShowLines.{bad_hex_line, functional_line, setup_line, state_line, status_line, wire_line, yes_no};
 
 use crate::faults::fault_line;
 use crate::numbers::{field, hex2, hex4, made_field, push};
@@ -65,28 +65,12 @@ pub(crate) fn state_line(alloc: Global, state: State) -> Result<String, AllocErr
     Ok(line)
 }
 
-fn request_name(request: Request) -> &'static str
-    ensures { result.now ≡ request_name request }
-{
-    match request {
-        Request::Detach { .. } => "DETACH",
-        Request::Dnload { .. } => "DNLOAD",
-        Request::Upload { .. } => "UPLOAD",
-        Request::GetStatus { .. } => "GETSTATUS",
-        Request::ClrStatus => "CLRSTATUS",
-        Request::GetState { .. } => "GETSTATE",
-        Request::Abort => "ABORT",
-        Request::OtherClass => "other-class",
-        Request::NotDfu => "not-dfu",
-    }
-}
-
 #[tactic(auto, unfolding(crate::specs::ShowLines::setup_line))]
 pub(crate) fn setup_line(alloc: Global, setup: &Setup, asked: Request) -> Result<String, AllocError>
     ensures { IfOk result (λ t. string_bytes t ≡ setup_line setup.now asked) }
 {
     let mut line = String::from_str(alloc, "setup")?;
-    field(&mut line, " ", request_name(asked))?;
+    field(&mut line, " ", asked.name())?;
     made_field(&mut line, " kind ", hex2(alloc, setup.kind)?)?;
     made_field(&mut line, " number ", hex2(alloc, setup.request)?)?;
     made_field(

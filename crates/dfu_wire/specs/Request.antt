@@ -1,5 +1,5 @@
 -- What a setup asks for: the table of the requests (USB DFU 1.1, section 3).
-use Rattle.std.specs.Prelude.{◌≡◌, ℕ, ◌⊎◌}
+use Rattle.std.specs.Prelude.{◌≡◌, ℕ, ◌⊎◌, List, codes}
 use Rattle.dfu_wire.specs.declared.setups.Setup.{Setup}
 use Rattle.dfu_wire.specs.declared.requests.Request.{Request}
 use Rattle.dfu_wire.specs.declared.requests.Request.TheVariants as request
@@ -36,6 +36,18 @@ Asks s r = IsNamed s r
 -- The request is none of the seven.
 abbrev pub IsUnnamed : Request → Type 0
 IsUnnamed r = (r ≡ request.OtherClass) ⊎ (r ≡ request.NotDfu)
+
+-- The name of a request in the standard, or which of the other two it is.
+abbrev pub request_name : Request → List ℕ
+request_name (request.Detach timeout) = codes "DETACH"
+request_name (request.Dnload block len) = codes "DNLOAD"
+request_name (request.Upload block len) = codes "UPLOAD"
+request_name (request.GetStatus len) = codes "GETSTATUS"
+request_name request.ClrStatus = codes "CLRSTATUS"
+request_name (request.GetState len) = codes "GETSTATE"
+request_name request.Abort = codes "ABORT"
+request_name request.OtherClass = codes "other-class"
+request_name request.NotDfu = codes "not-dfu"
 
 -- The setup's value is 0 where the request gives it no meaning.
 abbrev pub IsPlain : Setup → Request → Type 0

@@ -1,7 +1,7 @@
 //! What a setup asks for (USB DFU 1.1, section 3).
 
 ghost use Rattle.std.specs.Prelude.{◌≡◌, ◌↔◌, ◌⊎◌, IfSome, IsNone, Some};
-ghost use Rattle.dfu_wire.specs.Request.{Asks, IsNamed, IsPlain, IsUnnamed};
+ghost use Rattle.dfu_wire.specs.Request.{Asks, IsNamed, IsPlain, IsUnnamed, request_name};
 ghost use Rattle.dfu_wire.specs.declared.setups.Setup.{Setup};
 
 use crate::Setup;
@@ -68,5 +68,22 @@ impl Request {
             index: 0,
             length,
         })
+    }
+
+    /// The name of the request in the standard, as `DETACH`; `other-class` and `not-dfu` of the two that are none of the seven.
+    pub fn name(self) -> &'static str
+        ensures { result.now ≡ request_name self }
+    {
+        match self {
+            Request::Detach { .. } => "DETACH",
+            Request::Dnload { .. } => "DNLOAD",
+            Request::Upload { .. } => "UPLOAD",
+            Request::GetStatus { .. } => "GETSTATUS",
+            Request::ClrStatus => "CLRSTATUS",
+            Request::GetState { .. } => "GETSTATE",
+            Request::Abort => "ABORT",
+            Request::OtherClass => "other-class",
+            Request::NotDfu => "not-dfu",
+        }
     }
 }

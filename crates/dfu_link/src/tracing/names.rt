@@ -2,7 +2,7 @@
 
 ghost use Rattle.std.specs.Prelude.{◌≡◌, ◌∷◌, []};
 ghost use Rattle.dfu_link.specs.TraceText.{request_in};
-ghost use Rattle.dfu_link.specs.TraceWords.{comma_text, end_text, erases_text, request_name, request_of, setup_of, state_in, status_in};
+ghost use Rattle.dfu_link.specs.TraceWords.{asked_text, comma_text, end_text, erases_text, request_of, setup_of, state_in, status_in};
 
 use crate::tracing::noting::WriteEnd;
 use dfu_host::Action;
@@ -32,19 +32,13 @@ pub(crate) fn request_in(action: Action<'_>) -> Request
     }
 }
 
-/// The name of a request in the standard (USB DFU 1.1, section 3).
-pub(crate) fn request_name(request: Request) -> &'static str
-    ensures { result.now ≡ request_name request }
+/// A request's name in the standard (USB DFU 1.1, section 3), or `other`.
+pub(crate) fn asked_text(request: Request) -> &'static str
+    ensures { result.now ≡ asked_text request }
 {
     match request {
-        Request::Detach { .. } => "DETACH",
-        Request::Dnload { .. } => "DNLOAD",
-        Request::Upload { .. } => "UPLOAD",
-        Request::GetStatus { .. } => "GETSTATUS",
-        Request::ClrStatus => "CLRSTATUS",
-        Request::GetState { .. } => "GETSTATE",
-        Request::Abort => "ABORT",
         Request::OtherClass | Request::NotDfu => "other",
+        _ => request.name(),
     }
 }
 

@@ -8,9 +8,7 @@ ghost use Rattle.dfu_link.specs.TraceText.{action_text, fate_text, harm_text, ph
 ghost use Rattle.dfu_link.specs.TraceWords.{comma_text, note_text, notes_in_row, notes_text};
 
 use crate::fate::Fate;
-use crate::tracing::names::{
-    comma_text, end_text, erases_text, request_name, request_of, setup_of,
-};
+use crate::tracing::names::{asked_text, comma_text, end_text, erases_text, request_of, setup_of};
 use crate::tracing::noting::{LastWrites, WriteNote};
 use dfu_host::{Action, Phase};
 use dfu_wire::Setup;
@@ -75,7 +73,7 @@ pub(crate) fn push_phase(line: &mut String, alloc: Global, phase: Phase) -> Resu
 fn push_request(line: &mut String, alloc: Global, setup: &Setup) -> Result<(), AllocError>
     ensures { OnOk result (string_bytes line.new ≡ string_bytes line.old ++ request_text setup.now) }
 {
-    push(line, request_name(request_of(setup)))?;
+    push(line, asked_text(request_of(setup)))?;
     push_number(line, alloc, " ", u64::from(setup.value))?;
     push_number(line, alloc, " ", u64::from(setup.length))
 }

@@ -52,6 +52,26 @@ fn setups_are_read_and_written(rt: HostRuntime) {
     }
 }
 
+/// The names of the requests of `NAMED`, in its order.
+static NAMES: [&'static str; 7] = [
+    "DNLOAD",
+    "GETSTATUS",
+    "DETACH",
+    "UPLOAD",
+    "CLRSTATUS",
+    "GETSTATE",
+    "ABORT",
+];
+
+#[test]
+fn requests_have_the_names_of_the_standard(rt: HostRuntime) {
+    for ((_, request), name) in NAMED.iter().zip(NAMES.iter()) {
+        assert_eq!(rt; request.name(), *name);
+    }
+    assert_eq!(rt; Request::OtherClass.name(), "other-class");
+    assert_eq!(rt; Request::NotDfu.name(), "not-dfu");
+}
+
 /// Setups outside the table, or with a value that has no meaning there.
 static OTHERS: [([u8; 8], Request); 11] = [
     ([0x80, 0x03, 0, 0, 0, 0, 6, 0], Request::NotDfu),
