@@ -6,7 +6,7 @@ use Rattle.dfu_slots.specs.declared.fault.WriteFault.TheVariants as fault
 use Rattle.dfu_slots.specs.declared.medium.Failed as medium
 use Rattle.dfu_slots.specs.Medium.{MediumState, Fuse, MayWork, MayFail, Wrote, FailedWrite, WroteOrLied, IsWritable}
 use Rattle.dfu_slots.specs.Medium.Fuse.{Unknown, Whole, Armed, Lying, Stopped}
-use Rattle.dfu_slots.specs.OneWrite.{IsKnown}
+use Rattle.dfu_slots.specs.OneWrite.{IsKnown, known_next}
 use Rattle.dfu_link.specs.declared.tracing.noting.LastWrites.{LastWrites}
 use Rattle.dfu_link.specs.declared.tracing.noting.WriteEnd.{WriteEnd}
 use Rattle.dfu_link.specs.declared.tracing.noting.WriteNote.{WriteNote}
@@ -37,15 +37,7 @@ failed_lie (Lying n tear) g fault.NotVerified old new left at k a = ap lie_in a.
 failed_lie Stopped g fault.Failed old new left at k a = ap lie_in a.1
 failed_lie Stopped g fault.NotVerified old new left at k a = absurd a
 
--- Both are known.
-worked_known : (f g : Fuse) (old new : List ℕ) (at : ℕ) → IsKnown f → MayWork f old at new g → IsKnown g
-worked_known Unknown g old new at k a = absurd k
-worked_known Whole g old new at k a = subst IsKnown (sym a) tt
-worked_known (Armed n tear stop) g old new at k (more, e, a) = subst IsKnown (sym a) tt
-worked_known (Lying n tear) g old new at k (inl (more, e, a)) = subst IsKnown (sym a) tt
-worked_known (Lying n tear) g old new at k (inr (e, same, a)) = subst IsKnown (sym a) tt
-worked_known Stopped g old new at k a = absurd a
-
+-- And it is known.
 failed_known : (f g : Fuse) (w : WriteFault) (old new left : List ℕ) (at : ℕ) → IsKnown f → MayFail f w old at new left g → IsKnown g
 failed_known Unknown g w old new left at k a = absurd k
 failed_known Whole g w old new left at k a = absurd a
@@ -96,7 +88,7 @@ next_lie : (old now : MediumState) (at : ℕ) (bytes : List ℕ) (answer : Resul
     → (lie_in now.fuse ≡ next_before_lie (lie_in old.fuse)) × IsKnown now.fuse
 next_lie old now at bytes (Ok done) k (inl wrote) failed = (
   worked_lie old.fuse now.fuse old.bytes bytes at wrote.fuse,
-  worked_known old.fuse now.fuse old.bytes bytes at k wrote.fuse,
+  known_next (record { at = at; bytes = bytes }) old now k wrote,
 )
 next_lie old now at bytes (Ok done) k (inr lie) failed = (
   failed_lie old.fuse now.fuse fault.NotVerified old.bytes bytes now.bytes at k lie.fuse,
