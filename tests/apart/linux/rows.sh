@@ -79,7 +79,7 @@ for fate in 'swap 4' 'swap 22'; do
     row 13 - 'other: ' USB_ATTRIBUTES=07 ./dfu-flash new.dfu
 done
 unset USB_FATE
-row 11 old 'aborted: ' USB_BUSY=700 timeout 1 ./dfu-flash new.dfu
+row 11 old 'aborted: ' USB_BUSY=2000 timeout 3 ./dfu-flash new.dfu
 
 # Bootloaders that start their image by themselves, and applications that leave something out.
 row 8 new 'unconfirmed: ' USB_DEVICE=small ./dfu-flash new.dfu
