@@ -1,4 +1,4 @@
-/* With what the program ends. manual/dfu-flash.1 has the same list; tests/flash compares them. */
+/* With what the program ends. share/man/dfu-flash.1 has the same list; tests/flash compares them. */
 #ifndef DFU_FLASH_STATUS_H
 #define DFU_FLASH_STATUS_H
 

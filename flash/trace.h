@@ -1,4 +1,4 @@
-/* The trace of --verbose: what is done, and what comes of it, a line each on standard error, or in a log (log.h). manual/dfu-flash.1 has
+/* The trace of --verbose: what is done, and what comes of it, a line each on standard error, or in a log (log.h). share/man/dfu-flash.1 has
    the form. */
 #ifndef DFU_FLASH_TRACE_H
 #define DFU_FLASH_TRACE_H

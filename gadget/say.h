@@ -30,7 +30,7 @@ void say_no_more(const char *name);
 /* What was answered to a request, with so many bytes of its data stage that were taken, for `dfu judge`. */
 void say_exchange(const uint8_t setup[8], const uint8_t *body, size_t length, int32_t answer, const uint8_t *out);
 
-/* A line for a request, once it is answered: manual/dfu-gadget.1, REQUESTS, has its words. `answer` is how many bytes of `out` went
+/* A line for a request, once it is answered: share/man/dfu-gadget.1, REQUESTS, has its words. `answer` is how many bytes of `out` went
    back, or negative for a stall. */
 void say_request(const uint8_t setup[8], int32_t answer, const uint8_t *out, int32_t state, int64_t ms);
 

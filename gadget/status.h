@@ -1,4 +1,4 @@
-/* With what the program ends. manual/dfu-gadget.1 has the same list; tests/gadget compares them. */
+/* With what the program ends. share/man/dfu-gadget.1 has the same list; tests/gadget compares them. */
 #ifndef DFU_GADGET_STATUS_H
 #define DFU_GADGET_STATUS_H
 

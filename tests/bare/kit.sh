@@ -1,4 +1,4 @@
-# What tests/c-aarch64, c-cortex-m, c-rv32 and apart/microcontrollers share: they count checks, and build programs without a C library and
+# What tests/c-aarch64, c-cortex-m, c-rv32 and slow/microcontrollers share: they count checks, and build programs without a C library and
 # run them in QEMU without an OS. `top` is the folder of the repository.
 # shellcheck shell=sh disable=SC2034,SC2154
 # shellcheck source=tests/support/counting.sh

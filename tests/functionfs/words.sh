@@ -116,7 +116,7 @@ equal 'set-up: a gadget on the bus' 1 "$("$top/gadget/set-up" --remove --applica
 unset GADGET_ROOT
 
 # The manual: each option with its text, each status, and the version.
-manual=$(sed 's/^\.[A-Za-z]* *//; s/\\-/-/g; s/\\f[A-Z]//g; s/"//g' "$top/manual/dfu-gadget.1" | tr '\n' ' ' | tr -s ' ')
+manual=$(sed 's/^\.[A-Za-z]* *//; s/\\-/-/g; s/\\f[A-Z]//g; s/"//g' "$top/share/man/dfu-gadget.1" | tr '\n' ' ' | tr -s ' ')
 sed -n 's/^  \(-[hV], \)*--\([a-z-]*\).*/\2/p' help > options
 is 'the options of the help' test "$(wc -l < options)" -eq 19
 while read -r option; do
@@ -126,16 +126,16 @@ done < options
 sed ':a; N; $!ba; s/>\n  */> /g' help | sed -n 's/^  *\(-[hV], \)*--\([a-z-]*\)\( <[^>]*>\)*  *\([A-Z].*\)/\2	\4/p' > texts
 equal 'the texts of the help' 19 "$(wc -l < texts)"
 while IFS='	' read -r option text; do
-    is "bash: $option" grep -q -e "--$option\>" "$top/completions/dfu-gadget.bash"
-    is "fish: $option" grep -q -F -e "-l $option" "$top/completions/dfu-gadget.fish"
-    is "fish: $option: $text" grep -q -F -e "-d '$text'" "$top/completions/dfu-gadget.fish"
+    is "bash: $option" grep -q -e "--$option\>" "$top/share/completions/dfu-gadget.bash"
+    is "fish: $option" grep -q -F -e "-l $option" "$top/share/completions/dfu-gadget.fish"
+    is "fish: $option: $text" grep -q -F -e "-d '$text'" "$top/share/completions/dfu-gadget.fish"
     low=$(printf '%s' "$text" | sed 's/^./\L&/')
-    is "zsh: $option: $text" grep -q -F -e "[$low]" "$top/completions/_dfu-gadget"
+    is "zsh: $option: $text" grep -q -F -e "[$low]" "$top/share/completions/_dfu-gadget"
 done < texts
 sed -n 's|^ *STATUS_[A-Z]* = \([0-9]\),* */\* \(.*\) \*/|\1 \2|p' "$top/gadget/status.h" > statuses
 equal 'the statuses' 8 "$(wc -l < statuses)"
 while read -r status; do
     case $manual in *"$status"*) right ;; *) wrong "the manual lacks: $status" ;; esac
 done < statuses
-is 'the version of the manual' grep -q "^.TH .*\"$(./gadget -V | sed 's/dfu-gadget/dfu/')\"" "$top/manual/dfu-gadget.1"
+is 'the version of the manual' grep -q "^.TH .*\"$(./gadget -V | sed 's/dfu-gadget/dfu/')\"" "$top/share/man/dfu-gadget.1"
 is 'the version of the program dfu' grep -q "\"dfu-gadget $(./gadget -V | sed 's/.* //')" "$top/gadget/help.c"

@@ -60,9 +60,9 @@ rights() {
 
 tree="$work/the tree"
 mkdir -p "$tree/crates/dfu_cmd/out" "$tree/manual" "$tree/flash"
-cp "$top/flash/70-dfu.rules" "$tree/flash"
+cp "$top/share/udev/70-dfu.rules" "$tree/flash"
 cp -R "$top/install" "$top/install-folders" "$top/completions" "$top/include" "$tree"
-cp "$top"/manual/*.1 "$tree/manual"
+cp "$top"/share/man/*.1 "$tree/manual"
 cp "$top/crates/dfu_cmd/out/dfu_cmd" "$tree/crates/dfu_cmd/out"
 printf '#!/bin/sh\nexec "${0%%/*}/crates/dfu_cmd/out/dfu_cmd" "$@"\n' > "$tree/dfu"
 chmod 755 "$tree/dfu"

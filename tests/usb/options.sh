@@ -112,7 +112,7 @@ row 2 - '' '' new.dfu "$name"
 expect 'a word is escaped' grep -qF "$(printf 'a word too many: a\\x1b[2J')" err
 
 # 'Coming from dfu-util': each of its options has a line in the manual, and stands in the help.
-sed -n '/^\.SH COMING FROM DFU/,/^\.SH LIMITS/p' "$top/manual/dfu-flash.1" > section
+sed -n '/^\.SH COMING FROM DFU/,/^\.SH LIMITS/p' "$top/share/man/dfu-flash.1" > section
 LD_LIBRARY_PATH=$work ./dfu-flash --help | sed -n '/^Coming from dfu-util:/,/^$/p' > help
 for option in D U Z l d p S i a n c t w e E R v V s; do
     expect "-$option of dfu-util, in the manual" grep -q "^\.B.*\\\\-$option\\b" section

@@ -1,7 +1,7 @@
 # What runs in the machine: dfu-flash, dfu-util and single transfers, over the kernel's USB and the real libusb, against dfu-gadget at the
 # device controller of dummy_hcd. The medium is a disk of the machine.
 # shellcheck shell=sh disable=SC2154
-# shellcheck source=tests/apart/functionfs/common.sh
+# shellcheck source=tests/slow/functionfs/common.sh
 . ./common.sh
 printf 'the old image' > old
 printf 'a new image of 26 bytes ..' > new

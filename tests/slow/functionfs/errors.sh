@@ -1,7 +1,7 @@
 # What runs in the machine: writes of the medium that fail, by the kernel's device mapper. The host is told errWRITE, the old image
 # stands, and a download after it succeeds.
 # shellcheck shell=sh disable=SC2154
-# shellcheck source=tests/apart/functionfs/common.sh
+# shellcheck source=tests/slow/functionfs/common.sh
 . ./common.sh
 export DM_DISABLE_UDEV=1 # no rule of udev answers dmsetup here
 printf 'the old image' > old

@@ -1,6 +1,6 @@
 # What runs in the machine: one that was killed is started again, with the disk as it was left. It serves the image that stands there.
 # shellcheck shell=sh disable=SC2154
-# shellcheck source=tests/apart/functionfs/common.sh
+# shellcheck source=tests/slow/functionfs/common.sh
 . ./common.sh
 ./set-up 0x1209 0x0001 0x0100 F1
 suffixed one

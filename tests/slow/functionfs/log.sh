@@ -1,7 +1,7 @@
 # What runs in the machine: four downloads onto a medium whose writes the kernel's device mapper notes on the second disk, in the order
 # in which they came to the first. The computer outside then looks what a loss of power at each of them leaves (cuts.c).
 # shellcheck shell=sh disable=SC2154
-# shellcheck source=tests/apart/functionfs/common.sh
+# shellcheck source=tests/slow/functionfs/common.sh
 . ./common.sh
 export DM_DISABLE_UDEV=1 # no rule of udev answers dmsetup here
 echo "0 $(blockdev --getsz /dev/vda) log-writes /dev/vda /dev/vdb" | dmsetup create medium

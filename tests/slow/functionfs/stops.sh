@@ -1,6 +1,6 @@
 # What runs in the machine: two images are downloaded in turn for as long as it runs. The computer outside stops it, and looks at the disk.
 # shellcheck shell=sh disable=SC2154
-# shellcheck source=tests/apart/functionfs/common.sh
+# shellcheck source=tests/slow/functionfs/common.sh
 . ./common.sh
 ./set-up 0x1209 0x0001 0x0100 F1
 suffixed one two

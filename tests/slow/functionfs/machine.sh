@@ -1,4 +1,4 @@
-# How tests/apart/linux-gadget makes a machine of QEMU, and runs it; it reads this file.
+# How tests/slow/linux-gadget makes a machine of QEMU, and runs it; it reads this file.
 # shellcheck shell=sh disable=SC2154
 
 # choose PROCESSOR: what it is called elsewhere, its packages in $packages, and the words of QEMU.
