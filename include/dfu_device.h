@@ -69,8 +69,8 @@
 
 /* The version: 10,000 for each major one, 100 for each minor one, and 1 for each patch. */
 #ifndef DFU_VERSION
-#define DFU_VERSION 100
-#define DFU_VERSION_TEXT "0.1.0"
+#define DFU_VERSION 200
+#define DFU_VERSION_TEXT "0.2.0"
 #endif
 
 #ifdef __cplusplus

@@ -72,8 +72,8 @@
 
 /* The version: 10,000 for each major one, 100 for each minor one, and 1 for each patch. */
 #ifndef DFU_VERSION
-#define DFU_VERSION 100
-#define DFU_VERSION_TEXT "0.1.0"
+#define DFU_VERSION 200
+#define DFU_VERSION_TEXT "0.2.0"
 #endif
 
 #ifdef __cplusplus
@@ -132,7 +132,7 @@ enum {
     DFU_SEEN_RESET = 5,   /* DFU_RESET: the bus was reset */
     DFU_SEEN_RESTART = 6, /* the device was restarted unasked */
     DFU_SEEN_LEFT = 7,    /* the device left of itself after the close, to start its new image */
-    /* Their names in programs written before. */
+    /* The same by older names. */
     DFU_ACK = DFU_SEEN_ACK,
     DFU_BYTES = DFU_SEEN_BYTES,
     DFU_STALLED = DFU_SEEN_STALL,

@@ -17,9 +17,9 @@ setting_of c = record {
   manifest_ms = c.manifest_ms;
 }
 
--- The version of the library, 0.1.0: 10,000 for each major one, 100 for each minor one, and 1 for each patch.
+-- The version of the library, 0.2.0: 10,000 for each major one, 100 for each minor one, and 1 for each patch.
 abbrev pub version : ℕ
-version = 100
+version = 200
 
 -- The most bytes of a block.
 abbrev pub transfer_of : DfuConfig → ℕ

@@ -7,7 +7,7 @@ returns-clause-mode c =
     record {
       version_is = refl;
       numbers = c.numbers_of-own.ensures (record c.args.kept.now {
-        version = 100;
+        version = 200;
         mode = numbers.0;
         first = numbers.1;
         second = numbers.2;

@@ -1,0 +1,97 @@
+/* The layout that a DFU_VERSION stands for: the size of each struct of the headers, and where each of its fields begins. A program and a
+ * library that agree on the version agree on these. So a change here takes a new version, and a new version takes a look at these. */
+#include "dfu_asking.h"
+#include "dfu_device.h"
+#include "dfu_host.h"
+
+#if DFU_VERSION != 200
+#error "another version: write down its layout here"
+#endif
+#ifndef __cplusplus
+#define static_assert _Static_assert
+#endif
+#define SIZE(type, bytes) static_assert(sizeof(struct type) == (bytes), "the size of " #type)
+#define AT(type, field, byte) static_assert(offsetof(struct type, field) == (byte), #type "." #field)
+
+SIZE(dfu_config, 32);
+AT(dfu_config, version, 0);
+AT(dfu_config, device, 4);
+AT(dfu_config, product, 6);
+AT(dfu_config, vendor, 8);
+AT(dfu_config, detach_ms, 10);
+AT(dfu_config, transfer, 12);
+AT(dfu_config, attributes, 14);
+AT(dfu_config, busy_ms, 16);
+AT(dfu_config, manifest_ms, 20);
+AT(dfu_config, least, 24);
+AT(dfu_config, unit, 28);
+
+SIZE(dfu_device, 304);
+AT(dfu_device, version, 0);
+AT(dfu_device, mode, 4);
+AT(dfu_device, first, 8);
+AT(dfu_device, second, 12);
+AT(dfu_device, put_end, 16);
+AT(dfu_device, slot, 20);
+AT(dfu_device, number, 24);
+AT(dfu_device, length, 26);
+AT(dfu_device, header, 28);
+AT(dfu_device, held_length, 44);
+AT(dfu_device, held, 46);
+
+SIZE(dfu_place, 8);
+AT(dfu_place, at, 0);
+AT(dfu_place, length, 4);
+
+SIZE(dfu_asking, 332);
+AT(dfu_asking, device, 0);
+AT(dfu_asking, sector, 304);
+AT(dfu_asking, work, 308);
+AT(dfu_asking, spare, 312);
+AT(dfu_asking, sum, 316);
+AT(dfu_asking, done, 320);
+AT(dfu_asking, asked, 324);
+AT(dfu_asking, generation, 328);
+AT(dfu_asking, close, 329);
+
+SIZE(dfu_ask, 268);
+AT(dfu_ask, kind, 0);
+AT(dfu_ask, at, 4);
+AT(dfu_ask, length, 8);
+AT(dfu_ask, bytes, 12);
+
+SIZE(dfu_ids, 6);
+AT(dfu_ids, device, 0);
+AT(dfu_ids, product, 2);
+AT(dfu_ids, vendor, 4);
+
+SIZE(dfu_file, 24);
+AT(dfu_file, payload, 0);
+AT(dfu_file, suffix, 8);
+AT(dfu_file, crc, 12);
+AT(dfu_file, device, 16);
+AT(dfu_file, product, 18);
+AT(dfu_file, vendor, 20);
+AT(dfu_file, dfu, 22);
+
+SIZE(dfu_session, 48);
+AT(dfu_session, version, 0);
+AT(dfu_session, goal, 4);
+AT(dfu_session, number, 8);
+AT(dfu_session, kept, 16);
+AT(dfu_session, phase, 24);
+AT(dfu_session, more, 28);
+AT(dfu_session, actions, 32);
+AT(dfu_session, restarts, 36);
+AT(dfu_session, transfer, 38);
+AT(dfu_session, detach_ms, 40);
+AT(dfu_session, tolerant, 42);
+AT(dfu_session, will_detach, 43);
+
+SIZE(dfu_action, 40);
+AT(dfu_action, what, 0);
+AT(dfu_action, value, 4);
+AT(dfu_action, from, 8);
+AT(dfu_action, length, 16);
+AT(dfu_action, code, 24);
+AT(dfu_action, setup, 28);
