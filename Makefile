@@ -59,7 +59,8 @@ has_functionfs = $(call once,has_functionfs,$(and $(is_linux),$(shell echo '$(ha
     $(CC) $(CPPFLAGS) $(CFLAGS) -E -x c - > /dev/null 2>&1 && echo yes)))
 has_libusb = $(call once,has_libusb,$(shell room=`mktemp -d` && echo '$(hash)include <libusb.h>' > $$room/it.c && \
     echo 'int main(void) { return libusb_init(0); }' >> $$room/it.c && \
-    $(CC) $(usb_headers) $(CPPFLAGS) $(CFLAGS) $(LDFLAGS) $$room/it.c -o $$room/it $(usb_library) > /dev/null 2>&1 && echo yes; rm -rf $$room))
+    $(CC) $(usb_headers) $(CPPFLAGS) $(CFLAGS) $(LDFLAGS) $$room/it.c -o $$room/it $(usb_library) > /dev/null 2>&1 && echo yes; \
+    rm -rf $$room))
 usb_headers = $(call once,usb_headers,$(shell $(PKG_CONFIG) --cflags libusb-1.0 2> /dev/null || echo -I/usr/include/libusb-1.0))
 usb_library = $(call once,usb_library,$(shell $(PKG_CONFIG) --libs libusb-1.0 2> /dev/null || echo -lusb-1.0))
 
@@ -69,7 +70,8 @@ usb_library = $(call once,usb_library,$(shell $(PKG_CONFIG) --libs libusb-1.0 2>
 is_movable = $(if $(filter -static% -no-pie -fno-pie -fno-PIE,$(CFLAGS) $(LDFLAGS)),,yes)
 guards = $(filter-out $(CFLAGS),-fstack-protector-strong $(if $(is_movable),-fPIE))
 fortify = $(call once,fortify,$(shell $(CC) -O2 $(CPPFLAGS) $(CFLAGS) -dM -E -x c /dev/null | \
-    awk '$$2 == "_FORTIFY_SOURCE" { level = 1 } $$2 == "__OPTIMIZE__" { fast = 1 } END { if (fast && !level) print "-D_FORTIFY_SOURCE=2" }'))
+    awk '$$2 == "_FORTIFY_SOURCE" { level = 1 } $$2 == "__OPTIMIZE__" { fast = 1 } \
+    END { if (fast && !level) print "-D_FORTIFY_SOURCE=2" }'))
 hosted = -std=c11 -Wall -Wextra -Iinclude -O2 $(guards) $(fortify) $(CPPFLAGS) $(CFLAGS)
 links = $(filter-out $(LDFLAGS),$(if $(is_movable),-pie) -Wl,-z,relro -Wl,-z,now) $(LDFLAGS)
 # A library is small, a program takes of it what it calls, and on Linux it fits into programs and shared objects at any address.
