@@ -53,7 +53,7 @@ static void say_rule(const struct found *found)
             "To allow it to who sits at this computer, write this line to /etc/udev/rules.d/60-dfu-%04x.rules,\n"
             "run `udevadm control --reload`, and plug the device in again:\n"
             "SUBSYSTEM==\"usb\", ATTR{idVendor}==\"%04x\", ATTR{idProduct}==\"%04x\", MODE=\"0660\", TAG+=\"uaccess\"\n"
-            "To allow it for every device with DFU, run `./install --udev /etc/udev/rules.d` of Fustrelan as root, which\n"
+            "To allow it for every device with DFU, run `make install UDEVDIR=/etc/udev/rules.d` of Fustrelan as root, which\n"
             "installs 70-dfu.rules. Over ssh nobody sits there: that file has a line for the members of a group.\n",
             found->vendor, found->vendor, found->product);
 }

@@ -1,7 +1,7 @@
 // Why a device can't be had, and what to do about it on this system.
 import { NOT_DFU, SEVERAL } from './board.js'
 
-const RULE = 'On Linux a rule of udev lets you: `./install --udev /etc/udev/rules.d` of Fustrelan installs one for every device ' +
+const RULE = 'On Linux a rule of udev lets you: `make install UDEVDIR=/etc/udev/rules.d` of Fustrelan installs one for every device ' +
   'with DFU. Plug the device in again then.'
 const DRIVER = 'On Windows its DFU interface needs the driver WinUSB, which the device itself can ask for, or Zadig sets.'
 

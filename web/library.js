@@ -68,6 +68,6 @@ export function runsWasm64() {
 // A static host may serve the module under any type, so it isn't compiled as it comes.
 export async function load(name) {
   const answer = await fetch(new URL(`${name}.wasm`, import.meta.url))
-  if (!answer.ok) throw new Error(`${name}.wasm can't be had: ${answer.status}; web/build makes it`)
+  if (!answer.ok) throw new Error(`${name}.wasm can't be had: ${answer.status}; make page makes it`)
   return WebAssembly.compile(await answer.arrayBuffer())
 }

@@ -9,6 +9,7 @@ import subprocess
 from drawing import Picture
 
 ROOT = os.path.normpath(os.path.join(os.path.dirname(os.path.abspath(__file__)), "..", ".."))
+PROGRAM = os.path.abspath(os.path.join(os.environ.get("BUILD") or os.path.join(ROOT, "build"), "dfu"))
 HOST, WIRE_FROM, WIRE_TO, DEVICE, MEDIUM, WIDTH, ROW, TOP = 20, 130, 490, 590, 790, 900, 58, 88
 
 # The title of each chart, and what stands below it.
@@ -79,7 +80,7 @@ def seen(name):
                 lines += [line.strip(), "show"]
             else:
                 lines.append(line.strip())
-    run = subprocess.run([os.path.join(ROOT, "dfu"), "run", "--trace", "-"], input="\n".join(lines), capture_output=True, text=True, check=True)
+    run = subprocess.run([PROGRAM, "run", "--trace", "-"], input="\n".join(lines), capture_output=True, text=True, check=True)
     printed = run.stdout.splitlines()
     images = [line.split()[5] for line in printed if line.startswith("state ")]
     traced = [line for line in printed if line.startswith("# ")]

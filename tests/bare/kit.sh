@@ -3,27 +3,14 @@
 # shellcheck shell=sh disable=SC2034,SC2154
 # shellcheck source=tests/support/counting.sh
 . "$top/tests/support/counting.sh"
+# shellcheck source=tests/support/archives.sh
+. "$top/tests/support/archives.sh"
 bare=$top/tests/bare
 
-# libraries TARGET..: proves and builds them, and takes the archives to $work/TARGET, those of x86-64 to $work.
-libraries() {
-    "$top/libraries" "$@" > "$work/log" 2>&1 || {
-        tail -n 5 "$work/log"
-        exit 1
-    }
-    for it in "${@:-.}"; do
-        mkdir -p "$work/$it"
-        cp "$top"/crates/dfu_*_c/out/"$it"/libdfu_*_c.a "$work/$it/"
-    done
-}
-
-# target NAME: what builds for it, and the machine of QEMU that runs it; `device`, `host` and `asks` are its archives. What each program
-# has is compiled into a folder of its own, `here`.
+# target NAME: what builds for it, and the machine of QEMU that runs it; `device`, `host` and `asks` are its archives, which make builds
+# if it has not yet. What each program has is compiled into a folder of its own, `here`.
 target() {
     target=$1
-    device=$work/$1/libdfu_device_c.a
-    host=$work/$1/libdfu_host_c.a
-    asks=$work/$1/libdfu_asks_c.a
     compiler=arm-none-eabi-gcc
     start=cortex_m.c
     script=cortex_m.ld
@@ -58,6 +45,10 @@ target() {
         emulator='qemu-system-riscv32 -M virt -bios none'
         ;;
     esac
+    device=$work/$1/libraries/libdfu_device.a
+    host=$work/$1/libraries/libdfu_host.a
+    asks=$work/$1/libraries/libdfu_asking.a
+    [ -e "$asks" ] || libraries "$1/libraries" "-Os $flags"
     prepare "$1"
 }
 prepare() {
@@ -113,16 +104,6 @@ faults() {
     run "$@" || status=$?
     [ "$status" -eq 3 ] && grep -qx fault "$work/printed"
 }
-# is_small LIBRARY MOST: it is under so many bytes with its read-only data, and has no other data.
-is_small() {
-    "${compiler%gcc}size" "$1" | awk -v most="$2" 'NR > 1 { text += $1; data += $2 + $3 }
-        END { print "  " text " bytes of text, " data " of data"; exit !(text > 0 && text < most && data == 0) }'
-}
-# needs_only LIBRARY PATTERN: all that it wants of others.
-needs_only() {
-    "${compiler%gcc}nm" -u "$1" | awk '$1 == "U" { print $2 }' | sort -u > "$work/undefined"
-    [ -s "$work/undefined" ] && ! grep -vxE "$2" "$work/undefined"
-}
 
 # The file that the example of a flasher installs.
 ones() {
@@ -132,8 +113,8 @@ ones() {
 # digest_here: the digest programs for x86-64, in $work/here.
 digest_here() {
     mkdir -p "$work/here"
-    gcc -O2 -std=c11 -Wall -Wextra -Werror -I "$top/include" "$bare/digest.c" "$work/libdfu_device_c.a" -o "$work/here/digest"
-    gcc -O2 -std=c11 -Wall -Wextra -Werror -I "$top/include" "$bare/digest_host.c" "$work/libdfu_host_c.a" -o "$work/here/digest_host"
+    gcc -O2 -std=c11 -Wall -Wextra -Werror -I "$top/include" "$bare/digest.c" "$build/libdfu_device.a" -o "$work/here/digest"
+    gcc -O2 -std=c11 -Wall -Wextra -Werror -I "$top/include" "$bare/digest_host.c" "$build/libdfu_host.a" -o "$work/here/digest_host"
 }
 # as_here NAME WORD..: it prints what the same program prints on x86-64.
 as_here() {

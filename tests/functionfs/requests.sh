@@ -339,7 +339,7 @@ END
     is 'a log: a line for readers' grep -q '^# 1 GETSTATE 0 1 02 dfuIDLE 0$' session.log
     is 'a log: the reset' test "$(grep -c '^reset$' session.log)" -eq 1
     is 'a log: it is not on standard error' test "$(grep -c GETSTATE err)" -eq 0
-    equal 'a log: the judge' kept "$("$top/dfu" judge session.log | tail -n 1 | sed 's/ events.*//')"
+    equal 'a log: the judge' kept "$("$dfu" judge session.log | tail -n 1 | sed 's/ events.*//')"
     play --dfu-mode < /dev/null
     equal 'a log that is there' 3 "$code"
     is 'a log that is there' grep -q "^dfu-gadget: session.log can't be made: File exists$" err

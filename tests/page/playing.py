@@ -1,4 +1,6 @@
 """The view to play with: the examples of its menu, and buttons clicked at random, whose script `dfu run` plays too."""
+import os
+import pathlib
 import random
 import subprocess
 import tempfile
@@ -7,7 +9,7 @@ from counting import check, check_that
 from scripts import TOP, examples
 from views import ENTER, SPACE, is_labelled, is_narrow, is_quiet, is_readable, open_page, shot, shown, tab_to
 
-PROGRAM = TOP / 'crates/dfu_cmd/out/dfu_cmd'
+PROGRAM = pathlib.Path(os.environ.get('BUILD') or TOP / 'build').absolute() / 'dfu'
 CHOOSE = 'const it = document.getElementById("example"); it.value = arguments[0]; it.dispatchEvent(new Event("change"))'
 PRINTED = 'return document.getElementById("printed").textContent'
 SCRIPT = 'return document.getElementById("script").textContent'

@@ -1,5 +1,5 @@
 #!/usr/bin/env python3
-"""The tests of the page: run.py PAGE [FLASH]. PAGE is the folder that web/build made; FLASH is one with dfu-flash and the stand-in for
+"""The tests of the page: run.py PAGE [FLASH]. PAGE is the folder that `make page` made; FLASH is one with dfu-flash and the stand-in for
 libusb of tests/usb, where sessions are to be compared with it."""
 import sys
 import tempfile

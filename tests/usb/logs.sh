@@ -3,7 +3,7 @@
 
 # judged WANTED: the last line that `dfu judge` prints of the log begins so.
 judged() {
-    case $("$top/dfu" judge session.log | tail -n 1) in
+    case $("$dfu" judge session.log | tail -n 1) in
     "$1 events"*) true ;;
     *) false ;;
     esac
@@ -25,7 +25,7 @@ fate=
 
 # A state that is none of the standard's there.
 sed '0,/000000000200$/s//000000000900/' session.log > wrong.log
-expect 'a wrong answer in a log' test "$("$top/dfu" judge wrong.log | sed -n '1s/ .*//p')" = departs
+expect 'a wrong answer in a log' test "$("$dfu" judge wrong.log | sed -n '1s/ .*//p')" = departs
 
 # What is there stays, but for what loses nothing by it. Nothing is sent where there is no log.
 row 3 old '' '' --verbose=session.log new.dfu

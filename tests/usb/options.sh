@@ -82,7 +82,7 @@ fi
 
 # Who may not open the device is shown the rule for it, and how to get one for every device.
 row 5 old '' USB_DENIED=3 new.dfu
-says './install --udev /etc/udev/rules.d'
+says 'make install UDEVDIR=/etc/udev/rules.d'
 
 # Texts: as they are in UTF-8, to be given so; control characters and what is no character are escaped, and a NUL ends them.
 # named SERIAL SHOWN GIVEN: a serial number, as it is shown, and as it is given, for printf.

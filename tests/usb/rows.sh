@@ -1,24 +1,20 @@
-# What tests/flash runs dfu-flash over the stand-in with: both are built in a folder of their own, $work, and run there. `top` is
+# What tests/flash runs dfu-flash over the stand-in with: both are put into a folder of their own, $work, and run there. `top` is
 # the folder of the repository.
 
 # shellcheck disable=SC2154
-if ! pkg-config --exists libusb-1.0; then
-    echo "libusb-1.0 and its headers (Debian: libusb-1.0-0-dev) aren't installed: dfu-flash is left out"
-    echo "0 passed, 0 failed"
-    exit
-fi
-"$top/dfu" --help > /dev/null
 # shellcheck source=tests/support/counting.sh
 . "$top/tests/support/counting.sh"
+# shellcheck source=tests/support/flash.sh
+. "$top/tests/support/flash.sh"
 chmod 755 "$work"
-CFLAGS=-Werror "$top/flash/build" "$work" > /dev/null
+cp "$build/dfu-flash" "$work"
 "$top/tests/usb/build" "$work"
 cd "$work" || exit
 printf 'the old image' > old
 printf 'a new image of 26 bytes ..' > new
-"$top/dfu" add new new.dfu --vid 1209 --pid 0001 > /dev/null
-"$top/dfu" add new any.dfu > /dev/null
-"$top/dfu" add new other.dfu --vid 1209 --pid 0002 > /dev/null
+"$dfu" add new new.dfu --vid 1209 --pid 0001 > /dev/null
+"$dfu" add new any.dfu > /dev/null
+"$dfu" add new other.dfu --vid 1209 --pid 0002 > /dev/null
 
 # flash SETTINGS WORDS..: runs it over a device that is set up so, as the user $as, with the fate of a transfer in $fate.
 # Its status is in $code, its texts in out and err, what was sent in log, and the image that the device has then in saved.

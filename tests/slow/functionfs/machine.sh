@@ -7,8 +7,6 @@ choose() {
     case $processor in
     x86-64)
         packages=${LINUX-} debian=amd64 qemu='qemu-system-x86_64 -cpu max' console=ttyS0
-        asks=${DFU_ASKS_C:-$top/crates/dfu_asks_c} device=${DFU_DEVICE_C:-$top/crates/dfu_device_c}
-        host=${DFU_HOST_C:-$top/crates/dfu_host_c}
         ;;
     aarch64)
         packages=${LINUX_AARCH64-} debian=arm64 qemu='qemu-system-aarch64 -M virt -cpu cortex-a53' console=ttyAMA0
@@ -69,29 +67,18 @@ found() {
     fi
 }
 
-# archives: $asks, $device and $host are the folders of the proved libraries for AArch64.
-archives() {
-    "$top/libraries" aarch64 > /dev/null
-    asks=$top/crates/dfu_asks_c/out/aarch64 device=$top/crates/dfu_device_c/out/aarch64 host=$top/crates/dfu_host_c/out/aarch64
-}
-
 # programs: dfu-gadget, dfu-flash and transfer, in $root/work, which is the machine's folder `guest`.
 guest=work
 programs() {
     if [ "$processor" = x86-64 ]; then
         compiler=gcc
-        cp "${DFU_GADGET:-$work/dfu-gadget}" "$root/work/dfu-gadget"
-        if [ -n "${DFU_FLASH-}" ]; then cp "$DFU_FLASH" "$root/work/dfu-flash"; else "$top/flash/build" "$root/work" > /dev/null; fi
+        cp "$build/dfu-gadget" "$build/dfu-flash" "$root/work"
     else
         compiler=aarch64-linux-gnu-gcc
         libraries=$packages/usr/lib/aarch64-linux-gnu
-        [ -n "${ARCHIVES_AARCH64-}" ] || archives
-        mkdir -p "$work/host/out"
-        cp "${ARCHIVES_AARCH64:-$host}/libdfu_host_c.a" "$work/host/out/"
-        CC=$compiler DFU_ASKS_C=${ARCHIVES_AARCH64:-$asks} DFU_DEVICE_C=${ARCHIVES_AARCH64:-$device} \
-            "$top/gadget/build" "$root/work" > /dev/null
-        CC=$compiler DFU_HOST_C=$work/host CPPFLAGS="-I$packages/usr/include/libusb-1.0" \
-            LDFLAGS="-L$libraries -Wl,-rpath-link,$libraries" "$top/flash/build" "$root/work" > /dev/null
+        command make -s -C "$top" BUILD="$work/built" CC=$compiler PKG_CONFIG=false CPPFLAGS="-I$packages/usr/include/libusb-1.0" \
+            LDFLAGS="-L$libraries -Wl,-rpath-link,$libraries" "$work/built/dfu-gadget" "$work/built/dfu-flash" > /dev/null
+        cp "$work/built/dfu-gadget" "$work/built/dfu-flash" "$root/work"
     fi
     "$compiler" -std=gnu11 -O2 -Wall -Wextra -Werror -o "$root/work/transfer" "$here/transfer.c"
     for program in dfu-gadget dfu-flash transfer; do

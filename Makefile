@@ -1,0 +1,150 @@
+# Builds Fustrelan from the generated code in dist/, with GNU make and a C compiler. Nothing is proved here: ./test does that.
+#
+#   make              the programs and the libraries, in build/; what is left out is named, with the reason
+#   make check        the tests that need gcc, make and a shell; make check-all: each test whose commands are there
+#   make install      to PREFIX (/usr/local), or below DESTDIR; with UDEVDIR=/etc/udev/rules.d the rule for devices with DFU too
+#   make uninstall    takes away what make install puts there, and nothing else
+#   make libraries    the three libraries alone: make libraries CC=arm-none-eabi-gcc CFLAGS='-mcpu=cortex-m4 -mthumb' BUILD=build-m4
+#   make page         the page for browsers, in build/page
+#   make archive      the sources as build/fustrelan-VERSION.tar.gz
+#   make clean        takes away what make built
+#
+# CPPFLAGS, CFLAGS and LDFLAGS stand behind what is chosen here, so that they win. After other words `make` builds anew; `make check` and
+# `make install` take what is there.
+PREFIX ?= /usr/local
+BINDIR ?= $(PREFIX)/bin
+LIBDIR ?= $(PREFIX)/lib
+INCLUDEDIR ?= $(PREFIX)/include
+DATADIR ?= $(PREFIX)/share
+MANDIR ?= $(DATADIR)/man
+DOCDIR ?= $(DATADIR)/doc/fustrelan
+PKGCONFIGDIR ?= $(LIBDIR)/pkgconfig
+UDEVDIR ?=
+DESTDIR ?=
+BUILD ?= build
+PKG_CONFIG ?= pkg-config
+ifeq ($(origin CC),default)
+CC = gcc
+endif
+ifeq ($(origin AR),default)
+AR = $(shell $(CC) -print-prog-name=ar)
+endif
+
+ifneq ($(words $(BUILD)),1)
+$(error BUILD names one folder, with no blank in its path: '$(BUILD)')
+endif
+
+.SECONDEXPANSION:
+.DELETE_ON_ERROR:
+.SUFFIXES:
+.PHONY: all libraries page check check-all install uninstall archive clean FORCE
+
+libraries = $(BUILD)/libdfu_device.a $(BUILD)/libdfu_host.a $(BUILD)/libdfu_asking.a
+programs = $(if $(has_code),$(BUILD)/dfu) $(if $(has_libusb),$(BUILD)/dfu-flash) $(if $(has_functionfs),$(BUILD)/dfu-gadget)
+
+all: libraries $$(programs)
+	@$(if $(has_code),,echo 'dfu is left out: there is code of it for Linux on x86-64 and AArch64 alone')
+	@$(if $(has_libusb),,echo 'dfu-flash is left out: $(CC) finds no libusb-1.0 with its headers (Debian: libusb-1.0-0-dev)')
+	@$(if $(has_functionfs),,echo 'dfu-gadget is left out: $(CC) finds no linux/usb/functionfs.h (Debian: linux-libc-dev)')
+libraries: $(libraries)
+
+# What the compiler has; each is looked for once, and only if it matters.
+once = $(eval $(1) := $(2))$($(1))
+hash := \#
+macros = $(call once,macros,$(or $(shell $(CC) $(CPPFLAGS) $(CFLAGS) -dM -E -x c /dev/null | awk '{ print $$2 }'), \
+    $(error the compiler failed: $(CC) $(CPPFLAGS) $(CFLAGS))))
+is_linux = $(filter __linux__,$(macros))
+has_code = $(if $(filter __ILP32__ __AARCH64EB__,$(macros)),,$(and $(is_linux),$(filter __x86_64__ __aarch64__,$(macros))))
+has_functionfs = $(call once,has_functionfs,$(and $(is_linux),$(shell echo '$(hash)include <linux/usb/functionfs.h>' | \
+    $(CC) $(CPPFLAGS) $(CFLAGS) -E -x c - > /dev/null 2>&1 && echo yes)))
+has_libusb = $(call once,has_libusb,$(shell room=`mktemp -d` && echo '$(hash)include <libusb.h>' > $$room/it.c && \
+    echo 'int main(void) { return libusb_init(0); }' >> $$room/it.c && \
+    $(CC) $(usb_headers) $(CPPFLAGS) $(CFLAGS) $(LDFLAGS) $$room/it.c -o $$room/it $(usb_library) > /dev/null 2>&1 && echo yes; \
+    rm -rf $$room))
+usb_headers = $(call once,usb_headers,$(shell $(PKG_CONFIG) --cflags libusb-1.0 2> /dev/null || echo -I/usr/include/libusb-1.0))
+usb_library = $(call once,usb_library,$(shell $(PKG_CONFIG) --libs libusb-1.0 2> /dev/null || echo -lusb-1.0))
+
+# dfu-flash reads what any device says, and dfu-gadget what any host sends, so what finds an overrun late is on: guards on the stack, sizes
+# looked at by the C library, addresses that nobody knows, and tables of them that can't be written. FORTIFY is for a compiler that
+# optimises, and its level is that of CPPFLAGS and CFLAGS, or of the compiler itself, if they have one.
+is_movable = $(if $(filter -static% -no-pie -fno-pie -fno-PIE,$(CFLAGS) $(LDFLAGS)),,yes)
+guards = $(filter-out $(CFLAGS),-fstack-protector-strong $(if $(is_movable),-fPIE))
+fortify = $(call once,fortify,$(shell $(CC) -O2 $(CPPFLAGS) $(CFLAGS) -dM -E -x c /dev/null | \
+    awk '$$2 == "_FORTIFY_SOURCE" { level = 1 } $$2 == "__OPTIMIZE__" { fast = 1 } \
+    END { if (fast && !level) print "-D_FORTIFY_SOURCE=2" }'))
+hosted = -std=c11 -Wall -Wextra -Iinclude -O2 $(guards) $(fortify) $(CPPFLAGS) $(CFLAGS)
+links = $(filter-out $(LDFLAGS),$(if $(is_movable),-pie) -Wl,-z,relro -Wl,-z,now) $(LDFLAGS)
+# A library is small, a program takes of it what it calls, and on Linux it fits into programs and shared objects at any address.
+portable = -std=c11 -Wall -Wextra -Iinclude -Os -ffunction-sections -fdata-sections $(if $(is_linux),-fPIC) $(CPPFLAGS) $(CFLAGS)
+
+# Each file is made beside its place and renamed: none is half written, and two builds in one folder do each other no harm.
+objects = $(BUILD)/objects
+anew = $(objects)/words Makefile
+define compile
+	@mkdir -p $(@D)
+	$(CC) $(1) -MMD -MP -MT $@ -MF $(@:.o=.d).$$$$ -c -o $@.$$$$ $< && mv -f $(@:.o=.d).$$$$ $(@:.o=.d) && mv -f $@.$$$$ $@
+endef
+define program
+	$(CC) $(CFLAGS) $(links) -o $@.$$$$ $(filter %.o %.a,$^) $(1) && mv -f $@.$$$$ $@
+endef
+define archive
+	rm -f $@.$$$$ && $(AR) rcsD $@.$$$$ $(filter %.o,$^) && mv -f $@.$$$$ $@
+endef
+
+of_dfu = $(objects)/dist/dfu.o $(objects)/dist/os.o
+of_flash = $(patsubst %.c,$(objects)/%.o,$(wildcard flash/*.c))
+of_gadget = $(patsubst %.c,$(objects)/%.o,$(wildcard gadget/*.c) flash/text.c flash/fresh.c)
+of_libraries = $(objects)/dist/dfu_device.o $(objects)/dist/dfu_host.o $(objects)/dist/dfu_asking.o
+
+$(BUILD)/dfu: $(of_dfu) $(anew)
+	$(call program)
+$(BUILD)/dfu-flash: $(of_flash) $(BUILD)/libdfu_host.a $(anew)
+	$(call program,$(usb_library))
+$(BUILD)/dfu-gadget: $(of_gadget) $(BUILD)/libdfu_asking.a $(BUILD)/libdfu_device.a $(anew)
+	$(call program)
+$(libraries): $(BUILD)/lib%.a: $(objects)/dist/%.o $(anew)
+	$(archive)
+$(objects)/dist/dfu.o: dist/dfu.S $(anew)
+	$(call compile,$(CPPFLAGS) $(CFLAGS) -g0)
+$(objects)/dist/os.o: dist/os.c $(anew)
+	$(call compile,$(hosted))
+$(of_libraries): $(objects)/dist/%.o: dist/%.c $(anew)
+	$(call compile,$(portable))
+$(objects)/flash/%.o: flash/%.c $(anew)
+	$(call compile,$(hosted) $(usb_headers))
+$(objects)/gadget/%.o: gadget/%.c $(anew)
+	$(call compile,$(hosted))
+-include $(wildcard $(objects)/*/*.d)
+
+# The words of the last build, and which sources there were.
+$(objects)/words: export WORDS = $(CC) $(AR) $(CPPFLAGS) $(CFLAGS) $(LDFLAGS) $(of_dfu) $(of_flash) $(of_gadget)
+$(objects)/words:
+	@mkdir -p $(@D)
+	@printf '%s\n' "$$WORDS" | cmp -s - $@ || { printf '%s\n' "$$WORDS" > $@.$$$$ && mv -f $@.$$$$ $@; }
+ifeq ($(filter check check-all install,$(MAKECMDGOALS)),)
+$(objects)/words: FORCE
+endif
+
+page:
+	web/build $(BUILD)/page
+check check-all: all
+	@BUILD=$(BUILD) tests/run $@
+
+# The script reads these from its environment, so that a path may have any sign.
+places = PREFIX BINDIR LIBDIR INCLUDEDIR DATADIR MANDIR DOCDIR PKGCONFIGDIR UDEVDIR DESTDIR BUILD
+version = $(shell sed -n 's/^$(hash)define DFU_VERSION_TEXT "\(.*\)"/\1/p' include/dfu_device.h)
+install: all
+uninstall: export $(places)
+install: export $(places)
+install uninstall:
+	@VERSION=$(version) share/install $@
+archive:
+	@share/archive $(BUILD) $(version)
+
+# Only a folder that this file built in has the words of a build.
+clean:
+	@if [ -f $(objects)/words ]; then \
+	    rm -rf $(objects) $(BUILD)/page && \
+	    rm -f $(libraries) $(BUILD)/dfu $(BUILD)/dfu-flash $(BUILD)/dfu-gadget $(BUILD)/fustrelan-*.tar.gz && \
+	    rmdir $(BUILD) 2> /dev/null || [ ! -d $(objects) ]; \
+	fi
