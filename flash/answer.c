@@ -1,3 +1,4 @@
+/* SPDX-License-Identifier: MIT OR Apache-2.0 */
 /* As what each answer of libusb is reported to the host. The proof of what Installed and Verified mean rests on this file:
    a transfer that is reported as acknowledged or answered was really made, and a restart is reported where the device lost its
    state, before anything that it answers later.

@@ -1,3 +1,4 @@
+/* SPDX-License-Identifier: MIT OR Apache-2.0 */
 /* What is reported to the host of an action: libusb's answers, in the host's words. */
 #ifndef DFU_FLASH_ANSWER_H
 #define DFU_FLASH_ANSWER_H

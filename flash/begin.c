@@ -1,3 +1,4 @@
+/* SPDX-License-Identifier: MIT OR Apache-2.0 */
 /* How a session begins: with the device's functional descriptor, and with limits. */
 #include "session.h"
 #include "standard.h"

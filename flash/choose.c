@@ -1,3 +1,4 @@
+/* SPDX-License-Identifier: MIT OR Apache-2.0 */
 /* Which device is taken. More than one is a refusal: to write to the wrong one is harm. */
 #include "clock.h"
 #include "device.h"

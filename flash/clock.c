@@ -1,3 +1,4 @@
+/* SPDX-License-Identifier: MIT OR Apache-2.0 */
 /* Time that passes, by the clock that nobody sets. */
 #define _POSIX_C_SOURCE 200809L
 #include "clock.h"

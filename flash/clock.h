@@ -1,3 +1,4 @@
+/* SPDX-License-Identifier: MIT OR Apache-2.0 */
 /* Time that passes. */
 #ifndef DFU_FLASH_CLOCK_H
 #define DFU_FLASH_CLOCK_H

@@ -1,3 +1,4 @@
+/* SPDX-License-Identifier: MIT OR Apache-2.0 */
 /* What is read of a device beside its transfers: the functional descriptor (USB DFU 1.1, section 4.1.3) and strings.
    These are requests of USB itself, and are made before a session and where a device has come back. */
 #include "find.h"

@@ -1,3 +1,4 @@
+/* SPDX-License-Identifier: MIT OR Apache-2.0 */
 /* The one request of DFU that is this program's own: DETACH (USB DFU 1.1, section 5.1). The host asks for the state first, and
    sends DETACH once appIDLE was reported to it; but many a device stalls GETSTATUS in run-time mode, and knows nothing but DETACH there. */
 #include "detach.h"

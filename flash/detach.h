@@ -1,3 +1,4 @@
+/* SPDX-License-Identifier: MIT OR Apache-2.0 */
 /* DETACH by this program, where no host asks for it. */
 #ifndef DFU_FLASH_DETACH_H
 #define DFU_FLASH_DETACH_H

@@ -1,3 +1,4 @@
+/* SPDX-License-Identifier: MIT OR Apache-2.0 */
 /* Opens the device, and finds it again where it left: a device that goes from run-time mode to DFU mode, or back, leaves the
    bus and comes as another one, with other descriptors and often with other identifiers. So it is known by its path; and by
    its serial number only where that was asked for, since two devices may have the same one. That it is no other board at the

@@ -1,3 +1,4 @@
+/* SPDX-License-Identifier: MIT OR Apache-2.0 */
 /* The device of a session: opened, let go, and found again where it left. */
 #ifndef DFU_FLASH_DEVICE_H
 #define DFU_FLASH_DEVICE_H

@@ -1,3 +1,4 @@
+/* SPDX-License-Identifier: MIT OR Apache-2.0 */
 /* --detach: a device is brought to DFU mode, by this program's own DETACH (detach.c), and that is all. No host has a part in it. */
 #include "dfu_mode.h"
 #include "detach.h"

@@ -1,3 +1,4 @@
+/* SPDX-License-Identifier: MIT OR Apache-2.0 */
 /* --detach: a device is brought to DFU mode, and that is all. */
 #ifndef DFU_FLASH_DFU_MODE_H
 #define DFU_FLASH_DFU_MODE_H

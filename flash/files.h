@@ -1,3 +1,4 @@
+/* SPDX-License-Identifier: MIT OR Apache-2.0 */
 /* The files that are read and made. */
 #ifndef DFU_FLASH_FILES_H
 #define DFU_FLASH_FILES_H

@@ -1,3 +1,4 @@
+/* SPDX-License-Identifier: MIT OR Apache-2.0 */
 /* Looks for devices with DFU: an interface of class FEh, subclass 01h (USB DFU 1.1, sections 4.1.2 and 4.2.3), in the configuration
    that the device is in. Protocol 02h is DFU mode, any other one is taken as run-time mode. */
 #include "find.h"

@@ -1,3 +1,4 @@
+/* SPDX-License-Identifier: MIT OR Apache-2.0 */
 /* The devices with DFU that are on the bus. */
 #ifndef DFU_FLASH_FIND_H
 #define DFU_FLASH_FIND_H

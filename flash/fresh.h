@@ -1,3 +1,4 @@
+/* SPDX-License-Identifier: MIT OR Apache-2.0 */
 /* Files that are made, and none that is there is written over. */
 #ifndef DFU_FLASH_FRESH_H
 #define DFU_FLASH_FRESH_H

@@ -1,3 +1,4 @@
+/* SPDX-License-Identifier: MIT OR Apache-2.0 */
 /* Records in JSON. */
 #include "json.h"
 #include "text.h"

@@ -1,3 +1,4 @@
+/* SPDX-License-Identifier: MIT OR Apache-2.0 */
 /* Records in JSON, on standard output. */
 #ifndef DFU_FLASH_JSON_H
 #define DFU_FLASH_JSON_H

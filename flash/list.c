@@ -1,3 +1,4 @@
+/* SPDX-License-Identifier: MIT OR Apache-2.0 */
 /* What is printed of --list and of --dry-run. */
 #include "list.h"
 #include "json.h"

@@ -1,3 +1,4 @@
+/* SPDX-License-Identifier: MIT OR Apache-2.0 */
 /* What is there, and what would be done. */
 #ifndef DFU_FLASH_LIST_H
 #define DFU_FLASH_LIST_H

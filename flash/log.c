@@ -1,3 +1,4 @@
+/* SPDX-License-Identifier: MIT OR Apache-2.0 */
 /* The log of --verbose=FILE. A reset that failed, and a device that is away, are in its comments only. */
 #include "log.h"
 #include "answer.h"

@@ -1,3 +1,4 @@
+/* SPDX-License-Identifier: MIT OR Apache-2.0 */
 /* The log of --verbose=FILE: each line of the trace behind `# `, and what came to the device, as `dfu judge` reads it: a request with its
    body and its answer, or a reset. A device that was away and is found again was reset, as in a capture of the USB. */
 #ifndef DFU_FLASH_LOG_H

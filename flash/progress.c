@@ -1,3 +1,4 @@
+/* SPDX-License-Identifier: MIT OR Apache-2.0 */
 /* How far a session is, on standard error: on a terminal a bar with bytes and rate, elsewhere a line each ten percent. An upload
    has no length before it ends, so it has bytes only, and elsewhere a line for each 65,536 of them. */
 #define _POSIX_C_SOURCE 200809L

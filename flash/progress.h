@@ -1,3 +1,4 @@
+/* SPDX-License-Identifier: MIT OR Apache-2.0 */
 /* How far a session is, on standard error. */
 #ifndef DFU_FLASH_PROGRESS_H
 #define DFU_FLASH_PROGRESS_H

@@ -1,3 +1,4 @@
+/* SPDX-License-Identifier: MIT OR Apache-2.0 */
 /* Reads the DFU file. */
 #include "files.h"
 #include "say.h"

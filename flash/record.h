@@ -1,3 +1,4 @@
+/* SPDX-License-Identifier: MIT OR Apache-2.0 */
 /* What is printed at the end, on standard output. */
 #ifndef DFU_FLASH_RECORD_H
 #define DFU_FLASH_RECORD_H

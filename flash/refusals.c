@@ -1,3 +1,4 @@
+/* SPDX-License-Identifier: MIT OR Apache-2.0 */
 /* Why a session does not begin: the host's refusals of dfu_host.h, with their names in docs/REFUSALS.md, and one of this
    program's own. */
 #include "say.h"

@@ -1,3 +1,4 @@
+/* SPDX-License-Identifier: MIT OR Apache-2.0 */
 /* Lines about devices. */
 #include "say.h"
 #include "standard.h"

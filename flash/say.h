@@ -1,3 +1,4 @@
+/* SPDX-License-Identifier: MIT OR Apache-2.0 */
 /* The texts: what was found, what is refused, and what a session came to. */
 #ifndef DFU_FLASH_SAY_H
 #define DFU_FLASH_SAY_H

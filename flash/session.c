@@ -1,3 +1,4 @@
+/* SPDX-License-Identifier: MIT OR Apache-2.0 */
 /* The loop: what the host asks for is carried out, and what came of that is reported to it. Nothing else is sent, but for the DETACH of
    stalls.c. */
 #include "session.h"

@@ -1,3 +1,4 @@
+/* SPDX-License-Identifier: MIT OR Apache-2.0 */
 /* A session: the proved host decides, this carries out. */
 #ifndef DFU_FLASH_SESSION_H
 #define DFU_FLASH_SESSION_H

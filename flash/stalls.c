@@ -1,3 +1,4 @@
+/* SPDX-License-Identifier: MIT OR Apache-2.0 */
 /* A device in run-time mode may stall GETSTATUS: in appIDLE the standard has it answered (USB DFU 1.1, appendix A.2.1), and many
    leave it out. Where it is stalled twice the host has the bus reset, and asks again. So before the first of these resets the program
    sends a DETACH of its own, which makes it the reset that leads to DFU mode; and it makes three of them at most, since what is

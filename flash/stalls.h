@@ -1,3 +1,4 @@
+/* SPDX-License-Identifier: MIT OR Apache-2.0 */
 /* Devices that stall what they are asked for in run-time mode. */
 #ifndef DFU_FLASH_STALLS_H
 #define DFU_FLASH_STALLS_H

@@ -1,3 +1,4 @@
+/* SPDX-License-Identifier: MIT OR Apache-2.0 */
 /* The standard's names of requests, states and status codes. */
 #include "standard.h"
 

@@ -1,3 +1,4 @@
+/* SPDX-License-Identifier: MIT OR Apache-2.0 */
 /* Signals and the time limit of a session. A handler notes the cause, and writes to a pipe that each wait looks at: so a signal
    that comes just before a wait ends it too, whichever thread of libusb got it. */
 #define _POSIX_C_SOURCE 200809L

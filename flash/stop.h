@@ -1,3 +1,4 @@
+/* SPDX-License-Identifier: MIT OR Apache-2.0 */
 /* What ends a session before its report: a signal, or the time of --timeout. */
 #ifndef DFU_FLASH_STOP_H
 #define DFU_FLASH_STOP_H

@@ -1,3 +1,4 @@
+/* SPDX-License-Identifier: MIT OR Apache-2.0 */
 /* Texts that others chose. A device may call itself by any string, and a file may have any name: what a terminal would take for a
    command, or would draw in another order, is escaped. */
 #include "text.h"

@@ -1,3 +1,4 @@
+/* SPDX-License-Identifier: MIT OR Apache-2.0 */
 /* Texts that others chose: strings of devices, names of files, words of the command line. */
 #ifndef DFU_FLASH_TEXT_H
 #define DFU_FLASH_TEXT_H

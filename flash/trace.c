@@ -1,3 +1,4 @@
+/* SPDX-License-Identifier: MIT OR Apache-2.0 */
 /* The trace of --verbose. An action has seven words with one space between: its number, the request (or WAIT, or RESET), wValue (or
    the milliseconds), wLength, what is reported to the host, the state that the device reported in that, and the milliseconds that it took.
    What begins and ends a session has a line that begins with a word. Other programs read this: what is here stays. */

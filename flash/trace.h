@@ -1,3 +1,4 @@
+/* SPDX-License-Identifier: MIT OR Apache-2.0 */
 /* The trace of --verbose: what is done, and what comes of it, a line each on standard error, or in a log (log.h). share/man/dfu-flash.1 has
    the form. */
 #ifndef DFU_FLASH_TRACE_H

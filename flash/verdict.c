@@ -1,3 +1,4 @@
+/* SPDX-License-Identifier: MIT OR Apache-2.0 */
 /* What a session came to: the report's name, the exit status, and what it means in words. */
 #include "say.h"
 #include "session.h"

@@ -1,3 +1,4 @@
+/* SPDX-License-Identifier: MIT OR Apache-2.0 */
 /* The command line: what each word means, and which words go together. */
 #include "words.h"
 #include "say.h"

@@ -1,3 +1,4 @@
+/* SPDX-License-Identifier: MIT OR Apache-2.0 */
 /* What the command line asks for. */
 #ifndef DFU_FLASH_WORDS_H
 #define DFU_FLASH_WORDS_H

@@ -1,3 +1,4 @@
+/* SPDX-License-Identifier: MIT OR Apache-2.0 */
 /* Makes the file of an upload: the bytes go to a new file beside OUT, which gets the name OUT once they are on the disk. So there
    is the old OUT or the whole new one. Without --force OUT is never replaced, whatever it is; with it only a regular file that
    the user may write is, and no link is followed: to put a file in place of a device, or of what a link of someone else names,

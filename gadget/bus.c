@@ -1,3 +1,4 @@
+/* SPDX-License-Identifier: MIT OR Apache-2.0 */
 /* Requests, time and resets, as they come from the bus, and what is sent back. */
 #define _POSIX_C_SOURCE 200809L
 #include "bus.h"

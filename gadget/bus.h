@@ -1,3 +1,4 @@
+/* SPDX-License-Identifier: MIT OR Apache-2.0 */
 /* The device on the bus: which of its two gadgets is there, and the time and the resets that the machine is told of. */
 #ifndef DFU_GADGET_BUS_H
 #define DFU_GADGET_BUS_H

@@ -1,3 +1,4 @@
+/* SPDX-License-Identifier: MIT OR Apache-2.0 */
 /* The file of --config: a line for each option, without its dashes, as `transfer-size 1024`. A line that begins with # says nothing. */
 #include "say.h"
 #include "words.h"

@@ -1,3 +1,4 @@
+/* SPDX-License-Identifier: MIT OR Apache-2.0 */
 /* The controller: its state below /sys/class/udc, and the file UDC of a gadget, which names the controller that it is on the bus of. */
 #define _POSIX_C_SOURCE 200809L
 #include "controller.h"

@@ -1,3 +1,4 @@
+/* SPDX-License-Identifier: MIT OR Apache-2.0 */
 /* The USB device controller, and which gadget is on its bus. */
 #ifndef DFU_GADGET_CONTROLLER_H
 #define DFU_GADGET_CONTROLLER_H

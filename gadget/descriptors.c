@@ -1,3 +1,4 @@
+/* SPDX-License-Identifier: MIT OR Apache-2.0 */
 /* The descriptors of the interface, for each speed, and its name. */
 #define _DEFAULT_SOURCE
 #include "descriptors.h"

@@ -1,3 +1,4 @@
+/* SPDX-License-Identifier: MIT OR Apache-2.0 */
 /* The descriptors of an interface of DFU (USB DFU 1.1, sections 4.1.2, 4.1.3 and 4.2.3), as FunctionFS takes them. */
 #ifndef DFU_GADGET_DESCRIPTORS_H
 #define DFU_GADGET_DESCRIPTORS_H

@@ -1,3 +1,4 @@
+/* SPDX-License-Identifier: MIT OR Apache-2.0 */
 /* A function of FunctionFS: one interface of DFU in one of its two modes, and endpoint 0. */
 #ifndef DFU_GADGET_FUNCTION_H
 #define DFU_GADGET_FUNCTION_H

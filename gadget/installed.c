@@ -1,3 +1,4 @@
+/* SPDX-License-Identifier: MIT OR Apache-2.0 */
 /* The command of --on-installed is started by itself, and not by a shell. Its standard output is the log's. */
 #define _GNU_SOURCE
 #include "installed.h"

@@ -1,3 +1,4 @@
+/* SPDX-License-Identifier: MIT OR Apache-2.0 */
 /* The command of --on-installed. */
 #ifndef DFU_GADGET_INSTALLED_H
 #define DFU_GADGET_INSTALLED_H

@@ -1,3 +1,4 @@
+/* SPDX-License-Identifier: MIT OR Apache-2.0 */
 /* What `run` needs: Linux 6.11, FunctionFS, a controller that is free, two gadgets with their FunctionFS, the rights, and a medium. */
 #define _GNU_SOURCE
 #include "look.h"

@@ -1,3 +1,4 @@
+/* SPDX-License-Identifier: MIT OR Apache-2.0 */
 /* The work of --dry-run. */
 #ifndef DFU_GADGET_LOOK_H
 #define DFU_GADGET_LOOK_H

@@ -1,3 +1,4 @@
+/* SPDX-License-Identifier: MIT OR Apache-2.0 */
 /* The calls of the proved library. Each may ask for writes: these are carried out one by one, in the order in which they are asked
    for, each on the disk before the next, and no other call is made meanwhile. */
 #include "machine.h"

@@ -1,3 +1,4 @@
+/* SPDX-License-Identifier: MIT OR Apache-2.0 */
 /* The device, as the proved library decides it. All calls of that library are in machine.c; what it asks to be written is written
    there before anything else is asked of it. */
 #ifndef DFU_GADGET_MACHINE_H

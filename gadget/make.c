@@ -1,3 +1,4 @@
+/* SPDX-License-Identifier: MIT OR Apache-2.0 */
 /* Makes a medium. A new file gets its name once it is whole and on the disk. What stands there is overwritten where it is blank, or
    with --force; and never while somebody uses it, nor behind a link to a file. */
 #define _GNU_SOURCE

@@ -1,3 +1,4 @@
+/* SPDX-License-Identifier: MIT OR Apache-2.0 */
 /* The work of `format` and `image`. */
 #ifndef DFU_GADGET_MAKE_H
 #define DFU_GADGET_MAKE_H

@@ -1,3 +1,4 @@
+/* SPDX-License-Identifier: MIT OR Apache-2.0 */
 /* The medium: what may be one, its size, and how it is written. */
 #define _GNU_SOURCE
 #include "medium.h"

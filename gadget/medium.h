@@ -1,3 +1,4 @@
+/* SPDX-License-Identifier: MIT OR Apache-2.0 */
 /* The medium: a file or a block device with the two slots of an image each. It is read through a mapping that can't be written, and
    written by calls that say whether the bytes are on the disk. */
 #ifndef DFU_GADGET_MEDIUM_H

@@ -1,3 +1,4 @@
+/* SPDX-License-Identifier: MIT OR Apache-2.0 */
 /* Where Linux keeps what a gadget is made of, and the files of one line there. */
 #define _POSIX_C_SOURCE 200809L
 #include "paths.h"

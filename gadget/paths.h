@@ -1,3 +1,4 @@
+/* SPDX-License-Identifier: MIT OR Apache-2.0 */
 /* Where Linux keeps what a gadget is made of. */
 #ifndef DFU_GADGET_PATHS_H
 #define DFU_GADGET_PATHS_H

@@ -1,3 +1,4 @@
+/* SPDX-License-Identifier: MIT OR Apache-2.0 */
 /* The work of `run`: the device is set up, and waits for what comes. */
 #define _POSIX_C_SOURCE 200809L
 #include "run.h"

@@ -1,3 +1,4 @@
+/* SPDX-License-Identifier: MIT OR Apache-2.0 */
 /* The work of `run`. */
 #ifndef DFU_GADGET_RUN_H
 #define DFU_GADGET_RUN_H

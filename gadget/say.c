@@ -1,3 +1,4 @@
+/* SPDX-License-Identifier: MIT OR Apache-2.0 */
 /* The lines on standard error. A request has seven words with one space between, as an action of dfu-flash has. */
 #include "say.h"
 #include "../flash/fresh.h"

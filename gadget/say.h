@@ -1,3 +1,4 @@
+/* SPDX-License-Identifier: MIT OR Apache-2.0 */
 /* The lines on standard error. */
 #ifndef DFU_GADGET_SAY_H
 #define DFU_GADGET_SAY_H

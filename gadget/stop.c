@@ -1,3 +1,4 @@
+/* SPDX-License-Identifier: MIT OR Apache-2.0 */
 /* Signals. A handler notes which one came, and writes to a pipe that each wait looks at: so one that comes just before a wait ends it
    too. A transfer of endpoint 0 is broken off by it. */
 #define _GNU_SOURCE

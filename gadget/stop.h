@@ -1,3 +1,4 @@
+/* SPDX-License-Identifier: MIT OR Apache-2.0 */
 /* What ends `run`: SIGTERM, SIGINT or SIGHUP. */
 #ifndef DFU_GADGET_STOP_H
 #define DFU_GADGET_STOP_H

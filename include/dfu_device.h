@@ -1,3 +1,4 @@
+/* SPDX-License-Identifier: MIT OR Apache-2.0 */
 /* A device of USB device firmware upgrade (USB DFU 1.1) for a program in C, as a bootloader runs it.
  *
  * The program owns everything: the configuration, the record of what is kept between two calls, the memory of one block of

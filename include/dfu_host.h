@@ -1,3 +1,4 @@
+/* SPDX-License-Identifier: MIT OR Apache-2.0 */
 /* The host of USB device firmware upgrade (USB DFU 1.1) for a program in C: which request, wait or reset comes next.
  *
  * The library sends nothing, takes no memory and has no state. The program keeps the record of the session, does what

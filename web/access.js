@@ -1,3 +1,4 @@
+// SPDX-License-Identifier: MIT OR Apache-2.0
 // Why a device can't be had, and what to do about it on this system.
 import { NOT_DFU, SEVERAL } from './board.js'
 

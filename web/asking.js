@@ -1,3 +1,4 @@
+// SPDX-License-Identifier: MIT OR Apache-2.0
 // What a session asks a person for: to choose the device that came back, and to pull the plug.
 import { FILTERS } from './board.js'
 import { by } from './elements.js'

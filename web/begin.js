@@ -1,3 +1,4 @@
+// SPDX-License-Identifier: MIT OR Apache-2.0
 // How a session begins: what it is for, with which functional descriptor, and within which limits. As flash/begin.c.
 import { REFUSAL } from './host.js'
 import { ATTRIBUTE, FUNCTIONAL, hasAttribute, transferOf, versionOf } from './names.js'

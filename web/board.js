@@ -1,3 +1,4 @@
+// SPDX-License-Identifier: MIT OR Apache-2.0
 // The device of a session: opened, let go, and found again where it left. WebUSB tells of no device where it is plugged in. So it
 // is found again as one that was not there before, of which there is no second: with the same serial number, where both have one.
 // One that the page may not see a person has to choose. That it is no other board session.js sees, by what it was before in the

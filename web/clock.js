@@ -1,3 +1,4 @@
+// SPDX-License-Identifier: MIT OR Apache-2.0
 // Time, and waits that a stop ends.
 export const LATE = Symbol('late')
 

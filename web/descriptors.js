@@ -1,3 +1,4 @@
+// SPDX-License-Identifier: MIT OR Apache-2.0
 // What a device says of its DFU interface (USB DFU 1.1, sections 4.1.2, 4.1.3 and 4.2.3).
 import { LATE } from './clock.js'
 import { FUNCTIONAL, INTERFACE as DFU } from './names.js'

@@ -1,3 +1,4 @@
+// SPDX-License-Identifier: MIT OR Apache-2.0
 // The proved device, with its medium in the memory of the library.
 import { Library } from './library.js'
 

@@ -1,3 +1,4 @@
+// SPDX-License-Identifier: MIT OR Apache-2.0
 // The states of a device (USB DFU 1.1, appendix A), drawn, with the one lit up in which it stands.
 import { STATES } from './names.js'
 

@@ -1,3 +1,4 @@
+// SPDX-License-Identifier: MIT OR Apache-2.0
 // Small helpers for the elements of the page.
 export const by = id => document.getElementById(id)
 

@@ -1,3 +1,4 @@
+// SPDX-License-Identifier: MIT OR Apache-2.0
 // The view that flashes a board: the file, the device, the session, and its report.
 import { Asking } from './asking.js'
 import { canCompare, canUpload, cannotDetach } from './begin.js'

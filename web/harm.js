@@ -1,3 +1,4 @@
+// SPDX-License-Identifier: MIT OR Apache-2.0
 // A write of the medium that is harmed. The medium of the proved device is plain memory here, where each write works, and a call
 // makes all of its writes at once. So a call is made, and then its writes are made again up to the harmed one, in the order of
 // docs/PROFILE.md ("The slot medium"), on the bytes that stood before. Of a cut nothing else is left: the device starts anew on that

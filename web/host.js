@@ -1,3 +1,4 @@
+// SPDX-License-Identifier: MIT OR Apache-2.0
 // The proved host: a file, and one session with it. An instance is for one session.
 import { Library } from './library.js'
 import { LAYOUT } from './records.js'

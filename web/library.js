@@ -1,3 +1,4 @@
+// SPDX-License-Identifier: MIT OR Apache-2.0
 // A proved library in WebAssembly, with its memory. Of both sizes a pointer and a size_t are BigInt (wasm64). The libraries take no
 // memory of their own: what stands behind __heap_base is this file's. It is handed out from the front, and given back as a whole,
 // with the instance. Each instance is its own: two sessions in two instances share nothing.

@@ -1,3 +1,4 @@
+// SPDX-License-Identifier: MIT OR Apache-2.0
 // The medium of the proved device, as bytes: two slots, each a gate, a header and data (docs/PROFILE.md, "The slot medium").
 import { make } from './elements.js'
 import { digits } from './names.js'

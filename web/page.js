@@ -1,3 +1,4 @@
+// SPDX-License-Identifier: MIT OR Apache-2.0
 // The page: what this browser lacks, the two libraries, and the views.
 import { by, say } from './elements.js'
 import { FlashView } from './flash.js'

@@ -1,3 +1,4 @@
+// SPDX-License-Identifier: MIT OR Apache-2.0
 // The view without a board: the proved device and the proved host, with a wire between them on which a person decides what becomes of
 // each action. Whatever is done is a line of a script, so that `dfu run` does the same.
 import { Diagram } from './diagram.js'

@@ -1,3 +1,4 @@
+// SPDX-License-Identifier: MIT OR Apache-2.0
 // How far a session is: its phase, the bytes of it, and the time that is left of it.
 import { SEEN, WHAT } from './host.js'
 import { isDetach, isDownload, isUpload, partsOf } from './names.js'

@@ -1,3 +1,4 @@
+// SPDX-License-Identifier: MIT OR Apache-2.0
 // The records of include/dfu_host.h and include/dfu_device.h, as they lie in the memory of the libraries. This is the one place
 // that knows them: the fields in their order, with their types. tests/web holds them against the headers. Where each field
 // stands follows by the rules of C: a number stands at a multiple of its size, and a record ends at one of its largest.

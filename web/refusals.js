@@ -1,3 +1,4 @@
+// SPDX-License-Identifier: MIT OR Apache-2.0
 // Why a session does not begin, and what to do. The names are those of docs/REFUSALS.md, and the words those of flash/refusals.c.
 const OTHER_FILE = 'Take another file, or ask who made it.'
 const OTHER_DEVICE = 'Nothing was sent. Another board, or another version of its bootloader, may do.'

@@ -1,3 +1,4 @@
+// SPDX-License-Identifier: MIT OR Apache-2.0
 // What a session came to: the words and the status of dfu-flash (flash/verdict.c), and for a person what it means and what it doesn't.
 import { CODES } from './names.js'
 

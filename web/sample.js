@@ -1,3 +1,4 @@
+// SPDX-License-Identifier: MIT OR Apache-2.0
 // A DFU file to play with (USB DFU 1.1, appendix B): a payload, and the suffix with its check sum.
 
 function crcOf(bytes) {

@@ -1,3 +1,4 @@
+// SPDX-License-Identifier: MIT OR Apache-2.0
 // A line of a script, read as docs/SCRIPT.md has it. Null where it is none; { what: 'blank' } where it has no words or is a comment.
 
 const MOST_LINE = 65536

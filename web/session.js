@@ -1,3 +1,4 @@
+// SPDX-License-Identifier: MIT OR Apache-2.0
 // The loop: what the host asks for is carried out, and it is told what came of that. Nothing else is sent, but for the DETACH of
 // stalls.js. As flash/session.c.
 import { cut, goalOf, isDfuse, limitsOf, standIn } from './begin.js'

@@ -1,3 +1,4 @@
+// SPDX-License-Identifier: MIT OR Apache-2.0
 // Devices that stall what they are asked for in run-time mode, and the one request that is this page's own. A device in run-time
 // mode may stall GETSTATUS: in appIDLE the standard has it answered (USB DFU 1.1, appendix A.2.1), and many leave it out. Where it is
 // stalled twice the host has the bus reset, and asks again. So before the first of these resets the page sends a DETACH of its own,

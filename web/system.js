@@ -1,3 +1,4 @@
+// SPDX-License-Identifier: MIT OR Apache-2.0
 // What differs by the operating system.
 
 const name = () => navigator.userAgentData?.platform ?? navigator.platform ?? ''

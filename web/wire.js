@@ -1,3 +1,4 @@
+// SPDX-License-Identifier: MIT OR Apache-2.0
 // Which answer of WebUSB is told the host as what. As flash/answer.c is for dfu-flash, this file is what the proof of Installed and
 // Verified stands on: a transfer that is told as acknowledged or answered was really made, and a restart is told where the device
 // lost its state, before anything that it answers later.

@@ -1,3 +1,4 @@
+// SPDX-License-Identifier: MIT OR Apache-2.0
 // A proved device and a proved host, and the link between them: what each line of a script makes of them, and what `dfu run` prints of
 // that (docs/SCRIPT.md).
 import { Device, Refused } from './device.js'

@@ -1,3 +1,4 @@
+/* SPDX-License-Identifier: MIT OR Apache-2.0 */
 /* A bootloader over a part that a driver writes, as serial FRAM or EEPROM that is mapped for reading, in units of 16 bytes: the loop
  * that a program copies, and a host that stands in for the USB stack and installs an image of 40 bytes. Each transfer prints the
  * setup's request, the answer and the state, and each write of the part its place and its length. */

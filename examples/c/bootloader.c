@@ -1,3 +1,4 @@
+/* SPDX-License-Identifier: MIT OR Apache-2.0 */
 /* The smallest bootloader: a device whose medium is memory, and a host that stands in for the USB stack and installs an
  * image of four bytes. Each transfer prints the setup's request, the answer and the state. */
 #include <stdio.h>

@@ -1,3 +1,4 @@
+/* SPDX-License-Identifier: MIT OR Apache-2.0 */
 /* A device behind a USB stack that takes the data stage and acknowledges it in one, so that it has to know before it whether
  * the request will be stalled. The board has no application yet, and begins in dfuIDLE. A host stands in. */
 #include <stdio.h>

@@ -1,3 +1,4 @@
+/* SPDX-License-Identifier: MIT OR Apache-2.0 */
 /* A bootloader on NOR flash, as an external QSPI part that is mapped for reading, or a microcontroller's own: it is programmed in pages of
  * 256 bytes, and erased before, in sectors of 4,096. The part is a model here: a program only clears bits, and refuses a page that was
  * programmed since its sector was erased. A board that was never written formats itself. Then a host that stands in for the USB stack

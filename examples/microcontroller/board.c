@@ -1,3 +1,4 @@
+/* SPDX-License-Identifier: MIT OR Apache-2.0 */
 #include "board.h"
 
 /* An erase of a page takes up to 22.3 ms on this part, and 64 words 3 ms. The first block of a download takes two erases, since the

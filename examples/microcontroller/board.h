@@ -1,3 +1,4 @@
+/* SPDX-License-Identifier: MIT OR Apache-2.0 */
 /* The board: an nRF51 as QEMU's machine `microbit` has it, with 256 KiB of flash in pages of 1,024 bytes and 16 KiB of memory. What the
  * bootloader, the image and the factory have to agree on. */
 #ifndef BOARD_H

@@ -1,3 +1,4 @@
+/* SPDX-License-Identifier: MIT OR Apache-2.0 */
 /* Control transfers over a serial line, which stands for USB here. A frame is a kind, a number, its bytes and a check sum, between two
  * bytes END, as in SLIP (RFC 1055). The host sends one frame and waits for the answer with the same number; the device says nothing to a
  * frame that is damaged, and the host takes silence for a transfer that was lost. */

@@ -1,3 +1,4 @@
+/* SPDX-License-Identifier: MIT OR Apache-2.0 */
 /* What an image and the bootloader know of each other.
  *
  * An image begins with a table of 48 words: the first is where its stack ends, in the image's memory. Each other one belongs to an

@@ -1,3 +1,4 @@
+/* SPDX-License-Identifier: MIT OR Apache-2.0 */
 /* A bootloader around the proved device that asks: what comes over the serial port is handed to it, what it asks for is carried out, and
  * what it answers is sent. All of this happens in interrupts, so that an image that runs needs to do nothing for it. */
 #include "dfu_asking.h"

@@ -1,3 +1,4 @@
+/* SPDX-License-Identifier: MIT OR Apache-2.0 */
 /* TIMER0 of the nRF51, which counts microseconds in 32 bits. */
 #include "clock.h"
 

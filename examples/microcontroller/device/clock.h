@@ -1,3 +1,4 @@
+/* SPDX-License-Identifier: MIT OR Apache-2.0 */
 /* The time, in milliseconds. */
 #ifndef CLOCK_H
 #define CLOCK_H

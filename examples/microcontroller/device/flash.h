@@ -1,3 +1,4 @@
+/* SPDX-License-Identifier: MIT OR Apache-2.0 */
 /* The flash controller. */
 #ifndef FLASH_H
 #define FLASH_H

@@ -1,3 +1,4 @@
+/* SPDX-License-Identifier: MIT OR Apache-2.0 */
 /* UART0 of the nRF51, at 115,200 baud, on the pins that lead to the micro:bit's USB interface. */
 #include "serial.h"
 

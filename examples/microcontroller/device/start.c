@@ -1,3 +1,4 @@
+/* SPDX-License-Identifier: MIT OR Apache-2.0 */
 /* The vectors of the bootloader, and the way into it and out of it. The Cortex-M0 takes all exceptions by the table at address 0, and has
  * no register that moves it: those that are an image's are forwarded to the table of the image that runs. */
 #include "start.h"

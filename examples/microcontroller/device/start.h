@@ -1,3 +1,4 @@
+/* SPDX-License-Identifier: MIT OR Apache-2.0 */
 /* The start, the exceptions and the image of a Cortex-M0. */
 #ifndef START_H
 #define START_H

@@ -1,3 +1,4 @@
+/* SPDX-License-Identifier: MIT OR Apache-2.0 */
 /* What a programmer writes into the flash of a new board: the bootloader, and the medium with a first image, by dfu_asking_format. */
 #include <stdio.h>
 #include <string.h>

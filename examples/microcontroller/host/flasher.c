@@ -1,3 +1,4 @@
+/* SPDX-License-Identifier: MIT OR Apache-2.0 */
 /* Installs a file on the board and verifies it: the proved host decides each step, and link.c carries it over the serial line. It waits
  * at a socket for QEMU; where the device is gone it waits for the next one there, and goes on. */
 #define _POSIX_C_SOURCE 200809L

@@ -1,3 +1,4 @@
+/* SPDX-License-Identifier: MIT OR Apache-2.0 */
 /* The serial line to the device: a socket that QEMU connects to. */
 #ifndef LINK_H
 #define LINK_H
