@@ -2,8 +2,9 @@
 /* A device of USB device firmware upgrade (USB DFU 1.1) for a program in C, as a bootloader runs it.
  *
  * The program owns everything: the configuration, the record of what is kept between two calls, the memory of one block of
- * a download beside it, and the medium, which is plain memory. The library has no state and takes no memory. Of a C library it wants at most memcpy, memmove and memset.
- * It is for x86-64 of level v2, with SSE4.1, for AArch64, Cortex-M and RV32.
+ * a download beside it, and the medium, which is plain memory. The library has no state and takes no memory. Of a C library it
+ * wants at most memcpy, memmove and memset. Its body is dfu_device.c, in C11, for processors of 32 or 64 bits that store the low
+ * byte of a number first.
  *
  * Return values: 0 or more is an answer; a negative number is DFU_STALL or a refusal. A refusal changes nothing: not the
  * record, not the block, not the medium, and not the buffer of the answer.
@@ -63,9 +64,11 @@
 #include <stddef.h>
 #include <stdint.h>
 
-#if !defined(__x86_64__) && !defined(_M_X64) && !defined(__aarch64__) && !defined(_M_ARM64) \
-    && !(defined(__ARM_ARCH_PROFILE) && __ARM_ARCH_PROFILE == 'M') && !(defined(__riscv_xlen) && __riscv_xlen == 32)
-#error "there is an archive of dfu_device_c for x86-64, AArch64, Cortex-M and RV32 only"
+#if defined(__BYTE_ORDER__) && defined(__ORDER_LITTLE_ENDIAN__) && __BYTE_ORDER__ != __ORDER_LITTLE_ENDIAN__
+#error "dfu_device is for processors that store the low byte of a number first"
+#endif
+#if UINTPTR_MAX > 0xffffffffffffffffu
+#error "dfu_device is for pointers of at most 64 bits"
 #endif
 
 /* The version: 10,000 for each major one, 100 for each minor one, and 1 for each patch. */

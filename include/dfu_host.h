@@ -3,7 +3,7 @@
  *
  * The library sends nothing, takes no memory and has no state. The program keeps the record of the session, does what
  * dfu_host_next says, and reports to dfu_host_take what came of it. Of a C library it wants at most memcpy, memmove and
- * memset. It is for x86-64 of level v2, with SSE4.1, for AArch64, Cortex-M and RV32.
+ * memset. Its body is dfu_host.c, in C11, for processors of 32 or 64 bits that store the low byte of a number first.
  *
  * Return values: 0 or more is an answer; a negative number is a refusal. A refusal changes nothing.
  *
@@ -66,15 +66,28 @@
 #include <stddef.h>
 #include <stdint.h>
 
-#if !defined(__x86_64__) && !defined(_M_X64) && !defined(__aarch64__) && !defined(_M_ARM64) \
-    && !(defined(__ARM_ARCH_PROFILE) && __ARM_ARCH_PROFILE == 'M') && !(defined(__riscv_xlen) && __riscv_xlen == 32)
-#error "there is an archive of dfu_host_c for x86-64, AArch64, Cortex-M and RV32 only"
+#if defined(__BYTE_ORDER__) && defined(__ORDER_LITTLE_ENDIAN__) && __BYTE_ORDER__ != __ORDER_LITTLE_ENDIAN__
+#error "dfu_host is for processors that store the low byte of a number first"
+#endif
+#if UINTPTR_MAX > 0xffffffffffffffffu
+#error "dfu_host is for pointers of at most 64 bits"
 #endif
 
 /* The version: 10,000 for each major one, 100 for each minor one, and 1 for each patch. */
 #ifndef DFU_VERSION
 #define DFU_VERSION 200
 #define DFU_VERSION_TEXT "0.2.0"
+#endif
+
+/* Before a member of 8 bytes: it stands at a multiple of 8, also where the processor's ABI asks for less. */
+#if defined(__cplusplus)
+#define DFU_ALIGNED_8 alignas(8)
+#elif defined(__STDC_VERSION__) && __STDC_VERSION__ >= 201112L
+#define DFU_ALIGNED_8 _Alignas(8)
+#elif defined(__GNUC__)
+#define DFU_ALIGNED_8 __attribute__((aligned(8)))
+#else
+#define DFU_ALIGNED_8
 #endif
 
 #ifdef __cplusplus
@@ -88,7 +101,7 @@ struct dfu_ids {
 
 /* What a file says. */
 struct dfu_file {
-    uint64_t payload;                      /* how many bytes the payload has, which comes first in the file */
+    DFU_ALIGNED_8 uint64_t payload;        /* how many bytes the payload has, which comes first in the file */
     uint32_t suffix, crc;                  /* bLength, 16 to 255; dwCRC */
     uint16_t device, product, vendor, dfu; /* bcdDevice, idProduct, idVendor (FFFFh: of any), bcdDFU */
 };
@@ -97,8 +110,8 @@ struct dfu_file {
  * write the version, and a record of another one is no session's. A number that a phase does not have is 0. */
 struct dfu_session {
     uint32_t version, goal;                 /* DFU_VERSION of the archive; goal 1 to 4 */
-    uint64_t number;                        /* the block, the part or the report of the phase */
-    uint64_t kept;                          /* how many bytes of the buffer count; all that came, once DFU_UPLOADED */
+    DFU_ALIGNED_8 uint64_t number;          /* the block, the part or the report of the phase */
+    DFU_ALIGNED_8 uint64_t kept;            /* how many bytes of the buffer count; all that came, once DFU_UPLOADED */
     uint32_t phase, more, actions;          /* phase 0 to 24; a poll time or a code; actions left */
     uint16_t restarts, transfer, detach_ms; /* restarts left; wTransferSize; wDetachTimeOut */
     uint8_t tolerant, will_detach;          /* bitManifestationTolerant and bitWillDetach: 0 or 1 */
@@ -106,13 +119,13 @@ struct dfu_session {
 
 /* What is to be done. A number that an action does not have is 0. */
 struct dfu_action {
-    uint32_t what;    /* DFU_SEND, DFU_WAIT, DFU_RESET or DFU_DONE */
-    uint32_t value;   /* DFU_WAIT: how many milliseconds; DFU_DONE: the report */
-    uint64_t from;    /* DFU_SEND: where in the payload the body begins */
-    uint64_t length;  /* DFU_SEND: how many bytes the body has, 0 to 65,535; 0 where the device answers */
-    uint32_t code;    /* DFU_DONE with DFU_REFUSED: the device's bStatus, 0 to 15 */
-    uint8_t setup[8]; /* DFU_SEND: the setup of a control transfer; its wIndex, bytes 4 and 5, is 0: send the number of the
-                       * device's DFU interface there, and change nothing else */
+    uint32_t what;                 /* DFU_SEND, DFU_WAIT, DFU_RESET or DFU_DONE */
+    uint32_t value;                /* DFU_WAIT: how many milliseconds; DFU_DONE: the report */
+    DFU_ALIGNED_8 uint64_t from;   /* DFU_SEND: where in the payload the body begins */
+    DFU_ALIGNED_8 uint64_t length; /* DFU_SEND: how many bytes the body has, 0 to 65,535; 0 where the device answers */
+    uint32_t code;                 /* DFU_DONE with DFU_REFUSED: the device's bStatus, 0 to 15 */
+    uint8_t setup[8];              /* DFU_SEND: the setup of a control transfer; its wIndex, bytes 4 and 5, is 0: send the number of
+                                    * the device's DFU interface there, and change nothing else */
 };
 
 /* Actions. */

@@ -1,0 +1,104 @@
+"""The body of a function in C: its locals, and the statements of its blocks in the module's order.
+
+Loads, stores and calls stand one on a line, in that order. A sum that is read once, in its own block, stands where it is read; every
+other value is a local."""
+import re
+
+import stack
+from blocks import Ways, reached
+from expressions import c_type
+from idle import variables, without_idle
+from names import Names
+from statements import Statements
+
+
+def declared(type, name):
+    return c_type(type) + " " * (type != "ptr") + name
+
+
+class Body:
+    """What one function becomes; `program` has what all functions share, `export` is its prototype in the header, if it has one."""
+
+    def __init__(self, function, program, export):
+        self.function, self.program, self.export = function, program, export
+        blocks = reached(function)
+        self.types = variables(blocks)
+        self.uses = without_idle(blocks, self.types)
+        self.ways = Ways(blocks)
+        self.names = Names([*program.functions.taken, *(export.names if export else [])])
+        self.parameter_names = [name for _, name in function.parameters]
+        self.across, self.arrays, self.wanted = {}, {}, set()
+        self.read_in = {}
+        for block in self.ways.blocks:
+            for line in block.lines:
+                if line.kind == "phi":
+                    for value, label in line.rows:
+                        self.read_in.setdefault(value, set()).add(label)
+                else:
+                    for name in line.names():
+                        self.read_in.setdefault(name, set()).add(block.label)
+
+    def write(self):
+        """The function as lines of C."""
+        for _, name in self.function.parameters:
+            self.names.of(name)
+        for name in self.types:
+            self.names.of(name)
+        blocks, kept = [], self.ways.kept()
+        for block, after in zip(kept, [*kept[1:], None]):
+            statements = Statements(self, block, after and after.label)
+            blocks.append((block.label, statements.write()))
+        text = [*self.of_parameters(), *self.of_arrays(), *self.of_locals()]
+        for label, statements in blocks:
+            if label in self.wanted:
+                is_bare = not statements or re.match(r"(uint[0-9]+_t|unsigned char|struct) ", statements[0])
+                text.append(f"{self.name_of_label(label)}:{';' if is_bare else ''}")
+            text += [f"    {it}" for it in statements]
+        return [f"{self.head()} {{", *text, "}"]
+
+    def name_of_label(self, label):
+        return self.names.of(("label", label), label)
+
+    def head(self):
+        if self.export:
+            return f"{self.export.result} {self.function.name}({', '.join(self.export.parameters) or 'void'})"
+        them = ", ".join(declared(type, self.names.of(name)) for type, name in self.function.parameters) or "void"
+        result = self.function.result
+        name = self.program.functions.named[self.function.name]
+        return f"static {'void ' + name if result == 'void' else declared(result, name)}({them})"
+
+    def of_parameters(self):
+        """The parameters of an export under the names of the module; and those that nobody reads."""
+        if not self.export:
+            return [f"    (void){self.names.of(name)};" for _, name in self.function.parameters if name not in self.uses]
+        lines = []
+        for (type, name), written in zip(self.function.parameters, self.export.names):
+            if name not in self.uses:
+                lines.append(f"    (void){written};")
+            else:
+                cast = "(unsigned char *)(uintptr_t)" * (type == "ptr")
+                lines.append(f"    {declared(type, self.names.of(name))} = {cast}{written};")
+        return lines
+
+    def of_arrays(self):
+        lines = []
+        for group in stack.shared(self.ways, {name: size for name, (size, _) in self.arrays.items()}):
+            align = max(self.arrays[name][1] for name in group)
+            first = self.names.of(group[0])
+            lines.append(f"    _Alignas({align}) unsigned char {first}[{self.arrays[group[0]][0]}];")
+            lines += [f"    unsigned char *const {self.names.of(name)} = {first};" for name in group[1:]]
+        return lines
+
+    def of_locals(self):
+        """The locals that more than one block has. Those that a way may leave unset begin with 0."""
+        lines = [f"    {declared(type, self.names.of(name))} = 0;" for name, type in self.types.items() if name in self.uses]
+        by_type = {}
+        for name, (type, is_set) in self.across.items():
+            if is_set:
+                by_type.setdefault(type, []).append("*" * (type == "ptr") + name)
+            else:
+                lines.append(f"    {declared(type, name)}{' = 0' * (type[0] != '{')};")
+        for type, them in by_type.items():
+            for k in range(0, len(them), 12):
+                lines.append(f"    {c_type(type).rstrip(' *')} {', '.join(them[k:k + 12])};")
+        return lines

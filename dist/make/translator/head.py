@@ -1,0 +1,85 @@
+"""The head of a file: what it is, what C has to provide, and the functions that stand for what LLVM has by itself."""
+import re
+
+WHAT_IT_IS = """/* SPDX-License-Identifier: MIT OR Apache-2.0
+ *
+ * The body of {name}: {what}
+ *
+ * Made by dist/make/library of the proved crate. Nobody edits it: change the crate, and make it anew by dist/generate. Compile it as C11
+ * beside its header. Memory is arrays of bytes here, laid out as on a 64-bit processor with the low byte first: a size is a uint64_t,
+ * and a pointer takes 8 bytes. */
+#include "{name}"
+
+#include <stddef.h>
+#include <stdint.h>
+"""
+WHAT = {"dfu_device.h": "a device of USB DFU 1.1 over memory.", "dfu_asking.h": "a device of USB DFU 1.1 that asks for each write.",
+        "dfu_host.h": "the host of USB DFU 1.1."}
+OF_C = """
+#if defined(__BYTE_ORDER__) && __BYTE_ORDER__ != __ORDER_LITTLE_ENDIAN__
+#error "this file is for processors that store the low byte of a number first"
+#endif
+
+/* Of a C library these three. A compiler with builtins is asked for them: a copy of 4 bytes is then no call, also with -ffreestanding. */
+#if defined(__GNUC__)
+#define memcpy(to, from, count) __builtin_memcpy(to, from, count)
+#define memmove(to, from, count) __builtin_memmove(to, from, count)
+#define memset(to, byte, count) __builtin_memset(to, byte, count)
+#define ALIGNED(p, n) __builtin_assume_aligned(p, n)
+#else
+void *memcpy(void *to, const void *from, size_t count);
+void *memmove(void *to, const void *from, size_t count);
+void *memset(void *to, int byte, size_t count);
+#define ALIGNED(p, n) (p)
+#endif
+/* A table of constants as a place; nothing is written there. */
+#define PLACE(table) ((unsigned char *)(uintptr_t)(table))
+
+/* What no call comes to, as it is proved: `trap` where the program says so, `never` where its types do. */
+#if defined(__GNUC__)
+#define trap() __builtin_trap()
+#define never() __builtin_unreachable()
+#else
+#define trap() for (;;) { }
+#define never() for (;;) { }
+#endif
+
+_Static_assert((unsigned char)-1 == 255 && sizeof(int) == 4 && sizeof(void *) <= 8, "a processor that this file is not for");
+"""
+# By the beginning of their names: NAME is the whole one, T the type of C for its bits, SIZE their bytes, and AT where they are.
+HELPERS = {
+    "load": "T NAME(const unsigned char *p) { T x = 0; memcpy(&x, AT, SIZE); return x; }",
+    "store": "void NAME(unsigned char *p, T x) { memcpy(AT, &x, SIZE); }",
+    "umin": "T NAME(T x, T y) { return x < y ? x : y; }",
+    "umax": "T NAME(T x, T y) { return x < y ? y : x; }",
+    "usub_sat": "T NAME(T x, T y) { return x < y ? 0 : (T)(x - y); }",
+    "uadd_sat": "T NAME(T x, T y) { return (T)(x + y) < x ? (T)-1 : (T)(x + y); }",
+    "product": "struct PAIR NAME(T x, T y) { return (struct PAIR){ x * y, x != 0 && x * y / x != y }; }",
+    "signed": "intT NAME(T x) { intT y; memcpy(&y, &x, SIZE); return y; }",
+}
+
+
+def helper(name):
+    """One of them, for the bits that its name says. Of 24, 40, 48 or 56 bits the first bytes are kept, as the low byte comes first."""
+    kind, bits, any_place = re.fullmatch(r"([a-z_]+)([0-9]+)(u?)", name).groups()
+    size, wide = int(bits) // 8, min(it for it in (8, 16, 32, 64) if it >= int(bits))
+    words = {"NAME": name, "T": f"uint{wide}_t", "intT": f"int{wide}_t", "SIZE": str(size), "PAIR": f"i{bits}_i1",
+             "AT": "p" if any_place else f"ALIGNED(p, {size})"}
+    return "static inline " + re.sub(rf"\b(?:{'|'.join(words)})\b", lambda it: words[it[0]], HELPERS[kind])
+
+
+def head(header, bodies):
+    """All that stands above the functions, for what their text uses."""
+    pairs = sorted(set(re.findall(r"struct ((?:i[0-9]+|ptr)_(?:i[0-9]+|ptr))\b", bodies)))
+    used = sorted(set(re.findall(rf"\b((?:{'|'.join(HELPERS)})[0-9]+u?)\(", bodies)))
+    return "\n".join([
+        WHAT_IT_IS.format(name=header.name, what=WHAT.get(header.name, "")) + OF_C,
+        *(f'_Static_assert({it}, "another layout");' for it in header.layouts()), "",
+        *(f"struct {it} {{ {' '.join(of_struct(it))} }};" for it in pairs), "",
+        *(helper(it) for it in used), ""])
+
+
+def of_struct(pair):
+    """The members of a pair."""
+    for name, type in zip("ab", pair.split("_")):
+        yield f"unsigned char *{name};" if type == "ptr" else f"uint{min(it for it in (8, 16, 32, 64) if it >= int(type[1:]))}_t {name};"

@@ -1,0 +1,50 @@
+"""A library's header: the prototypes of its exports, and what the module takes for granted of its structs' layouts."""
+import os
+import re
+
+SIZES = {"uint8_t": 1, "uint16_t": 2, "uint32_t": 4, "uint64_t": 8}
+# The types of C that a parameter of the module may have in the header.
+TAKEN_AS = {"ptr": r".*(\*|\]).*", "i64": r"(size_t|uint64_t) \w+", "i32": r"uint32_t \w+", "i16": r"uint16_t \w+", "i8": r"uint8_t \w+"}
+
+
+class Export:
+    def __init__(self, result, parameters):
+        self.result = result
+        self.parameters = [] if parameters == "void" else re.split(r",\s*", parameters)
+        self.names = [re.search(r"(\w+)(?:\[\d+\])?$", it)[1] for it in self.parameters]
+
+    def fits(self, function):
+        """Whether the module's function takes and gives what the header says."""
+        types = [type for type, _ in function.parameters]
+        return (self.result == f"int{function.result[1:]}_t" and len(types) == len(self.parameters)
+                and all(re.fullmatch(TAKEN_AS.get(type, "-"), it) for type, it in zip(types, self.parameters)))
+
+
+class Header:
+    def __init__(self, file):
+        self.name = os.path.basename(file)
+        own = self.read(file)
+        included = re.findall(r'^#include "(\w+\.h)"', own, re.M)
+        self.text = "".join(self.read(os.path.join(os.path.dirname(file), it)) for it in included) + own
+        self.exports = {name: Export(result, parameters)
+                        for result, name, parameters in re.findall(r"^(int32_t|int64_t) (dfu_\w+)\(([^)]*)\);", own, re.M)}
+
+    def read(self, file):
+        """Its text without comments."""
+        return re.sub(r"/\*.*?\*/", "", open(file, encoding="utf-8").read(), flags=re.S)
+
+    def layouts(self):
+        """Each offset, size and alignment as AArch64 has it, as conditions of C."""
+        sizes = {name: (size, size) for name, size in SIZES.items()}
+        for name, body in re.findall(r"^struct (dfu_\w+) \{(.*?)^\};", self.text, re.S | re.M):
+            at = most = 0
+            for type, members in re.findall(r"(?:DFU_ALIGNED_8 )?(?:struct )?(\w+) ([^;]*);", body):
+                size, align = sizes[type]
+                for member, count in re.findall(r"(\w+)(?:\[(\d+)\])?", members):
+                    at = -(-at // align) * align
+                    most = max(most, align)
+                    yield f"offsetof(struct {name}, {member}) == {at}"
+                    at += size * int(count or 1)
+            sizes[name] = (-(-at // most) * most, most)
+            yield f"sizeof(struct {name}) == {sizes[name][0]}"
+            yield f"_Alignof(struct {name}) == {most}"

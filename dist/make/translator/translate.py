@@ -1,0 +1,61 @@
+#!/usr/bin/env python3
+"""translate.py WIDE.ll HEADER.h > FILE.c: portable C11 of a module that widen.py made, as it is or as LLVM's optimiser leaves it.
+
+A line that is not known, or an export that is not the header's, is refused: then nothing is written, and the status is 1."""
+import re
+import sys
+
+import lines
+from body import Body
+from expressions import c_type
+from head import HELPERS, head
+from header import Header
+from module import Module
+from names import Names
+from refusals import end_if_any, refuse
+
+
+class Program:
+    """What all functions share: the names of functions and of tables."""
+
+    def __init__(self, module, header):
+        self.header = header
+        self.functions = Names([*HELPERS, *header.exports])
+        for function in module.functions:
+            if function.is_export:
+                self.check(function)
+            else:
+                self.functions.of(function.name)
+        for name in {*header.exports} - {it.name for it in module.functions}:
+            refuse(0, "the module has no such export", name)
+        self.tables = Names()
+        for table in module.tables:
+            self.functions.taken.add(self.tables.of(table.name))
+
+    def check(self, function):
+        export = self.header.exports.get(function.name)
+        if not export or not export.fits(function):
+            refuse(function.number, "an export that the header does not have so", function.name)
+
+
+def of_table(table, name):
+    rows = [f"{it}" if it < 10 else f"{it:#x}" for it in table.rows] or ["0"]
+    written = ",\n    ".join(", ".join(rows[k:k + 20]) for k in range(0, len(rows), 20))
+    return f"static _Alignas({table.align}) const {c_type(table.type)} {name}[{len(rows)}] = {{\n    {written}\n}};"
+
+
+def main():
+    header = Header(sys.argv[2])
+    module = Module(open(sys.argv[1], encoding="latin-1").read(), lines.OPTIMISED)
+    program = Program(module, header)
+    end_if_any()
+    bodies = [Body(it, program, header.exports.get(it.name) if it.is_export else None) for it in module.functions]
+    texts = [f"/* {body.function.name} */\n" + "\n".join(body.write()) for body in bodies]
+    end_if_any()
+    functions = "\n\n".join(texts)
+    tables = "\n".join(of_table(it, program.tables.of(it.name)) for it in module.tables)
+    prototypes = "\n".join(body.head() + ";" for body in bodies if not body.export)
+    sys.stdout.write("\n".join([head(header, prototypes + functions), tables, "", prototypes, "", functions, ""]))
+
+
+main()
