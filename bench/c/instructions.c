@@ -1,13 +1,39 @@
-/* How many instructions a run of counted.c takes on a Cortex-M of QEMU's mps2 boards. With `-icount shift=6` an instruction takes 64 ns,
- * and the board's timer ticks each 40 ns. Two loops whose instructions are known show whether that is so. */
+/* SPDX-License-Identifier: MIT OR Apache-2.0 */
+/* How many instructions a run of counted.c, or of another program whose main is named `counted`, takes in QEMU: on a Cortex-M of the mps2
+ * boards with `-icount shift=6`, where an instruction takes 64 ns and the board's timer ticks each 40 ns; on RV32 by the processor's own
+ * count. Two loops whose instructions are known show whether that is so. */
 #include <stdint.h>
 #include <stdio.h>
 
 #include "machine.h"
 
-#define TIMER ((volatile uint32_t *)0x40000000) /* of the CMSDK: control, value, what it begins with, and whether it came to 0 */
-
 int counted(int count, char **words);
+
+#ifdef __riscv
+static uint32_t began;
+
+static uint32_t now(void) {
+    uint32_t count;
+    __asm__ volatile("csrr %0, minstret" : "=r"(count));
+    return count;
+}
+
+static void start(void) {
+    began = now();
+}
+
+static uint64_t stop(void) {
+    return now() - began;
+}
+
+/* Twice as many instructions. */
+__attribute__((noinline)) static uint64_t loop(uint32_t turns) {
+    start();
+    __asm__ volatile("1: addi %0, %0, -1\nbnez %0, 1b" : "+r"(turns));
+    return stop();
+}
+#else
+#define TIMER ((volatile uint32_t *)0x40000000) /* of the CMSDK: control, value, what it begins with, and whether it came to 0 */
 
 static uint32_t began;
 
@@ -32,6 +58,7 @@ __attribute__((noinline)) static uint64_t loop(uint32_t turns) {
     __asm__ volatile(".syntax unified\n1: subs %0, %0, #1\nbne 1b" : "+l"(turns) : : "cc");
     return stop();
 }
+#endif
 
 int main(int count, char **words) {
     uint64_t more = loop(200000) - loop(100000);
