@@ -134,8 +134,7 @@ check check-all: all
 places = PREFIX BINDIR LIBDIR INCLUDEDIR DATADIR MANDIR DOCDIR PKGCONFIGDIR UDEVDIR DESTDIR BUILD
 version = $(shell sed -n 's/^$(hash)define DFU_VERSION_TEXT "\(.*\)"/\1/p' include/dfu_device.h)
 install: all
-uninstall: export $(places)
-install: export $(places)
+export $(places)
 install uninstall:
 	@VERSION=$(version) share/install $@
 archive:

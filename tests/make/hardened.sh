@@ -8,7 +8,7 @@ has() {
     now) readelf -dW "$1" | grep -q 'FLAGS.*NOW' ;;
     pie) readelf -hW "$1" | grep -q 'Type: *DYN' ;;
     guards) readelf -W --dyn-syms "$1" | grep -q ' __stack_chk_fail' ;;
-    sizes) readelf -W --dyn-syms "$1" | grep -q ' __[a-z]*_chk' ;;
+    sizes) readelf -W --dyn-syms "$1" | grep -q ' __[a-z]*_chk@' ;;
     symbols) readelf -SW "$1" | grep -q debug_info ;;
     runpath) readelf -dW "$1" | grep -q 'RUNPATH.*/of-the-packager' ;;
     esac
@@ -25,40 +25,44 @@ is_hard() {
 once() {
     equal "$1 stands once" 0 "$(grep -e ' -c -o .*/gadget/' "$work/said" | grep -c -e "$1 .*$1 " || :)"
 }
-for name in dfu-gadget dfu-flash; do
-    program=build/$name
-    says 0
-    [ -x "$program" ] || continue
-    is_hard "a plain $name"
-    is "a plain $name: symbols" hasnt "$program" symbols
+program=build/dfu-flash
+says 0
+if [ -x "$program" ]; then
+    is_hard 'a plain dfu-flash'
+    is 'a plain dfu-flash: symbols' hasnt "$program" symbols
+fi
+program=build/dfu-gadget
+if [ -x "$program" ]; then
+    is_hard 'a plain dfu-gadget'
     says 0 'CFLAGS=-O0 -g -Werror' "$program"
-    is "$name, -g" has "$program" symbols
-    is "$name, -O0: sizes" hasnt "$program" sizes
-    is "$name, -O0: guards" has "$program" guards
+    is '-g: symbols' has "$program" symbols
+    is '-O0: sizes' hasnt "$program" sizes
+    is '-O0: guards' has "$program" guards
     unsaid '_FORTIFY_SOURCE'
     # What distributions set beside that.
     says 0 'CPPFLAGS=-Wdate-time -D_FORTIFY_SOURCE=3' 'CFLAGS=-g -O2 -fstack-protector-strong -Werror' \
         'LDFLAGS=-Wl,-z,relro -Wl,-rpath,/of-the-packager' "$program"
-    is_hard "$name, flags of Debian"
-    is "$name, LDFLAGS" has "$program" runpath
+    is_hard 'flags of Debian'
+    is 'LDFLAGS' has "$program" runpath
     unsaid '_FORTIFY_SOURCE=2'
     once -fstack-protector-strong
     says 0 'CFLAGS=-O2 -Werror -Wp,-U_FORTIFY_SOURCE,-D_FORTIFY_SOURCE=3' "$program"
-    is_hard "$name, flags of Fedora"
+    is_hard 'flags of Fedora'
     says 0 'CFLAGS=-fno-stack-protector -fno-pie -U_FORTIFY_SOURCE' 'LDFLAGS=-no-pie -Wl,-z,lazy' "$program"
     for part in now pie guards; do
-        is "$name, flags that win: $part" hasnt "$program" "$part"
+        is "flags that win: $part" hasnt "$program" "$part"
     done
     # A warning stops who asked for that, and nobody else.
-    says 0 CFLAGS=-Wpadded "$program"
-    says 2 'CFLAGS=-Wpadded -Werror' "$program"
-    says 2 'CPPFLAGS=-include nowhere.h' "$program"
-    says 2 LDFLAGS=-lnothing-of-the-kind "$program"
+    says 0 CFLAGS=-Wpadded build/objects/gadget/bus.o
+    said 'Wpadded'
+    says 2 'CFLAGS=-Wpadded -Werror' build/objects/gadget/bus.o
+    says 2 'CPPFLAGS=-include nowhere.h' build/objects/gadget/bus.o
     if command -v clang > /dev/null; then
         says 0 CC=clang CFLAGS=-Werror "$program"
-        is_hard "$name, clang"
+        is_hard clang
     fi
-done
-says 0 'CC=gcc -m64' 'CFLAGS=-DTEXT="a b"'
-says 0 LDFLAGS=-static CFLAGS=-O0 build/dfu-gadget
-is 'a static one' sh -c './build/dfu-gadget --version > /dev/null'
+    says 0 LDFLAGS=-static CFLAGS=-O0 "$program"
+    is 'a static one' sh -c './build/dfu-gadget --version > /dev/null'
+    says 2 LDFLAGS=-lnothing-of-the-kind CFLAGS=-O0 "$program"
+fi
+says 0 'CC=gcc -m64' 'CFLAGS=-DTEXT="a b" -O0'
