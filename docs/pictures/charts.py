@@ -6,10 +6,8 @@ import os
 import re
 import subprocess
 
-from drawing import Picture
+from drawing import PROGRAM, ROOT, Picture
 
-ROOT = os.path.normpath(os.path.join(os.path.dirname(os.path.abspath(__file__)), "..", ".."))
-PROGRAM = os.path.abspath(os.path.join(os.environ.get("BUILD") or os.path.join(ROOT, "build"), "dfu"))
 HOST, WIRE_FROM, WIRE_TO, DEVICE, MEDIUM, WIDTH, ROW, TOP = 20, 130, 490, 590, 790, 900, 58, 88
 
 # The title of each chart, and what stands below it.

@@ -1,6 +1,9 @@
-"""What the pictures are drawn with: lines, boxes and words in the colours of a light or a dark page."""
+"""What the pictures are drawn with: the program, and lines, boxes and words in the colours of a light or a dark page."""
+import os
 from xml.sax.saxutils import escape
 
+ROOT = os.path.normpath(os.path.join(os.path.dirname(os.path.abspath(__file__)), "..", ".."))
+PROGRAM = os.path.abspath(os.path.join(os.environ.get("BUILD") or os.path.join(ROOT, "build"), "dfu"))
 STYLE = """
   text { font: 13px system-ui, -apple-system, 'Segoe UI', 'DejaVu Sans', sans-serif; fill: #1f2328; }
   .back { fill: #ffffff; }

@@ -2,12 +2,10 @@
 
 The program says what each state is called.
 """
-import os
 import subprocess
 
-from drawing import Picture
+from drawing import PROGRAM, Picture
 
-ROOT = os.path.normpath(os.path.join(os.path.dirname(os.path.abspath(__file__)), "..", ".."))
 WIDTH, HEIGHT = 1100, 850
 
 # Where the states stand: number, middle, width, what stands below the name.
@@ -48,7 +46,7 @@ JOINS = [
 
 def name_of(number):
     """What the program calls the state with this number."""
-    words = [os.path.join(ROOT, "dfu"), "show", "status", f"00000000{number:02x}00"]
+    words = [PROGRAM, "show", "status", f"00000000{number:02x}00"]
     run = subprocess.run(words, capture_output=True, text=True, check=True)
     return run.stdout.split("state ")[1].split()[0]
 

@@ -48,7 +48,7 @@ target() {
     device=$work/$1/libraries/libdfu_device.a
     host=$work/$1/libraries/libdfu_host.a
     asks=$work/$1/libraries/libdfu_asking.a
-    [ -e "$asks" ] || libraries "$1/libraries" "-Os $flags"
+    [ -e "$asks" ] || libraries "$1/libraries" "-Os -ffreestanding $flags"
     prepare "$1"
 }
 prepare() {
@@ -168,15 +168,14 @@ digests() {
         is "$target: the host as on x86-64, $odd bytes off" as_here digest_host "$of_host" "$odd"
     done
 }
-# sizes CODE ASKS NEEDS: the libraries are under so many bytes, that of the device that asks under ASKS, and need no other names; and how
-# deep their calls go.
+# sizes DEVICE HOST ASKS NEEDS: the libraries are under so many bytes, and need no other names; and how deep their calls go.
 sizes() {
     echo "$target"
     is "$target: size of ${device##*/}" is_small "$device" "$1"
-    is "$target: size of ${host##*/}" is_small "$host" "$1"
-    is "$target: size of ${asks##*/}" is_small "$asks" "$2"
+    is "$target: size of ${host##*/}" is_small "$host" "$2"
+    is "$target: size of ${asks##*/}" is_small "$asks" "$3"
     for library in "$device" "$host" "$asks"; do
-        is "$target: what ${library##*/} needs" needs_only "$library" "$3"
+        is "$target: what ${library##*/} needs" needs_only "$library" "$4"
     done
     program stack "$top/tests/c/stack.c" "$device"
     is "$target: stack of the device" deepest stack 9000
