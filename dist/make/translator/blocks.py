@@ -1,15 +1,13 @@
 """The way through a function: which blocks are reached, where a jump ends, and the values that depend on the way (phis)."""
-from refusals import refuse
 
 
 class Ways:
     """What a jump to a label means, over the blocks of a function that are reached, in the module's order."""
 
     def __init__(self, blocks):
-        self.blocks = blocks
+        self.blocks, self.by_label = blocks, {block.label: block for block in blocks}
         self.phis = {block.label: [line for line in block.lines if line.kind == "phi"] for block in self.blocks}
         self.goes_on = {block.label: block.lines[0]["label"] for block in self.blocks if self.only_goes_on(block)}
-        self.check()
 
     def only_goes_on(self, block):
         """A block of one jump. It is left out, unless values depend on coming from it, or it is a loop of its own."""
@@ -22,6 +20,11 @@ class Ways:
             label = self.goes_on.get(label, label)
         return label
 
+    def shortly(self, label):
+        """What stands in place of a jump to a block that only ends: "" for any other block."""
+        kinds = [line.kind for line in self.by_label[label].lines]
+        return {("never",): "never();", ("trap", "never"): "trap();", ("give_nothing",): "return;"}.get(tuple(kinds), "")
+
     def kept(self):
         return [block for block in self.blocks if self.end(block.label) == block.label]
 
@@ -33,20 +36,6 @@ class Ways:
                     yield line, value
                     break
 
-    def check(self):
-        """Each block ends in the line that says what comes next, and nowhere before; each phi has a row for each block before it."""
-        for block in self.blocks:
-            for line in block.lines:
-                if (line.kind in ENDS) != (line is block.lines[-1]):
-                    refuse(line.number, "a block that ends here, or does not", line.written)
-            for label in set(block.lines[-1].goes_to()):
-                for line in self.phis[label]:
-                    if block.label not in [it for _, it in line.rows]:
-                        refuse(line.number, f"no row for {block.label}", line.written)
-
-
-ENDS = ("jump", "branch", "switch", "give", "give_nothing", "never")
-
 
 def reached(function):
     """The blocks of a function that are reached from the first one."""
@@ -56,6 +45,5 @@ def reached(function):
         label = left.pop()
         if label not in found:
             found.add(label)
-            lines = by_label[label].lines
-            left += lines[-1].goes_to() if lines else []
+            left += by_label[label].lines[-1].goes_to()
     return [block for block in function.blocks if block.label in found]

@@ -27,7 +27,8 @@ class Body:
         self.ways = Ways(blocks)
         self.names = Names([*program.functions.taken, *(export.names if export else [])])
         self.parameter_names = [name for _, name in function.parameters]
-        self.across, self.arrays, self.wanted = {}, {}, set()
+        # Locals of more than one block; arrays; the labels that a goto names, and those that the block before leads to.
+        self.across, self.arrays, self.wanted, self.entered = {}, {}, set(), {blocks[0].label}
         self.read_in = {}
         for block in self.ways.blocks:
             for line in block.lines:
@@ -50,6 +51,8 @@ class Body:
             blocks.append((block.label, statements.write()))
         text = [*self.of_parameters(), *self.of_arrays(), *self.of_locals()]
         for label, statements in blocks:
+            if label not in self.wanted | self.entered:
+                continue
             if label in self.wanted:
                 is_bare = not statements or re.match(r"(uint[0-9]+_t|unsigned char|struct) ", statements[0])
                 text.append(f"{self.name_of_label(label)}:{';' if is_bare else ''}")

@@ -63,13 +63,15 @@ def sum_of(kind, type, left, right, count):
     return narrowed(type, cut(type, made) if kind in ("add", "sub", "mul", "shl") else made)
 
 
-def compared(order, type, left, right):
-    if order not in ORDERS:
-        # Numbers with a sign have the order of the unsigned ones whose highest bit is the other.
-        top = number(1 << (bits(type) - 1)).text
-        left, right = (narrowed(type, Expression(f"{it.part()} ^ {top}", SUM)) for it in (left, right))
-    sign = ORDERS.get(order) or ORDERS["u" + order[1:]]
+def compared(order, left, right):
+    sign = ORDERS[order]
     return Expression(f"{left.part()} {sign} {right.part()}", SUM, f"{left.part()} {OPPOSITE[sign]} {right.part()}")
+
+
+def without_sign(type, it, known):
+    """The unsigned number that stands among the unsigned ones where it stands among those with a sign; `known` if it is a constant."""
+    top = 1 << (bits(type) - 1)
+    return narrowed(type, Expression(f"{it.part()} ^ {number(top).text}", SUM)) if known is None else number(known ^ top)
 
 
 def negated(it):

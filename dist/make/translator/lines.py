@@ -106,6 +106,10 @@ class Line:
         """The names that the line reads."""
         return [it for it in self.values if it.startswith("%")]
 
+    def is_end(self):
+        """Whether nothing of its block comes after it."""
+        return self.kind in ("jump", "branch", "switch", "give", "give_nothing", "never")
+
     def goes_to(self):
         """The labels that may come next."""
         labels = [self.words[it] for it in ("label", "yes", "no", "otherwise") if it in self.words]

@@ -3,14 +3,18 @@ import re
 
 import lines
 import text
+from check import check
 from refusals import refuse
 
 DATALAYOUT = "e-m:e-p270:32:32-p271:32:32-p272:64:64-i8:8:32-i16:16:32-i64:64-i128:128-n32:64-S128-Fn32"
+# Of a function, what says nothing of what it does, or says less.
+ATTRIBUTE = (r'minsize|optsize|inlinehint|alwaysinline|noinline|cold|mustprogress|willreturn|noreturn|nounwind|nofree|norecurse|nosync|nocallback'
+             r'|nocreateundeforpoison|speculatable|memory\([a-z0-9_:, ]+\)|"(?:frame-pointer|probe-stack|stack-probe-size|target-cpu)"="[^"]*"')
 # What may stand outside of functions, besides the tables: of AArch64 with the low byte first, and what it declares of LLVM's own.
 OUTSIDE = [re.compile(it) for it in (
     r"", r";.*", r'source_filename = "rattle"', r"!llvm\.ident = !\{!0\}", r'![0-9]+ = !\{(!"rattle logic=[0-9a-f]+"|i8 0, i8 [0-9]+)?\}',
     r'target triple = "aarch64-unknown-linux-gnu"', f'target datalayout = "{re.escape(DATALAYOUT)}"',
-    r'attributes #[0-9]+ = \{[^"]*(?:"(?:frame-pointer|probe-stack|stack-probe-size|target-cpu)"="[^"]*"[^"]*)*\}',
+    rf'attributes #[0-9]+ = \{{(?: (?:{ATTRIBUTE}))+ \}}',
     r"declare void @llvm\.(memset\.p0|memmove\.p0\.p0|memcpy\.p0\.p0)\.i64\([^@]*\) #[0-9]+", r"declare void @llvm\.trap\(\) #[0-9]+",
     r"declare void @llvm\.lifetime\.(start|end)\.p0\([^@]*\) #[0-9]+",
     r"declare \{ i64, i1 \} @llvm\.umul\.with\.overflow\.i64\(i64, i64\) #[0-9]+",
@@ -19,7 +23,7 @@ TABLE = re.compile(rf'({text.TABLE}) = private unnamed_addr constant \[([0-9]+) 
                    r'(?:c"([^"]*)"|(zeroinitializer)|\[([^]]*)\]), align ([0-9]+)')
 PARAMETERS = rf"\(((?:{text.PARAMETER}(?:, {text.PARAMETER})*)?)\) \{{"
 INSIDE = re.compile(rf"define internal (void|{text.TYPE}) ({text.FUNCTION}){PARAMETERS}")
-EXPORT = re.compile(rf"define (i32|i64) @(dfu_[a-z_]+){PARAMETERS}")
+EXPORT = re.compile(rf"define (i32|i64) @(dfu_[a-z0-9_]+){PARAMETERS}")
 BLOCK = re.compile(rf"({text.LABEL}):(?: *; (?:preds = .*|No predecessors!))?")
 
 
@@ -36,8 +40,10 @@ class Table:
 
 
 class Block:
-    def __init__(self, label):
-        self.label, self.lines = label, []
+    """A label, the line of the text where it stands, and the lines behind it."""
+
+    def __init__(self, number, label):
+        self.number, self.label, self.lines = number, label, []
 
 
 class Function:
@@ -46,6 +52,9 @@ class Function:
     def __init__(self, number, name, result, parameters, is_export):
         self.number, self.name, self.result, self.is_export, self.blocks = number, name.strip('@"'), result, is_export, []
         self.parameters = re.findall(rf"({text.TYPE}) (%a[0-9]+)", parameters)
+
+    def lines_of(self, label):
+        return [line for block in self.blocks if block.label == label for line in block.lines]
 
 
 class Module:
@@ -58,7 +67,12 @@ class Module:
             if line.startswith("define "):
                 inside, is_inside = self.begin(number, line), True
             elif line == "}" and is_inside:
+                if inside:
+                    check(inside)
                 is_inside = False
+            elif is_inside and inside and not inside.blocks and not BLOCK.fullmatch(line):
+                refuse(number, "a function that begins without a label", line)
+                inside = None
             elif is_inside:
                 if inside:
                     self.add(inside, number, line)
@@ -66,6 +80,8 @@ class Module:
                 self.table(number, line)
             elif not any(it.fullmatch(line) for it in OUTSIDE):
                 refuse(number, "a line that the translator does not know", line)
+        if is_inside:
+            refuse(number, "the text ends within a function")
 
     def begin(self, number, line):
         plain = text.plainly(line)
@@ -80,9 +96,7 @@ class Module:
     def add(self, function, number, line):
         found = BLOCK.fullmatch(line)
         if found:
-            function.blocks.append(Block("%" + found[1]))
-        elif line and not function.blocks:
-            refuse(number, "a function that begins without a label", line)
+            function.blocks.append(Block(number, "%" + found[1]))
         elif line:
             read = lines.read_line(number, line, self.kinds)
             if read:

@@ -1,0 +1,84 @@
+"""The statements for memory: arrays, loads, stores, copies, and places."""
+from expressions import CAST, SUM, Expression, access, byte_at, moved, size_of
+from refusals import refuse
+from text import bits, bytes_of, constant
+
+LARGEST = 1 << 31
+
+
+class Memory:
+    def local(self, line):
+        if line["made"] not in self.body.types:
+            self.array(line)
+
+    def array(self, line):
+        size = int(line["size"]) if line.kind == "array" else bytes_of(line["type"])
+        if self.block is not self.body.ways.blocks[0]:
+            refuse(line.number, "a local of a part of a function", line.written)
+        self.body.arrays[line["made"]] = (max(size, 1), int(line["align"]))
+
+    def load(self, line):
+        type, place = line["type"], line["place"]
+        if place in self.body.types:
+            return self.keep(line, type, Expression(self.name_of(place)))
+        at = self.value("ptr", place)
+        if bits(type) == 8:
+            return self.keep(line, type, Expression(byte_at(at)))
+        if bits(type) < 8 or type == "ptr":
+            return refuse(line.number, "a load of no whole bytes, or of a pointer", line.written)
+        self.keep(line, type, Expression(f"load{access(type, line['align'])}({at.text})"))
+
+    def store(self, line):
+        type, place = line["type"], line["place"]
+        what = self.value(type, line["value"])
+        if place in self.body.types:
+            return self.emit(f"{self.name_of(place)} = {what.text};")
+        at = self.value("ptr", place)
+        if bits(type) == 8:
+            return self.emit(f"{byte_at(at)} = {what.text};")
+        if bits(type) < 8 or type == "ptr":
+            return refuse(line.number, "a store of no whole bytes, or of a pointer", line.written)
+        self.emit(f"store{access(type, line['align'])}({at.text}, {what.text});")
+
+    def move(self, line):
+        to, source, count = self.value("ptr", line["to"]), self.value("ptr", line["source"]), self.count(line)
+        if count != "0":
+            self.emit(f"{'memcpy' if line.kind == 'copy' else 'memmove'}({to.text}, {source.text}, {count});")
+
+    copy = move
+
+    def fill(self, line):
+        to, byte, count = self.value("ptr", line["to"]), self.value("i8", line["value"]), self.count(line)
+        if count != "0":
+            self.emit(f"memset({to.text}, {byte.text}, {count});")
+
+    def count(self, line):
+        """How many bytes are copied or filled."""
+        count = self.value("i64", line["length"])
+        if line["length"][0] == "%":
+            return size_of(count).text
+        if constant("i64", line["length"]) is None or constant("i64", line["length"]) >= LARGEST:
+            refuse(line.number, "a copy of so much", line.written)
+        return count.text
+
+    def place(self, line):
+        base, by = self.value("ptr", line["base"]), line["by"]
+        if by[0] != "%":
+            return self.set(line, "ptr", moved(base, int(by)))
+        count = self.value("i64", by)
+        if self.body.export and line["base"] in self.body.parameter_names:
+            # C may hand in NULL, which becomes another place here: C has no sums with NULL.
+            return self.set(line, "ptr", Expression(f"(unsigned char *)((uintptr_t){base.part()} + (uintptr_t){count.part()})", CAST))
+        self.set(line, "ptr", Expression(f"{base.part()} + {size_of(count).text}", SUM))
+
+    def row(self, line):
+        base, by, size = self.value("ptr", line["base"]), self.value("i64", line["by"]), bytes_of(line["type"])
+        self.set(line, "ptr", Expression(f"{base.part()} + {size} * {size_of(by).text}", SUM))
+
+    def address(self, line):
+        self.set(line, "i64", Expression(f"(uint64_t)(uintptr_t){self.value('ptr', line['value']).part()}", CAST))
+
+    to_number = address
+
+    def to_place(self, line):
+        self.set(line, "ptr", Expression(f"(unsigned char *)(uintptr_t){self.value('i64', line['value']).part()}", CAST))

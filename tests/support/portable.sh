@@ -1,0 +1,90 @@
+# What tests/generated-c and tests/slow/portable-c share: the C of dist/, or of the folder C, compiled with any compiler, under the
+# programs of tests/c and examples/c. `top` is the folder of the repository, and counting.sh has been read.
+# shellcheck shell=sh disable=SC2154
+c=${C:-$top/dist}
+
+# objects FOLDER WORD..: the three files, compiled with these words, in FOLDER.
+objects() {
+    folder=$1
+    shift
+    mkdir -p "$folder"
+    for name in device asking host; do
+        "$@" -std=c11 -I "$top/include" -c "$c/dfu_$name.c" -o "$folder/dfu_$name.o" || return 1
+    done
+}
+# program NAME FOLDER SOURCE WORD..: a program over these objects, $work/NAME. (A program of the repository is compiled for results, not for
+# warnings, which its own script looks for.)
+program() {
+    made=$work/$1
+    over=$2
+    source=$3
+    shift 3
+    "$@" -std=c11 -w -I "$top/include" "$source" "$over/dfu_device.o" "$over/dfu_asking.o" "$over/dfu_host.o" -o "$made" -lpthread
+}
+# runs NAME WORD..: it runs, under `run` if that is set, and ends well.
+runs() {
+    name=$1
+    shift
+    # shellcheck disable=SC2086
+    ${run-} "$work/$name" "$@" > "$work/printed" 2>&1 || {
+        tail -n 5 "$work/printed"
+        return 1
+    }
+}
+# prints FILE NAME WORD..: it prints what the file has. (Windows ends a line in two signs.)
+prints() {
+    wanted=$1
+    shift
+    runs "$@" && tr -d '\r' < "$work/printed" | cmp - "$wanted"
+}
+# suite WHAT FOLDER CALLS WORD..: the programs of tests/c and examples/c, compiled with these words over the objects in FOLDER. CALLS is how
+# many calls of chance each of them makes at most.
+suite() {
+    what=$1
+    objects=$2
+    calls=$3
+    shift 3
+    for name in rows asking power sessions asking_rows asking_power asking_format; do
+        is "$what: $name is built" program "$name" "$objects" "$top/tests/c/$name.c" "$@"
+        is "$what: $name" runs "$name"
+    done
+    for name in garbled noted garbled_sessions asking_twins asking_garbled edges; do
+        is "$what: $name is built" program "$name" "$objects" "$top/tests/c/$name.c" "$@"
+    done
+    is "$what: garbled" runs garbled "$calls"
+    is "$what: noted" runs noted $((calls / 2))
+    is "$what: noted in units of 16" runs noted $((calls / 10)) 16
+    is "$what: garbled sessions" runs garbled_sessions "$calls"
+    is "$what: twins" runs asking_twins $((calls / 10))
+    is "$what: asking garbled" runs asking_garbled "$calls"
+    is "$what: edges" runs edges
+    for name in bootloader early_stack asking_bootloader nor_bootloader; do
+        is "$what: $name is built" program "$name" "$objects" "$top/examples/c/$name.c" "$@"
+        is "$what: $name" prints "$top/examples/c/$name.out" "$name"
+    done
+    is "$what: flasher is built" program flasher "$objects" "$top/examples/c/flasher.c" "$@"
+    printf '\377\377\377\377\377\377\377\377\377\377\000\001UFD\020\161\310\121\014' > "$work/ones.dfu"
+    is "$what: flasher" prints "$top/examples/c/flasher.out" flasher "${ones:-$work/ones.dfu}"
+}
+# digests WHAT FOLDER CALLS REFERENCE SEED.. -- WORD..: the digests of so many calls for each seed are those in REFERENCE/digest.SEED, and of
+# the host in REFERENCE/digest_host.
+digests() {
+    what=$1
+    objects=$2
+    calls=$3
+    reference=$4
+    shift 4
+    seeds=
+    while [ "$1" != -- ]; do
+        seeds="$seeds $1"
+        shift
+    done
+    shift
+    for name in digest digest_host; do
+        is "$what: $name is built" program "$name" "$objects" "$top/tests/bare/$name.c" "$@"
+    done
+    for seed in $seeds; do
+        is "$what: digest of seed $seed" prints "$reference/digest.$seed" digest "$calls" "$seed" 1
+    done
+    is "$what: digest of the host" prints "$reference/digest_host" digest_host "$calls" 1
+}
