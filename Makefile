@@ -24,7 +24,7 @@ DESTDIR ?=
 BUILD ?= build
 PKG_CONFIG ?= pkg-config
 ifeq ($(origin CC),default)
-CC = gcc
+CC := $(if $(shell command -v gcc 2> /dev/null),gcc,cc)
 endif
 ifeq ($(origin AR),default)
 AR = $(shell $(CC) -print-prog-name=ar)

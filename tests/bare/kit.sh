@@ -178,9 +178,9 @@ sizes() {
         is "$target: what ${library##*/} needs" needs_only "$library" "$4"
     done
     program stack "$top/tests/c/stack.c" "$device"
-    is "$target: stack of the device" deepest stack 9000
+    is "$target: stack of the device" deepest stack 6200
     program host_stack "$top/tests/c/host_stack.c" "$host"
-    is "$target: stack of the host" deepest host_stack 1000
+    is "$target: stack of the host" deepest host_stack 760
     program asking_stack "$top/tests/c/asking_stack.c" "$asks" "$device"
-    is "$target: stack of the device that asks" deepest asking_stack 8100
+    is "$target: stack of the device that asks" deepest asking_stack 7700
 }

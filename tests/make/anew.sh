@@ -39,7 +39,7 @@ is 'the other build' wait "$first"
 unsaid 'Error'
 says 0
 compiled 'both are done' 0
-is 'the program' ./build/dfu --version
+is 'the program' sh -c './build/dfu --version > /dev/null'
 equal 'nothing is left beside' '' "$(find build -name '*.[0-9]*')"
 
 # Folders.
