@@ -1,10 +1,17 @@
 /* Calls with garbled records, mediums and blocks: each answers or refuses as its header says, a refusal changes nothing, no call
- * changes the flash, and no write is asked for outside the spare slot of flash that has an image. */
+ * changes the flash, and no write is asked for outside the spare slot of flash that has an image. It takes how many calls to make, and a
+ * seed; the digest that it prints is of all that the calls gave and left, so that two builds of the library can be compared. */
 #include "asking_driver.h"
 
 static const uint32_t units[] = {1, 16, 64, 256};
 static struct board board, kept;
 static long answers, asks, pieces, refusals[16];
+static uint32_t sum = 2166136261u;
+
+static void add(const void *bytes, size_t length) {
+    for (const uint8_t *at = bytes; length--; at++)
+        sum = (sum ^ *at) * 16777619u;
+}
 
 static void stop(const char *what, long call) {
     printf("asking_garbled: call %ld: %s\n", call, what);
@@ -79,6 +86,7 @@ static void carry_on(int32_t answer) {
 int main(int count, char **words) {
     static uint8_t body[MOST_BLOCK];
     long all = count > 1 ? atol(words[1]) : 1000;
+    dice = count > 2 ? (uint32_t)atol(words[2]) : dice;
     for (long call = 0; call < all; call++) {
         uint8_t setup[8];
         struct dfu_ask ask = {7, 7, 7, {7}};
@@ -98,6 +106,8 @@ int main(int count, char **words) {
         uint32_t what = roll(10);
         kept = board;
         int32_t result = one_call(setup, body, what, &ask);
+        add(&result, sizeof result), add(&ask, sizeof ask), add(&board.device, sizeof board.device);
+        add(board.pending, sizeof board.pending), add(board.out, sizeof board.out);
         if (memcmp(kept.flash, board.flash, board.size) != 0)
             stop("it wrote", call);
         if (result >= -1)
@@ -131,6 +141,6 @@ int main(int count, char **words) {
     printf("asking_garbled: %ld calls, %ld answers, %ld asks, %ld pieces; refused:", all, answers, asks, pieces);
     for (int i = 2; i < 14; i++)
         printf(" %ld", refusals[i]);
-    printf("\n");
+    printf("; digest %08lx\n", (unsigned long)sum);
     return 0;
 }

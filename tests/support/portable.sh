@@ -38,38 +38,40 @@ prints() {
     runs "$@" && tr -d '\r' < "$work/printed" | cmp - "$wanted"
 }
 # suite WHAT FOLDER CALLS WORD..: the programs of tests/c and examples/c, compiled with these words over the objects in FOLDER. CALLS is how
-# many calls of chance each of them makes at most.
+# many calls of chance each of them makes at most. The program that takes minutes, asking_power, is left out if `is_short` is 1.
 suite() {
-    what=$1
+    label=$1
     objects=$2
     calls=$3
     shift 3
-    for name in rows asking power sessions asking_rows asking_power asking_format; do
-        is "$what: $name is built" program "$name" "$objects" "$top/tests/c/$name.c" "$@"
-        is "$what: $name" runs "$name"
+    for name in rows asking power sessions asking_rows asking_format asking_power; do
+        [ "$name" != asking_power ] || [ "${is_short-0}" -eq 0 ] || continue
+        is "$label: $name is built" program "$name" "$objects" "$top/tests/c/$name.c" "$@"
+        is "$label: $name" runs "$name"
     done
     for name in garbled noted garbled_sessions asking_twins asking_garbled edges; do
-        is "$what: $name is built" program "$name" "$objects" "$top/tests/c/$name.c" "$@"
+        is "$label: $name is built" program "$name" "$objects" "$top/tests/c/$name.c" "$@"
     done
-    is "$what: garbled" runs garbled "$calls"
-    is "$what: noted" runs noted $((calls / 2))
-    is "$what: noted in units of 16" runs noted $((calls / 10)) 16
-    is "$what: garbled sessions" runs garbled_sessions "$calls"
-    is "$what: twins" runs asking_twins $((calls / 10))
-    is "$what: asking garbled" runs asking_garbled "$calls"
-    is "$what: edges" runs edges
+    is "$label: garbled" runs garbled "$calls"
+    is "$label: noted" runs noted "$calls"
+    is "$label: noted in units of 16" runs noted "$calls" 16
+    is "$label: garbled sessions" runs garbled_sessions "$calls"
+    is "$label: twins" runs asking_twins $((calls / 10))
+    is "$label: asking garbled" runs asking_garbled "$calls"
+    is "$label: edges" runs edges
     for name in bootloader early_stack asking_bootloader nor_bootloader; do
-        is "$what: $name is built" program "$name" "$objects" "$top/examples/c/$name.c" "$@"
-        is "$what: $name" prints "$top/examples/c/$name.out" "$name"
+        is "$label: $name is built" program "$name" "$objects" "$top/examples/c/$name.c" "$@"
+        is "$label: $name" prints "$top/examples/c/$name.out" "$name"
     done
-    is "$what: flasher is built" program flasher "$objects" "$top/examples/c/flasher.c" "$@"
+    is "$label: flasher is built" program flasher "$objects" "$top/examples/c/flasher.c" "$@"
     printf '\377\377\377\377\377\377\377\377\377\377\000\001UFD\020\161\310\121\014' > "$work/ones.dfu"
-    is "$what: flasher" prints "$top/examples/c/flasher.out" flasher "${ones:-$work/ones.dfu}"
+    is "$label: flasher" prints "$top/examples/c/flasher.out" flasher "${ones:-$work/ones.dfu}"
 }
-# digests WHAT FOLDER CALLS REFERENCE SEED.. -- WORD..: the digests of so many calls for each seed are those in REFERENCE/digest.SEED, and of
-# the host in REFERENCE/digest_host.
+# digests WHAT FOLDER CALLS REFERENCE SEED.. -- WORD..: the digests of so many calls for each seed are those in the folder REFERENCE, of the
+# device in digest.SEED, of the device that asks in asking.SEED, of sessions of the host in digest_sessions.SEED, of its calls in
+# digest_host.
 digests() {
-    what=$1
+    label=$1
     objects=$2
     calls=$3
     reference=$4
@@ -80,11 +82,14 @@ digests() {
         shift
     done
     shift
-    for name in digest digest_host; do
-        is "$what: $name is built" program "$name" "$objects" "$top/tests/bare/$name.c" "$@"
+    for name in digest digest_host digest_sessions; do
+        is "$label: $name is built" program "$name" "$objects" "$top/tests/bare/$name.c" "$@"
     done
+    is "$label: asking_garbled is built" program asking_garbled "$objects" "$top/tests/c/asking_garbled.c" "$@"
     for seed in $seeds; do
-        is "$what: digest of seed $seed" prints "$reference/digest.$seed" digest "$calls" "$seed" 1
+        is "$label: digest of seed $seed" prints "$reference/digest.$seed" digest "$calls" "$seed" 1
+        is "$label: sessions of seed $seed" prints "$reference/digest_sessions.$seed" digest_sessions 5000 "$seed"
+        is "$label: asking of seed $seed" prints "$reference/asking.$seed" asking_garbled "$calls" "$seed"
     done
-    is "$what: digest of the host" prints "$reference/digest_host" digest_host "$calls" 1
+    is "$label: digest of the host" prints "$reference/digest_host" digest_host "$calls" 1
 }

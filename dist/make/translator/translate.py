@@ -58,4 +58,5 @@ def main():
     sys.stdout.write("\n".join([head(header, prototypes + functions), tables, "", prototypes, "", functions, ""]))
 
 
-main()
+if __name__ == "__main__":
+    main()

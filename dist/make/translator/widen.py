@@ -53,4 +53,5 @@ def main():
         print(line if instead is None else "\n".join("  " + it for it in instead))
 
 
-main()
+if __name__ == "__main__":
+    main()
