@@ -1,5 +1,14 @@
-# shellcheck shell=sh disable=SC2154
-# What crates.txt says. A script that reads this file has set `top`, the folder of the repository.
+# shellcheck shell=sh disable=SC2034,SC2154
+# What dist/ is made of, and what crates.txt says of it. A script that reads this file has set `top`, the folder of the repository.
+
+# The program; each library with the name of its header; and the libraries that the page takes, as modules of WebAssembly.
+program=dfu_cmd
+libraries='dfu_device_c:dfu_device dfu_host_c:dfu_host dfu_asks_c:dfu_asking'
+of_page='dfu_device_c dfu_host_c'
+wanted=$program
+for it in $libraries; do
+    wanted="$wanted ${it%:*}"
+done
 
 # needs NAME: the libraries that a crate names; those without a folder in crates/ are of the kit.
 needs() {
