@@ -178,9 +178,9 @@ sizes() {
         is "$target: what ${library##*/} needs" needs_only "$library" "$4"
     done
     program stack "$top/tests/c/stack.c" "$device"
-    is "$target: stack of the device" deepest stack 6200
+    is "$target: stack of the device" deepest stack 6300
     program host_stack "$top/tests/c/host_stack.c" "$host"
-    is "$target: stack of the host" deepest host_stack 760
+    is "$target: stack of the host" deepest host_stack 850
     program asking_stack "$top/tests/c/asking_stack.c" "$asks" "$device"
-    is "$target: stack of the device that asks" deepest asking_stack 7700
+    is "$target: stack of the device that asks" deepest asking_stack 7900
 }
