@@ -6,24 +6,24 @@ use Rattle.dfu_slots.specs.Seen.{image_of}
 use Rattle.dfu_device.specs.Setting.{Setting}
 use Rattle.dfu_host.specs.declared.report.Report.{Report}
 use Rattle.dfu_host.specs.declared.report.Report.TheVariants.{Uploaded}
-use Rattle.dfu_link.specs.declared.fault.LinkFault.{LinkFault}
-use Rattle.dfu_link.specs.Session.{Machine, IsOneOf, Kind, AnOffer, Step, Legal, stops, and_then, said}
-use Rattle.dfu_link.specs.Simulation.{offers_after}
-use Rattle.dfu_link.specs.Play.{Answered, given}
-use Rattle.dfu_link.specs.Agreement.{AgreesOn}
-use Rattle.dfu_link.specs.Bytes.{link_of}
-use Rattle.dfu_link.specs.Bench.{Bench, ShowsActive}
-use Rattle.dfu_link.specs.Happening.{Happening, Goes, Pass, unharmed}
-use Rattle.dfu_link.specs.Understood.{ImageShown}
-use Rattle.dfu_link.specs.Comes.{Comes, refuses, happens, shown_as}
-use Rattle.dfu_link.specs.Standing.{IsSteady}
+use Rattle.dfu_sim.specs.declared.fault.LinkFault.{LinkFault}
+use Rattle.dfu_sim.specs.Session.{Machine, IsOneOf, Kind, AnOffer, Step, Legal, stops, and_then, said}
+use Rattle.dfu_sim.specs.Simulation.{offers_after}
+use Rattle.dfu_sim.specs.Play.{Answered, given}
+use Rattle.dfu_sim.specs.Agreement.{AgreesOn}
+use Rattle.dfu_sim.specs.Bytes.{link_of}
+use Rattle.dfu_sim.specs.Bench.{Bench, ShowsActive}
+use Rattle.dfu_sim.specs.Happening.{Happening, Goes, Pass, unharmed}
+use Rattle.dfu_sim.specs.Understood.{ImageShown}
+use Rattle.dfu_sim.specs.Comes.{Comes, refuses, happens, shown_as}
+use Rattle.dfu_sim.specs.Standing.{IsSteady}
 use Rattle.dfu_link.specs.Texts.{uploaded_line, told_line, answer_line, line_of_image, state_text}
 use Rattle.dfu_link.specs.Said.{Said, Show}
 use Rattle.dfu_link.specs.ScriptRun.{AllCome, none_comes, then_comes, Point, LineActs, skips, limits_to as acts_limits, plays, goes_on as acts_on, shows as acts_shows, expects as acts_expects, LinesRun, stays, then_runs}
 use Rattle.dfu_link.specs.ScriptLegal.{begun_with, Vouches, GoesWith, reported, EventsGo, no_event, one_event, LineGoes, does_nothing, limits_to, lets_come, goes_on, shows, expects, LinesGo, no_line, one_line}
 use Rattle.dfu_link.proofs.PlayLaws.{replicate_more}
-use Rattle.dfu_link.proofs.Saying.{only_offered}
-use Rattle.dfu_link.proofs.Steady.{comes_follow, comes_sure, uploads_give}
+use Rattle.dfu_sim.proofs.Saying.{only_offered}
+use Rattle.dfu_sim.proofs.Steady.{comes_follow, comes_sure, uploads_give}
 
 legal_on : {t : Bool} {n : ℕ} {m mid m' : Machine} {kinds : List Kind} {reports : List Report} {kind : Kind} {report : Option Report}
     → Legal t n m kinds reports mid → Step t n kind mid report m' → Legal t n m (kinds ++ kind ∷ []) (reports ++ said report) m'

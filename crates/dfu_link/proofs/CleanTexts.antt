@@ -9,7 +9,7 @@ use Rattle.dfu_host.specs.ReportName.{report_name}
 use Rattle.dfu_wire.specs.Code.{code_name}
 use Rattle.dfu_device.specs.Shown.{Shown}
 use Rattle.dfu_slots.specs.Seen.{image_of}
-use Rattle.dfu_link.specs.declared.fault.LinkFault.{LinkFault}
+use Rattle.dfu_sim.specs.declared.fault.LinkFault.{LinkFault}
 use Rattle.dfu_link.specs.declared.tracing.place.Place.{Place}
 use Rattle.dfu_link.specs.declared.tracing.place.Place.TheVariants.{Start, Kept}
 use Rattle.dfu_link.specs.KeptLines.{is_kept, goes_on, place_in, kept_before, kept_in}

@@ -7,7 +7,7 @@ use Rattle.dfu_link.specs.Texts.{image_line}
 use Rattle.dfu_link.specs.Words.{lines_of}
 use Rattle.dfu_link.specs.Lines.{line_of}
 use Rattle.dfu_link.specs.ScriptRun.{Point}
-use Rattle.dfu_link.specs.Bench.{Nobody}
+use Rattle.dfu_sim.specs.Bench.{Nobody}
 use Rattle.dfu_link.specs.Said.{Said, Offer, Does}
 use Rattle.dfu_link.specs.Expecting.{Expectation, Fails}
 use Rattle.dfu_link.specs.Falls.{BreaksIn, in_events, in_passes, in_show, for_file, for_tear, LineFalls, NextFalls}

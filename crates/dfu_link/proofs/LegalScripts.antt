@@ -8,16 +8,16 @@ use Rattle.dfu_device.specs.Stage.{Stage}
 use Rattle.dfu_device.specs.Setting.{Setting}
 use Rattle.dfu_device.specs.Shown.{Shown}
 use Rattle.dfu_host.specs.declared.report.Report.{Report}
-use Rattle.dfu_link.specs.Session.{Machine, Legal, stops}
-use Rattle.dfu_link.specs.Agreement.{intake_of, pending_in, IsShutOffer}
-use Rattle.dfu_link.specs.Understood.{ImageShown}
+use Rattle.dfu_sim.specs.Session.{Machine, Legal, stops}
+use Rattle.dfu_sim.specs.Agreement.{intake_of, pending_in, IsShutOffer}
+use Rattle.dfu_sim.specs.Understood.{ImageShown}
 use Rattle.dfu_link.specs.Texts.{line_of_image, image_line, state_text}
 use Rattle.dfu_link.specs.ScriptRun.{Settings, at_rest, blank, Point, point, SetsUp, Starts, IsRun, WroteRun}
 use Rattle.dfu_link.specs.Falls.{BreaksIn, in_events as breaks_in_events, in_passes as breaks_in_passes, in_show as breaks_in_show, NextFalls, Falls, no_memory, in_setting, at_start, in_run}
 use Rattle.dfu_link.specs.declared.scripting.fault.ScriptFault.{ScriptFault}
 use Rattle.dfu_link.specs.declared.scripting.fault.ScriptFault.TheVariants.{BadLine, LateConfig, BadConfig, Expected, NonePrinted, TooLarge, NoMemory, Read, Write}
 use Rattle.dfu_link.specs.ScriptLegal.{begun_with, Vouches, RunsLegally, IsLegal, OutOfNext, nothing_out, in_events, in_passes, in_show, in_image, StopsLegally, before_start, after_start, WroteLegal}
-use Rattle.dfu_link.proofs.Steady.{rest_is_steady}
+use Rattle.dfu_sim.proofs.Steady.{rest_is_steady}
 use Rattle.dfu_link.proofs.Beside.{Beside, bare, all_gone, cur_shown, line_gone, LinesGone, lines_gone}
 
 -- A device that starts stands beside the machine to which nothing was offered.

@@ -5,8 +5,8 @@ use Rattle.std.specs.Io.KnownBytes.{Appends, IsAtEnd}
 use Rattle.dfu_device.specs.Shown.{Shown}
 use Rattle.dfu_slots.specs.Medium.{Fuse}
 use Rattle.dfu_slots.specs.Medium.Fuse.{Whole}
-use Rattle.dfu_link.specs.Play.{given}
-use Rattle.dfu_link.specs.Bytes.{armed}
+use Rattle.dfu_sim.specs.Play.{given}
+use Rattle.dfu_sim.specs.Bytes.{armed}
 use Rattle.dfu_link.specs.Texts.{image_line}
 use Rattle.dfu_link.specs.Said.{Said}
 use Rattle.dfu_link.specs.Lines.{line_of}

@@ -7,11 +7,11 @@ use Rattle.dfu_suffix.specs.Writing.{IsOutInPart}
 use Rattle.dfu_host.specs.declared.limits.Limits.{Limits}
 use Rattle.dfu_host.specs.declared.report.Report.{Report}
 use Rattle.dfu_host.specs.declared.report.Report.TheVariants as report
-use Rattle.dfu_link.specs.declared.fault.LinkFault.{LinkFault}
-use Rattle.dfu_link.specs.declared.fault.LinkFault.TheVariants as link
-use Rattle.dfu_link.specs.Bench.{Bench, LinkState, ShowsActive}
-use Rattle.dfu_link.specs.Happening.{Happening, Goes, Pass, unharmed}
-use Rattle.dfu_link.specs.Comes.{HasCome}
+use Rattle.dfu_sim.specs.declared.fault.LinkFault.{LinkFault}
+use Rattle.dfu_sim.specs.declared.fault.LinkFault.TheVariants as link
+use Rattle.dfu_sim.specs.Bench.{Bench, LinkState, ShowsActive}
+use Rattle.dfu_sim.specs.Happening.{Happening, Goes, Pass, unharmed}
+use Rattle.dfu_sim.specs.Comes.{HasCome}
 use Rattle.dfu_link.specs.Texts.{told_line, answer_line}
 use Rattle.dfu_link.specs.Said.{GoesOn}
 use Rattle.dfu_link.specs.ScriptRun.{AllCome, none_comes, Point, LineActs, goes_on}

@@ -4,13 +4,13 @@ use Rattle.std.specs.Prelude.{replicate, Result, Err}
 use Rattle.std.specs.Io.KnownBytes.{Keeps}
 use Rattle.dfu_host.specs.declared.limits.Limits.{Limits}
 use Rattle.dfu_host.specs.declared.report.Report.{Report}
-use Rattle.dfu_link.specs.Bench.{Bench, ShowsActive, LinkState}
-use Rattle.dfu_link.specs.declared.aim.Aim.{Aim}
-use Rattle.dfu_link.specs.Happening.{Happening, Offers}
-use Rattle.dfu_link.specs.Refusing.{IsLive}
-use Rattle.dfu_link.specs.Comes.{Comes, refuses, HasCome}
-use Rattle.dfu_link.specs.declared.fault.LinkFault.{LinkFault}
-use Rattle.dfu_link.specs.declared.fault.LinkFault.TheVariants.{HostBusy}
+use Rattle.dfu_sim.specs.Bench.{Bench, ShowsActive, LinkState}
+use Rattle.dfu_sim.specs.declared.aim.Aim.{Aim}
+use Rattle.dfu_sim.specs.Happening.{Happening, Offers}
+use Rattle.dfu_sim.specs.Refusing.{IsLive}
+use Rattle.dfu_sim.specs.Comes.{Comes, refuses, HasCome}
+use Rattle.dfu_sim.specs.declared.fault.LinkFault.{LinkFault}
+use Rattle.dfu_sim.specs.declared.fault.LinkFault.TheVariants.{HostBusy}
 use Rattle.dfu_link.specs.declared.scripting.fault.ScriptFault.{ScriptFault}
 use Rattle.dfu_suffix.specs.Writing.{IsOutInPart}
 use Rattle.dfu_link.specs.Texts.{told_line, answer_line}

@@ -5,14 +5,15 @@ use Rattle.std.specs.Prelude.{OnOk, OnErr, IfSome, replicate}
 use Rattle.dfu_host.specs.declared.report.Report.{Report}
 use Rattle.dfu_host.specs.declared.limits.Limits.{Limits}
 use Rattle.dfu_link.specs.declared.scripting.fault.ScriptFault.{ScriptFault}
-use Rattle.dfu_link.specs.Happening.{Happening, Offers, Uploads, Aborts, Goes, Passes, Resets, Cuts}
-use Rattle.dfu_link.specs.Bench.{Bench}
+use Rattle.dfu_sim.specs.Happening.{Happening, Offers, Uploads, Aborts, Goes, Passes, Resets, Cuts}
+use Rattle.dfu_sim.specs.Bench.{Bench}
 use Rattle.dfu_link.specs.Texts.{told_line, refusal_line}
 use Rattle.dfu_link.specs.Said.{ConfigLine, TheIds, TheDevice, TheUnit, TheSector, TheCapacity, TheImage, EventLine, Offer, Upload, Abort, Go, Time, Reset, Cut, Said, Blank, Sets, LimitsTo, Does, GoesOn, Show, Expects}
 use Rattle.dfu_link.specs.Lines.{line_of}
 use Rattle.dfu_link.specs.ScriptRun.{Settings, set as set_by, beginning, at_rest, Point, events_of, Prepares, prepared, nothing, then_prepares, IsReady, HasToAct}
-use Rattle.dfu_link.specs.Headline.{Begun, WithOffer, AsUpload, HeadlineHolds}
+use Rattle.dfu_sim.specs.Headline.{Begun, WithOffer, AsUpload, HeadlineHolds}
 use Rattle.dfu_link.specs.ScriptHeadline as headline
+use Rattle.dfu_sim.specs.BegunBy.{begun_by}
 use Rattle.dfu_link.specs.ScriptHeadline.{IsKnownImage}
 use Rattle.dfu_link.specs.Printed.{Brings, Events, brought, report_text, EventsPrint, no_event, then_prints, then_refused, LinePrints, prints_nothing, prints_events, prints_passes, prints_image, LinesPrint, no_line, then_line, NeedsDevice, StartsWith, at_end, at_line, after_nothing, after_image, TextPrints, WrotePrinted, PartPrints, nothing_out, in_events, in_line, in_image, StopsPrinted, before_start, after_start}
 use Rattle.dfu_link.proofs.LineBrings.{some_of, sessions_in, set_brings, said_brings, line_brings}
@@ -50,8 +51,8 @@ same_text (Some report) image = refl
 -- One event more after which the headline holds.
 one_prints : {factory : List ℕ} {past : List Begun} {b : Bench} {events : List (Option Begun)} {printed : List ℕ} {mid : List Begun}
     {c c' : Bench} {report : Option Report} (h : Happening) → EventsPrint factory past b events printed mid c
-    → (holds : HeadlineHolds factory (headline.begun_by h mid) report c')
-    → EventsPrint factory past b (events ++ session_by h ∷ []) (printed ++ report_text report holds.says.image) (headline.begun_by h mid) c'
+    → (holds : HeadlineHolds factory (begun_by h mid) report c')
+    → EventsPrint factory past b (events ++ session_by h ∷ []) (printed ++ report_text report holds.says.image) (begun_by h mid) c'
 one_prints (Offers aim file limits) prints holds = then_prints (Some (WithOffer file)) prints holds
 one_prints (Uploads limits) prints holds = then_prints (Some AsUpload) prints holds
 one_prints Aborts prints holds = then_prints None prints holds
@@ -67,9 +68,9 @@ events_print headline.no_event = no_event
 events_print {factory = factory} {past = past} {b = b} {b' = b'}
     (headline.event_holds {hs = hs} {printed = printed} {mid = mid} {report = report} h more holds) =
     subst (λ (events : List (Option Begun)). EventsPrint factory past b events (printed ++ told_line (Ok report) holds.says.image)
-    (headline.begun_by h mid) b') (sym (map-append session_by hs (h ∷ [])))
+    (begun_by h mid) b') (sym (map-append session_by hs (h ∷ [])))
     (subst (λ (text : List ℕ). EventsPrint factory past b (map session_by hs ++ session_by h ∷ []) (printed ++ text)
-    (headline.begun_by h mid) b') (same_text report holds.says.image) (one_prints h (events_print more) holds))
+    (begun_by h mid) b') (same_text report holds.says.image) (one_prints h (events_print more) holds))
 events_print {factory = factory} {past = past} {b = b} {past' = past'} {b' = b'}
     (headline.event_refused {hs = hs} {printed = printed} h fault more why) =
     let why : Refusal fault = refusal fault in

@@ -5,18 +5,19 @@ use Rattle.std.specs.Io.KnownBytes.{Appends}
 use Rattle.dfu_host.specs.declared.report.Report.{Report}
 use Rattle.dfu_host.specs.declared.report.Report.TheVariants.{Uploaded}
 use Rattle.dfu_link.specs.declared.scripting.fault.ScriptFault.{ScriptFault}
-use Rattle.dfu_link.specs.Session.{Machine, Kind, Step}
-use Rattle.dfu_link.specs.Bench.{Bench}
-use Rattle.dfu_link.specs.Happening.{Happening}
+use Rattle.dfu_sim.specs.Session.{Machine, Kind, Step}
+use Rattle.dfu_sim.specs.Bench.{Bench}
+use Rattle.dfu_sim.specs.Happening.{Happening}
 use Rattle.dfu_link.specs.Texts.{uploaded_line, told_line}
 use Rattle.dfu_link.specs.Said.{Said}
 use Rattle.dfu_link.specs.ScriptRun.{Settings, Point}
 use Rattle.dfu_link.specs.ScriptLegal as legal
-use Rattle.dfu_link.specs.Headline.{Begun}
-use Rattle.dfu_link.specs.ScriptHeadline.{begun_by, IsKnownImage, EventsHold, no_event, event_holds, event_refused, LineHolds, blank_line, limits_line, expect_line, event_line, passes_line, show_line, LinesHold, no_line, one_line, ScriptHolds, WroteHeadline, PartHolds, nothing_out, in_events, in_passes, in_show, in_image, StopsWithHeadline, before_start, after_start}
-use Rattle.dfu_link.proofs.Saying.{step_up}
-use Rattle.dfu_link.proofs.Offered.{IsOfPast, past_on}
-use Rattle.dfu_link.proofs.HeadlineKept.{holds_by, holds_after}
+use Rattle.dfu_sim.specs.Headline.{Begun}
+use Rattle.dfu_sim.specs.BegunBy.{begun_by}
+use Rattle.dfu_link.specs.ScriptHeadline.{IsKnownImage, EventsHold, no_event, event_holds, event_refused, LineHolds, blank_line, limits_line, expect_line, event_line, passes_line, show_line, LinesHold, no_line, one_line, ScriptHolds, WroteHeadline, PartHolds, nothing_out, in_events, in_passes, in_show, in_image, StopsWithHeadline, before_start, after_start}
+use Rattle.dfu_sim.proofs.Saying.{step_up}
+use Rattle.dfu_sim.proofs.Offered.{IsOfPast, past_on}
+use Rattle.dfu_sim.proofs.HeadlineKept.{holds_by, holds_after}
 
 -- What is printed of an event: an upload gave the active image.
 line_shows : {tolerant : Bool} {t : ℕ} {kind : Kind} {m m' : Machine} (report : Option Report) → Step tolerant t kind m report m'

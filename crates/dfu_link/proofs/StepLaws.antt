@@ -2,8 +2,8 @@
 use Rattle.std.proofs.Common.{◌≡◌, ℕ, List, [], Option, Some, None, refl, sym, subst}
 use Rattle.std.specs.Prelude.{Result, Ok, Err, OnOk, OnErr, IfErr}
 use Rattle.dfu_host.specs.declared.limits.Limits.{Limits}
-use Rattle.dfu_link.specs.Bench.{Bench}
-use Rattle.dfu_link.specs.Happening.{Happening}
+use Rattle.dfu_sim.specs.Bench.{Bench}
+use Rattle.dfu_sim.specs.Happening.{Happening}
 use Rattle.dfu_link.specs.declared.scripting.fault.ScriptFault.{ScriptFault}
 use Rattle.dfu_link.specs.Texts.{show_line}
 use Rattle.dfu_link.specs.Said.{Said, Blank, LimitsTo, Does, Show, Expects, EventLine}

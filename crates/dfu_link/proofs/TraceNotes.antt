@@ -1,7 +1,7 @@
 -- The writes that a trace tells, one after the other.
 use Rattle.std.proofs.Common.{◌≡◌, ℕ, ◌+◌, ◌<◌, true, List, [], ◌∷◌, ◌++◌, length, take, slice_index_or, sym, ap, ◌∙◌, append_assoc}
 use Rattle.std.proofs.lemmas.List.{append-nil, take_more}
-use Rattle.dfu_link.specs.declared.tracing.noting.WriteNote.{WriteNote}
+use Rattle.dfu_sim.specs.declared.tracing.noting.WriteNote.{WriteNote}
 use Rattle.dfu_link.specs.TraceWords.{comma_text, notes_in_row, note_text}
 
 row_more : (notes : List WriteNote) (note : WriteNote)

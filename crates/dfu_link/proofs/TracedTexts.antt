@@ -3,8 +3,8 @@ use Rattle.std.proofs.Common.{◌≡◌, ◌≢◌, ℕ, ◌+◌, ◌≤◌, Boo
 use Rattle.std.proofs.lemmas.List.{append-nil}
 use Rattle.std.specs.Io.KnownBytes.{Appends}
 use Rattle.dfu_suffix.specs.Writing.{IsOutInPart}
-use Rattle.dfu_link.specs.declared.fate.Fate.{Fate as GivenFate}
-use Rattle.dfu_link.specs.declared.tracing.step.Step.{Step}
+use Rattle.dfu_sim.specs.declared.fate.Fate.{Fate as GivenFate}
+use Rattle.dfu_sim.specs.declared.tracing.step.Step.{Step}
 use Rattle.dfu_link.specs.Expecting.{Expectation, Fails}
 use Rattle.dfu_link.specs.KeptLines.{kept_before, kept_in, is_kept, goes_on, seen_of}
 use Rattle.dfu_link.specs.declared.tracing.line.Count.{Count}

@@ -5,9 +5,9 @@ use Rattle.dfu_slots.specs.Units.{IsMultiple}
 use Rattle.dfu_device.specs.declared.fault.ConfigFault.{ConfigFault}
 use Rattle.dfu_device.specs.Setting.{FirstFault}
 use Rattle.dfu_device.specs.Shown.{Shown}
-use Rattle.dfu_link.specs.declared.aim.Aim.{Aim}
-use Rattle.dfu_link.specs.Bench.{Nobody, Bench}
-use Rattle.dfu_link.specs.Happening.{Happening}
+use Rattle.dfu_sim.specs.declared.aim.Aim.{Aim}
+use Rattle.dfu_sim.specs.Bench.{Nobody, Bench}
+use Rattle.dfu_sim.specs.Happening.{Happening}
 use Rattle.dfu_suffix.specs.Writing.{IsOutInPart}
 use Rattle.dfu_link.specs.Texts.{image_line, show_line}
 use Rattle.dfu_link.specs.Words.{lines_of}

@@ -7,9 +7,9 @@ use Rattle.dfu_device.specs.Shown.{Shown}
 use Rattle.dfu_host.specs.declared.report.Report.{Report}
 use Rattle.dfu_link.specs.Words.{bytes_of, number_of, endless, lines_of, words_of}
 use Rattle.dfu_link.specs.Texts.{report_line, line_of_image}
-use Rattle.dfu_link.specs.Bench.{Bench}
+use Rattle.dfu_sim.specs.Bench.{Bench}
 use Rattle.dfu_link.specs.ScriptRun.{at_rest}
-use Rattle.dfu_link.specs.Headline.{Begun, WithOffer, AsUpload, HeadlineHolds}
+use Rattle.dfu_sim.specs.Headline.{Begun, WithOffer, AsUpload, HeadlineHolds}
 use Rattle.dfu_link.specs.ScriptHeadline.{IsKnownImage}
 
 -- What a line brings.

@@ -5,25 +5,16 @@ use Rattle.dfu_suffix.specs.Writing.{IsOutInPart}
 use Rattle.dfu_slots.specs.Image.{Active}
 use Rattle.dfu_device.specs.Shown.{Shown}
 use Rattle.dfu_host.specs.declared.report.Report.{Report}
-use Rattle.dfu_link.specs.declared.fault.LinkFault.{LinkFault}
-use Rattle.dfu_link.specs.Happening.{Happening, Offers, Uploads, Aborts, Goes, Passes, Resets, Cuts, Pass, unharmed}
-use Rattle.dfu_link.specs.Refusing.{IsRefused}
-use Rattle.dfu_link.specs.Bench.{Bench}
-use Rattle.dfu_link.specs.Headline.{Begun, WithOffer, AsUpload, WasOffered, HeadlineHolds}
+use Rattle.dfu_sim.specs.declared.fault.LinkFault.{LinkFault}
+use Rattle.dfu_sim.specs.Happening.{Happening, Pass, unharmed}
+use Rattle.dfu_sim.specs.Refusing.{IsRefused}
+use Rattle.dfu_sim.specs.Bench.{Bench}
+use Rattle.dfu_sim.specs.BegunBy.{begun_by}
+use Rattle.dfu_sim.specs.Headline.{Begun, WasOffered, HeadlineHolds}
 use Rattle.dfu_link.specs.Texts.{told_line, refusal_line, state_text, line_of_image}
 use Rattle.dfu_link.specs.Said.{EventLine, Said, Blank, LimitsTo, Does, Go, GoesOn, Show, Expects}
 use Rattle.dfu_link.specs.Lines.{line_of}
 use Rattle.dfu_link.specs.ScriptRun.{Settings, at_rest, Point, point, events_of, SetsUp}
-
--- The sessions that have begun once this has happened too; the last one comes first.
-abbrev pub begun_by : Happening → List Begun → List Begun
-begun_by (Offers aim file limits) past = WithOffer file ∷ past
-begun_by (Uploads limits) past = AsUpload ∷ past
-begun_by Aborts past = past
-begun_by (Goes fate harm) past = past
-begun_by (Passes ms) past = past
-begun_by Resets past = past
-begun_by Cuts past = past
 
 -- This image is active, and it is the factory image or the whole payload of a file offered so far.
 pub record IsKnownImage (factory : List ℕ) (past : List Begun) (b : Bench) (image : List ℕ) : Type 0 where

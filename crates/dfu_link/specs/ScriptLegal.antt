@@ -4,13 +4,13 @@ use Rattle.std.specs.Io.KnownBytes.{Appends}
 use Rattle.dfu_suffix.specs.Writing.{IsOutInPart}
 use Rattle.dfu_device.specs.Shown.{Shown}
 use Rattle.dfu_host.specs.declared.report.Report.{Report}
-use Rattle.dfu_link.specs.declared.fault.LinkFault.{LinkFault}
-use Rattle.dfu_link.specs.Session.{Machine, NoOne, IsOneOf, Kind, Legal, said}
-use Rattle.dfu_link.specs.Agreement.{AgreesOn}
-use Rattle.dfu_link.specs.Happening.{Happening, Pass, unharmed}
-use Rattle.dfu_link.specs.Refusing.{IsRefused}
-use Rattle.dfu_link.specs.Bench.{Bench, linked}
-use Rattle.dfu_link.specs.Following.{IsFollowed}
+use Rattle.dfu_sim.specs.declared.fault.LinkFault.{LinkFault}
+use Rattle.dfu_sim.specs.Session.{Machine, NoOne, IsOneOf, Kind, Legal, said}
+use Rattle.dfu_sim.specs.Agreement.{AgreesOn}
+use Rattle.dfu_sim.specs.Happening.{Happening, Pass, unharmed}
+use Rattle.dfu_sim.specs.Refusing.{IsRefused}
+use Rattle.dfu_sim.specs.Bench.{Bench, linked}
+use Rattle.dfu_sim.specs.Following.{IsFollowed}
 use Rattle.dfu_link.specs.Texts.{told_line, state_text, line_of_image}
 use Rattle.dfu_link.specs.Said.{EventLine, Said, Blank, LimitsTo, Does, Go, GoesOn, Show, Expects}
 use Rattle.dfu_link.specs.Lines.{line_of}

@@ -10,11 +10,11 @@ use Rattle.dfu_host.specs.declared.action.Action.{Action}
 use Rattle.dfu_host.specs.declared.action.Action.TheVariants as action
 use Rattle.dfu_host.specs.declared.phase.Phase.{Phase}
 use Rattle.dfu_host.specs.declared.phase.Phase.TheVariants as phase
-use Rattle.dfu_link.specs.declared.back.Back.{Back}
-use Rattle.dfu_link.specs.declared.back.Back.TheVariants as back
-use Rattle.dfu_link.specs.declared.fate.Fate.{Fate as GivenFate}
-use Rattle.dfu_link.specs.declared.fate.Fate.TheVariants as fate
-use Rattle.dfu_link.specs.declared.tracing.step.Step.{Step}
+use Rattle.dfu_sim.specs.declared.back.Back.{Back}
+use Rattle.dfu_sim.specs.declared.back.Back.TheVariants as back
+use Rattle.dfu_sim.specs.declared.fate.Fate.{Fate as GivenFate}
+use Rattle.dfu_sim.specs.declared.fate.Fate.TheVariants as fate
+use Rattle.dfu_sim.specs.declared.tracing.step.Step.{Step}
 use Rattle.dfu_link.specs.Texts.{hex_text}
 use Rattle.dfu_link.specs.TraceWords.{setup_of, request_of, asked_text, bytes_text, notes_text}
 

@@ -12,9 +12,9 @@ use Rattle.dfu_wire.specs.Code.{code_name}
 use Rattle.dfu_wire.specs.Request.{request_name}
 use Rattle.dfu_wire.specs.State.{state_name}
 use Rattle.dfu_wire.specs.Status.{StatusFields}
-use Rattle.dfu_link.specs.declared.tracing.noting.WriteEnd.{WriteEnd}
-use Rattle.dfu_link.specs.declared.tracing.noting.WriteEnd.TheVariants.{Worked, Failed, Lied}
-use Rattle.dfu_link.specs.declared.tracing.noting.WriteNote.{WriteNote}
+use Rattle.dfu_sim.specs.declared.tracing.noting.WriteEnd.{WriteEnd}
+use Rattle.dfu_sim.specs.declared.tracing.noting.WriteEnd.TheVariants.{Worked, Failed, Lied}
+use Rattle.dfu_sim.specs.declared.tracing.noting.WriteNote.{WriteNote}
 
 -- The setup that eight bytes are (USB DFU 1.1, section 3): numbers of two bytes have their low byte first.
 abbrev pub setup_of : List ℕ → Setup

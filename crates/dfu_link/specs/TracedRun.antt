@@ -2,14 +2,14 @@
 use Rattle.std.specs.Prelude.{◌≡◌, ℕ, ◌+◌, ◌-◌, ◌%◌, ◌^◌, min, List, [], ◌∷◌, ◌++◌, length, Option, Some, Result, replicate}
 use Rattle.std.specs.Io.KnownBytes.{Appends}
 use Rattle.dfu_device.specs.Shown.{Shown}
-use Rattle.dfu_link.specs.declared.fate.Fate.{Fate as GivenFate}
-use Rattle.dfu_link.specs.declared.fault.LinkFault.{LinkFault}
-use Rattle.dfu_link.specs.declared.tracing.step.Step.{Step}
-use Rattle.dfu_link.specs.Happening.{Happening, Offers, Uploads, Aborts, Goes, Passes, Resets, Cuts, Pass, unharmed, fate_of, harm_in}
-use Rattle.dfu_link.specs.Bench.{Bench, Nobody}
-use Rattle.dfu_link.specs.Play.{Answered}
-use Rattle.dfu_link.specs.Comes.{Comes}
-use Rattle.dfu_link.specs.Tracing.{IsStep}
+use Rattle.dfu_sim.specs.declared.fate.Fate.{Fate as GivenFate}
+use Rattle.dfu_sim.specs.declared.fault.LinkFault.{LinkFault}
+use Rattle.dfu_sim.specs.declared.tracing.step.Step.{Step}
+use Rattle.dfu_sim.specs.Happening.{Happening, Offers, Uploads, Aborts, Goes, Passes, Resets, Cuts, Pass, unharmed, fate_of, harm_in}
+use Rattle.dfu_sim.specs.Bench.{Bench, Nobody}
+use Rattle.dfu_sim.specs.Play.{Answered}
+use Rattle.dfu_sim.specs.Comes.{Comes}
+use Rattle.dfu_sim.specs.Tracing.{IsStep}
 use Rattle.dfu_link.specs.TraceText.{time_in, step_text}
 use Rattle.dfu_link.specs.Texts.{answer_line, image_line, show_line}
 use Rattle.dfu_link.specs.Said.{Said, Blank, Sets, LimitsTo, Does, GoesOn, Show, Expects}

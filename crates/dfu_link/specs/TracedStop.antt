@@ -2,8 +2,8 @@
 use Rattle.std.specs.Prelude.{◌≡◌, ℕ, ◌+◌, List, [], ◌∷◌, ◌++◌, length, Option, Some, replicate}
 use Rattle.std.specs.Io.KnownBytes.{Appends}
 use Rattle.dfu_device.specs.Shown.{Shown}
-use Rattle.dfu_link.specs.Happening.{Happening, Goes, Pass, unharmed}
-use Rattle.dfu_link.specs.Bench.{Bench}
+use Rattle.dfu_sim.specs.Happening.{Happening, Goes, Pass, unharmed}
+use Rattle.dfu_sim.specs.Bench.{Bench}
 use Rattle.dfu_link.specs.Texts.{image_line, show_line}
 use Rattle.dfu_link.specs.Said.{Said, Blank, Sets, LimitsTo, Does, GoesOn, Show, Expects}
 use Rattle.dfu_link.specs.Lines.{line_of}

@@ -1,6 +1,3 @@
-pub mod Acting
-pub mod Noting
-pub mod Placed
 pub mod Source
 pub mod SetupView
 pub mod Expected

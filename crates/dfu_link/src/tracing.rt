@@ -1,13 +1,9 @@
 //! What an action of the host came to, for a trace.
 
 pub(crate) mod answers;
-pub(crate) mod asking;
-pub(crate) mod laying;
 pub(crate) mod line;
 pub(crate) mod names;
-pub(crate) mod noting;
 pub(crate) mod place;
-pub(crate) mod step;
 pub(crate) mod telling;
 pub(crate) mod traced;
 pub(crate) mod words;

@@ -1,10 +1,10 @@
 -- What a writer holds that may be told of the actions of a host.
 use Rattle.std.specs.Prelude.{◌≡◌, ℕ, Bool, true, false, not, List, [], ◌++◌, Option}
 use Rattle.std.specs.Io.KnownBytes.{Appends}
-use Rattle.dfu_link.specs.Bench.{Bench}
-use Rattle.dfu_link.specs.Happening.{Happening, Offers, Uploads, Aborts, Goes, Passes, Resets, Cuts}
-use Rattle.dfu_link.specs.declared.fate.Fate.{Fate as GivenFate}
-use Rattle.dfu_link.specs.declared.tracing.step.Step.{Step}
+use Rattle.dfu_sim.specs.Bench.{Bench}
+use Rattle.dfu_sim.specs.Happening.{Happening, Offers, Uploads, Aborts, Goes, Passes, Resets, Cuts}
+use Rattle.dfu_sim.specs.declared.fate.Fate.{Fate as GivenFate}
+use Rattle.dfu_sim.specs.declared.tracing.step.Step.{Step}
 use Rattle.dfu_link.specs.TraceText.{step_text}
 use Rattle.dfu_link.specs.KeptLines.{seen_of}
 use Rattle.dfu_link.specs.TracedRun.{Clock, at_start, EventTraced}

@@ -4,8 +4,8 @@
 //! made over the device and taken apart again.
 
 ghost use Rattle.std.specs.Prelude.{◌≡◌, ◌≤◌, OnOk, OnErr, IfOk, IfErr, IfNone, IfSome};
-ghost use Rattle.dfu_link.specs.Bench.{Bench};
-ghost use Rattle.dfu_link.specs.Refusing.{IsLive};
+ghost use Rattle.dfu_sim.specs.Bench.{Bench};
+ghost use Rattle.dfu_sim.specs.Refusing.{IsLive};
 ghost use Rattle.dfu_link.specs.ScriptRun.{at_rest};
 ghost use Rattle.dfu_link.specs.inside.Expected.{at_point};
 ghost use Rattle.dfu_link.specs.Falls.{LineFalls};
@@ -21,7 +21,7 @@ use crate::scripting::playing::{play_events, play_live};
 use crate::scripting::reading::parse;
 use crate::scripting::source::Source;
 use crate::tracing::telling::Telling;
-use crate::world::World;
+use dfu_sim::World;
 use dfu_device::Device;
 use dfu_host::Limits;
 use dfu_slots::{Faulty, Medium};

@@ -2,8 +2,8 @@
 
 ghost use Rattle.std.specs.Prelude.{◌≡◌, ◌%◌, ◌≤◌};
 
-use crate::aim::Aim;
-use crate::fate::Fate;
+use dfu_sim::Aim;
+use dfu_sim::Fate;
 use crate::scripting::hex_text::HexText;
 use dfu_slots::Unit;
 use dfu_wire::{Functional, Ids};

@@ -2,10 +2,10 @@
 
 ghost use Rattle.std.specs.Prelude.{◌≡◌, ℕ, List, Option, [], ◌∷◌, true, false, OnOk, OnErr, IfErr, replicate};
 ghost use Rattle.std.specs.Io.KnownBytes.{Keeps};
-ghost use Rattle.dfu_link.specs.Bench.{ShowsActive};
-ghost use Rattle.dfu_link.specs.Comes.{HasCome};
-ghost use Rattle.dfu_link.specs.Happening.{Offers, Goes, Passes, harmed, fate_of, harm_in, happening};
-ghost use Rattle.dfu_link.specs.Refusing.{IsLive};
+ghost use Rattle.dfu_sim.specs.Bench.{ShowsActive};
+ghost use Rattle.dfu_sim.specs.Comes.{HasCome};
+ghost use Rattle.dfu_sim.specs.Happening.{Offers, Goes, Passes, harmed, fate_of, harm_in, happening};
+ghost use Rattle.dfu_sim.specs.Refusing.{IsLive};
 ghost use Rattle.dfu_link.specs.Said.{GoesOn, harm_fate, said_by, tear_bytes};
 ghost use Rattle.dfu_link.specs.Texts.{told_line};
 ghost use Rattle.dfu_link.specs.Falls.{HasBroken};
@@ -14,16 +14,16 @@ ghost use Rattle.dfu_link.specs.inside.Expected.{expectation_of, point_at, at_po
 ghost use Rattle.dfu_link.specs.inside.Telling.{Traces, Leads, IsPlain};
 ghost use Rattle.dfu_link.specs.inside.Moving.{HasPlayed, HasActed, HasStopped, file_bytes};
 
-use crate::aim::Aim;
-use crate::event::Event;
-use crate::fate::Fate;
-use crate::fault::LinkFault;
+use dfu_sim::Aim;
+use dfu_sim::Event;
+use dfu_sim::Fate;
+use dfu_sim::LinkFault;
 use crate::scripting::expectation::{Ahead, Expectation};
 use crate::scripting::fault::ScriptFault;
 use crate::scripting::line::{EventLine, HarmKind};
 use crate::scripting::saying::is_silent;
 use crate::tracing::telling::Telling;
-use crate::world::World;
+use dfu_sim::World;
 use arrayvec::ArrayVec;
 use dfu_host::{Limits, Report};
 use dfu_slots::Faulty;

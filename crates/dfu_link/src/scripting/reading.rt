@@ -5,7 +5,7 @@ ghost use Rattle.dfu_link.specs.Words.{Reads, words_of};
 ghost use Rattle.dfu_link.specs.Said.{given_bytes, said_of};
 ghost use Rattle.dfu_link.specs.Lines.{is_comment, says, by_keyword, line_of};
 
-use crate::aim::Aim;
+use dfu_sim::Aim;
 use crate::scripting::fields::ended;
 use crate::scripting::keywords::{Keyword, read_keyword};
 use crate::scripting::line::{EventLine, Line};

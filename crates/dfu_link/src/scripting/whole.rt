@@ -14,7 +14,7 @@ ghost use Rattle.dfu_link.specs.Printed.{WrotePrinted, StopsPrinted};
 ghost use Rattle.dfu_link.specs.inside.Moving.{Configured, CannotConfigure};
 ghost use Rattle.dfu_link.specs.inside.SetupView.{settings_of};
 
-use crate::laws::image_shown;
+use dfu_sim::laws::image_shown;
 use crate::scripting::after_start::run_on;
 use crate::scripting::expectation::Ahead;
 use crate::scripting::fault::ScriptFault;

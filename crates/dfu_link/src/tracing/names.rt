@@ -4,7 +4,7 @@ ghost use Rattle.std.specs.Prelude.{◌≡◌, ◌∷◌, []};
 ghost use Rattle.dfu_link.specs.TraceText.{request_in};
 ghost use Rattle.dfu_link.specs.TraceWords.{asked_text, comma_text, end_text, erases_text, request_of, setup_of, state_in, status_in};
 
-use crate::tracing::noting::WriteEnd;
+use dfu_sim::WriteEnd;
 use dfu_host::Action;
 use dfu_wire::{Request, Setup, State, Status};
 

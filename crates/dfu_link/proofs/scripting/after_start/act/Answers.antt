@@ -1,6 +1,6 @@
 use Rattle.std.proofs.Common.{◌≡◌, ◌∙◌, ap, subst, refl, true, Option}
 use Rattle.std.proofs.lemmas.Result.{err_from_is_err_and}
-use Rattle.dfu_link.specs.Bench.{Bench, LinkState}
+use Rattle.dfu_sim.specs.Bench.{Bench, LinkState}
 use Rattle.dfu_link.specs.Said.{said_by}
 use Rattle.dfu_link.specs.ScriptRun.{at_rest}
 use Rattle.dfu_link.specs.inside.Expected.{at_point}

@@ -5,7 +5,7 @@ use Rattle.dfu_link.specs.Texts.{show_line}
 use Rattle.dfu_link.specs.inside.Expected.{expectation_of, at_point, Prints}
 use Rattle.dfu_link.specs.inside.Telling.{Traces, IsJust}
 use Rattle.dfu_link.specs.declared.scripting.line.Line.{Line}
-use Rattle.dfu_link.specs.Bench.{Bench}
+use Rattle.dfu_sim.specs.Bench.{Bench}
 use Rattle.dfu_link.specs.inside.Moving.{LinePart, no_part, a_part}
 use Rattle.dfu_link.proofs.WriteLaws.{on_err}
 use Rattle.dfu_link.proofs.TellingLaws.{traces_none, traces_map}

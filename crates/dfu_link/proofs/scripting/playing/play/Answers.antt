@@ -1,6 +1,6 @@
 use Rattle.std.proofs.Common.{◌∷◌, [], arith}
 use Rattle.dfu_suffix.specs.Writing.{IsOutInPart}
-use Rattle.dfu_link.specs.Happening.{happening}
+use Rattle.dfu_sim.specs.Happening.{happening}
 use Rattle.dfu_link.specs.Texts.{told_line}
 use Rattle.dfu_link.specs.Expecting.{Fails}
 use Rattle.dfu_link.specs.Falls.{HasBroken}

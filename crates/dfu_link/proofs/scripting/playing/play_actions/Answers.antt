@@ -1,7 +1,7 @@
 use Rattle.std.proofs.Common.{List, sym, subst}
 use Rattle.std.proofs.lemmas.Result.{err_from_is_err_and}
 use Rattle.std.specs.Prelude.{replicate}
-use Rattle.dfu_link.specs.Happening.{Happening, Goes, fate_of, harm_in}
+use Rattle.dfu_sim.specs.Happening.{Happening, Goes, fate_of, harm_in}
 use Rattle.dfu_link.specs.inside.Expected.{expectation_of}
 use Rattle.dfu_link.specs.TracedStop.{SomeTraced}
 use Rattle.dfu_link.specs.inside.Telling.{Traces}

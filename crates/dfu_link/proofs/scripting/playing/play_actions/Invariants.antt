@@ -1,5 +1,5 @@
 use Rattle.std.specs.Prelude.{replicate}
-use Rattle.dfu_link.specs.Happening.{Goes, fate_of, harm_in}
+use Rattle.dfu_sim.specs.Happening.{Goes, fate_of, harm_in}
 use Rattle.dfu_link.specs.inside.Expected.{expectation_of}
 use Rattle.dfu_link.specs.inside.Moving.{HasPlayed}
 use Rattle.dfu_link.proofs.scripting.playing.play_actions.Given as goal

@@ -9,7 +9,7 @@ use Rattle.dfu_link.specs.inside.Expected.{expectation_of, Prints}
 use Rattle.dfu_link.specs.TracedStop.{SomeTraced}
 use Rattle.dfu_link.specs.inside.Telling.{Traces}
 use Rattle.dfu_link.specs.inside.Moving.{HasPlayed}
-use Rattle.dfu_link.specs.declared.fault.LinkFault.TheVariants.{HostBusy}
+use Rattle.dfu_sim.specs.declared.fault.LinkFault.TheVariants.{HostBusy}
 use Rattle.dfu_link.proofs.WriteLaws.{on_err, on_ok_map, if_err_map, if_err_both}
 use Rattle.dfu_link.proofs.PlayLaws.{busy_plays, busy_broken, busy_part}
 use Rattle.dfu_link.proofs.StepLaws.{line_acted, line_part, line_stopped}

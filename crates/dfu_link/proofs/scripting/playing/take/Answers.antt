@@ -1,10 +1,10 @@
 use Rattle.std.proofs.Common.{◌≡◌, Option, List, ℕ, refl, sym, subst}
 use Rattle.std.specs.Prelude.{IfNone, IfSome}
-use Rattle.dfu_link.specs.declared.tracing.step.Step.{Step}
-use Rattle.dfu_link.specs.Bench.{Nobody}
-use Rattle.dfu_link.specs.Happening.{Goes, fate_of, harm_in}
+use Rattle.dfu_sim.specs.declared.tracing.step.Step.{Step}
+use Rattle.dfu_sim.specs.Bench.{Nobody}
+use Rattle.dfu_sim.specs.Happening.{Goes, fate_of, harm_in}
 use Rattle.dfu_link.specs.Texts.{told_line}
-use Rattle.dfu_link.specs.Tracing.{IsStep}
+use Rattle.dfu_sim.specs.Tracing.{IsStep}
 use Rattle.dfu_link.specs.inside.Telling.{Leads}
 use Rattle.dfu_link.proofs.TellingLaws.{traces_none, traces_map, untold_leads, told_leads}
 use Rattle.dfu_link.proofs.scripting.playing.take.Goals as goal

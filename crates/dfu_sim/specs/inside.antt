@@ -1,0 +1,3 @@
+pub mod Acting
+pub mod Noting
+pub mod Placed
