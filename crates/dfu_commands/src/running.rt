@@ -2,7 +2,7 @@
 
 ghost use Rattle.std.specs.Prelude.{◌≡◌, [], None, Some};
 ghost use Rattle.dfu_link.specs.Said.{given_bytes};
-ghost use Rattle.dfu_commands.specs.RunText.{WritesStop, WritesRun, WritesLegally, WritesWithHeadline, WritesTraced};
+ghost use Rattle.dfu_commands.specs.RunText.{WritesStop, WritesRun, WritesPrinted, WritesTraced};
 
 use crate::numbering::number_text;
 use dfu_link::{ScriptFault, script_traced_with, script_with};
@@ -45,8 +45,7 @@ fn stop_text<W: Write>(alloc: Global, fault: ScriptFault, writer: &mut W) -> Exi
 /// more is written.
 pub fn run_text<R: Read + Drop, W: Write>(alloc: Global, reader: R, writer: &mut W) -> Exit
     ensures run { WritesRun None (R.remaining reader) (W.contents writer.old) (W.contents writer.new) result }
-    ensures legal { WritesLegally None (R.remaining reader) (W.contents writer.old) (W.contents writer.new) result }
-    ensures headline { WritesWithHeadline None (R.remaining reader) (W.contents writer.old) (W.contents writer.new) result }
+    ensures printed { WritesPrinted None (R.remaining reader) (W.contents writer.old) (W.contents writer.new) result }
 {
     let (exit, _) = run_with_fault(alloc, None, reader, writer);
     exit
@@ -61,9 +60,7 @@ pub(crate) fn run_with_fault<R: Read + Drop, W: Write>(
     writer: &mut W,
 ) -> (Exit, Option<ScriptFault>)
     ensures run { WritesRun (given_bytes file.entry) (R.remaining reader) (W.contents writer.old) (W.contents writer.new) result.0 }
-    ensures legal { WritesLegally (given_bytes file.entry) (R.remaining reader) (W.contents writer.old) (W.contents writer.new) result.0 }
-    ensures headline { WritesWithHeadline (given_bytes file.entry) (R.remaining reader) (W.contents writer.old) (W.contents writer.new)
-        result.0 }
+    ensures printed { WritesPrinted (given_bytes file.entry) (R.remaining reader) (W.contents writer.old) (W.contents writer.new) result.0 }
     // Where no fault is given the script ran to its end.
     ensures fault { result.1 ≡ None → result.0 ≡ Exit.Done }
 {

@@ -19,12 +19,10 @@ pub mod PassingOn
 pub mod FallLaws
 pub mod RestLaws
 pub mod WholeLaws
-pub mod Beside
-pub mod LegalScripts
-pub mod ScriptsHold
 pub mod LineBrings
 pub mod PrintedTexts
 pub mod Printing
+pub mod EndPrints
 pub mod CleanTexts
 pub mod TracedTexts
 pub mod TracedScripts

@@ -43,7 +43,5 @@ pub mod ScriptRun
 pub mod TracedRun
 pub mod TracedStop
 pub mod Falls
-pub mod ScriptLegal
-pub mod ScriptHeadline
 pub mod Printed
 pub mod inside

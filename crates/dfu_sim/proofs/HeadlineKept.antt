@@ -127,6 +127,12 @@ abbrev pub holds_after : {factory : List ℕ} {past : List Begun} {m : Machine} 
     → IsOfPast factory past m → IsFollowed w h w' report m → HeadlineHolds factory (begun_by h past) report w'.bench
 holds_after h of_past f = holds_by f.agrees (past_on h of_past f) (λ e. ((f.in_place e).0, in_place_on h of_past f e))
 
+-- What each session machine follows keeps the headline.
+pub keeps_on : {factory : List ℕ} {past : List Begun} {before : Option Report} {w w' : LinkState} (h : Happening) {report : Option Report}
+    → ((m : Machine) → AgreesOn w.bench w.up m → IsFollowed w h w' report m) → HeadlineHolds factory past before w.bench
+    → HeadlineHolds factory (begun_by h past) report w'.bench
+keeps_on {w = w} h follow k = holds_after h (past_then k) (follow (machine_at w k.says.image) (agrees_then k))
+
 -- The events of callers.
 
 begun_same : (event : Event) (past : List Begun) → begun_by (happening event) past ≡ begun event past

@@ -2,9 +2,8 @@
 
 ghost use Rattle.std.specs.Prelude.{◌≡◌, ◌%◌, ◌≤◌};
 
-use dfu_sim::Aim;
-use dfu_sim::Fate;
 use crate::scripting::hex_text::HexText;
+use dfu_sim::{Aim, Fate};
 use dfu_slots::Unit;
 use dfu_wire::{Functional, Ids};
 

@@ -14,18 +14,14 @@ ghost use Rattle.dfu_link.specs.inside.Expected.{expectation_of, point_at, at_po
 ghost use Rattle.dfu_link.specs.inside.Telling.{Traces, Leads, IsPlain};
 ghost use Rattle.dfu_link.specs.inside.Moving.{HasPlayed, HasActed, HasStopped, file_bytes};
 
-use dfu_sim::Aim;
-use dfu_sim::Event;
-use dfu_sim::Fate;
-use dfu_sim::LinkFault;
 use crate::scripting::expectation::{Ahead, Expectation};
 use crate::scripting::fault::ScriptFault;
 use crate::scripting::line::{EventLine, HarmKind};
 use crate::scripting::saying::is_silent;
 use crate::tracing::telling::Telling;
-use dfu_sim::World;
 use arrayvec::ArrayVec;
 use dfu_host::{Limits, Report};
+use dfu_sim::{Aim, Event, Fate, LinkFault, World};
 use dfu_slots::Faulty;
 
 /// Lets an event come of which no trace tells, and writes what is printed of it.

@@ -3,18 +3,15 @@
 ghost use Rattle.std.specs.Prelude.{◌≡◌, [], Some, OnOk, OnErr, IfOk, IfErr, IfSome};
 ghost use Rattle.dfu_link.specs.Said.{given_bytes};
 ghost use Rattle.dfu_link.specs.ScriptRun.{WroteRun};
-ghost use Rattle.dfu_link.specs.Falls.{Falls};
+ghost use Rattle.dfu_link.specs.Falls.{Falls, Ended};
 ghost use Rattle.dfu_link.specs.KeptLines.{untraced};
 ghost use Rattle.dfu_link.specs.TracedRun.{IsTraced, WroteTraced};
 ghost use Rattle.dfu_link.specs.TracedStop.{IsPartTraced, StopsTraced};
 ghost use Rattle.dfu_link.specs.inside.Telling.{Traces};
-ghost use Rattle.dfu_link.specs.ScriptLegal.{WroteLegal, StopsLegally};
-ghost use Rattle.dfu_link.specs.ScriptHeadline.{WroteHeadline, StopsWithHeadline};
-ghost use Rattle.dfu_link.specs.Printed.{WrotePrinted, StopsPrinted};
+ghost use Rattle.dfu_link.specs.Printed.{HasPrinted};
 ghost use Rattle.dfu_link.specs.inside.Moving.{Configured, CannotConfigure};
 ghost use Rattle.dfu_link.specs.inside.SetupView.{settings_of};
 
-use dfu_sim::laws::image_shown;
 use crate::scripting::after_start::run_on;
 use crate::scripting::expectation::Ahead;
 use crate::scripting::fault::ScriptFault;
@@ -27,6 +24,7 @@ use crate::tracing::telling::{Loud, Quiet, Telling};
 use crate::tracing::traced::Traced;
 use arrayvec::ArrayVec;
 use dfu_host::Limits;
+use dfu_sim::laws::image_shown;
 use dfu_slots::SimMedium;
 use std::alloc::Global;
 use std::io::{Read, Write};
@@ -111,33 +109,16 @@ pub fn script_with<R: Read + Drop, W: Write>(
     reader: R,
     writer: &mut W,
 ) -> Result<(), ScriptFault>
-    // What was written is a run of what was read.
-    ensures ok { IfSome (R.remaining reader)
-        (λ text. OnOk result (WroteRun (given_bytes given.entry) text (W.contents writer.old) (W.contents writer.new))) }
-    // Which fault comes when, and what is out then.
-    ensures fault { IfSome (R.remaining reader)
-        (λ text. IfErr result (λ f. Falls (given_bytes given.entry) text (W.contents writer.old) (W.contents writer.new) f)) }
-    // The session machine goes along: what was written is what it reports, and the image that it has active.
-    ensures legal { IfSome (R.remaining reader)
-        (λ text. OnOk result (WroteLegal (given_bytes given.entry) text (W.contents writer.old) (W.contents writer.new))) }
-    // It does so as far as a script goes that stops.
-    ensures stopped { IfSome (R.remaining reader)
-        (λ text. OnErr result (StopsLegally (given_bytes given.entry) text (W.contents writer.old) (W.contents writer.new))) }
-    // The headline: each image that is printed is the factory image or a payload offered so far, and where `report installed` or
-    // `report verified` is printed, the device is in appIDLE and exactly the payload of the last session is active.
-    ensures headline { IfSome (R.remaining reader)
-        (λ text. OnOk result (WroteHeadline (given_bytes given.entry) text (W.contents writer.old) (W.contents writer.new))) }
-    // The same as far as a script goes that stops.
-    ensures headline_so_far { IfSome (R.remaining reader)
-        (λ text. OnErr result (StopsWithHeadline (given_bytes given.entry) text (W.contents writer.old) (W.contents writer.new))) }
-    // The headline without the language of scripts: only what a line brings is read of it.
+    // With Ok what was written is a run of what was read; with a fault, which one comes when, and what is out then.
+    ensures ended { IfSome (R.remaining reader)
+        (λ text. Ended (given_bytes given.entry) text (W.contents writer.old) (W.contents writer.new) result) }
+    // The headline, of all that is printed or as far as the script goes: each image is the factory image or a payload offered so far, and
+    // where `report installed` or `report verified` is printed, the device is in appIDLE and exactly the payload of the last session is
+    // active. Of the language only what a line brings is read.
     ensures printed { IfSome (R.remaining reader)
-        (λ text. OnOk result (WrotePrinted (given_bytes given.entry) text (W.contents writer.old) (W.contents writer.new))) }
-    // The same as far as a script goes that stops.
-    ensures printed_so_far { IfSome (R.remaining reader)
-        (λ text. OnErr result (StopsPrinted (given_bytes given.entry) text (W.contents writer.old) (W.contents writer.new))) }
+        (λ text. HasPrinted (given_bytes given.entry) text (W.contents writer.old) (W.contents writer.new) result) }
 {
-    // Called for its law, which `legal` needs: no image but the one that is shown is active.
+    // Called for its law, which `printed` needs: no image but the one that is shown is active.
     image_shown();
     run_lines::<Quiet, R, W>(alloc, given, reader, writer)
 }

@@ -5,12 +5,11 @@ ghost use Rattle.std.specs.String.{string_bytes};
 ghost use Rattle.dfu_link.specs.TraceText.{answer_text, back_text};
 ghost use Rattle.dfu_link.specs.TraceWords.{bytes_text, count_text, state_answer, status_answer};
 
-use dfu_sim::Back;
-use dfu_sim::Fate;
 use crate::tracing::names::{request_in, state_in, status_in};
 use crate::tracing::words::{push, push_number};
 use dfu_device::Answer;
 use dfu_host::Action;
+use dfu_sim::{Back, Fate};
 use dfu_wire::{Request, State, Status};
 use std::alloc::{AllocError, Global};
 

@@ -5,11 +5,10 @@ ghost use Rattle.std.specs.String.{string_bytes};
 ghost use Rattle.dfu_wire.specs.State.{state_name};
 ghost use Rattle.dfu_link.specs.TraceText.{course_text, step_text, time_in};
 
-use dfu_sim::Fate;
 use crate::tracing::answers::push_answer;
-use dfu_sim::Step;
 use crate::tracing::words::{push, push_action, push_fate, push_number, push_phase, push_writes};
 use dfu_host::Action;
+use dfu_sim::{Fate, Step};
 use dfu_wire::State;
 use std::alloc::{AllocError, Global};
 

@@ -4,8 +4,8 @@ ghost use Rattle.std.specs.Prelude.{◌≡◌, ◌∷◌, []};
 ghost use Rattle.dfu_link.specs.TraceText.{request_in};
 ghost use Rattle.dfu_link.specs.TraceWords.{asked_text, comma_text, end_text, erases_text, request_of, setup_of, state_in, status_in};
 
-use dfu_sim::WriteEnd;
 use dfu_host::Action;
+use dfu_sim::WriteEnd;
 use dfu_wire::{Request, Setup, State, Status};
 
 /// The setup of these bytes.

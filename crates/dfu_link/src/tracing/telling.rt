@@ -9,16 +9,14 @@ ghost use Rattle.dfu_link.specs.TracedRun.{Clock, after_time, IsTold};
 ghost use Rattle.dfu_link.specs.inside.Expected.{expectation_of, Prints};
 ghost use Rattle.dfu_link.specs.inside.Telling.{Held, Traces, IsJust, held_quiet, held_loud};
 
-use dfu_sim::Fate;
-use dfu_sim::LinkFault;
 use crate::scripting::expectation::Expectation;
 use crate::scripting::fault::ScriptFault;
 use crate::scripting::saying::say_next;
 use crate::scripting::showing::{image_next, show_next};
-use dfu_sim::Step;
 use crate::tracing::traced::Traced;
 use dfu_device::Device;
 use dfu_host::Report;
+use dfu_sim::{Fate, LinkFault, Step};
 use dfu_slots::Medium;
 use std::io::Write;
 

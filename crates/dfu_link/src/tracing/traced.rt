@@ -10,17 +10,15 @@ ghost use Rattle.dfu_link.specs.TracedRun.{IsTold, after_time};
 ghost use Rattle.dfu_link.specs.inside.Expected.{expectation_of, Prints};
 ghost use Rattle.dfu_link.specs.inside.Telling.{Traces, IsCounted, IsJust, held_started, held_loud};
 
-use dfu_sim::Fate;
-use dfu_sim::LinkFault;
 use crate::scripting::expectation::Expectation;
 use crate::scripting::fault::ScriptFault;
 use crate::scripting::saying::{is_silent, say_next};
 use crate::scripting::showing::{image_next, show_next};
 use crate::tracing::line::{Count, step_line, time_of};
 use crate::tracing::place::is_dropped;
-use dfu_sim::Step;
 use dfu_device::Device;
 use dfu_host::Report;
+use dfu_sim::{Fate, LinkFault, Step};
 use dfu_slots::Medium;
 use dfu_suffix::write_whole;
 use std::alloc::Global;

@@ -7,10 +7,9 @@ ghost use Rattle.dfu_link.specs.Texts.{hex_text};
 ghost use Rattle.dfu_link.specs.TraceText.{action_text, fate_text, harm_text, phase_text, request_text};
 ghost use Rattle.dfu_link.specs.TraceWords.{comma_text, note_text, notes_in_row, notes_text};
 
-use dfu_sim::Fate;
 use crate::tracing::names::{asked_text, comma_text, end_text, erases_text, request_of, setup_of};
-use dfu_sim::{LastWrites, WriteNote};
 use dfu_host::{Action, Phase};
+use dfu_sim::{Fate, LastWrites, WriteNote};
 use dfu_wire::Setup;
 use std::alloc::{AllocError, Global};
 
