@@ -1,7 +1,4 @@
 pub mod Blank
-pub mod TraceTexts
-pub mod TraceNotes
-pub mod KeptLaws
 pub mod WordLaws
 pub mod LineLaws
 pub mod WriteLaws
@@ -10,7 +7,6 @@ pub mod HexLaws
 pub mod SourceLaws
 pub mod GivenLaws
 pub mod ToldLines
-pub mod TellingLaws
 pub mod PlayLaws
 pub mod StepLaws
 pub mod MoveLaws
@@ -23,6 +19,3 @@ pub mod LineBrings
 pub mod PrintedTexts
 pub mod Printing
 pub mod EndPrints
-pub mod CleanTexts
-pub mod TracedTexts
-pub mod TracedScripts

@@ -12,8 +12,6 @@ pub use Rattle.dfu_sim.specs.CleanRun
 pub use Rattle.dfu_sim.specs.Bytes
 pub use Rattle.dfu_sim.specs.Understood
 pub use Rattle.dfu_sim.specs.Power
-pub use Rattle.dfu_sim.specs.Made
-pub use Rattle.dfu_sim.specs.Tracing
 pub use Rattle.dfu_sim.specs.Refusing
 pub use Rattle.dfu_sim.specs.Comes
 pub use Rattle.dfu_sim.specs.Giving
@@ -29,9 +27,6 @@ pub use Rattle.dfu_sim.specs.CleanInstall
 pub use Rattle.dfu_sim.specs.NextSession
 pub use Rattle.dfu_sim.specs.CleanSteps
 pub use Rattle.dfu_sim.specs.OneResult
-pub mod TraceWords
-pub mod TraceText
-pub mod KeptLines
 pub mod Words
 pub mod Said
 pub mod Keywords
@@ -40,8 +35,6 @@ pub mod Texts
 pub mod TextLimit
 pub mod Expecting
 pub mod ScriptRun
-pub mod TracedRun
-pub mod TracedStop
 pub mod Falls
 pub mod Printed
 pub mod inside

@@ -1,6 +1,5 @@
 pub mod Source
 pub mod SetupView
 pub mod Expected
-pub mod Telling
 pub mod Moving
 pub mod Forming

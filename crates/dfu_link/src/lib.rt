@@ -8,6 +8,5 @@
 mod scripting;
 mod tracing;
 
-pub use dfu_sim::laws;
-pub use dfu_sim::{Aim, Event, Fate, LinkFault, OfferFault, Stop, World, run};
+pub use dfu_sim::{Aim, Event, Fate, LinkFault, OfferFault, Stop, World, laws, run};
 pub use scripting::{ScriptFault, script, script_traced, script_traced_with, script_with};

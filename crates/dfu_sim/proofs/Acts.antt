@@ -13,16 +13,12 @@ use Rattle.dfu_host.specs.Table.{deed}
 use Rattle.dfu_host.specs.Phases.{Deed, Send, Wait, Reset, Heard, Waited, WasReset}
 use Rattle.dfu_host.specs.Wire.{Spells, Hears}
 use Rattle.dfu_sim.specs.declared.back.Back.{Back}
-use Rattle.dfu_sim.specs.declared.back.Back.TheVariants.{Lost}
 use Rattle.dfu_sim.specs.declared.course.Harming.{Harming}
 use Rattle.dfu_sim.specs.declared.course.Harming.TheVariants.{NoWrite, CutsPower, FailsWrite, LiesInWrite}
 use Rattle.dfu_sim.specs.Course.{Course}
 use Rattle.dfu_sim.specs.Happening.{Harm}
 use Rattle.dfu_sim.specs.Play.{heard_over, waits_for}
 use Rattle.dfu_sim.specs.Bytes.{fuse_of, armed, bus_was_reset, HearsBack, Reaches, came_back, ended_back, Sends, Waits, Slips, ResetsBus, Acts, left_by, HostActs, HostActsArmed}
-use Rattle.dfu_sim.specs.declared.tracing.noting.LastWrites.{LastWrites}
-use Rattle.dfu_sim.specs.Made.{WritesBetween}
-use Rattle.dfu_sim.specs.Tracing.{Replies, RepliesArmed}
 use Rattle.dfu_sim.specs.inside.Acting.{seen_over}
 
 -- A request whose rows these are, and of which this comes back.
@@ -93,27 +89,6 @@ pub acts_reset : (d : Deed) (f : Course) (w w' : Shown) (heard : Heard) → Spel
 acts_reset Reset f w w' heard e h = h
 acts_reset d f w w' heard e h = elim e [ ]
 
--- What the device answers to what the code does as a request, a wait or a reset.
-
--- The answer to a request is one of the table's.
-pub replies_send : (d : Deed) (course : Course) (setup : List ℕ) (given : Bor (List ℕ)) (came : Back) (out : List ℕ) (w w' : Shown)
-    → Spells d (action.Send setup given) → Reaches setup given.now course.handling w came out w' → Replies d course w w' came out
-replies_send (Send q body) course setup given came out w w' e r =
-    (setup, e.0, subst (λ (x : List ℕ). Reaches setup x course.handling w came out w') e.1 r)
-replies_send d course setup given came out w w' e r = elim e [ ]
-
--- To a wait there is none.
-pub replies_wait : (d : Deed) (course : Course) (given : ℕ) (out : List ℕ) (w w' : Shown) → Spells d (action.Wait given)
-    → Elapses (waits_for course.handling given) w w' → Replies d course w w' Lost out
-replies_wait (Wait ms) course given out w w' e r = (refl, subst (λ (n : ℕ). Elapses (waits_for course.handling n) w w') e r)
-replies_wait d course given out w w' e r = elim e [ ]
-
--- Nor to a reset.
-pub replies_reset : (d : Deed) (course : Course) (out : List ℕ) (w w' : Shown) → Spells d action.Reset
-    → Slips course.handling (bus_was_reset w) w' → Replies d course w w' Lost out
-replies_reset Reset course out w w' e r = (refl, r)
-replies_reset d course out w w' e r = elim e [ ]
-
 -- The medium before an action and after it.
 
 -- A device that is not armed stays so.
@@ -127,20 +102,3 @@ pub gone_by : {course c : Course} {harm x : Harm} {h h' : HostState} {w start la
 gone_by {c = c} {harm = harm} {x = x} {h = h} {h' = h'} {w = w} {last = last} {w' = w'} e k start acted left =
     subst (λ (d : Course). HostActsArmed h d harm w w' h') e (subst (λ (y : Harm). HostActsArmed h c y w w' h') k
     (record { last = last; acted = subst (λ (z : Shown). HostActs h c z last h') start acted; device = left }))
-
--- What the device answers in an action by the course of its fate, and what its medium writes, on a medium that is armed for it.
-pub answered_by : {course c : Course} {harm x : Harm} {h : HostState} {w start w' : Shown}
-    (last : Shown) {came : Back} {out : List ℕ} {writes : LastWrites} → c ≡ course
-    → x ≡ harm → start ≡ armed w (fuse_of c.harming x) → Replies (deed h.task h.phase) c start last came out
-    → WritesBetween start.slots.medium last.slots.medium writes → w' ≡ left_by c.harming last
-    → RepliesArmed h course harm w w' came out writes
-answered_by {c = c} {harm = harm} {x = x} {h = h} {w = w} {w' = w'} last {came = came} {out = out} {writes = writes} e k start replies wrote
-    left =
-    subst (λ (d : Course). RepliesArmed h d harm w w' came out writes) e
-    (subst (λ (y : Harm). RepliesArmed h c y w w' came out writes) k
-    (record {
-      last = last;
-      replies = subst (λ (z : Shown). Replies (deed h.task h.phase) c z last came out) start replies;
-      wrote = subst (λ (z : Shown). WritesBetween z.slots.medium last.slots.medium writes) start wrote;
-      device = left;
-    }))

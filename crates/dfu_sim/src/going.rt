@@ -6,21 +6,16 @@ ghost use Rattle.dfu_slots.specs.Medium.Fuse.{Whole};
 ghost use Rattle.dfu_sim.specs.Bytes.{fuse_of, armed, left_by, HostActsArmed};
 ghost use Rattle.dfu_sim.specs.Course.{course_of};
 ghost use Rattle.dfu_sim.specs.Happening.{fate_of, harm_in};
-ghost use Rattle.dfu_sim.specs.Tracing.{RepliesArmed};
 ghost use Rattle.dfu_sim.specs.inside.Acting.{harm_at};
 
 use crate::acting::act;
-use crate::back::Back;
+use crate::answered::Answered;
 use crate::course::{Course, Harming, course_by};
 use crate::fate::Fate;
 use crate::power::power_cycle;
-use crate::tracing::laying::act_noting;
-use crate::tracing::noting::LastWrites;
-use arrayvec::ArrayVec;
 use dfu_device::Device;
 use dfu_host::Host;
 use dfu_slots::Faulty;
-use std::marker::Brand;
 
 /// Arms the medium for an action of this course: with a cut no later write works, with a failure and a
 /// lie all later ones do.
@@ -46,12 +41,12 @@ fn settle<M: Faulty>(device: &mut Device<M>, harming: Harming)
     }
 }
 
-/// Carries out the next action of a host that is not done, by its fate. `out` is room for an answer.
+/// Carries out the next action of a host that is not done, by its fate, and keeps what the device answers.
 pub(crate) fn carry_out<M: Faulty>(
     device: &mut Device<M>,
     host: &mut Host<'_>,
     fate: Fate<'_>,
-    out: &mut ArrayVec<u8, 4096>,
+    out: &mut Answered,
 )
     requires on { IsOn host.old.phase }
     requires unarmed { device.old.slots.medium.fuse ≡ Whole }
@@ -59,29 +54,6 @@ pub(crate) fn carry_out<M: Faulty>(
 {
     let course = course_by(fate);
     arm(device, course);
-    let _ = act(device, host, course, out);
+    out.came = act(device, host, course, &mut out.bytes);
     settle(device, course.harming);
-}
-
-/// The same on a device that is handed over and comes back, with what it answered, if it did, and the last writes that its
-/// medium made of the action.
-pub(crate) fn carry_out_noting<M: Faulty>(
-    device: Device<M>,
-    host: &mut Host<'_>,
-    fate: Fate<'_>,
-    out: &mut ArrayVec<u8, 4096>,
-) -> (Device<M>, Back, LastWrites)
-    requires on { IsOn host.old.phase }
-    requires unarmed { device.slots.medium.fuse ≡ Whole }
-    ensures acts { HostActsArmed host.old (course_of (fate_of fate.entry)) (harm_in fate.entry) device result.0 host.new }
-    ensures replies { RepliesArmed host.old (course_of (fate_of fate.entry))
-        (harm_in fate.entry) device result.0 result.1 out.new.items result.2 }
-{
-    let course = course_by(fate);
-    let mut device = device;
-    arm(&mut device, course);
-    let (device, came, writes) = act_noting::<Brand, M>(device, host, course, out);
-    let mut device = device;
-    settle(&mut device, course.harming);
-    (device, came, writes)
 }

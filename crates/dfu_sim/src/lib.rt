@@ -7,6 +7,7 @@
 
 mod acting;
 mod aim;
+mod answered;
 mod back;
 mod course;
 mod event;
@@ -18,16 +19,12 @@ mod offering;
 mod play;
 mod power;
 mod running;
-mod tracing;
 mod uploading;
 mod world;
 
 pub use aim::Aim;
-pub use back::Back;
 pub use event::Event;
 pub use fate::Fate;
 pub use fault::{LinkFault, OfferFault};
 pub use running::{Stop, run};
-pub use tracing::noting::{LastWrites, WriteEnd, WriteNote};
-pub use tracing::step::Step;
 pub use world::World;

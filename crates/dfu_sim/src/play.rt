@@ -1,27 +1,23 @@
 //! What each event makes of a device and a host.
 
-ghost use Rattle.std.specs.Prelude.{◌≡◌, ◌≢◌, Some, None, Ok};
-ghost use Rattle.dfu_host.specs.Host.{HostState};
+ghost use Rattle.std.specs.Prelude.{◌≡◌};
 ghost use Rattle.dfu_sim.specs.Bench.{ShowsActive};
 ghost use Rattle.dfu_sim.specs.Course.{course_of};
 ghost use Rattle.dfu_sim.specs.Play.{given, told, aborted};
 ghost use Rattle.dfu_sim.specs.Standing.{session_of, given_by, bench_of, link_state, IsOnIn, SendsBytes, IsCountedIn, IsSteady};
 ghost use Rattle.dfu_sim.specs.Happening.{Offers, Goes, fate_of, harm_in, happening};
 ghost use Rattle.dfu_sim.specs.Comes.{HasCome, HasComeAlone};
-ghost use Rattle.dfu_sim.specs.Tracing.{RepliesArmed};
 ghost use Rattle.dfu_sim.specs.inside.Acting.{report_of, ended, abort_told};
 
 use crate::aim::Aim;
-use crate::back::Back;
+use crate::answered::Answered;
 use crate::event::Event;
 use crate::fate::Fate;
 use crate::fault::LinkFault;
-use crate::going::{carry_out, carry_out_noting};
+use crate::going::carry_out;
 use crate::offering::begin;
 use crate::power::power_cycle;
-use crate::tracing::noting::LastWrites;
 use crate::uploading::upload;
-use arrayvec::ArrayVec;
 use dfu_device::Device;
 use dfu_host::{Action, Host, Limits, Report, Seen};
 use dfu_slots::{Faulty, Medium};
@@ -114,7 +110,7 @@ fn go<'f, M: Faulty>(
     host: &mut Option<Host<'f>>,
     gave: &mut Option<Host<'f>>,
     fate: Fate<'_>,
-    out: &mut ArrayVec<u8, 4096>,
+    out: &mut Answered,
 ) -> Result<Option<Report>, LinkFault>
     requires { IsSteady (bench_of device.old host.old) }
     ensures { HasCome (link_state device.old host.old gave.old) (Goes (fate_of fate.entry) (harm_in fate.entry))
@@ -127,29 +123,6 @@ fn go<'f, M: Faulty>(
     Ok(end(host, gave))
 }
 
-/// The same where a host is live, on a device that is handed over and comes back, with the report, what it answered, if it did, and
-/// the last writes that its medium made of the action.
-pub(crate) fn go_noting<'f, M: Faulty>(
-    device: Device<M>,
-    host: &mut Option<Host<'f>>,
-    gave: &mut Option<Host<'f>>,
-    fate: Fate<'_>,
-    out: &mut ArrayVec<u8, 4096>,
-) -> (Device<M>, Option<Report>, Back, LastWrites)
-    requires steady { IsSteady (bench_of device host.old) }
-    requires live { host.old ≢ None }
-    ensures comes { HasCome (link_state device host.old gave.old) (Goes (fate_of fate.entry) (harm_in fate.entry))
-        (link_state result.0 host.new gave.new) (Ok result.1) }
-    ensures replies { (h : HostState) → host.old ≡ Some h → RepliesArmed h (course_of (fate_of fate.entry)) (harm_in fate.entry)
-        device result.0 result.2 out.new.items result.3 }
-{
-    let (device, came, writes) = match host {
-        None => unreachable!(),
-        Some(live) => carry_out_noting(device, live, fate, out),
-    };
-    (device, end(host, gave), came, writes)
-}
-
 /// An event comes. A refused one changes nothing. `out` is room for an answer.
 fn come<'f, M: Faulty>(
     alloc: Global,
@@ -157,7 +130,7 @@ fn come<'f, M: Faulty>(
     host: &mut Option<Host<'f>>,
     gave: &mut Option<Host<'f>>,
     event: Event<'f, '_>,
-    out: &mut ArrayVec<u8, 4096>,
+    out: &mut Answered,
 ) -> Result<Option<Report>, LinkFault>
     requires { IsSteady (bench_of device.old host.old) }
     ensures { HasCome (link_state device.old host.old gave.old) (happening event.entry) (link_state device.new host.new gave.new) result }
@@ -190,7 +163,7 @@ pub(crate) fn play<'f, M: Faulty>(
     host: &mut Option<Host<'f>>,
     gave: &mut Option<Host<'f>>,
     event: Event<'f, '_>,
-    out: &mut ArrayVec<u8, 4096>,
+    out: &mut Answered,
 ) -> Result<Option<Report>, LinkFault>
     requires { IsSteady (bench_of device.old host.old) }
     ensures comes { HasCome (link_state device.old host.old gave.old) (happening event.entry) (link_state device.new host.new gave.new)

@@ -1,29 +1,27 @@
 //! A device and a host on a link.
 
-ghost use Rattle.std.specs.Prelude.{◌≡◌, [], true, false, IfOk, IfErr, IfNone, IfSome};
+ghost use Rattle.std.specs.Prelude.{◌≡◌, [], true, false, IfOk, IfErr, IfNone};
 ghost use Rattle.dfu_slots.specs.Medium.Fuse.{Whole};
 ghost use Rattle.dfu_sim.specs.Bench.{Nobody};
 ghost use Rattle.dfu_sim.specs.Bytes.{armed};
 ghost use Rattle.dfu_sim.specs.Bench.{ShowsActive};
-ghost use Rattle.dfu_sim.specs.Happening.{Goes, fate_of, harm_in, happening};
+ghost use Rattle.dfu_sim.specs.Happening.{happening};
 ghost use Rattle.dfu_sim.specs.Refusing.{IsLive};
 ghost use Rattle.dfu_sim.specs.Comes.{HasCome};
 ghost use Rattle.dfu_sim.specs.Following.{AllFollow};
 ghost use Rattle.dfu_sim.specs.Headline.{StepKeepsHeadline};
 ghost use Rattle.dfu_sim.specs.Sure.{AllSure};
 ghost use Rattle.dfu_sim.specs.Giving.{Gives};
-ghost use Rattle.dfu_sim.specs.Tracing.{IsStep};
 
+use crate::answered::Answered;
+use crate::back::Back;
 use crate::event::Event;
-use crate::fate::Fate;
 use crate::fault::LinkFault;
 use crate::laws::image_shown;
-use crate::play::{go_noting, play};
-use crate::tracing::asking::asked;
-use crate::tracing::step::Step;
+use crate::play::play;
 use arrayvec::ArrayVec;
-use dfu_device::Device;
-use dfu_host::{Host, Report};
+use dfu_device::{Answer, Device};
+use dfu_host::{Action, Host, Phase, Report};
 use dfu_slots::Faulty;
 use std::alloc::Global;
 use std::marker::Model;
@@ -34,25 +32,22 @@ use std::marker::Model;
 #[derive(Drop)]
 pub struct World<'f, M: Faulty> {
     alloc: Global,
-    // There is always one: it is taken out for an action of which a trace tells, and then put back.
-    device: Option<Device<M>>,
+    device: Device<M>,
     host: Option<Host<'f>>,
     // The host of the last session that reported Uploaded, if one did.
     gave: Option<Host<'f>>,
-    // Room for an answer. It is kept since to make one clears 4,096 bytes, which cost more than a pass.
-    out: ArrayVec<u8, 4096>,
+    out: Answered,
 }
 
 impl<'f, M: Faulty> Model for World<'f, M> {
     ghost use Rattle.dfu_sim.specs.Bench.{LinkState};
-    ghost use Rattle.dfu_sim.specs.Standing.{link_state};
-    ghost use Rattle.dfu_sim.specs.inside.Placed.{device_in, Stands};
+    ghost use Rattle.dfu_sim.specs.Standing.{bench_of, link_state, Holds};
 
     ghost Value = { LinkState };
 
-    ghost view = { λ w. link_state (device_in w.device) w.host w.gave };
+    ghost view = { λ w. link_state w.device w.host w.gave };
 
-    ghost invariant = { λ w. Stands w.device w.host };
+    ghost invariant = { λ w. Holds (bench_of w.device w.host) };
 }
 
 impl<'f, M: Faulty> World<'f, M> {
@@ -68,10 +63,13 @@ impl<'f, M: Faulty> World<'f, M> {
         let _ = device.slots().capacity();
         World {
             alloc,
-            device: Some(device),
+            device,
             host: None,
             gave: None,
-            out: ArrayVec::new(),
+            out: Answered {
+                came: Back::Lost,
+                bytes: ArrayVec::new(),
+            },
         }
     }
 
@@ -102,58 +100,33 @@ impl<'f, M: Faulty> World<'f, M> {
     {
         // Called for its law, which `legal` needs: no image but the one that is shown is active.
         image_shown();
-        match &mut self.device {
-            Some(device) => play(
-                self.alloc,
-                device,
-                &mut self.host,
-                &mut self.gave,
-                event,
-                &mut self.out,
-            ),
-            None => unreachable!(),
+        play(
+            self.alloc,
+            &mut self.device,
+            &mut self.host,
+            &mut self.gave,
+            event,
+            &mut self.out,
+        )
+    }
+
+    /// The phase of the host that is live, if one is, and what it asks for next.
+    pub fn asks(&self) -> Option<(Phase, Action<'f>)>
+        ensures { IfNone result (self.now.bench.session ≡ Nobody) }
+    {
+        match &self.host {
+            None => None,
+            Some(host) => Some((host.phase(), host.next())),
         }
     }
 
-    /// The host's next action, as `step` has it come with Go, and what it came to where a session is
-    /// live. `out` is room for an answer; its bytes stand there.
-    pub fn take_action(
-        &mut self,
-        fate: Fate<'_>,
-        out: &mut ArrayVec<u8, 4096>,
-    ) -> (Result<Option<Report>, LinkFault>, Option<Step<'f>>)
-        ensures play { HasCome self.old (Goes (fate_of fate.entry) (harm_in fate.entry)) self.new result.0 }
-        ensures step { IfSome result.1 (λ s. IsStep self.old.bench fate.entry s out.new.items self.new.bench) }
-        ensures none { IfNone result.1 (self.old.bench.session ≡ Nobody) }
-        ensures active { ShowsActive self.new.bench }
-    {
-        let Some((phase, action)) = asked(&self.host) else {
-            return (Err(LinkFault::NoHost), None);
-        };
-        let Some(device) = self.device.take() else {
-            unreachable!()
-        };
-        let before = device.state();
-        let (device, report, came, writes) = go_noting(
-            device,
-            &mut self.host,
-            &mut self.gave,
-            fate,
-            out,
-        );
-        // Called for its clause `image`, which `active` needs; what it answers isn't used.
-        let _ = device.slots().capacity();
-        let after = device.state();
-        self.device = Some(device);
-        let step = Step {
-            phase,
-            action,
-            came,
-            before,
-            after,
-            writes,
-        };
-        (Ok(report), Some(step))
+    /// What the device answered to the host's last action, with the bytes of its answer; also where that was lost
+    /// on its way back. No clause speaks of it: it is for a trace.
+    pub fn answered(&self) -> Option<(Answer, &[u8])> {
+        match self.out.came {
+            Back::Answered(answer) => Some((answer, self.out.bytes.as_slice())),
+            Back::Lost | Back::Restarted => None,
+        }
     }
 
     /// What the last session gave that reported Uploaded: the device's active image at that time.
@@ -172,10 +145,7 @@ impl<'f, M: Faulty> World<'f, M> {
         ensures device { result.now ≡ self.now.bench.device }
         ensures active { ShowsActive self.now.bench }
     {
-        match &self.device {
-            Some(device) => device,
-            None => unreachable!(),
-        }
+        &self.device
     }
 
     /// The device back, without what was uploaded. Where a session is live, the link back as it is.
@@ -215,9 +185,6 @@ impl<'f, M: Faulty> World<'f, M> {
             gave: _,
             out: _,
         } = self;
-        match device {
-            Some(device) => device,
-            None => unreachable!(),
-        }
+        device
     }
 }

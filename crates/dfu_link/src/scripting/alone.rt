@@ -1,11 +1,7 @@
 //! Whole scripts to which no file is given.
 
-ghost use Rattle.std.specs.Prelude.{◌≡◌, [], Some, None, OnOk, OnErr, IfErr, IfSome};
-ghost use Rattle.dfu_link.specs.ScriptRun.{WroteRun};
-ghost use Rattle.dfu_link.specs.Falls.{Falls, Ended};
-ghost use Rattle.dfu_link.specs.KeptLines.{untraced};
-ghost use Rattle.dfu_link.specs.TracedRun.{WroteTraced};
-ghost use Rattle.dfu_link.specs.TracedStop.{StopsTraced};
+ghost use Rattle.std.specs.Prelude.{None, IfSome};
+ghost use Rattle.dfu_link.specs.Falls.{Ended};
 ghost use Rattle.dfu_link.specs.Printed.{HasPrinted};
 
 use crate::scripting::fault::ScriptFault;
@@ -39,24 +35,17 @@ pub fn script<R: Read + Drop, W: Write>(
 ///
 /// # Errors
 ///
-/// Those of `script_traced_with`.
-pub fn script_traced<R: Read + Drop, W: Write + Drop>(
+/// Those of `script_with`.
+pub fn script_traced<R: Read + Drop, W: Write, N: Write>(
     alloc: Global,
     reader: R,
-    writer: W,
-) -> (Result<(), ScriptFault>, W)
-    // What was written without the lines that begin with `#` is a run of what was read.
-    ensures ok { IfSome (R.remaining reader) (λ text. W.contents writer ≡ Some [] →
-        OnOk result.0 (WroteRun None text (Some []) (untraced (W.contents result.1)))) }
-    // Which fault comes when, and what is out then without those lines.
-    ensures fault { IfSome (R.remaining reader) (λ text. W.contents writer ≡ Some [] →
-        IfErr result.0 (λ f. Falls None text (Some []) (untraced (W.contents result.1)) f)) }
-    // All that was written: of each action its line, with what is printed of it behind.
-    ensures traced { IfSome (R.remaining reader) (λ text. W.contents writer ≡ Some [] →
-        OnOk result.0 (WroteTraced None text (Some []) (W.contents result.1))) }
-    // So it is as far as a script goes that stops.
-    ensures traced_so_far { IfSome (R.remaining reader) (λ text. W.contents writer ≡ Some [] →
-        OnErr result.0 (StopsTraced None text (Some []) (W.contents result.1))) }
+    writer: &mut W,
+    trace: &mut N,
+) -> (Result<(), ScriptFault>, bool)
+    ensures ended { IfSome (R.remaining reader)
+        (λ text. Ended None text (W.contents writer.old) (W.contents writer.new) result.0) }
+    ensures printed { IfSome (R.remaining reader)
+        (λ text. HasPrinted None text (W.contents writer.old) (W.contents writer.new) result.0) }
 {
-    script_traced_with::<R, W>(alloc, None, reader, writer)
+    script_traced_with::<R, W, N>(alloc, None, reader, writer, trace)
 }
