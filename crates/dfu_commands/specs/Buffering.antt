@@ -3,7 +3,7 @@ use Rattle.std.specs.Prelude.{◌≡◌, ◌⊎◌, ℕ, List, ◌++◌, Option,
 use Rattle.std.specs.Io.KnownBytes.{Keeps}
 use Rattle.dfu_text.specs.declared.exit.Exit.{Exit}
 use Rattle.dfu_text.specs.declared.exit.Exit.TheVariants.{Fault}
-use Rattle.dfu_commands.specs.RunText.{WritesRun, WritesLegally, WritesWithHeadline, WritesTraced}
+use Rattle.dfu_commands.specs.RunText.{WritesRun, WritesPrinted}
 
 -- Of what was written these bytes are out, and they are a front of it.
 pub record HasFront (written : List ℕ) (new : Option (List ℕ)) : Type 0 where
@@ -22,13 +22,5 @@ pub record RunsBuffered (file given old new : Option (List ℕ)) (result : Exit)
   pub written : Option (List ℕ)
   pub end : Exit
   pub run : WritesRun file given old written end
-  pub legal : WritesLegally file given old written end
-  pub headline : WritesWithHeadline file given old written end
-  pub comes_out : ComesOut written new end result
-
--- A script with a trace was run into a buffer in front of a writer that held nothing, and what was written comes out.
-pub record RunsTraced (file given new : Option (List ℕ)) (result : Exit) : Type 0 where
-  pub written : Option (List ℕ)
-  pub end : Exit
-  pub run : WritesTraced file given written end
+  pub printed : WritesPrinted file given old written end
   pub comes_out : ComesOut written new end result

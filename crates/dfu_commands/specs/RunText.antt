@@ -1,15 +1,11 @@
 -- What `dfu run` writes.
-use Rattle.std.specs.Prelude.{◌≡◌, ℕ, List, [], Option, Some, IfSome, codes}
+use Rattle.std.specs.Prelude.{◌≡◌, ℕ, List, Option, IfSome, codes}
 use Rattle.dfu_suffix.specs.declared.fault.SuffixFault.TheVariants as suffix
 use Rattle.dfu_link.specs.declared.scripting.fault.ScriptFault.{ScriptFault}
 use Rattle.dfu_link.specs.declared.scripting.fault.ScriptFault.TheVariants.{BadLine, LateConfig, BadConfig, Expected, NonePrinted, TooLarge, NoMemory, Read, Write}
 use Rattle.dfu_link.specs.ScriptRun.{WroteRun}
 use Rattle.dfu_link.specs.Falls.{Falls}
-use Rattle.dfu_link.specs.KeptLines.{untraced}
-use Rattle.dfu_link.specs.ScriptLegal.{WroteLegal, StopsLegally}
-use Rattle.dfu_link.specs.ScriptHeadline.{WroteHeadline, StopsWithHeadline}
-use Rattle.dfu_link.specs.TracedRun.{WroteTraced}
-use Rattle.dfu_link.specs.TracedStop.{StopsTraced}
+use Rattle.dfu_link.specs.Printed.{WrotePrinted, StopsPrinted}
 use Rattle.dfu_text.specs.declared.exit.Exit.{Exit}
 use Rattle.dfu_text.specs.declared.exit.Exit.TheVariants.{Done, Refused, Fault}
 use Rattle.dfu_text.specs.AnswerLines.{fault_line}
@@ -36,27 +32,9 @@ pub data WritesRun (file given old new : Option (List ℕ)) (result : Exit) : Ty
   stops : (mid : Option (List ℕ)) (fault : ScriptFault) →
       IfSome given (λ text. Falls file text old mid fault) → WritesStop fault mid new result → WritesRun file given old new result
 
--- The session machine goes along with what is written: to the end of the script, and that is all; or to where it stopped, and
--- behind that the line of its fault is written.
-pub data WritesLegally (file given old new : Option (List ℕ)) (result : Exit) : Type 0 where
-  to_the_end : IfSome given (λ text. WroteLegal file text old new) → result ≡ Done → WritesLegally file given old new result
-  to_the_stop : (mid : Option (List ℕ)) (fault : ScriptFault) →
-      IfSome given (λ text. StopsLegally file text old mid) → WritesStop fault mid new result → WritesLegally file given old new result
-
--- The headline holds of what is written: to the end of the script, and that is all; or to where it stopped, and behind that the
--- line of its fault is written.
-pub data WritesWithHeadline (file given old new : Option (List ℕ)) (result : Exit) : Type 0 where
-  whole_holds : IfSome given (λ text. WroteHeadline file text old new) → result ≡ Done → WritesWithHeadline file given old new result
-  start_holds : (mid : Option (List ℕ)) (fault : ScriptFault) →
-      IfSome given (λ text. StopsWithHeadline file text old mid) → WritesStop fault mid new result →
-      WritesWithHeadline file given old new result
-
--- A script with a trace was written to a writer that held nothing: of each action its line, with what is printed of it behind. It ran
--- to its end, and that is all; or it stopped, and behind what it wrote comes the line of its fault. Where the lines of the trace are
--- left out, it is what the script writes with none.
-pub data WritesTraced (file given new : Option (List ℕ)) (result : Exit) : Type 0 where
-  traced_runs : IfSome given (λ text. WroteRun file text (Some []) (untraced new)) →
-      IfSome given (λ text. WroteTraced file text (Some []) new) → result ≡ Done → WritesTraced file given new result
-  traced_stops : (mid : Option (List ℕ)) (fault : ScriptFault) →
-      IfSome given (λ text. Falls file text (Some []) (untraced mid) fault) →
-      IfSome given (λ text. StopsTraced file text (Some []) mid) → WritesStop fault mid new result → WritesTraced file given new result
+-- The headline holds of what is written: of the whole text of the script, and that is all; or as far as the script went, and behind that
+-- the line of its fault is written.
+pub data WritesPrinted (file given old new : Option (List ℕ)) (result : Exit) : Type 0 where
+  prints_all : IfSome given (λ text. WrotePrinted file text old new) → result ≡ Done → WritesPrinted file given old new result
+  prints_part : (mid : Option (List ℕ)) (fault : ScriptFault) →
+      IfSome given (λ text. StopsPrinted file text old mid) → WritesStop fault mid new result → WritesPrinted file given old new result

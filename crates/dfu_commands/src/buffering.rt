@@ -1,11 +1,11 @@
 //! `dfu run` through a buffer.
 
-ghost use Rattle.std.specs.Prelude.{◌≡◌, [], Some, None};
+ghost use Rattle.std.specs.Prelude.{None};
 ghost use Rattle.std.specs.Io.Buffered.{writer_contents};
 ghost use Rattle.dfu_link.specs.Said.{given_bytes};
-ghost use Rattle.dfu_commands.specs.Buffering.{RunsBuffered, RunsTraced};
+ghost use Rattle.dfu_commands.specs.Buffering.{RunsBuffered};
 
-use crate::running::{run_traced_with_fault, run_with_fault};
+use crate::running::run_with_fault;
 use dfu_link::ScriptFault;
 use dfu_text::Exit;
 use std::alloc::Global;
@@ -44,27 +44,6 @@ pub(crate) fn run_buffered_with_fault<R: Read + Drop, W: Write + Drop>(
             // Taken apart, since a buffer that is dropped is written once more.
             let (writer, _) = error.into_inner().into_parts();
             (Exit::Fault, fault, writer)
-        }
-    }
-}
-
-/// Does what `run_buffered_with_fault` does, with a line for each action of the host.
-pub(crate) fn run_traced_buffered<R: Read + Drop, W: Write + Drop>(
-    alloc: Global,
-    file: Option<&[u8]>,
-    reader: R,
-    buffer: BufWriter<W>,
-) -> (Exit, Option<ScriptFault>, W)
-    ensures { writer_contents W.contents buffer ≡ Some [] →
-        RunsTraced (given_bytes file.entry) (R.remaining reader) (W.contents result.2) result.0 }
-{
-    let (exit, fault, buffer) = run_traced_with_fault(alloc, file, reader, buffer);
-    match buffer.into_inner() {
-        Ok(writer) => (exit, fault, writer),
-        Err(error) => {
-            // Taken apart, since a buffer that is dropped is written once more.
-            let (behind, _) = error.into_inner().into_parts();
-            (Exit::Fault, fault, behind)
         }
     }
 }

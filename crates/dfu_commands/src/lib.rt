@@ -17,6 +17,7 @@ mod performing;
 mod running;
 mod scripts;
 mod setup;
+mod sharing;
 mod watching;
 mod words;
 

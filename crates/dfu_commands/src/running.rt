@@ -1,8 +1,8 @@
 //! `dfu run`: what a script prints, and the line for one that stopped.
 
-ghost use Rattle.std.specs.Prelude.{◌≡◌, [], None, Some};
+ghost use Rattle.std.specs.Prelude.{◌≡◌, None};
 ghost use Rattle.dfu_link.specs.Said.{given_bytes};
-ghost use Rattle.dfu_commands.specs.RunText.{WritesStop, WritesRun, WritesLegally, WritesWithHeadline, WritesTraced};
+ghost use Rattle.dfu_commands.specs.RunText.{WritesStop, WritesRun, WritesPrinted};
 
 use crate::numbering::number_text;
 use dfu_link::{ScriptFault, script_traced_with, script_with};
@@ -45,8 +45,7 @@ fn stop_text<W: Write>(alloc: Global, fault: ScriptFault, writer: &mut W) -> Exi
 /// more is written.
 pub fn run_text<R: Read + Drop, W: Write>(alloc: Global, reader: R, writer: &mut W) -> Exit
     ensures run { WritesRun None (R.remaining reader) (W.contents writer.old) (W.contents writer.new) result }
-    ensures legal { WritesLegally None (R.remaining reader) (W.contents writer.old) (W.contents writer.new) result }
-    ensures headline { WritesWithHeadline None (R.remaining reader) (W.contents writer.old) (W.contents writer.new) result }
+    ensures printed { WritesPrinted None (R.remaining reader) (W.contents writer.old) (W.contents writer.new) result }
 {
     let (exit, _) = run_with_fault(alloc, None, reader, writer);
     exit
@@ -61,9 +60,7 @@ pub(crate) fn run_with_fault<R: Read + Drop, W: Write>(
     writer: &mut W,
 ) -> (Exit, Option<ScriptFault>)
     ensures run { WritesRun (given_bytes file.entry) (R.remaining reader) (W.contents writer.old) (W.contents writer.new) result.0 }
-    ensures legal { WritesLegally (given_bytes file.entry) (R.remaining reader) (W.contents writer.old) (W.contents writer.new) result.0 }
-    ensures headline { WritesWithHeadline (given_bytes file.entry) (R.remaining reader) (W.contents writer.old) (W.contents writer.new)
-        result.0 }
+    ensures printed { WritesPrinted (given_bytes file.entry) (R.remaining reader) (W.contents writer.old) (W.contents writer.new) result.0 }
     // Where no fault is given the script ran to its end.
     ensures fault { result.1 ≡ None → result.0 ≡ Exit.Done }
 {
@@ -73,24 +70,24 @@ pub(crate) fn run_with_fault<R: Read + Drop, W: Write>(
     }
 }
 
-/// Does what `run_with_fault` does, with a line for each action of the host, as `dfu_link::script_traced_with` writes it.
-/// It returns beside the end the fault at which the script stopped too, and the writer.
-pub(crate) fn run_traced_with_fault<R: Read + Drop, W: Write + Drop>(
+/// Does what `run_with_fault` does, with a line for each action of the host to `trace`, as
+/// `dfu_link::script_traced_with` writes it. It returns beside the end and the fault whether each line of the
+/// trace is out.
+pub(crate) fn run_traced_with_fault<R: Read + Drop, W: Write, N: Write>(
     alloc: Global,
     file: Option<&[u8]>,
     reader: R,
-    writer: W,
-) -> (Exit, Option<ScriptFault>, W)
-    ensures run { W.contents writer ≡ Some [] → WritesTraced (given_bytes file.entry) (R.remaining reader) (W.contents result.2) result.0 }
+    writer: &mut W,
+    trace: &mut N,
+) -> (Exit, Option<ScriptFault>, bool)
+    ensures run { WritesRun (given_bytes file.entry) (R.remaining reader) (W.contents writer.old) (W.contents writer.new) result.0 }
+    ensures printed { WritesPrinted (given_bytes file.entry) (R.remaining reader) (W.contents writer.old) (W.contents writer.new) result.0 }
     // Where no fault is given the script ran to its end.
     ensures fault { result.1 ≡ None → result.0 ≡ Exit.Done }
 {
-    let (answer, mut writer) = script_traced_with(alloc, file, reader, writer);
+    let (answer, is_traced) = script_traced_with(alloc, file, reader, writer, trace);
     match answer {
-        Ok(()) => (Exit::Done, None, writer),
-        Err(fault) => {
-            let exit = stop_text(alloc, fault, &mut writer);
-            (exit, Some(fault), writer)
-        }
+        Ok(()) => (Exit::Done, None, is_traced),
+        Err(fault) => (stop_text(alloc, fault, writer), Some(fault), is_traced),
     }
 }

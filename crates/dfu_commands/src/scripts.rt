@@ -1,13 +1,15 @@
 //! `dfu run`: the script of a file or of standard input, and how often it prints.
 
-use crate::buffering::{run_buffered_with_fault, run_traced_buffered};
+use crate::buffering::run_buffered_with_fault;
+use crate::running::run_traced_with_fault;
+use crate::sharing::Shared;
 use crate::watching::Watched;
 use dfu_files::{error_reason, file_reason, open};
 use dfu_link::ScriptFault;
 use dfu_suffix::SuffixFault;
-use dfu_text::{Answer, fault_text};
+use dfu_text::{Answer, Exit, fault_text};
 use std::alloc::Global;
-use std::io::{self, BufWriter, IsTerminal, Printer, Read};
+use std::io::{self, BufWriter, IsTerminal, Printer, Read, Write};
 use std::rt::Files;
 
 /// How many bytes the buffer of `run` has. Two writes after one another put out at least so many,
@@ -59,6 +61,29 @@ fn line_reason(alloc: Global, name: &str, number: u32, why: &str) -> Option<Stri
     }
 }
 
+/// Runs a script with its trace: both have a writer of their own, and share the buffer. Where a line of the trace
+/// isn't out, or what is printed, the end is Fault.
+fn run_traced<R: Read + Drop, W: Write + Drop>(
+    alloc: Global,
+    file: Option<&[u8]>,
+    reader: R,
+    buffer: BufWriter<W>,
+) -> (Exit, Option<ScriptFault>) {
+    let shared = Shared::new(buffer);
+    let (exit, fault, is_traced) = run_traced_with_fault(
+        alloc,
+        file,
+        reader,
+        &mut shared.writer(),
+        &mut shared.writer(),
+    );
+    if shared.finish() && is_traced {
+        (exit, fault)
+    } else {
+        (Exit::Fault, fault)
+    }
+}
+
 /// Runs a script through a buffer, so that it makes few writes. Where the script is typed at a
 /// terminal, what a line prints is out before the next one is waited for, so the buffer has no room.
 fn run_from<R: Print + AllocGlobal, S: Read + IsTerminal + Drop>(
@@ -72,10 +97,16 @@ fn run_from<R: Print + AllocGlobal, S: Read + IsTerminal + Drop>(
     let alloc = rt.alloc();
     let room = if script.is_terminal() { 0 } else { BUFFER };
     let mut watched = Watched::new(alloc, script, explain);
-    let (exit, fault, _) = if trace {
-        run_traced_buffered(alloc, file, &mut watched, buffer_of(rt, room))
+    let (exit, fault) = if trace {
+        run_traced(alloc, file, &mut watched, buffer_of(rt, room))
     } else {
-        run_buffered_with_fault(alloc, file, &mut watched, buffer_of(rt, room))
+        let (exit, fault, _) = run_buffered_with_fault(
+            alloc,
+            file,
+            &mut watched,
+            buffer_of(rt, room),
+        );
+        (exit, fault)
     };
     let reason = match fault {
         Some(fault) if explain => { stop_reason(alloc, name, fault, file.is_some(), &mut watched) }

@@ -7,20 +7,16 @@ use Rattle.dfu_link.specs.Texts.{image_line}
 use Rattle.dfu_link.specs.Words.{lines_of}
 use Rattle.dfu_link.specs.Lines.{line_of}
 use Rattle.dfu_link.specs.ScriptRun.{Point}
-use Rattle.dfu_link.specs.Bench.{Nobody}
+use Rattle.dfu_sim.specs.Bench.{Nobody}
 use Rattle.dfu_link.specs.Said.{Said, Offer, Does}
 use Rattle.dfu_link.specs.Expecting.{Expectation, Fails}
 use Rattle.dfu_link.specs.Falls.{BreaksIn, in_events, in_passes, in_show, for_file, for_tear, LineFalls, NextFalls}
 use Rattle.dfu_link.specs.TextLimit.{GoesOver, IsStopped, GivesNone}
 use Rattle.dfu_link.specs.inside.Source.{SourceState, Takes, GivesLine, StopsSource}
-use Rattle.dfu_link.specs.TracedRun.{Clock}
-use Rattle.dfu_link.specs.TracedStop.{NextTraced, nothing_traced, part_traced, image_traced}
-use Rattle.dfu_link.specs.inside.Telling.{Held, Traces, IsJust}
-use Rattle.dfu_link.specs.inside.Moving.{LinePart, no_part, a_part, Moves, MovesAndFalls, HasStopped, FindsNoRoom, FindsNoTear}
+use Rattle.dfu_link.specs.inside.Moving.{Moves, MovesAndFalls, HasStopped, FindsNoRoom, FindsNoTear}
 use Rattle.dfu_link.specs.declared.scripting.fault.ScriptFault.{ScriptFault}
 use Rattle.dfu_link.specs.declared.scripting.fault.ScriptFault.TheVariants.{BadLine, LateConfig, BadConfig, Expected, NonePrinted, TooLarge, NoMemory, Read, Write}
 use Rattle.dfu_link.proofs.GivenLaws.{if_some}
-use Rattle.dfu_link.proofs.TellingLaws.{traces_none, traces_map}
 use Rattle.dfu_link.proofs.MoveLaws.{moves_trans}
 
 -- A line that falls is within the limit of the text.
@@ -58,33 +54,17 @@ taken_falls p (Some a) (Some b) room room' k n line old new f took ends is falls
     line_is_next p k line (lines_of b) old new f (subst (λ (x : ℕ). LineFalls p x line old new f) is falls) in
     (line_stops p n room line a old new f ends falls, subst (λ (ls : List (List ℕ)). NextFalls p k ls old new f) (sym took.are) there)
 
-next_of : {p : Point} {c : Clock} {line : List ℕ} {lines : List (List ℕ)} {text : List ℕ} → LinePart p c line text
-    → NextTraced p c (line ∷ lines) text
-next_of no_part = nothing_traced
-next_of {line = line} (a_part text is part) = part_traced line text is part
-
--- What is written of the line that was taken is what is written of the first line.
-taken_part : (p : Point) (a b : Option (List ℕ)) (room room' : ℕ) (line : List ℕ) {old new : Held} → Takes a room (line ∷ []) b room'
-    → Traces (λ c text c'. LinePart p c line text) old new
-    → IfSome a (λ left. Traces (λ c text c'. NextTraced p c (lines_of left) text) old new)
-taken_part p None b room room' line took part = tt
-taken_part p (Some a) None room room' line took part = absurd took
-taken_part p (Some a) (Some b) room room' line {old = old} {new = new} took part =
-    subst (λ (ls : List (List ℕ)). Traces (λ c text c'. NextTraced p c ls text) old new) (sym took.are)
-    (traces_map (λ c text c'. next_of) part)
-
 -- The line that a source gave falls.
-pub given_falls : {p q : Point} {s t u : SourceState} {old mid new : Held} (f : ScriptFault) → Moves p s old q t mid
-    → GivesLine t u → LineFalls q u.number u.line mid.seen new.seen f → Traces (λ c text c'. LinePart q c u.line text) mid new
+pub given_falls : {p q : Point} {s t u : SourceState} {old mid new : Option (List ℕ)} (f : ScriptFault) → Moves p s old q t mid
+    → GivesLine t u → LineFalls q u.number u.line mid new f
     → MovesAndFalls p s old new f
-given_falls {q = q} {t = t} {u = u} {mid = mid} {new = new} f m given falls part = record {
+given_falls {q = q} {t = t} {u = u} {mid = mid} {new = new} f m given falls = record {
   to = q;
   at = t;
   mid = mid;
   moves = m;
-  falls = taken_falls q t.left u.left t.room u.room (t.number + 1) u.number u.line mid.seen new.seen f given.gives.takes given.ends
+  falls = taken_falls q t.left u.left t.room u.room (t.number + 1) u.number u.line mid new f given.gives.takes given.ends
       given.gives.count falls;
-  part = taken_part q t.left u.left t.room u.room u.line given.gives.takes part;
 }
 
 none_over : (room : ℕ) → ¬ GoesOver room []
@@ -118,24 +98,15 @@ image_breaks p (Some left) room k old new f ended fails broke =
     subst (λ (xs : List ℕ). IsStopped room xs f × NextFalls p k (lines_of xs) old new f) (sym ended)
     (image_stops p k old new f fails broke room)
 
-image_part : (p : Point) (a : Option (List ℕ)) {old new : Held} → IsAtEnd a → Traces (IsJust (image_line p.at.device)) old new
-    → IfSome a (λ left. Traces (λ c text c'. NextTraced p c (lines_of left) text) old new)
-image_part p None ended says = tt
-image_part p (Some left) {old = old} {new = new} ended says =
-    subst (λ (xs : List ℕ). Traces (λ c text c'. NextTraced p c (lines_of xs) text) old new) (sym ended)
-    (traces_map (λ c text c' just. subst (λ (t : List ℕ). NextTraced p c [] t) (sym just.0) image_traced) says)
-
 -- No line is left, and the line of the image falls.
-pub image_falls : {p q : Point} {s t : SourceState} {old mid new : Held} (f : ScriptFault) → Moves p s old q t mid
-    → IsAtEnd t.left → Fails q.next (image_line q.at.device) mid.seen new.seen f → IsOutInPart mid.seen new.seen (image_line q.at.device)
-    → Traces (IsJust (image_line q.at.device)) mid new → MovesAndFalls p s old new f
-image_falls {q = q} {t = t} {mid = mid} {new = new} f m ended fails broke says = record {
+pub image_falls : {p q : Point} {s t : SourceState} {old mid new : Option (List ℕ)} (f : ScriptFault) → Moves p s old q t mid
+    → IsAtEnd t.left → Fails q.next (image_line q.at.device) mid new f → IsOutInPart mid new (image_line q.at.device) → MovesAndFalls p s old new f
+image_falls {q = q} {t = t} {mid = mid} {new = new} f m ended fails broke = record {
   to = q;
   at = t;
   mid = mid;
   moves = m;
-  falls = image_breaks q t.left t.room (t.number + 1) mid.seen new.seen f ended fails broke;
-  part = image_part q t.left ended says;
+  falls = image_breaks q t.left t.room (t.number + 1) mid new f ended fails broke;
 }
 
 none_falls : (p : Point) (k : ℕ) (lines : List (List ℕ)) (old : Option (List ℕ)) (f : ScriptFault) → GivesNone p.given k lines f
@@ -158,21 +129,20 @@ stops_here p None room k old f h = tt
 stops_here p (Some left) room k old f h = (h.0, none_falls p k (lines_of left) old f h.1)
 
 -- The source gives no line.
-pub source_falls : {p q : Point} {s t : SourceState} {old mid : Held} (f : ScriptFault) → Moves p s old q t mid
+pub source_falls : {p q : Point} {s t : SourceState} {old mid : Option (List ℕ)} (f : ScriptFault) → Moves p s old q t mid
     → StopsSource q.given t f → MovesAndFalls p s old mid f
 source_falls {q = q} {t = t} {mid = mid} f m stops = record {
   to = q;
   at = t;
   mid = mid;
   moves = m;
-  falls = stops_here q t.left t.room (t.number + 1) mid.seen f stops;
-  part = if_some t.left _ (λ left e. traces_none (λ c text c'. NextTraced q c (lines_of left) text) mid nothing_traced);
+  falls = stops_here q t.left t.room (t.number + 1) mid f stops;
 }
 
 -- Lines were done, and those after them fall.
-pub falls_after : {p q : Point} {s t : SourceState} {old mid new : Held} (f : ScriptFault) → Moves p s old q t mid
+pub falls_after : {p q : Point} {s t : SourceState} {old mid new : Option (List ℕ)} (f : ScriptFault) → Moves p s old q t mid
     → MovesAndFalls q t mid new f → MovesAndFalls p s old new f
-falls_after f m n = record { to = n.to; at = n.at; mid = n.mid; moves = moves_trans m n.moves; falls = n.falls; part = n.part }
+falls_after f m n = record { to = n.to; at = n.at; mid = n.mid; moves = moves_trans m n.moves; falls = n.falls }
 
 -- The faults at which a text stops.
 abbrev IsStop : ScriptFault → Type 0

@@ -4,14 +4,14 @@ use Rattle.std.proofs.lemmas.Bool.Decides.{nat_tests}
 use Rattle.std.proofs.lemmas.Slice.Eq.{bytes_eq-Decides}
 use Rattle.std.specs.Prelude.{◌==◌, ◌%◌, nat_le, length, unwrap_or, replicate, codes}
 use Rattle.std.specs.Str.{bytes_eq}
-use Rattle.dfu_link.specs.declared.aim.Aim.{Aim}
-use Rattle.dfu_link.specs.declared.aim.Aim.TheVariants.{Install, Verify}
+use Rattle.dfu_sim.specs.declared.aim.Aim.{Aim}
+use Rattle.dfu_sim.specs.declared.aim.Aim.TheVariants.{Install, Verify}
 use Rattle.dfu_link.specs.Words.{◌>>=◌, guard, bytes_of, number_of, first, text_behind, ends, words_of}
 use Rattle.dfu_link.specs.Keywords.{keyword_of, fate_keyword_of}
-use Rattle.dfu_link.specs.Happening.{Fate}
+use Rattle.dfu_sim.specs.Happening.{Fate}
 use Rattle.dfu_link.specs.Said.{ConfigLine, TheIds, TheDevice, TheUnit, TheSector, TheCapacity, TheImage, EventLine, Offer, Upload, Abort, Go, Time, Reset, Cut, Said, Blank, Sets, LimitsTo, Does, GoesOn, Show, Expects}
 use Rattle.dfu_link.specs.Lines.{number_at, small_at, hex_at, named_bytes, file_at, identifier_at, attributes_at, ids_of, device_of, unit_named, unit_of, erase_of, capacity_of, image_of, limits_of, offer_of, time_of, pass_of, slip_of, harmed_of, until_of, go_of, expect_of, by_keyword, is_comment, says, line_of}
-use Rattle.dfu_link.specs.Headline.{Begun, WithOffer, AsUpload}
+use Rattle.dfu_sim.specs.Headline.{Begun, WithOffer, AsUpload}
 use Rattle.dfu_link.specs.Printed.{Brings, Nothing, AnImage, Events, SomePasses, AShow, bytes_in, file_in, count_in, go_brings, words_bring, brought}
 
 -- What is said.

@@ -5,35 +5,31 @@ use Rattle.std.specs.Io.KnownBytes.{Appends, IsAtEnd}
 use Rattle.dfu_device.specs.Shown.{Shown}
 use Rattle.dfu_slots.specs.Medium.{Fuse}
 use Rattle.dfu_slots.specs.Medium.Fuse.{Whole}
-use Rattle.dfu_link.specs.Play.{given}
-use Rattle.dfu_link.specs.Bytes.{armed}
+use Rattle.dfu_sim.specs.Play.{given}
+use Rattle.dfu_sim.specs.Bytes.{armed}
 use Rattle.dfu_link.specs.Texts.{image_line}
 use Rattle.dfu_link.specs.Said.{Said}
 use Rattle.dfu_link.specs.Lines.{line_of}
 use Rattle.dfu_link.specs.ScriptRun.{Settings, nothing, then_prepares, prepared, at_rest, Point, LineActs, LinesRun, stays, then_runs}
 use Rattle.dfu_link.specs.Expecting.{Expectation}
-use Rattle.dfu_link.specs.TracedRun.{Clock, LinesTraced, no_line_traced, line_traced}
 use Rattle.dfu_link.specs.inside.Expected.{Prints}
-use Rattle.dfu_link.specs.inside.Telling.{Held, Traces, IsJust}
 use Rattle.dfu_link.specs.inside.Source.{SourceState, GivesLine}
 use Rattle.dfu_link.specs.inside.Moving.{Steps, Moves, Ends, IsUnarmed, Prepared}
 use Rattle.dfu_link.proofs.GivenLaws.{gives_none, gives_trans}
 use Rattle.dfu_link.proofs.WriteLaws.{appends_none, appends_more}
-use Rattle.dfu_link.proofs.TellingLaws.{traces_none, traces_more, lines_traced_more}
 
 -- No line was done.
-pub moves_none : (p : Point) (s : SourceState) (old : Held) → Moves p s old p s old
+pub moves_none : (p : Point) (s : SourceState) (old : Option (List ℕ)) → Moves p s old p s old
 moves_none p s old = record {
   done = [];
   shown = [];
   gives = gives_none s;
   runs = stays;
-  told = appends_none old.seen;
-  traces = traces_none (λ c text c'. LinesTraced (s.number + 1) p c [] text p c') old no_line_traced;
+  told = appends_none old;
 }
 
 -- One line more was done.
-pub moves_then : {p q r : Point} {s t u : SourceState} {old mid new : Held} → Moves p s old q t mid → GivesLine t u
+pub moves_then : {p q r : Point} {s t u : SourceState} {old mid new : Option (List ℕ)} → Moves p s old q t mid → GivesLine t u
     → Steps u.number q u.line mid r new → Moves p s old r u new
 moves_then {q = q} {r = r} {s = s} {t = t} {u = u} {old = old} {mid = mid} {new = new} m given step =
     let number : u.number ≡ s.number + 1 + length m.done = omega (arith, given.gives.count, m.gives.count) in
@@ -42,9 +38,7 @@ moves_then {q = q} {r = r} {s = s} {t = t} {u = u} {old = old} {mid = mid} {new 
       shown = m.shown ++ step.out;
       gives = gives_trans m.gives given.gives;
       runs = then_runs u.line m.runs step.is (subst (λ (k : ℕ). LineActs k q step.said step.out r) number step.acts);
-      told = appends_more old.seen mid.seen new.seen m.shown step.out m.told step.told;
-      traces = traces_more (λ c d e xs ys lines says. line_traced u.line ys lines step.is
-          (subst (λ (k : ℕ). LineActs k q step.said step.out r) number step.acts) says) m.traces step.traces;
+      told = appends_more old mid new m.shown step.out m.told step.told;
     }
 
 -- Lines and then more lines are a run of all of them.
@@ -60,23 +54,20 @@ runs_more k j p q r xs ys a b at run (then_runs {q = mid} {lines = ls} line {sai
     (subst (λ (c : List ℕ). LinesRun k p (xs ++ ls ++ line ∷ []) c r) (append_assoc a o more) both)
 
 -- Lines were done, and then more lines.
-pub moves_trans : {p q r : Point} {s t u : SourceState} {old mid new : Held} → Moves p s old q t mid → Moves q t mid r u new
+pub moves_trans : {p q r : Point} {s t u : SourceState} {old mid new : Option (List ℕ)} → Moves p s old q t mid → Moves q t mid r u new
     → Moves p s old r u new
 moves_trans {p = p} {q = q} {r = r} {s = s} {t = t} {old = old} {mid = mid} {new = new} m n = record {
   done = m.done ++ n.done;
   shown = m.shown ++ n.shown;
   gives = gives_trans m.gives n.gives;
   runs = runs_more (s.number + 1) (t.number + 1) p q r m.done n.done m.shown n.shown (omega (arith, m.gives.count)) m.runs n.runs;
-  told = appends_more old.seen mid.seen new.seen m.shown n.shown m.told n.told;
-  traces = traces_more (λ c d e xs ys first second. lines_traced_more (s.number + 1) (t.number + 1) p c q d r e m.done n.done xs ys
-      (omega (arith, m.gives.count)) first second) m.traces n.traces;
+  told = appends_more old mid new m.shown n.shown m.told n.told;
 }
 
 -- All lines were done, and the line of the image is out.
-pub ends_now : {p q : Point} {s t : SourceState} {old mid new : Held} → Moves p s old q t mid → IsAtEnd t.left
-    → {x : Option Expectation} → Prints q.next mid.seen (image_line q.at.device) x new.seen
-    → Traces (IsJust (image_line q.at.device)) mid new → Ends p s old new
-ends_now {p = p} {q = q} {s = s} {t = t} {old = old} {mid = mid} {new = new} m ended prints says = record {
+pub ends_now : {p q : Point} {s t : SourceState} {old mid new : Option (List ℕ)} → Moves p s old q t mid → IsAtEnd t.left
+    → {x : Option Expectation} → Prints q.next mid (image_line q.at.device) x new → Ends p s old new
+ends_now {p = p} {q = q} {s = s} {t = t} {old = old} {mid = mid} {new = new} m ended prints = record {
   done = m.done;
   last = t;
   gives = m.gives;
@@ -85,16 +76,11 @@ ends_now {p = p} {q = q} {s = s} {t = t} {old = old} {mid = mid} {new = new} m e
   end = q;
   runs = m.runs;
   meets = prints.meets;
-  told = appends_more old.seen mid.seen new.seen m.shown (image_line q.at.device) m.told prints.told;
-  traces = traces_more (λ c d e xs ys lines just. record {
-    written = xs;
-    lines_are = subst (λ (k : Clock). LinesTraced (s.number + 1) p c m.done xs q k) (sym just.1) lines;
-    text_is = ap (λ (zs : List ℕ). xs ++ zs) just.0;
-  }) m.traces says;
+  told = appends_more old mid new m.shown (image_line q.at.device) m.told prints.told;
 }
 
 -- Lines were done, and then all that were left.
-pub ends_after : {p q : Point} {s t : SourceState} {old mid new : Held} → Moves p s old q t mid → Ends q t mid new
+pub ends_after : {p q : Point} {s t : SourceState} {old mid new : Option (List ℕ)} → Moves p s old q t mid → Ends q t mid new
     → Ends p s old new
 ends_after {p = p} {q = q} {s = s} {t = t} {old = old} {mid = mid} {new = new} m e =
     let image = image_line e.end.at.device in
@@ -107,14 +93,8 @@ ends_after {p = p} {q = q} {s = s} {t = t} {old = old} {mid = mid} {new = new} m
       end = e.end;
       runs = runs_more (s.number + 1) (t.number + 1) p q e.end m.done e.done m.shown e.shown (omega (arith, m.gives.count)) m.runs e.runs;
       meets = e.meets;
-      told = subst (λ (xs : List ℕ). Appends old.seen new.seen xs) (sym (append_assoc m.shown e.shown image))
-          (appends_more old.seen mid.seen new.seen m.shown (e.shown ++ image) m.told e.told);
-      traces = traces_more (λ c d k xs ys lines last. record {
-        written = xs ++ last.written;
-        lines_are = lines_traced_more (s.number + 1) (t.number + 1) p c q d e.end k m.done e.done xs last.written
-            (omega (arith, m.gives.count)) lines last.lines_are;
-        text_is = ap (λ (zs : List ℕ). xs ++ zs) last.text_is ∙ sym (append_assoc xs last.written image);
-      }) m.traces e.traces;
+      told = subst (λ (xs : List ℕ). Appends old new xs) (sym (append_assoc m.shown e.shown image))
+          (appends_more old mid new m.shown (e.shown ++ image) m.told e.told);
     }
 
 -- Lines that set.

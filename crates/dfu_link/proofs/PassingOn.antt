@@ -7,54 +7,41 @@ use Rattle.dfu_suffix.specs.Writing.{IsOutInPart}
 use Rattle.dfu_host.specs.declared.limits.Limits.{Limits}
 use Rattle.dfu_host.specs.declared.report.Report.{Report}
 use Rattle.dfu_host.specs.declared.report.Report.TheVariants as report
-use Rattle.dfu_link.specs.declared.fault.LinkFault.{LinkFault}
-use Rattle.dfu_link.specs.declared.fault.LinkFault.TheVariants as link
-use Rattle.dfu_link.specs.Bench.{Bench, LinkState, ShowsActive}
-use Rattle.dfu_link.specs.Happening.{Happening, Goes, Pass, unharmed}
-use Rattle.dfu_link.specs.Comes.{HasCome}
+use Rattle.dfu_sim.specs.declared.fault.LinkFault.{LinkFault}
+use Rattle.dfu_sim.specs.declared.fault.LinkFault.TheVariants as link
+use Rattle.dfu_sim.specs.Bench.{Bench, LinkState, ShowsActive}
+use Rattle.dfu_sim.specs.Happening.{Happening, Goes, Pass, unharmed}
+use Rattle.dfu_sim.specs.Comes.{HasCome}
 use Rattle.dfu_link.specs.Texts.{told_line, answer_line}
 use Rattle.dfu_link.specs.Said.{GoesOn}
 use Rattle.dfu_link.specs.ScriptRun.{AllCome, none_comes, Point, LineActs, goes_on}
 use Rattle.dfu_link.specs.Expecting.{Expectation, Meets, still, Fails}
-use Rattle.dfu_link.specs.TracedRun.{AllTraced, none_traced}
-use Rattle.dfu_link.specs.TracedStop.{SomeTraced, PartTraced}
 use Rattle.dfu_link.specs.inside.Expected.{point_at, Prints}
-use Rattle.dfu_link.specs.inside.Telling.{Held, Traces, IsJust, Leads}
 use Rattle.dfu_link.specs.declared.scripting.fault.ScriptFault.{ScriptFault}
 use Rattle.dfu_link.specs.Falls.{in_passes}
 use Rattle.dfu_link.specs.inside.Moving.{IsSilent, HasActed, HasStopped}
 use Rattle.dfu_link.proofs.WriteLaws.{broke_after}
 use Rattle.dfu_link.proofs.ExpectLaws.{prints_none, prints_more, prints_kept, fails_after}
-use Rattle.dfu_link.proofs.TellingLaws.{traces_none, traces_map, all_more, some_played}
 use Rattle.dfu_link.proofs.ToldLines.{told_line_is}
 use Rattle.dfu_link.proofs.PlayLaws.{replicate_more, plays_one}
 
 abbrev passes : Happening
 passes = Goes Pass unharmed
 
--- What was written of passes, and then of one more.
-passed_more : (n : ℕ) {b d d' : Bench} {printed : List ℕ} {old mid kept new : Held}
-    → Traces (λ k text k'. AllTraced b k (replicate n passes) text d k') old mid → Traces (Leads d passes d' printed) mid kept
-    → Traces (IsJust printed) kept new → Traces (λ k text k'. AllTraced b k (replicate (n + 1) passes) text d' k') old new
-passed_more n {b = b} {d' = d'} {old = old} {new = new} before leads says =
-    subst (λ (hs : List Happening). Traces (λ k text k'. AllTraced b k hs text d' k') old new) (sym (replicate_more n passes))
-    (all_more before leads says)
-
 -- At first it has not passed.
-pub silent_none : (b : Bench) (e : Option Expectation) (old : Held) → IsSilent b e old b e old
+pub silent_none : (b : Bench) (e : Option Expectation) (old : Option (List ℕ)) → IsSilent b e old b e old
 silent_none b e old = record {
   times = 0;
   plays = none_comes;
-  prints = prints_none e old.seen;
-  traces = traces_none (λ c text c'. AllTraced b c [] text b c') old none_traced;
+  prints = prints_none e old;
 }
 
 -- It passed once more, and again nothing is printed.
-pub silent_more : {b : Bench} {c c' : LinkState} (r : Result (Option Report) LinkFault) {old mid kept new : Held}
+pub silent_more : {b : Bench} {c c' : LinkState} (r : Result (Option Report) LinkFault) {old mid new : Option (List ℕ)}
     {x y z : Option Expectation} → IsSilent b x old c.bench y mid → HasCome c passes c' r
-    → ShowsActive c'.bench → Keeps mid.seen kept.seen → Traces (Leads c.bench passes c'.bench (told_line r c'.up)) mid kept → r ≡ Ok None
-    → Prints y kept.seen (told_line r c'.up) z new.seen → Traces (IsJust (told_line r c'.up)) kept new → IsSilent b x old c'.bench z new
-silent_more {b = b} {c = c} {c' = c'} r {kept = kept} {new = new} {y = y} {z = z} before come active keeps leads e prints says =
+    → ShowsActive c'.bench → r ≡ Ok None
+    → Prints y mid (told_line r c'.up) z new → IsSilent b x old c'.bench z new
+silent_more {b = b} {c = c} {c' = c'} r {mid = mid} {new = new} {y = y} {z = z} before come active e prints =
     let n = before.times in
     let more : AllCome b (replicate n passes ++ passes ∷ []) (told_line r c'.up) c'.bench =
     plays_one b c c' (replicate n passes) passes [] r
@@ -64,8 +51,7 @@ silent_more {b = b} {c = c} {c' = c'} r {kept = kept} {new = new} {y = y} {z = z
       times = n + 1;
       plays = subst (λ (hs : List Happening). AllCome b hs [] c'.bench) (sym (replicate_more n passes))
           (subst (λ (out : List ℕ). AllCome b (replicate n passes ++ passes ∷ []) out c'.bench) text more);
-      prints = prints_more (prints_kept before.prints keeps) (subst (λ (out : List ℕ). Prints y kept.seen out z new.seen) text prints);
-      traces = passed_more n before.traces leads says;
+      prints = prints_more before.prints (subst (λ (out : List ℕ). Prints y mid out z new) text prints);
     }
 
 -- Of a report and of a refusal something is printed.
@@ -97,7 +83,7 @@ part_some : {old new : Option (List ℕ)} {text : List ℕ} → IsOutInPart old 
 part_some part = λ e. absurd (part_none part.front part.rest (sym part.whole ∙ e) part.left)
 
 -- Something is printed of one action more, which is as expected.
-goes_on_by : {b : Bench} {c c' : LinkState} (g : Option (List ℕ)) (limits : Limits) (r : Result (Option Report) LinkFault) {old mid : Held}
+goes_on_by : {b : Bench} {c c' : LinkState} (g : Option (List ℕ)) (limits : Limits) (r : Result (Option Report) LinkFault) {old mid : Option (List ℕ)}
     {x y : Option Expectation} (k : ℕ) (next : Option Expectation) → Meets next (told_line r c'.up)
     → IsSilent b x old c.bench y mid → HasCome c (Goes Pass unharmed) c' r → ShowsActive c'.bench → told_line r c'.up ≢ []
     → LineActs k (point_at g limits next b) GoesOn (told_line r c'.up) (point_at g limits (still next (told_line r c'.up)) c'.bench)
@@ -108,41 +94,27 @@ goes_on_by {b = b} {c = c} {c' = c'} g limits r k next meets silent come active 
 
 -- It is out.
 pub passed_on : {b : Bench} {c c' : LinkState} (g : Option (List ℕ)) (limits : Limits) (r : Result (Option Report) LinkFault)
-    {old mid kept new : Held} {x y z : Option Expectation} → IsSilent b x old c.bench y mid
-    → HasCome c passes c' r → ShowsActive c'.bench → Keeps mid.seen kept.seen
-    → Traces (Leads c.bench passes c'.bench (told_line r c'.up)) mid kept → r ≢ Ok None
-    → Prints y kept.seen (told_line r c'.up) z new.seen → Traces (IsJust (told_line r c'.up)) kept new
+    {old mid new : Option (List ℕ)} {x y z : Option Expectation} → IsSilent b x old c.bench y mid
+    → HasCome c passes c' r → ShowsActive c'.bench → r ≢ Ok None
+    → Prints y mid (told_line r c'.up) z new
     → HasActed (point_at g limits x b) GoesOn old (point_at g limits z c'.bench) new
-passed_on {b = b} {c' = c'} g limits r {x = x} silent come active keeps leads other prints says =
-    let all = prints_more (prints_kept silent.prints keeps) prints in
+passed_on {b = b} {c' = c'} g limits r {x = x} silent come active other prints =
+    let all = prints_more silent.prints prints in
     record {
       out = told_line r c'.up;
       acts = λ k. subst (λ (e : Option Expectation). LineActs k (point_at g limits x b) GoesOn (told_line r c'.up)
           (point_at g limits e c'.bench))
           (sym all.left) (goes_on_by g limits r k x all.meets silent come active (something r c'.up other));
       told = all.told;
-      traces = traces_map (λ k out k' passed. (silent.times + 1, passed)) (passed_more silent.times silent.traces leads says);
     }
-
--- So far it was written, with the trace.
-pub passed_part : {b d d' : Bench} {x y : Option Expectation} {printed : List ℕ} {old mid kept new : Held} (p : Point) → p.at ≡ b
-    → IsSilent b x old d y mid → Traces (Leads d passes d' printed) mid kept → Traces (IsJust printed) kept new
-    → Traces (λ k text k'. PartTraced p k GoesOn text) old new
-passed_part {old = old} {new = new} p at silent leads says =
-    let n = silent.times + 1 in
-    subst (λ (c : Bench). Traces (λ k text k'. (times : ℕ) × SomeTraced c k (replicate times passes) text) old new) (sym at)
-    (traces_map (λ k text k' all. (
-      n,
-      some_played (replicate n passes) (replicate n passes) [] k text k' (sym (append-nil (replicate n passes))) all,
-    )) (passed_more silent.times silent.traces leads says))
 
 -- Or it stopped in it.
 pub stopped_on : {b : Bench} {c c' : LinkState} (g : Option (List ℕ)) (limits : Limits) (r : Result (Option Report) LinkFault)
-    {old mid : Held} {kept new : Option (List ℕ)} {x y : Option Expectation} (f : ScriptFault) → IsSilent b x old c.bench y mid
-    → HasCome c passes c' r → ShowsActive c'.bench → Keeps mid.seen kept → IsOutInPart kept new (told_line r c'.up)
-    → Fails y (told_line r c'.up) kept new f → HasStopped (point_at g limits x b) GoesOn old.seen new f
-stopped_on {c' = c'} g limits r {old = old} {kept = kept} {new = new} f silent come active keeps broke fails line e =
-    let before = prints_kept silent.prints keeps in
+    {old mid new : Option (List ℕ)} {x y : Option Expectation} (f : ScriptFault) → IsSilent b x old c.bench y mid
+    → HasCome c passes c' r → ShowsActive c'.bench → IsOutInPart mid new (told_line r c'.up)
+    → Fails y (told_line r c'.up) mid new f → HasStopped (point_at g limits x b) GoesOn old new f
+stopped_on {c' = c'} g limits r {old = old} {mid = mid} {new = new} f silent come active broke fails line e =
+    let before = silent.prints in
     in_passes e (goes_on_by g limits r 0 None tt silent come active (part_some broke))
-    (broke_after old.seen kept new [] (told_line r c'.up) before.told broke)
+    (broke_after old mid new [] (told_line r c'.up) before.told broke)
     (fails_after (told_line r c'.up) new f before fails)

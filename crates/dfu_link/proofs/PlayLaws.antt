@@ -4,27 +4,23 @@ use Rattle.std.specs.Prelude.{replicate, Result, Err}
 use Rattle.std.specs.Io.KnownBytes.{Keeps}
 use Rattle.dfu_host.specs.declared.limits.Limits.{Limits}
 use Rattle.dfu_host.specs.declared.report.Report.{Report}
-use Rattle.dfu_link.specs.Bench.{Bench, ShowsActive, LinkState}
-use Rattle.dfu_link.specs.declared.aim.Aim.{Aim}
-use Rattle.dfu_link.specs.Happening.{Happening, Offers}
-use Rattle.dfu_link.specs.Refusing.{IsLive}
-use Rattle.dfu_link.specs.Comes.{Comes, refuses, HasCome}
-use Rattle.dfu_link.specs.declared.fault.LinkFault.{LinkFault}
-use Rattle.dfu_link.specs.declared.fault.LinkFault.TheVariants.{HostBusy}
+use Rattle.dfu_sim.specs.Bench.{Bench, ShowsActive, LinkState}
+use Rattle.dfu_sim.specs.declared.aim.Aim.{Aim}
+use Rattle.dfu_sim.specs.Happening.{Happening, Offers}
+use Rattle.dfu_sim.specs.Refusing.{IsLive}
+use Rattle.dfu_sim.specs.Comes.{Comes, refuses, HasCome}
+use Rattle.dfu_sim.specs.declared.fault.LinkFault.{LinkFault}
+use Rattle.dfu_sim.specs.declared.fault.LinkFault.TheVariants.{HostBusy}
 use Rattle.dfu_link.specs.declared.scripting.fault.ScriptFault.{ScriptFault}
 use Rattle.dfu_suffix.specs.Writing.{IsOutInPart}
 use Rattle.dfu_link.specs.Texts.{told_line, answer_line}
 use Rattle.dfu_link.specs.ScriptRun.{AllCome, none_comes, then_comes}
 use Rattle.dfu_link.specs.Expecting.{Expectation, Fails}
 use Rattle.dfu_link.specs.Falls.{HasBroken}
-use Rattle.dfu_link.specs.TracedRun.{Clock, EventTraced, untold, AllTraced, none_traced, then_traced}
-use Rattle.dfu_link.specs.TracedStop.{SomeTraced}
 use Rattle.dfu_link.specs.inside.Expected.{Prints}
-use Rattle.dfu_link.specs.inside.Telling.{Held, Traces, IsJust, Leads}
 use Rattle.dfu_link.specs.inside.Moving.{HasPlayed}
 use Rattle.dfu_link.proofs.WriteLaws.{broke_after}
 use Rattle.dfu_link.proofs.ExpectLaws.{prints_none, prints_more, prints_kept, fails_after}
-use Rattle.dfu_link.proofs.TellingLaws.{traces_none, traces_map, all_more, some_played}
 use Rattle.dfu_link.proofs.ToldLines.{told_line_is}
 
 suc_more : {A : Type 0} (n : ℕ) (x : A) → replicate (suc n) x ≡ replicate n x ++ x ∷ []
@@ -44,25 +40,23 @@ plays_one b c c' events e out r p h active =
     (then_comes p h.comes active)
 
 -- Nothing was played.
-pub played_none : (b : Bench) (x : Option Expectation) (h : Held) → HasPlayed b x [] h b x h
+pub played_none : (b : Bench) (x : Option Expectation) (h : Option (List ℕ)) → HasPlayed b x [] h b x h
 played_none b x h = record {
   out = [];
   plays = none_comes;
-  prints = prints_none x h.seen;
-  traces = traces_none (λ c text c'. AllTraced b c [] text b c') h none_traced;
+  prints = prints_none x h;
 }
 
 -- One event more was played, and what is printed of it is out.
 pub played_more : {b : Bench} {c c' : LinkState} {events : List Happening} {e : Happening} (r : Result (Option Report) LinkFault)
-    {x y z : Option Expectation} {old mid kept new : Held} → HasPlayed b x events old c.bench y mid → HasCome c e c' r
-    → ShowsActive c'.bench → Keeps mid.seen kept.seen → Traces (Leads c.bench e c'.bench (told_line r c'.up)) mid kept
-    → Prints y kept.seen (told_line r c'.up) z new.seen → Traces (IsJust (told_line r c'.up)) kept new
+    {x y z : Option Expectation} {old mid new : Option (List ℕ)} → HasPlayed b x events old c.bench y mid → HasCome c e c' r
+    → ShowsActive c'.bench
+    → Prints y mid (told_line r c'.up) z new
     → HasPlayed b x (events ++ e ∷ []) old c'.bench z new
-played_more {b = b} {c = c} {c' = c'} {events = events} {e = e} r {kept = kept} before come active keeps leads prints says = record {
+played_more {b = b} {c = c} {c' = c'} {events = events} {e = e} r {mid = mid} before come active prints = record {
   out = before.out ++ told_line r c'.up;
   plays = plays_one b c c' events e before.out r before.plays come active;
-  prints = prints_more (prints_kept before.prints keeps) prints;
-  traces = all_more before.traces leads says;
+  prints = prints_more before.prints prints;
 }
 
 -- An offer while a session is live.
@@ -70,34 +64,14 @@ busy_offer : (b : Bench) (aim : Aim) (file : List ℕ) (limits : Limits) → IsL
     → Comes b (Offers aim file limits) b (Err HostBusy)
 busy_offer b aim file limits live = refuses live
 
--- An offer while a session is live is traced by what is printed of it.
-busy_traced : (b : Bench) (aim : Aim) (file : List ℕ) (limits : Limits) {old new : Held} → IsLive b.session
-    → Traces (IsJust (answer_line (Err HostBusy))) old new
-    → Traces (λ c text c'. AllTraced b c (Offers aim file limits ∷ []) text b c') old new
-busy_traced b aim file limits live says = traces_map
-    (λ c text c' just. then_traced none_traced
-    (subst (λ (k : Clock). EventTraced b c (Offers aim file limits) b k text) (sym just.1)
-    (subst (λ (t : List ℕ). EventTraced b c (Offers aim file limits) b c t) (sym just.0)
-    (untold (busy_offer b aim file limits live) refl)))) says
-
 -- An offer while a session is live is refused, whatever its file is, and that is printed.
-pub busy_plays : (b : Bench) (aim : Aim) (file : List ℕ) (limits : Limits) {old new : Held} → IsLive b.session
-    → ShowsActive b → {e e' : Option Expectation} → Prints e old.seen (answer_line (Err HostBusy)) e' new.seen
-    → Traces (IsJust (answer_line (Err HostBusy))) old new → HasPlayed b e (Offers aim file limits ∷ []) old b e' new
-busy_plays b aim file limits live active prints says = record {
+pub busy_plays : (b : Bench) (aim : Aim) (file : List ℕ) (limits : Limits) {old new : Option (List ℕ)} → IsLive b.session
+    → ShowsActive b → {e e' : Option Expectation} → Prints e old (answer_line (Err HostBusy)) e' new → HasPlayed b e (Offers aim file limits ∷ []) old b e' new
+busy_plays b aim file limits live active prints = record {
   out = answer_line (Err HostBusy);
   plays = then_comes none_comes (busy_offer b aim file limits live) active;
   prints = prints;
-  traces = busy_traced b aim file limits live says;
 }
-
--- So far it was written, with the trace.
-pub busy_part : (b : Bench) (aim : Aim) (file : List ℕ) (limits : Limits) {old new : Held} → IsLive b.session
-    → Traces (IsJust (answer_line (Err HostBusy))) old new
-    → Traces (λ c text c'. SomeTraced b c (Offers aim file limits ∷ []) text) old new
-busy_part b aim file limits live says =
-    let offer = Offers aim file limits ∷ [] in
-    traces_map (λ c text c'. some_played offer offer [] c text c' refl) (busy_traced b aim file limits live says)
 
 -- So it is where the writer fails in it.
 pub busy_broken : (b : Bench) (aim : Aim) (file : List ℕ) (limits : Limits) (old new : Option (List ℕ)) → IsLive b.session
@@ -142,16 +116,8 @@ broken {b = b} {c = c} {c' = c'} {e = e} k n r {old = old} {kept = kept} {new = 
     }
 
 -- Or at the only event.
-pub broken_once : {c c' : LinkState} {e : Happening} (r : Result (Option Report) LinkFault) {old kept new : Option (List ℕ)}
-    {x : Option Expectation} (f : ScriptFault) → HasCome c e c' r → ShowsActive c'.bench → Keeps old kept
-    → IsOutInPart kept new (told_line r c'.up) → Fails x (told_line r c'.up) kept new f → HasBroken c.bench x (e ∷ []) old new f
-broken_once {e = e} r {old = old} {x = x} f come active keeps broke fails =
-    broken {e = e} 0 1 r f none_comes (prints_kept (prints_none x old) keeps) (omega arith) come active broke fails
-
--- So far it was written, with the trace.
-pub part_more : {b d d' : Bench} {e : Happening} {printed : List ℕ} {old mid kept new : Held} (k n : ℕ) → k < n
-    → Traces (λ c text c'. AllTraced b c (replicate k e) text d c') old mid → Traces (Leads d e d' printed) mid kept
-    → Traces (IsJust printed) kept new → Traces (λ c text c'. SomeTraced b c (replicate n e) text) old new
-part_more {e = e} k n lt before leads says =
-    let rest = replicate_front k n e lt in
-    traces_map (λ c text c'. some_played (replicate n e) (replicate k e ++ e ∷ []) rest.0 c text c' rest.1) (all_more before leads says)
+pub broken_once : {c c' : LinkState} {e : Happening} (r : Result (Option Report) LinkFault) {old new : Option (List ℕ)}
+    {x : Option Expectation} (f : ScriptFault) → HasCome c e c' r → ShowsActive c'.bench
+    → IsOutInPart old new (told_line r c'.up) → Fails x (told_line r c'.up) old new f → HasBroken c.bench x (e ∷ []) old new f
+broken_once {e = e} r {old = old} {x = x} f come active broke fails =
+    broken {e = e} 0 1 r f none_comes (prints_none x old) (omega arith) come active broke fails

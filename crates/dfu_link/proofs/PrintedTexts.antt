@@ -15,10 +15,10 @@ use Rattle.dfu_host.specs.declared.fault.HostFault.TheVariants as host
 use Rattle.dfu_host.specs.FaultName.{host_fault_name}
 use Rattle.dfu_device.specs.Shown.{Shown}
 use Rattle.dfu_device.specs.Stage.{state_of, code_of}
-use Rattle.dfu_link.specs.declared.fault.OfferFault.{OfferFault}
-use Rattle.dfu_link.specs.declared.fault.OfferFault.TheVariants as offer
-use Rattle.dfu_link.specs.declared.fault.LinkFault.{LinkFault}
-use Rattle.dfu_link.specs.declared.fault.LinkFault.TheVariants as link
+use Rattle.dfu_sim.specs.declared.fault.OfferFault.{OfferFault}
+use Rattle.dfu_sim.specs.declared.fault.OfferFault.TheVariants as offer
+use Rattle.dfu_sim.specs.declared.fault.LinkFault.{LinkFault}
+use Rattle.dfu_sim.specs.declared.fault.LinkFault.TheVariants as link
 use Rattle.dfu_link.specs.Words.{endless}
 use Rattle.dfu_link.specs.Texts.{offer_fault_name, refusal_line, state_text}
 use Rattle.dfu_link.specs.Printed.{refused_line}

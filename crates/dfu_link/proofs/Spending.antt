@@ -6,12 +6,12 @@ use Rattle.dfu_host.specs.Phases.{Phase, Find, Last, GiveUp, Over, OverUploaded,
 use Rattle.dfu_host.specs.BehindClose.{is_behind_close}
 use Rattle.dfu_host.specs.Table.{row}
 use Rattle.dfu_host.specs.Host.{HostState, IsOver, budgeted, restarted, left_by, told, after_phase, after}
-use Rattle.dfu_link.specs.declared.fault.LinkFault.{LinkFault}
-use Rattle.dfu_link.specs.Bench.{Session, Nobody, Hosted, Bench, LinkState}
-use Rattle.dfu_link.specs.Bytes.{BytePlay}
-use Rattle.dfu_link.specs.Play.{Answered, settled, took}
-use Rattle.dfu_link.specs.Happening.{Happening, Fate, Harm, Goes}
-use Rattle.dfu_link.specs.Comes.{Comes, refuses, happens, shown_as, HasCome}
+use Rattle.dfu_sim.specs.declared.fault.LinkFault.{LinkFault}
+use Rattle.dfu_sim.specs.Bench.{Session, Nobody, Hosted, Bench, LinkState}
+use Rattle.dfu_sim.specs.Bytes.{BytePlay}
+use Rattle.dfu_sim.specs.Play.{Answered, settled, took}
+use Rattle.dfu_sim.specs.Happening.{Happening, Fate, Harm, Goes}
+use Rattle.dfu_sim.specs.Comes.{Comes, refuses, happens, shown_as, HasCome}
 
 -- How many actions the live session has left.
 abbrev pub actions_in : Session → ℕ

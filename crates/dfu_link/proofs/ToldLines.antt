@@ -3,11 +3,11 @@ use Rattle.std.proofs.Common.{◌≡◌, ℕ, List, [], Option, Some, None, refl
 use Rattle.std.specs.Prelude.{unwrap_or, Result, Ok, Err}
 use Rattle.dfu_host.specs.declared.report.Report.{Report}
 use Rattle.dfu_host.specs.declared.report.Report.TheVariants.{Uploaded}
-use Rattle.dfu_link.specs.Play.{Answered, given}
-use Rattle.dfu_link.specs.Bench.{LinkState}
-use Rattle.dfu_link.specs.Happening.{Happening}
-use Rattle.dfu_link.specs.Comes.{shown_as, gave_of, ComesWith, GivesWithUploaded, HasCome}
-use Rattle.dfu_link.specs.declared.fault.LinkFault.{LinkFault}
+use Rattle.dfu_sim.specs.Play.{Answered, given}
+use Rattle.dfu_sim.specs.Bench.{LinkState}
+use Rattle.dfu_sim.specs.Happening.{Happening}
+use Rattle.dfu_sim.specs.Comes.{shown_as, gave_of, ComesWith, GivesWithUploaded, HasCome}
+use Rattle.dfu_sim.specs.declared.fault.LinkFault.{LinkFault}
 use Rattle.dfu_link.specs.Texts.{uploaded_line, told_line, answer_line}
 
 -- What is printed of what a caller was told, and of what came: a report of an upload has the bytes that were given.

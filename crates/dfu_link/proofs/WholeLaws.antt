@@ -8,15 +8,11 @@ use Rattle.dfu_link.specs.Words.{lines_of}
 use Rattle.dfu_link.specs.Texts.{image_line}
 use Rattle.dfu_link.specs.TextLimit.{IsStopped, GivesNone}
 use Rattle.dfu_link.specs.ScriptRun.{Settings, beginning, Prepares, Starts, at_rest, Point, point, IsReady, SetsUp, LinesRun, WroteRun}
-use Rattle.dfu_link.specs.TracedRun.{LinesTraced, IsTraced}
-use Rattle.dfu_link.specs.TracedStop.{NextTraced, IsPartTraced, before_start, after_start}
-use Rattle.dfu_link.specs.inside.Telling.{Held, Traces}
 use Rattle.dfu_link.specs.Falls.{NextFalls, RunFalls, StartFalls, Falls, no_memory, in_setting, at_start, in_run}
 use Rattle.dfu_link.specs.inside.Source.{SourceState, Took, Gives}
 use Rattle.dfu_link.specs.inside.Moving.{Ends, MovesAndFalls, Configured, StopsSetting, CannotConfigure}
 use Rattle.dfu_link.specs.declared.scripting.fault.ScriptFault.{ScriptFault}
 use Rattle.dfu_link.specs.declared.scripting.fault.ScriptFault.TheVariants.{BadLine, LateConfig, BadConfig, Expected, NonePrinted, TooLarge, NoMemory, Read, Write}
-use Rattle.dfu_link.proofs.TellingLaws.{traces_none, traces_map, traces_more}
 use Rattle.dfu_link.proofs.GivenLaws.{of_some, took, took_trans, stops_after}
 
 -- Nothing was taken of a text.
@@ -110,7 +106,7 @@ at_end None h = tt
 at_end (Some left) h = h
 
 -- The lines that were done are all those behind the lines that set.
-done_all : {text : List ℕ} {s s' : SourceState} {x y : Settings} {more : Bool} {old new : Held} {p : Point}
+done_all : {text : List ℕ} {s s' : SourceState} {x y : Settings} {more : Bool} {old new : Option (List ℕ)} {p : Point}
     → (fresh : IsFresh text s) → (c : Configured x s y more s') → (ends : Ends p c.at old new)
     → ends.done ≡ lines_of (fresh_took fresh c.prepared.gives).0
 done_all fresh c ends =
@@ -120,9 +116,9 @@ done_all fresh c ends =
     sym (u.2.are ∙ (ap (λ (zs : List ℕ). ends.done ++ lines_of zs) empty ∙ append-nil ends.done))
 
 -- It starts, and all lines after it are done.
-pub run_ends : {g : Option (List ℕ)} {text : List ℕ} {s s' : SourceState} {x y : Settings} {more : Bool} {old new : Held} (d : Shown)
+pub run_ends : {g : Option (List ℕ)} {text : List ℕ} {s s' : SourceState} {x y : Settings} {more : Bool} {old new : Option (List ℕ)} (d : Shown)
     → IsFresh text s → x ≡ beginning g → (c : Configured x s y more s') → Starts y d → Ends (point y (at_rest d)) c.at old new
-    → WroteRun g text old.seen new.seen
+    → WroteRun g text old new
 run_ends {text = text} {y = y} d fresh e c starts ends =
     let t = fresh_took fresh c.prepared.gives in
     let u = took c.at ends.last ends.done ends.gives t.1 in
@@ -150,66 +146,27 @@ run_ends {text = text} {y = y} d fresh e c starts ends =
       told = ends.told;
     }
 
--- So it is with the trace.
-pub run_traced : {g : Option (List ℕ)} {text : List ℕ} {s s' : SourceState} {x y : Settings} {more : Bool} {old new : Held} (d : Shown)
-    → IsFresh text s → x ≡ beginning g → (c : Configured x s y more s') → Starts y d → Ends (point y (at_rest d)) c.at old new
-    → Traces (IsTraced g text) old new
-run_traced {text = text} {y = y} d fresh e c starts ends = traces_map (λ k out k' last. record {
-  settings = y;
-  after = lines_of (fresh_took fresh c.prepared.gives).0;
-  sets_up = sets_up fresh e c;
-  first = d;
-  starts = starts;
-  written = last.written;
-  end = ends.end;
-  lines = subst
-      (λ (ls : List (List ℕ)). LinesTraced (1 + length c.prepared.done) (point y (at_rest d)) k ls last.written ends.end k')
-      (done_all fresh c ends)
-      (subst (λ (n : ℕ). LinesTraced n (point y (at_rest d)) k ends.done last.written ends.end k')
-      (omega (arith, c.prepared.gives.count, fresh.number)) last.lines_are);
-  out_is = last.text_is;
-}) ends.traces
-
 -- It starts, and of the lines after it one falls.
-pub run_falls : {g : Option (List ℕ)} {text : List ℕ} {s s' : SourceState} {x y : Settings} {more : Bool} {old new : Held} (d : Shown)
+pub run_falls : {g : Option (List ℕ)} {text : List ℕ} {s s' : SourceState} {x y : Settings} {more : Bool} {old new : Option (List ℕ)} (d : Shown)
     (f : ScriptFault) → IsFresh text s → x ≡ beginning g → (c : Configured x s y more s') → Starts y d
-    → MovesAndFalls (point y (at_rest d)) c.at old new f → Falls g text old.seen new.seen f
+    → MovesAndFalls (point y (at_rest d)) c.at old new f → Falls g text old new f
 run_falls {y = y} {new = new} d f fresh e c starts falls =
     let m = falls.moves in
     let t = fresh_took fresh c.prepared.gives in
     let u = took c.at falls.at m.done m.gives t.1 in
     let here = of_some falls.at.left (λ left. IsStopped falls.at.room left f × NextFalls falls.to (falls.at.number + 1) (lines_of left)
-    falls.mid.seen new.seen f) u.0 u.1 falls.falls in
+    falls.mid new f) u.0 u.1 falls.falls in
     let number : c.at.number + 1 ≡ 1 + length c.prepared.done = omega (arith, c.prepared.gives.count, fresh.number) in
-    let runs : RunFalls (point y (at_rest d)) (1 + length c.prepared.done) (lines_of t.0) _ new.seen f = record {
+    let runs : RunFalls (point y (at_rest d)) (1 + length c.prepared.done) (lines_of t.0) _ new f = record {
       done = m.done;
       rest = lines_of u.0;
       split = u.2.are;
       shown = m.shown;
       end = falls.to;
       runs = subst (λ (k : ℕ). LinesRun k (point y (at_rest d)) m.done m.shown falls.to) number m.runs;
-      mid = falls.mid.seen;
+      mid = falls.mid;
       told = m.told;
-      falls = subst (λ (n : ℕ). NextFalls falls.to n (lines_of u.0) falls.mid.seen new.seen f)
+      falls = subst (λ (n : ℕ). NextFalls falls.to n (lines_of u.0) falls.mid new f)
           (omega (arith, m.gives.count, c.prepared.gives.count, fresh.number)) here.1;
     } in
     in_run (sets_up fresh e c) starts runs (stops_after f (took_trans t.2 u.2) here.0)
-
--- Nothing is written before a device starts.
-pub unwritten : (g : Option (List ℕ)) (text : List ℕ) (h : Held) → Traces (λ k out k'. IsPartTraced g text k out) h h
-unwritten g text h = traces_none (λ k out k'. IsPartTraced g text k out) h before_start
-
--- So far it is written, with the trace.
-pub run_part : {g : Option (List ℕ)} {text : List ℕ} {s s' : SourceState} {x y : Settings} {more : Bool} {old new : Held} (d : Shown)
-    (f : ScriptFault) → IsFresh text s → x ≡ beginning g → (c : Configured x s y more s') → Starts y d
-    → MovesAndFalls (point y (at_rest d)) c.at old new f → Traces (λ k out k'. IsPartTraced g text k out) old new
-run_part {y = y} {new = new} d f fresh e c starts falls =
-    let m = falls.moves in
-    let t = fresh_took fresh c.prepared.gives in
-    let u = took c.at falls.at m.done m.gives t.1 in
-    let part = of_some falls.at.left (λ left. Traces (λ k out k'. NextTraced falls.to k (lines_of left) out) falls.mid new)
-    u.0 u.1 falls.part in
-    traces_more (λ k k' k'' xs ys lines next. after_start (sets_up fresh e c) starts u.2.are
-    (subst (λ (n : ℕ). LinesTraced n (point y (at_rest d)) k m.done xs falls.to k')
-    (omega (arith, c.prepared.gives.count, fresh.number)) lines)
-    next) m.traces part

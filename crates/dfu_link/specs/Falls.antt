@@ -1,13 +1,13 @@
 -- How a script ends with a fault, and what is out then.
-use Rattle.std.specs.Prelude.{◌≡◌, ◌≢◌, ◌⊎◌, ℕ, ◌+◌, ◌%◌, ◌<◌, List, [], ◌∷◌, ◌++◌, length, Option, Some, None}
+use Rattle.std.specs.Prelude.{◌≡◌, ◌≢◌, ◌⊎◌, ℕ, ◌+◌, ◌%◌, ◌<◌, List, [], ◌∷◌, ◌++◌, length, Option, Some, None, Result, Ok, Err}
 use Rattle.std.specs.Io.KnownBytes.{Appends}
 use Rattle.dfu_slots.specs.Units.{IsMultiple}
 use Rattle.dfu_device.specs.declared.fault.ConfigFault.{ConfigFault}
 use Rattle.dfu_device.specs.Setting.{FirstFault}
 use Rattle.dfu_device.specs.Shown.{Shown}
-use Rattle.dfu_link.specs.declared.aim.Aim.{Aim}
-use Rattle.dfu_link.specs.Bench.{Nobody, Bench}
-use Rattle.dfu_link.specs.Happening.{Happening}
+use Rattle.dfu_sim.specs.declared.aim.Aim.{Aim}
+use Rattle.dfu_sim.specs.Bench.{Nobody, Bench}
+use Rattle.dfu_sim.specs.Happening.{Happening}
 use Rattle.dfu_suffix.specs.Writing.{IsOutInPart}
 use Rattle.dfu_link.specs.Texts.{image_line, show_line}
 use Rattle.dfu_link.specs.Words.{lines_of}
@@ -15,7 +15,7 @@ use Rattle.dfu_link.specs.Said.{ConfigLine, EventLine, Offer, HasTear, Sets, Doe
 use Rattle.dfu_link.specs.Lines.{line_of}
 use Rattle.dfu_link.specs.Expecting.{Expectation, Fails}
 use Rattle.dfu_link.specs.TextLimit.{GivesNone, StopsAfter}
-use Rattle.dfu_link.specs.ScriptRun.{Settings, beginning, Prepares, Starts, at_rest, AllCome, Point, point, events_of, LineActs, LinesRun, SetsUp}
+use Rattle.dfu_link.specs.ScriptRun.{Settings, beginning, Prepares, Starts, at_rest, AllCome, Point, point, events_of, LineActs, LinesRun, SetsUp, WroteRun}
 use Rattle.dfu_link.specs.declared.scripting.fault.ScriptFault.{ScriptFault}
 use Rattle.dfu_link.specs.declared.scripting.fault.ScriptFault.TheVariants.{BadLine, LateConfig, BadConfig, Expected, NonePrinted, TooLarge, NoMemory, Read, Write}
 
@@ -137,3 +137,8 @@ pub data Falls (given : Option (List ℕ)) (text : List ℕ) (old new : Option (
       → Starts settings first
       → (falls : RunFalls (point settings (at_rest first)) (1 + length sets_up.before) after old new fault)
       → StopsAfter text (sets_up.before ++ falls.done) fault → Falls given text old new fault
+
+-- How a script ended: with Ok all of it ran, and with a fault it fell.
+abbrev pub Ended : (given : Option (List ℕ)) → (text : List ℕ) → (old new : Option (List ℕ)) → Result Unit ScriptFault → Type 0
+Ended given text old new (Ok done) = WroteRun given text old new
+Ended given text old new (Err fault) = Falls given text old new fault

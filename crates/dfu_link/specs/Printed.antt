@@ -1,5 +1,5 @@
 -- The headline of the text that a script prints: which image its lines show, and what `report installed` and `report verified` mean.
-use Rattle.std.specs.Prelude.{◌≡◌, ℕ, List, [], ◌∷◌, ◌++◌, Option, Some, None, true, unwrap_or, codes, replicate, if◌then◌else◌}
+use Rattle.std.specs.Prelude.{Result, Ok, Err, ◌≡◌, ◌⊎◌, ℕ, List, [], ◌∷◌, ◌++◌, Option, Some, None, true, unwrap_or, codes, replicate, if◌then◌else◌}
 use Rattle.std.specs.Str.{bytes_eq}
 use Rattle.std.specs.Io.KnownBytes.{Appends}
 use Rattle.dfu_suffix.specs.Writing.{IsOutInPart}
@@ -7,10 +7,11 @@ use Rattle.dfu_device.specs.Shown.{Shown}
 use Rattle.dfu_host.specs.declared.report.Report.{Report}
 use Rattle.dfu_link.specs.Words.{bytes_of, number_of, endless, lines_of, words_of}
 use Rattle.dfu_link.specs.Texts.{report_line, line_of_image}
-use Rattle.dfu_link.specs.Bench.{Bench}
+use Rattle.dfu_sim.specs.Bench.{Bench}
 use Rattle.dfu_link.specs.ScriptRun.{at_rest}
-use Rattle.dfu_link.specs.Headline.{Begun, WithOffer, AsUpload, HeadlineHolds}
-use Rattle.dfu_link.specs.ScriptHeadline.{IsKnownImage}
+use Rattle.dfu_sim.specs.Headline.{WasOffered, Begun, WithOffer, AsUpload, HeadlineHolds}
+use Rattle.dfu_slots.specs.Image.{Active}
+use Rattle.dfu_link.specs.declared.scripting.fault.ScriptFault.{ScriptFault}
 
 -- What a line brings.
 
@@ -69,6 +70,11 @@ abbrev pub brought : (given : Option (List ℕ)) → List ℕ → Brings
 brought given line = words_bring given (words_of line)
 
 -- What is printed.
+
+-- This image is active, and it is the factory image or the whole payload of a file offered so far.
+pub record IsKnownImage (factory : List ℕ) (past : List Begun) (b : Bench) (image : List ℕ) : Type 0 where
+  pub active : Active b.device.slots.medium image
+  pub known : (image ≡ factory) ⊎ WasOffered past image
 
 -- The sessions that have begun after an event, the last one first.
 abbrev pub begun_after : Option Begun → List Begun → List Begun
@@ -176,3 +182,8 @@ pub data StopsPrinted (given : Option (List ℕ)) (text : List ℕ) (old new : O
   after_start : {after done rest : List (List ℕ)} {printed image : List ℕ} {past : List Begun} {end : Bench} {mid : Option (List ℕ)}
       → (prints : TextPrints given text after done printed past end image) → after ≡ done ++ rest → Appends old mid printed
       → PartPrints given prints.factory past end image rest mid new → StopsPrinted given text old new
+
+-- What is printed by how the script ended: with Ok the whole text, and with a fault as far as it went.
+abbrev pub HasPrinted : (given : Option (List ℕ)) → (text : List ℕ) → (old new : Option (List ℕ)) → Result Unit ScriptFault → Type 0
+HasPrinted given text old new (Ok done) = WrotePrinted given text old new
+HasPrinted given text old new (Err fault) = StopsPrinted given text old new

@@ -5,8 +5,8 @@ use Rattle.dfu_wire.specs.declared.ids.Ids.{Ids}
 use Rattle.dfu_wire.specs.declared.functionals.Functional.{Functional}
 use Rattle.dfu_slots.specs.declared.unit.Unit.{Unit as WriteUnit}
 use Rattle.dfu_link.specs.Words.{bytes_of}
-use Rattle.dfu_link.specs.Happening.{Fate, CutIn, Fail, Lie, Harm, harmed, fate_of, harm_in}
-use Rattle.dfu_link.specs.declared.aim.Aim.{Aim}
+use Rattle.dfu_sim.specs.Happening.{Fate, CutIn, Fail, Lie, Harm, harmed, fate_of, harm_in}
+use Rattle.dfu_sim.specs.declared.aim.Aim.{Aim}
 use Rattle.dfu_link.specs.declared.scripting.hex_text.HexText.{HexText}
 use Rattle.dfu_link.specs.declared.scripting.line.HarmKind as kinds
 use Rattle.dfu_link.specs.declared.scripting.line.HarmKind.TheVariants as kind

@@ -11,11 +11,11 @@ use Rattle.dfu_slots.specs.Seen.{image_of, format_series}
 use Rattle.dfu_device.specs.Stage.{InAppIdle}
 use Rattle.dfu_device.specs.Setting.{Setting, IsAllowed, of_this_version}
 use Rattle.dfu_device.specs.Shown.{Shown}
-use Rattle.dfu_link.specs.Bench.{Nobody, Bench, ShowsActive}
-use Rattle.dfu_link.specs.Play.{Answered}
-use Rattle.dfu_link.specs.Happening.{Happening, Offers, Uploads, Aborts, Goes, Passes, Resets, Cuts, Pass, unharmed}
-use Rattle.dfu_link.specs.Comes.{Comes}
-use Rattle.dfu_link.specs.declared.fault.LinkFault.{LinkFault}
+use Rattle.dfu_sim.specs.Bench.{Nobody, Bench, ShowsActive}
+use Rattle.dfu_sim.specs.Play.{Answered}
+use Rattle.dfu_sim.specs.Happening.{Happening, Offers, Uploads, Aborts, Goes, Passes, Resets, Cuts, Pass, unharmed}
+use Rattle.dfu_sim.specs.Comes.{Comes}
+use Rattle.dfu_sim.specs.declared.fault.LinkFault.{LinkFault}
 use Rattle.dfu_link.specs.Texts.{answer_line, image_line, show_line}
 use Rattle.dfu_link.specs.Words.{lines_of}
 use Rattle.dfu_link.specs.Said.{ConfigLine, TheIds, TheDevice, TheUnit, TheSector, TheCapacity, TheImage, EventLine, Offer, Upload, Abort, Go, Time, Reset, Cut, Said, Blank, Sets, LimitsTo, Does, GoesOn, Show, Expects}

@@ -11,12 +11,12 @@ use Rattle.dfu_host.specs.declared.report.Report.TheVariants as report
 use Rattle.dfu_slots.specs.Seen.{image_of}
 use Rattle.dfu_device.specs.Stage.{state_of, code_of}
 use Rattle.dfu_device.specs.Shown.{Shown}
-use Rattle.dfu_link.specs.Play.{Answered}
-use Rattle.dfu_link.specs.Comes.{shown_as, gave_of}
-use Rattle.dfu_link.specs.declared.fault.OfferFault.{OfferFault}
-use Rattle.dfu_link.specs.declared.fault.OfferFault.TheVariants as offer
-use Rattle.dfu_link.specs.declared.fault.LinkFault.{LinkFault}
-use Rattle.dfu_link.specs.declared.fault.LinkFault.TheVariants as link
+use Rattle.dfu_sim.specs.Play.{Answered}
+use Rattle.dfu_sim.specs.Comes.{shown_as, gave_of}
+use Rattle.dfu_sim.specs.declared.fault.OfferFault.{OfferFault}
+use Rattle.dfu_sim.specs.declared.fault.OfferFault.TheVariants as offer
+use Rattle.dfu_sim.specs.declared.fault.LinkFault.{LinkFault}
+use Rattle.dfu_sim.specs.declared.fault.LinkFault.TheVariants as link
 
 -- Bytes as they are printed: two digits each in lower case, and `-` for no bytes.
 abbrev pub hex_text : List ℕ → List ℕ

@@ -1,9 +1,5 @@
-pub mod Acting
-pub mod Noting
-pub mod Placed
 pub mod Source
 pub mod SetupView
 pub mod Expected
-pub mod Telling
 pub mod Moving
 pub mod Forming

@@ -1,32 +1,12 @@
-//! The link of a host and a device of USB device firmware upgrade (USB DFU 1.1): what each event
-//! makes of both, and the laws that hold whatever events come.
+//! Scripts of the link of a host and a device of USB device firmware upgrade (USB DFU 1.1): what each line
+//! does, what is printed of it, and a trace of each action.
 //!
-//! A `World` takes one event, `run` a list of them, `script` a text. Memory is taken by `step` for
-//! the parts of an upload, by `run` for its reports too, and by `script`.
+//! Each call does the lines of a text one by one, and takes memory. The link itself is that of `dfu_sim`, whose
+//! calls and definitions this crate passes on.
 #![tactic(auto)]
 
-mod acting;
-mod aim;
-mod back;
-mod course;
-mod event;
-mod fate;
-mod fault;
-mod going;
-pub mod laws;
-mod offering;
-mod play;
-mod power;
-mod running;
 mod scripting;
 mod tracing;
-mod uploading;
-mod world;
 
-pub use aim::Aim;
-pub use event::Event;
-pub use fate::Fate;
-pub use fault::{LinkFault, OfferFault};
-pub use running::{Stop, run};
+pub use dfu_sim::{Aim, Event, Fate, LinkFault, OfferFault, Stop, World, laws, run};
 pub use scripting::{ScriptFault, script, script_traced, script_traced_with, script_with};
-pub use world::World;

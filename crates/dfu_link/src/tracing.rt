@@ -1,13 +1,7 @@
-//! What an action of the host came to, for a trace.
+//! A line for each action of the host. No clause speaks of its text; tests and pictures show it.
 
-pub(crate) mod answers;
-pub(crate) mod asking;
-pub(crate) mod laying;
+mod answers;
 pub(crate) mod line;
-pub(crate) mod names;
-pub(crate) mod noting;
-pub(crate) mod place;
-pub(crate) mod step;
-pub(crate) mod telling;
-pub(crate) mod traced;
-pub(crate) mod words;
+mod names;
+pub(crate) mod watch;
+mod words;

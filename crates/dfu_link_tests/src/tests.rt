@@ -12,6 +12,7 @@ mod scripts;
 mod sectors;
 mod uploads;
 mod verifying;
+mod watched;
 
 use bench::{AMPLE, Setup, USUAL, W, go, offer, pass, play, stands, world};
 use dfu_host::{Limits, Report};

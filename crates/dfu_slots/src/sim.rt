@@ -4,6 +4,7 @@ ghost use Rattle.dfu_slots.specs.Units.{Grain, in_place, IsMultiple};
 ghost use Rattle.dfu_slots.specs.Medium.{WroteOrLied, FailedWrite, blank_medium, written};
 ghost use Rattle.dfu_slots.specs.inside.Sim.{sim_state};
 
+use crate::noted::{LastWrites, WriteNote, ended};
 use crate::{Failed, Faulty, Medium, Unit, WriteFault};
 use arrayvec::ArrayVec;
 use std::alloc::{AllocError, Global};
@@ -44,6 +45,13 @@ pub struct SimFuse {
     stop: bool,
 }
 
+impl SimFuse {
+    /// Whether the next write lies.
+    fn lies(&self) -> bool {
+        matches!(self.mode, Mode::Lying) && self.writes == 0
+    }
+}
+
 /// A medium in memory that can be told to fail or to lie.
 #[derive(Drop)]
 pub struct SimMedium {
@@ -53,6 +61,7 @@ pub struct SimMedium {
     sector: u32,
     // What an erase writes: FFh over a sector.
     blank: Vec<u8>,
+    noted: LastWrites,
 }
 
 impl Model for SimMedium {
@@ -122,7 +131,13 @@ impl SimMedium {
             unit,
             sector,
             blank,
+            noted: LastWrites::none(),
         })
+    }
+
+    /// Its last writes, for a trace. No clause speaks of them.
+    pub fn noted(&self) -> &LastWrites {
+        &self.noted
     }
 }
 
@@ -223,16 +238,32 @@ impl Medium for SimMedium {
     }
 
     fn write(&mut self, at: u32, bytes: &[u8]) -> Result<(), Failed> {
-        change(&mut self.bytes, &mut self.fuse, at as usize, bytes)
+        let lies = self.fuse.lies();
+        let answer = change(&mut self.bytes, &mut self.fuse, at as usize, bytes);
+        self.noted.add(WriteNote {
+            erases: false,
+            at,
+            len: bytes.len() as u32,
+            end: ended(lies, answer),
+        });
+        answer
     }
 
     fn erase(&mut self, at: u32) -> Result<(), Failed> {
-        change(
+        let lies = self.fuse.lies();
+        let answer = change(
             &mut self.bytes,
             &mut self.fuse,
             at as usize,
             self.blank.as_slice(),
-        )
+        );
+        self.noted.add(WriteNote {
+            erases: true,
+            at,
+            len: self.sector,
+            end: ended(lies, answer),
+        });
+        answer
     }
 }
 

@@ -12,6 +12,7 @@ mod bytes;
 mod known;
 mod lies;
 mod media;
+mod noted;
 mod rows;
 mod sectors;
 mod tears;

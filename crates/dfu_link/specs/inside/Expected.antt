@@ -2,7 +2,7 @@
 use Rattle.std.specs.Prelude.{◌≡◌, ℕ, List, Option, Some, None}
 use Rattle.std.specs.Io.KnownBytes.{Appends}
 use Rattle.dfu_host.specs.declared.limits.Limits.{Limits}
-use Rattle.dfu_link.specs.Bench.{Bench}
+use Rattle.dfu_sim.specs.Bench.{Bench}
 use Rattle.dfu_link.specs.Expecting.{Expectation, Meets, still}
 use Rattle.dfu_link.specs.Said.{given_bytes}
 use Rattle.dfu_link.specs.ScriptRun.{Point}

@@ -3,8 +3,8 @@ use Rattle.std.specs.Prelude.{◌≡◌, ℕ, ◌+◌, List, [], ◌++◌, Bool,
 use Rattle.std.specs.Io.KnownBytes.{Appends, IsAtEnd}
 use Rattle.dfu_slots.specs.Medium.Fuse.{Whole}
 use Rattle.dfu_device.specs.Shown.{Shown}
-use Rattle.dfu_link.specs.Bench.{Bench}
-use Rattle.dfu_link.specs.Happening.{Happening, Goes, Pass, unharmed}
+use Rattle.dfu_sim.specs.Bench.{Bench}
+use Rattle.dfu_sim.specs.Happening.{Happening, Goes, Pass, unharmed}
 use Rattle.dfu_link.specs.Texts.{image_line}
 use Rattle.dfu_link.specs.Words.{lines_of}
 use Rattle.dfu_link.specs.Said.{Offer, HasTear, Said, Does, given_bytes, said_by}
@@ -13,9 +13,6 @@ use Rattle.dfu_link.specs.ScriptRun.{Settings, Prepares, IsReady, at_rest, AllCo
 use Rattle.dfu_link.specs.Falls.{BreaksIn, LineFalls, NextFalls}
 use Rattle.dfu_link.specs.TextLimit.{GoesOver, IsStopped}
 use Rattle.dfu_link.specs.Expecting.{Expectation, Meets}
-use Rattle.dfu_link.specs.TracedRun.{Clock, AllTraced, SaidTraced, LinesTraced}
-use Rattle.dfu_link.specs.TracedStop.{PartTraced, NextTraced}
-use Rattle.dfu_link.specs.inside.Telling.{Held, Traces}
 use Rattle.dfu_link.specs.inside.Expected.{at_point, Prints}
 use Rattle.dfu_link.specs.declared.scripting.expectation.Ahead.{Ahead}
 use Rattle.dfu_link.specs.inside.Source.{SourceState, Gives, Next, StopsSource}
@@ -26,30 +23,27 @@ use Rattle.dfu_link.specs.declared.scripting.fault.ScriptFault.{ScriptFault}
 use Rattle.dfu_link.specs.declared.scripting.fault.ScriptFault.TheVariants.{NoMemory}
 
 -- Events were played, and what they print is out, as expected, each with its trace.
-pub record HasPlayed (b : Bench) (e : Option Expectation) (events : List Happening) (old : Held) (b' : Bench) (e' : Option Expectation)
-    (new : Held) : Type 0 where
+pub record HasPlayed (b : Bench) (e : Option Expectation) (events : List Happening) (old : Option (List ℕ)) (b' : Bench) (e' : Option Expectation)
+    (new : Option (List ℕ)) : Type 0 where
   pub out : List ℕ
   pub plays : AllCome b events out b'
-  pub prints : Prints e old.seen out e' new.seen
-  pub traces : Traces (λ c text c'. AllTraced b c events text b' c') old new
+  pub prints : Prints e old out e' new
 
 -- What a line says was done, and what it prints is out.
-pub record HasActed (p : Point) (said : Said) (old : Held) (p' : Point) (new : Held) : Type 0 where
+pub record HasActed (p : Point) (said : Said) (old : Option (List ℕ)) (p' : Point) (new : Option (List ℕ)) : Type 0 where
   pub out : List ℕ
   pub acts : (k : ℕ) → LineActs k p said out p'
-  pub told : Appends old.seen new.seen out
-  pub traces : Traces (λ c text c'. SaidTraced p c said text p'.at c') old new
+  pub told : Appends old new out
 
 -- It stopped in what a line prints.
 abbrev pub HasStopped : Point → Said → Option (List ℕ) → Option (List ℕ) → ScriptFault → Type 0
 HasStopped p said old new fault = (line : List ℕ) → line_of p.given line ≡ Some said → BreaksIn p line old new fault
 
 -- The host passed so often that nothing was printed of it.
-pub record IsSilent (b : Bench) (e : Option Expectation) (old : Held) (b' : Bench) (e' : Option Expectation) (new : Held) : Type 0 where
+pub record IsSilent (b : Bench) (e : Option Expectation) (old : Option (List ℕ)) (b' : Bench) (e' : Option Expectation) (new : Option (List ℕ)) : Type 0 where
   pub times : ℕ
   pub plays : AllCome b (replicate times (Goes Pass unharmed)) [] b'
-  pub prints : Prints e old.seen [] e' new.seen
-  pub traces : Traces (λ c text c'. AllTraced b c (replicate times (Goes Pass unharmed)) text b' c') old new
+  pub prints : Prints e old [] e' new
 
 -- The file of an offer; other lines have none.
 abbrev pub file_bytes : Said → List ℕ
@@ -62,31 +56,23 @@ held_bytes (Decoded bytes) = bytes.items
 held_bytes (Given bytes) = bytes.now
 
 -- Line k was done, and what it prints is out.
-pub record Steps (k : ℕ) (p : Point) (line : List ℕ) (old : Held) (p' : Point) (new : Held) : Type 0 where
+pub record Steps (k : ℕ) (p : Point) (line : List ℕ) (old : Option (List ℕ)) (p' : Point) (new : Option (List ℕ)) : Type 0 where
   pub said : Said
   pub is : line_of p.given line ≡ Some said
   pub out : List ℕ
   pub acts : LineActs k p said out p'
-  pub told : Appends old.seen new.seen out
-  pub traces : Traces (λ c text c'. SaidTraced p c said text p'.at c') old new
+  pub told : Appends old new out
 
 -- The lines that a source gave were done, and what they print is out.
-pub record Moves (p : Point) (s : SourceState) (old : Held) (p' : Point) (s' : SourceState) (new : Held) : Type 0 where
+pub record Moves (p : Point) (s : SourceState) (old : Option (List ℕ)) (p' : Point) (s' : SourceState) (new : Option (List ℕ)) : Type 0 where
   pub done : List (List ℕ)
   pub shown : List ℕ
   pub gives : Gives s done s'
   pub runs : LinesRun (s.number + 1) p done shown p'
-  pub told : Appends old.seen new.seen shown
-  pub traces : Traces (λ c text c'. LinesTraced (s.number + 1) p c done text p' c') old new
-
--- What is written of lines, and last the line of the image.
-pub record LastTraced (k : ℕ) (p : Point) (lines : List (List ℕ)) (end : Point) (c : Clock) (text : List ℕ) (c' : Clock) : Type 0 where
-  pub written : List ℕ
-  pub lines_are : LinesTraced k p c lines written end c'
-  pub text_is : text ≡ written ++ image_line end.at.device
+  pub told : Appends old new shown
 
 -- All lines that a source has were done, and last the line of the image is out.
-pub record Ends (p : Point) (s : SourceState) (old new : Held) : Type 0 where
+pub record Ends (p : Point) (s : SourceState) (old new : Option (List ℕ)) : Type 0 where
   pub done : List (List ℕ)
   pub last : SourceState
   pub gives : Gives s done last
@@ -95,13 +81,7 @@ pub record Ends (p : Point) (s : SourceState) (old new : Held) : Type 0 where
   pub end : Point
   pub runs : LinesRun (s.number + 1) p done shown end
   pub meets : Meets end.next (image_line end.at.device)
-  pub told : Appends old.seen new.seen (shown ++ image_line end.at.device)
-  pub traces : Traces (LastTraced (s.number + 1) p done end) old new
-
--- What is written of a line, as far as it goes: nothing, or a part of what it says.
-pub data LinePart (p : Point) (c : Clock) (line : List ℕ) : List ℕ → Type 0 where
-  no_part : LinePart p c line []
-  a_part : {said : Said} (text : List ℕ) → line_of p.given line ≡ Some said → PartTraced p c said text → LinePart p c line text
+  pub told : Appends old new (shown ++ image_line end.at.device)
 
 -- What falls where a source stands here, if its reader tells the text.
 abbrev pub FallsHere : Point → SourceState → Option (List ℕ) → Option (List ℕ) → ScriptFault → Type 0
@@ -109,25 +89,24 @@ FallsHere p s old new fault = IfSome s.left
     (λ left. IsStopped s.room left fault × NextFalls p (s.number + 1) (lines_of left) old new fault)
 
 -- Lines that a source gave were done, what they print is out, and then it falls.
-pub record MovesAndFalls (p : Point) (s : SourceState) (old new : Held) (fault : ScriptFault) : Type 0 where
+pub record MovesAndFalls (p : Point) (s : SourceState) (old new : Option (List ℕ)) (fault : ScriptFault) : Type 0 where
   pub to : Point
   pub at : SourceState
-  pub mid : Held
+  pub mid : Option (List ℕ)
   pub moves : Moves p s old to at mid
-  pub falls : FallsHere to at mid.seen new.seen fault
-  pub part : IfSome at.left (λ left. Traces (λ c text c'. NextTraced to c (lines_of left) text) mid new)
+  pub falls : FallsHere to at mid new fault
 
 -- A medium of a device that is not armed.
 abbrev pub IsUnarmed : Shown → Type 0
 IsUnarmed d = d.slots.medium.fuse ≡ Whole
 
 -- Lines were done until no session was live, and the device is given back; or all lines were done, and last the line of the image is out.
-abbrev pub LinesDone : Point → SourceState → Held → Option Shown → (Bench → Point) → SourceState → Held → Type 0
+abbrev pub LinesDone : Point → SourceState → Option (List ℕ) → Option Shown → (Bench → Point) → SourceState → Option (List ℕ) → Type 0
 LinesDone p s old None to s' new = Ends p s old new
 LinesDone p s old (Some d) to s' new = IsUnarmed d × Moves p s old (to (at_rest d)) s' new
 
 -- A line was done but for its events, whatever the session: it said none, or these are left to play.
-abbrev pub Plainly : Shown → Ahead → ℕ → List ℕ → Held → Option EventLineRead → Ahead → Held → Type 0
+abbrev pub Plainly : Shown → Ahead → ℕ → List ℕ → Option (List ℕ) → Option EventLineRead → Ahead → Option (List ℕ) → Type 0
 Plainly d l k line old None l' new = (b : Bench) → b.device ≡ d → Steps k (at_point l b) line old (at_point l' b) new
 Plainly d l k line old (Some events) l' new = (line_of (given_bytes l.given) line ≡ Some (said_by events)) × (l' ≡ l) × (new ≡ old)
 

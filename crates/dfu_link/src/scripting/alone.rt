@@ -1,14 +1,8 @@
 //! Whole scripts to which no file is given.
 
-ghost use Rattle.std.specs.Prelude.{◌≡◌, [], Some, None, OnOk, OnErr, IfErr, IfSome};
-ghost use Rattle.dfu_link.specs.ScriptRun.{WroteRun};
-ghost use Rattle.dfu_link.specs.Falls.{Falls};
-ghost use Rattle.dfu_link.specs.KeptLines.{untraced};
-ghost use Rattle.dfu_link.specs.TracedRun.{WroteTraced};
-ghost use Rattle.dfu_link.specs.TracedStop.{StopsTraced};
-ghost use Rattle.dfu_link.specs.ScriptLegal.{WroteLegal, StopsLegally};
-ghost use Rattle.dfu_link.specs.ScriptHeadline.{WroteHeadline, StopsWithHeadline};
-ghost use Rattle.dfu_link.specs.Printed.{WrotePrinted, StopsPrinted};
+ghost use Rattle.std.specs.Prelude.{None, IfSome};
+ghost use Rattle.dfu_link.specs.Falls.{Ended};
+ghost use Rattle.dfu_link.specs.Printed.{HasPrinted};
 
 use crate::scripting::fault::ScriptFault;
 use crate::scripting::whole::{script_traced_with, script_with};
@@ -25,30 +19,14 @@ pub fn script<R: Read + Drop, W: Write>(
     reader: R,
     writer: &mut W,
 ) -> Result<(), ScriptFault>
-    // What was written is a run of what was read.
-    ensures ok { IfSome (R.remaining reader) (λ text. OnOk result (WroteRun None text (W.contents writer.old) (W.contents writer.new))) }
-    // Which fault comes when, and what is out then.
-    ensures fault { IfSome (R.remaining reader)
-        (λ text. IfErr result (λ f. Falls None text (W.contents writer.old) (W.contents writer.new) f)) }
-    // The session machine goes along: what was written is what it reports, and the image that it has active.
-    ensures legal { IfSome (R.remaining reader)
-        (λ text. OnOk result (WroteLegal None text (W.contents writer.old) (W.contents writer.new))) }
-    // It does so as far as a script goes that stops.
-    ensures stopped { IfSome (R.remaining reader)
-        (λ text. OnErr result (StopsLegally None text (W.contents writer.old) (W.contents writer.new))) }
-    // The headline: each image that is printed is the factory image or a payload offered so far, and where `report installed` or
-    // `report verified` is printed, the device is in appIDLE and exactly the payload of the last session is active.
-    ensures headline { IfSome (R.remaining reader)
-        (λ text. OnOk result (WroteHeadline None text (W.contents writer.old) (W.contents writer.new))) }
-    // The same as far as a script goes that stops.
-    ensures headline_so_far { IfSome (R.remaining reader)
-        (λ text. OnErr result (StopsWithHeadline None text (W.contents writer.old) (W.contents writer.new))) }
-    // The headline without the language of scripts: only what a line brings is read of it.
+    // With Ok what was written is a run of what was read; with a fault, which one comes when, and what is out then.
+    ensures ended { IfSome (R.remaining reader)
+        (λ text. Ended None text (W.contents writer.old) (W.contents writer.new) result) }
+    // The headline, of all that is printed or as far as the script goes: each image is the factory image or a payload offered so far, and
+    // where `report installed` or `report verified` is printed, the device is in appIDLE and exactly the payload of the last session is
+    // active. Of the language only what a line brings is read.
     ensures printed { IfSome (R.remaining reader)
-        (λ text. OnOk result (WrotePrinted None text (W.contents writer.old) (W.contents writer.new))) }
-    // The same as far as a script goes that stops.
-    ensures printed_so_far { IfSome (R.remaining reader)
-        (λ text. OnErr result (StopsPrinted None text (W.contents writer.old) (W.contents writer.new))) }
+        (λ text. HasPrinted None text (W.contents writer.old) (W.contents writer.new) result) }
 {
     script_with::<R, W>(alloc, None, reader, writer)
 }
@@ -57,24 +35,17 @@ pub fn script<R: Read + Drop, W: Write>(
 ///
 /// # Errors
 ///
-/// Those of `script_traced_with`.
-pub fn script_traced<R: Read + Drop, W: Write + Drop>(
+/// Those of `script_with`.
+pub fn script_traced<R: Read + Drop, W: Write, N: Write>(
     alloc: Global,
     reader: R,
-    writer: W,
-) -> (Result<(), ScriptFault>, W)
-    // What was written without the lines that begin with `#` is a run of what was read.
-    ensures ok { IfSome (R.remaining reader) (λ text. W.contents writer ≡ Some [] →
-        OnOk result.0 (WroteRun None text (Some []) (untraced (W.contents result.1)))) }
-    // Which fault comes when, and what is out then without those lines.
-    ensures fault { IfSome (R.remaining reader) (λ text. W.contents writer ≡ Some [] →
-        IfErr result.0 (λ f. Falls None text (Some []) (untraced (W.contents result.1)) f)) }
-    // All that was written: of each action its line, with what is printed of it behind.
-    ensures traced { IfSome (R.remaining reader) (λ text. W.contents writer ≡ Some [] →
-        OnOk result.0 (WroteTraced None text (Some []) (W.contents result.1))) }
-    // So it is as far as a script goes that stops.
-    ensures traced_so_far { IfSome (R.remaining reader) (λ text. W.contents writer ≡ Some [] →
-        OnErr result.0 (StopsTraced None text (Some []) (W.contents result.1))) }
+    writer: &mut W,
+    trace: &mut N,
+) -> (Result<(), ScriptFault>, bool)
+    ensures ended { IfSome (R.remaining reader)
+        (λ text. Ended None text (W.contents writer.old) (W.contents writer.new) result.0) }
+    ensures printed { IfSome (R.remaining reader)
+        (λ text. HasPrinted None text (W.contents writer.old) (W.contents writer.new) result.0) }
 {
-    script_traced_with::<R, W>(alloc, None, reader, writer)
+    script_traced_with::<R, W, N>(alloc, None, reader, writer, trace)
 }

@@ -8,7 +8,6 @@ ghost use Rattle.dfu_link.specs.inside.Expected.{expectation_of, Prints, CannotE
 
 use crate::scripting::fault::ScriptFault;
 use crate::scripting::output::write_out;
-use arrayvec::ArrayVec;
 use dfu_host::Limits;
 use std::alloc::Global;
 use std::io::Write;
@@ -23,14 +22,12 @@ pub(crate) struct Expectation {
 }
 
 /// What holds for the lines to come: the bytes that FILE stands for, if they are given, the limits of
-/// later sessions, and which line is expected. And room for an answer of which a trace tells: to make it
-/// clears 4,096 bytes, so it is made once.
+/// later sessions, and which line is expected.
 #[derive(Drop)]
 pub(crate) struct Ahead<'g> {
     pub given: Option<&'g [u8]>,
     pub limits: Limits,
     pub next: Option<Expectation>,
-    pub answer: ArrayVec<u8, 4096>,
 }
 
 /// Expects a line. Nothing was expected before.

@@ -2,9 +2,8 @@
 
 ghost use Rattle.std.specs.Prelude.{◌≡◌, ◌%◌, ◌≤◌};
 
-use crate::aim::Aim;
-use crate::fate::Fate;
 use crate::scripting::hex_text::HexText;
+use dfu_sim::{Aim, Fate};
 use dfu_slots::Unit;
 use dfu_wire::{Functional, Ids};
 

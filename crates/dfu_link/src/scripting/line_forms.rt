@@ -2,18 +2,17 @@
 
 ghost use Rattle.std.specs.Prelude.{◌≡◌, None};
 ghost use Rattle.dfu_link.specs.Words.{Reads, words_of, ends};
-ghost use Rattle.dfu_link.specs.Happening.{fate_of, harm_in};
+ghost use Rattle.dfu_sim.specs.Happening.{fate_of, harm_in};
 ghost use Rattle.dfu_link.specs.Said.{given_bytes, said_of, Go, Does, harm_fate};
 ghost use Rattle.dfu_link.specs.Lines.{small_at, ids_of, device_of, unit_named, unit_of, erase_of, capacity_of, image_of, limits_of, offer_of, time_of, pass_of, slip_of, harmed_of, until_of, by_fate, go_of, expect_of};
 
-use crate::aim::Aim;
-use crate::fate::Fate;
 use crate::scripting::fields::{
     attributes_at, ended, file_at, hex_at, identifier_at, number_at, short_at, small_at,
 };
 use crate::scripting::keywords::{FateKeyword, read_fate};
 use crate::scripting::line::{ConfigLine, EventLine, HarmKind, Line, Room, Sector};
 use crate::scripting::words::{text_behind, word_at};
+use dfu_sim::{Aim, Fate};
 use dfu_slots::Unit;
 use dfu_wire::{Functional, Ids};
 

@@ -5,7 +5,6 @@ ghost use Rattle.dfu_link.specs.Words.{Reads, words_of};
 ghost use Rattle.dfu_link.specs.Said.{given_bytes, said_of};
 ghost use Rattle.dfu_link.specs.Lines.{is_comment, says, by_keyword, line_of};
 
-use crate::aim::Aim;
 use crate::scripting::fields::ended;
 use crate::scripting::keywords::{Keyword, read_keyword};
 use crate::scripting::line::{EventLine, Line};
@@ -13,6 +12,7 @@ use crate::scripting::line_forms::{
     capacity, device, erase, expect, go, ids, image, limits, offer, time, unit,
 };
 use crate::scripting::words::word_at;
+use dfu_sim::Aim;
 
 /// The most bytes of a line, without its 0Ah.
 pub(crate) const MAX_LINE: usize = 65_536;

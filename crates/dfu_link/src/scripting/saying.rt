@@ -7,12 +7,12 @@ ghost use Rattle.dfu_link.specs.Expecting.{Fails};
 ghost use Rattle.dfu_link.specs.inside.Expected.{expectation_of, Prints};
 ghost use Rattle.dfu_link.specs.Texts.{offer_fault_name, uploaded_line, report_line, refusal_line, told_line};
 
-use crate::fault::{LinkFault, OfferFault};
 use crate::scripting::digits::write_bytes;
 use crate::scripting::expectation::{Expectation, write_next};
 use crate::scripting::fault::ScriptFault;
 use crate::scripting::output::{write_out, write_three};
 use dfu_host::Report;
+use dfu_sim::{LinkFault, OfferFault};
 use std::io::Write;
 
 fn offer_fault_name(fault: OfferFault) -> &'static str

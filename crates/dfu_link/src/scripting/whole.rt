@@ -1,20 +1,13 @@
 //! Whole scripts.
 
-ghost use Rattle.std.specs.Prelude.{◌≡◌, [], Some, OnOk, OnErr, IfOk, IfErr, IfSome};
+ghost use Rattle.std.specs.Prelude.{OnOk, IfOk, IfErr, IfSome};
 ghost use Rattle.dfu_link.specs.Said.{given_bytes};
 ghost use Rattle.dfu_link.specs.ScriptRun.{WroteRun};
-ghost use Rattle.dfu_link.specs.Falls.{Falls};
-ghost use Rattle.dfu_link.specs.KeptLines.{untraced};
-ghost use Rattle.dfu_link.specs.TracedRun.{IsTraced, WroteTraced};
-ghost use Rattle.dfu_link.specs.TracedStop.{IsPartTraced, StopsTraced};
-ghost use Rattle.dfu_link.specs.inside.Telling.{Traces};
-ghost use Rattle.dfu_link.specs.ScriptLegal.{WroteLegal, StopsLegally};
-ghost use Rattle.dfu_link.specs.ScriptHeadline.{WroteHeadline, StopsWithHeadline};
-ghost use Rattle.dfu_link.specs.Printed.{WrotePrinted, StopsPrinted};
+ghost use Rattle.dfu_link.specs.Falls.{Falls, Ended};
+ghost use Rattle.dfu_link.specs.Printed.{HasPrinted};
 ghost use Rattle.dfu_link.specs.inside.Moving.{Configured, CannotConfigure};
 ghost use Rattle.dfu_link.specs.inside.SetupView.{settings_of};
 
-use crate::laws::image_shown;
 use crate::scripting::after_start::run_on;
 use crate::scripting::expectation::Ahead;
 use crate::scripting::fault::ScriptFault;
@@ -23,10 +16,10 @@ use crate::scripting::reading::parse;
 use crate::scripting::setup::{Setup, beginning, set, set_limits};
 use crate::scripting::source::Source;
 use crate::scripting::starting::start;
-use crate::tracing::telling::{Loud, Quiet, Telling};
-use crate::tracing::traced::Traced;
-use arrayvec::ArrayVec;
+use crate::tracing::line::Count;
+use crate::tracing::watch::{Nobody, Trace, Watch};
 use dfu_host::Limits;
+use dfu_sim::laws::image_shown;
 use dfu_slots::SimMedium;
 use std::alloc::Global;
 use std::io::{Read, Write};
@@ -59,21 +52,17 @@ fn configure<R: Read + Drop>(
 }
 
 /// Runs what a reader gives, where FILE stands for these bytes.
-fn run_lines<T: Telling<SimMedium, W>, R: Read + Drop, W>(
+fn run_lines<T: Watch<SimMedium>, R: Read + Drop, W: Write>(
     alloc: Global,
     given: Option<&[u8]>,
     reader: R,
     writer: &mut W,
+    watch: &mut T,
 ) -> Result<(), ScriptFault>
-    ensures ok { IfSome (R.remaining reader) (λ text. OnOk result (WroteRun (given_bytes given.entry) text (T.held writer.old).seen
-        (T.held writer.new).seen)) }
-    ensures traced { IfSome (R.remaining reader) (λ text. OnOk result (Traces (IsTraced (given_bytes given.entry) text) (T.held writer.old)
-        (T.held writer.new))) }
-    ensures part { IfSome (R.remaining reader) (λ text. OnErr result (Traces (λ c out c'. IsPartTraced (given_bytes given.entry) text c out)
-        (T.held writer.old) (T.held writer.new))) }
-    ensures works { OnOk result ((T.held writer.new).works ≡ (T.held writer.new).on) }
-    ensures fault { IfSome (R.remaining reader) (λ text. IfErr result (λ f. Falls (given_bytes given.entry) text (T.held writer.old).seen
-        (T.held writer.new).seen f)) }
+    ensures ok { IfSome (R.remaining reader) (λ text. OnOk result (WroteRun (given_bytes given.entry) text (W.contents writer.old)
+        (W.contents writer.new))) }
+    ensures fault { IfSome (R.remaining reader) (λ text. IfErr result (λ f. Falls (given_bytes given.entry) text (W.contents writer.old)
+        (W.contents writer.new) f)) }
 {
     let mut source = Source::new(alloc, reader)?;
     let mut setup = beginning(given);
@@ -83,9 +72,8 @@ fn run_lines<T: Telling<SimMedium, W>, R: Read + Drop, W>(
         given: setup.given,
         limits: setup.limits,
         next: None,
-        answer: ArrayVec::new(),
     };
-    run_on::<T, R, SimMedium, W>(alloc, device, &mut source, more, ahead, writer)
+    run_on::<T, R, SimMedium, W>(alloc, device, &mut source, more, ahead, writer, watch)
 }
 
 /// Runs a script: reads it line by line, and does each line before the next one is read. Lines that
@@ -111,69 +99,52 @@ pub fn script_with<R: Read + Drop, W: Write>(
     reader: R,
     writer: &mut W,
 ) -> Result<(), ScriptFault>
-    // What was written is a run of what was read.
-    ensures ok { IfSome (R.remaining reader)
-        (λ text. OnOk result (WroteRun (given_bytes given.entry) text (W.contents writer.old) (W.contents writer.new))) }
-    // Which fault comes when, and what is out then.
-    ensures fault { IfSome (R.remaining reader)
-        (λ text. IfErr result (λ f. Falls (given_bytes given.entry) text (W.contents writer.old) (W.contents writer.new) f)) }
-    // The session machine goes along: what was written is what it reports, and the image that it has active.
-    ensures legal { IfSome (R.remaining reader)
-        (λ text. OnOk result (WroteLegal (given_bytes given.entry) text (W.contents writer.old) (W.contents writer.new))) }
-    // It does so as far as a script goes that stops.
-    ensures stopped { IfSome (R.remaining reader)
-        (λ text. OnErr result (StopsLegally (given_bytes given.entry) text (W.contents writer.old) (W.contents writer.new))) }
-    // The headline: each image that is printed is the factory image or a payload offered so far, and where `report installed` or
-    // `report verified` is printed, the device is in appIDLE and exactly the payload of the last session is active.
-    ensures headline { IfSome (R.remaining reader)
-        (λ text. OnOk result (WroteHeadline (given_bytes given.entry) text (W.contents writer.old) (W.contents writer.new))) }
-    // The same as far as a script goes that stops.
-    ensures headline_so_far { IfSome (R.remaining reader)
-        (λ text. OnErr result (StopsWithHeadline (given_bytes given.entry) text (W.contents writer.old) (W.contents writer.new))) }
-    // The headline without the language of scripts: only what a line brings is read of it.
+    // With Ok what was written is a run of what was read; with a fault, which one comes when, and what is out then.
+    ensures ended { IfSome (R.remaining reader)
+        (λ text. Ended (given_bytes given.entry) text (W.contents writer.old) (W.contents writer.new) result) }
+    // The headline, of all that is printed or as far as the script goes: each image is the factory image or a payload offered so far, and
+    // where `report installed` or `report verified` is printed, the device is in appIDLE and exactly the payload of the last session is
+    // active. Of the language only what a line brings is read.
     ensures printed { IfSome (R.remaining reader)
-        (λ text. OnOk result (WrotePrinted (given_bytes given.entry) text (W.contents writer.old) (W.contents writer.new))) }
-    // The same as far as a script goes that stops.
-    ensures printed_so_far { IfSome (R.remaining reader)
-        (λ text. OnErr result (StopsPrinted (given_bytes given.entry) text (W.contents writer.old) (W.contents writer.new))) }
+        (λ text. HasPrinted (given_bytes given.entry) text (W.contents writer.old) (W.contents writer.new) result) }
 {
-    // Called for its law, which `legal` needs: no image but the one that is shown is active.
+    // Called for its law, which `printed` needs: no image but the one that is shown is active.
     image_shown();
-    run_lines::<Quiet, R, W>(alloc, given, reader, writer)
+    run_lines::<Nobody, R, W>(alloc, given, reader, writer, &mut Nobody)
 }
 
-/// Runs a script as `script_with` does, and writes a line for each action of the host, before what is printed
-/// of it: the number of the action, the phase of the host, what it asks for, the fate, what the device
-/// answers, the state of the device before and after, the writes of the medium, and the milliseconds since
-/// the start, once it is over. Such a line begins with `# `, and no line of `script_with` begins with `#`. It hands
-/// back the writer.
+/// Runs a script as `script_with` does, and writes a line for each action of the host to `trace`, before what
+/// is printed of it: the number of the action, the phase of the host, what it asks for, the fate, what the
+/// device answers, the state of the device before and after, the writes of the medium, and the milliseconds
+/// since the start, once it is over. Such a line begins with `# `, and no line of `script_with` begins with `#`.
+/// It answers beside the result whether each line of the trace is out.
 ///
-/// It takes memory for one line of the trace at a time.
+/// It takes memory for one line of the trace at a time. Where there is none for a line, or `trace` fails, the
+/// script goes on, and no further line is written.
 ///
 /// # Errors
 ///
-/// Those of `script_with`, of the text without the lines that begin with `#`. Where there is no memory for a line
-/// of the trace nothing more is written, and Write comes.
-pub fn script_traced_with<R: Read + Drop, W: Write + Drop>(
+/// Those of `script_with`.
+pub fn script_traced_with<R: Read + Drop, W: Write, N: Write>(
     alloc: Global,
     given: Option<&[u8]>,
     reader: R,
-    writer: W,
-) -> (Result<(), ScriptFault>, W)
-    // What was written without the lines that begin with `#` is a run of what was read.
-    ensures ok { IfSome (R.remaining reader) (λ text. W.contents writer ≡ Some [] →
-        OnOk result.0 (WroteRun (given_bytes given.entry) text (Some []) (untraced (W.contents result.1)))) }
-    // Which fault comes when, and what is out then without those lines.
-    ensures fault { IfSome (R.remaining reader) (λ text. W.contents writer ≡ Some [] →
-        IfErr result.0 (λ f. Falls (given_bytes given.entry) text (Some []) (untraced (W.contents result.1)) f)) }
-    // All that was written: of each action its line, with what is printed of it behind.
-    ensures traced { IfSome (R.remaining reader) (λ text. W.contents writer ≡ Some [] →
-        OnOk result.0 (WroteTraced (given_bytes given.entry) text (Some []) (W.contents result.1))) }
-    // So it is as far as a script goes that stops.
-    ensures traced_so_far { IfSome (R.remaining reader) (λ text. W.contents writer ≡ Some [] →
-        OnErr result.0 (StopsTraced (given_bytes given.entry) text (Some []) (W.contents result.1))) }
+    writer: &mut W,
+    trace: &mut N,
+) -> (Result<(), ScriptFault>, bool)
+    ensures ended { IfSome (R.remaining reader)
+        (λ text. Ended (given_bytes given.entry) text (W.contents writer.old) (W.contents writer.new) result.0) }
+    ensures printed { IfSome (R.remaining reader)
+        (λ text. HasPrinted (given_bytes given.entry) text (W.contents writer.old) (W.contents writer.new) result.0) }
 {
-    let mut traced = Traced::new(alloc, writer);
-    let answer = run_lines::<Loud, R, Traced<W>>(alloc, given, reader, &mut traced);
-    (answer, traced.writer)
+    // Called for its law, which `printed` needs: no image but the one that is shown is active.
+    image_shown();
+    let mut told = Trace {
+        writer: trace,
+        is_broken: false,
+        count: Count { number: 0, ms: 0 },
+        alloc,
+    };
+    let answer = run_lines::<Trace<'_, N>, R, W>(alloc, given, reader, writer, &mut told);
+    (answer, !told.is_broken)
 }

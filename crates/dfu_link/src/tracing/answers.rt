@@ -1,23 +1,15 @@
 //! What a device answered, in the words of a trace.
 
-ghost use Rattle.std.specs.Prelude.{◌≡◌, ◌++◌, OnOk};
-ghost use Rattle.std.specs.String.{string_bytes};
-ghost use Rattle.dfu_link.specs.TraceText.{answer_text, back_text};
-ghost use Rattle.dfu_link.specs.TraceWords.{bytes_text, count_text, state_answer, status_answer};
-
-use crate::back::Back;
-use crate::fate::Fate;
 use crate::tracing::names::{request_in, state_in, status_in};
 use crate::tracing::words::{push, push_number};
 use dfu_device::Answer;
 use dfu_host::Action;
+use dfu_sim::Fate;
 use dfu_wire::{Request, State, Status};
 use std::alloc::{AllocError, Global};
 
 /// Adds how many bytes there are.
-fn push_count(line: &mut String, alloc: Global, bytes: &[u8]) -> Result<(), AllocError>
-    ensures { OnOk result (string_bytes line.new ≡ string_bytes line.old ++ count_text bytes.now) }
-{
+fn push_count(line: &mut String, alloc: Global, bytes: &[u8]) -> Result<(), AllocError> {
     push_number(line, alloc, "", bytes.len() as u64)?;
     push(line, " bytes")
 }
@@ -28,9 +20,7 @@ fn push_status(
     alloc: Global,
     status: Option<Status>,
     bytes: &[u8],
-) -> Result<(), AllocError>
-    ensures { OnOk result (string_bytes line.new ≡ string_bytes line.old ++ status_answer status bytes.now) }
-{
+) -> Result<(), AllocError> {
     let Some(status) = status else {
         return push_count(line, alloc, bytes);
     };
@@ -46,9 +36,7 @@ fn push_state(
     alloc: Global,
     state: Option<State>,
     bytes: &[u8],
-) -> Result<(), AllocError>
-    ensures { OnOk result (string_bytes line.new ≡ string_bytes line.old ++ state_answer state bytes.now) }
-{
+) -> Result<(), AllocError> {
     match state {
         Some(state) => push(line, state.name()),
         None => push_count(line, alloc, bytes),
@@ -61,9 +49,7 @@ fn push_bytes(
     alloc: Global,
     request: Request,
     out: &[u8],
-) -> Result<(), AllocError>
-    ensures { OnOk result (string_bytes line.new ≡ string_bytes line.old ++ bytes_text request out.now) }
-{
+) -> Result<(), AllocError> {
     match request {
         Request::GetStatus { .. } => push_status(line, alloc, status_in(out), out),
         Request::GetState { .. } => push_state(line, alloc, state_in(out), out),
@@ -82,16 +68,13 @@ fn push_back(
     line: &mut String,
     alloc: Global,
     action: Action<'_>,
-    came: Back,
-    out: &[u8],
-) -> Result<(), AllocError>
-    ensures { OnOk result (string_bytes line.new ≡ string_bytes line.old ++ back_text action.entry came out.now) }
-{
-    match came {
-        Back::Answered(Answer::Ack) => push(line, "ack"),
-        Back::Answered(Answer::Stall) => push(line, "stall"),
-        Back::Answered(Answer::Bytes) => push_bytes(line, alloc, request_in(action), out),
-        Back::Lost | Back::Restarted => push(line, "-"),
+    answered: Option<(Answer, &[u8])>,
+) -> Result<(), AllocError> {
+    match answered {
+        Some((Answer::Ack, _)) => push(line, "ack"),
+        Some((Answer::Stall, _)) => push(line, "stall"),
+        Some((Answer::Bytes, out)) => push_bytes(line, alloc, request_in(action), out),
+        None => push(line, "-"),
     }
 }
 
@@ -101,13 +84,10 @@ pub(crate) fn push_answer(
     alloc: Global,
     action: Action<'_>,
     fate: Fate<'_>,
-    came: Back,
-    out: &[u8],
-) -> Result<(), AllocError>
-    ensures { OnOk result (string_bytes line.new ≡ string_bytes line.old ++ answer_text action.entry fate.entry came out.now) }
-{
+    answered: Option<(Answer, &[u8])>,
+) -> Result<(), AllocError> {
     match fate {
         Fate::Cut { .. } => push(line, "-"),
-        _ => push_back(line, alloc, action, came, out),
+        _ => push_back(line, alloc, action, answered),
     }
 }

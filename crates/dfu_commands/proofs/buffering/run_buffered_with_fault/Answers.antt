@@ -9,8 +9,7 @@ returns-in-Ok g c = record {
   written = writer_contents g.W.Write.contents c.run_with_fault-exit.new.writer;
   end = c.run_with_fault-exit.result.0;
   run = c.run_with_fault-exit.ensures.run;
-  legal = c.run_with_fault-exit.ensures.legal;
-  headline = c.run_with_fault-exit.ensures.headline;
+  printed = c.run_with_fault-exit.ensures.printed;
   comes_out = inl (c.in-Ok.ensures.ok, refl);
 }
 
@@ -24,7 +23,6 @@ returns-in-Err g c =
       written = written;
       end = c.run_with_fault-exit.result.0;
       run = c.run_with_fault-exit.ensures.run;
-      legal = c.run_with_fault-exit.ensures.legal;
-      headline = c.run_with_fault-exit.ensures.headline;
+      printed = c.run_with_fault-exit.ensures.printed;
       comes_out = inr (subst (λ x. IfSome written (λ w. HasFront w (g.W.Write.contents x))) (sym behind) front, refl);
     }

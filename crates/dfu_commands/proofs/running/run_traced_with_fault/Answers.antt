@@ -1,21 +1,17 @@
-use Rattle.std.proofs.Common.{List, ℕ, Option, Some, None, refl}
-use Rattle.std.specs.Prelude.{IfSome}
-use Rattle.dfu_commands.specs.RunText.{traced_runs, traced_stops}
+use Rattle.dfu_commands.specs.RunText.{runs, stops, prints_all, prints_part}
+use Rattle.std.proofs.Common.{refl}
 use Rattle.dfu_commands.proofs.running.run_traced_with_fault.Goals as goal
 
--- What holds of a text under a condition holds where the condition does.
-met : (given : Option (List ℕ)) (C : Type 0) (P : List ℕ → Type 0) → C → IfSome given (λ text. C → P text) → IfSome given P
-met None C P c h = tt
-met (Some text) C P c h = h c
-
 pub returns-in-Ok-clause-run : goal.returns-in-Ok-clause-run
-returns-in-Ok-clause-run g c = λ e. traced_runs
-    (met _ _ _ e (rw c.in-Ok.is at c.script_traced_with-answer.ensures.ok))
-    (met _ _ _ e (rw c.in-Ok.is at c.script_traced_with-answer.ensures.traced))
-    refl
+returns-in-Ok-clause-run g c = runs (rw c.in-Ok.is at c.script_traced_with-answer.ensures.ended) refl
+
+pub returns-in-Ok-clause-printed : goal.returns-in-Ok-clause-printed
+returns-in-Ok-clause-printed g c = prints_all (rw c.in-Ok.is at c.script_traced_with-answer.ensures.printed) refl
 
 pub returns-in-Err-clause-run : goal.returns-in-Err-clause-run
-returns-in-Err-clause-run g c = λ e. traced_stops _ c.in-Err.fault
-    (met _ _ _ e (rw c.in-Err.is at c.script_traced_with-answer.ensures.fault))
-    (met _ _ _ e (rw c.in-Err.is at c.script_traced_with-answer.ensures.traced_so_far))
-    c.stop_text-exit.ensures
+returns-in-Err-clause-run g c = stops (g.W.Write.contents c.script_traced_with-answer.new.writer) c.in-Err.fault
+    (rw c.in-Err.is at c.script_traced_with-answer.ensures.ended) c.stop_text.ensures
+
+pub returns-in-Err-clause-printed : goal.returns-in-Err-clause-printed
+returns-in-Err-clause-printed g c = prints_part (g.W.Write.contents c.script_traced_with-answer.new.writer) c.in-Err.fault
+    (rw c.in-Err.is at c.script_traced_with-answer.ensures.printed) c.stop_text.ensures

@@ -1,7 +1,7 @@
 //! Scripts that offer a file by the word FILE.
 
-use super::rows::text_of;
-use dfu_link::{ScriptFault, script, script_traced, script_traced_with, script_with};
+use super::rows::{text_of, told};
+use dfu_link::{ScriptFault, script, script_with};
 use std::alloc::Global;
 use std::process::Abort;
 use std::test::Fail;
@@ -29,9 +29,8 @@ fn same(rt: &impl Abort, alloc: Global, named: &str, spelled: &str) -> Result<()
     let mut wanted = Vec::new(alloc);
     assert_eq!(rt; end, script(alloc, text.as_slice(), &mut wanted), "{named}");
     assert_eq!(rt; out.as_slice(), wanted.as_slice(), "{named}");
-    let (wanted_end, wanted) = script_traced(alloc, text.as_slice(), Vec::new(alloc));
-    let text = text_of(alloc, named)?;
-    let (end, out) = script_traced_with(alloc, Some(FOUR_ONES), text.as_slice(), Vec::new(alloc));
+    let (wanted_end, _, wanted) = told(alloc, None, spelled)?;
+    let (end, _, out) = told(alloc, Some(FOUR_ONES), named)?;
     assert_eq!(rt; end, wanted_end, "{named}");
     assert_eq!(rt; out.as_slice(), wanted.as_slice(), "{named}");
     Ok(())

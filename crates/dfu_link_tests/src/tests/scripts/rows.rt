@@ -1,7 +1,9 @@
-//! The text of a row, and a reader that gives it in portions.
+//! The text of a row, a reader that gives it in portions, and what a row prints with its trace.
 
+use dfu_link::{ScriptFault, script_traced_with};
 use std::alloc::{AllocError, Global};
-use std::io::{self, Read};
+use std::cell::RefCell;
+use std::io::{self, ErrorKind, Read, Write};
 
 /// Payload FFFFFFFFh, identifiers FFFFh.
 const FOUR_ONES: &[u8] = b"ffffffffffffffffffff00015546441071c8510c";
@@ -34,4 +36,39 @@ impl Read for Portions<'_> {
         self.rest = rest;
         Ok(given)
     }
+}
+
+/// A writer of bytes that another one writes to as well, so that a text and its trace stand in their order.
+#[derive(Drop)]
+struct Both<'b>(&'b RefCell<Vec<u8>>);
+
+impl Write for Both<'_> {
+    fn write(&mut self, buf: &[u8]) -> io::Result<usize> {
+        match self.0.try_borrow_mut() {
+            Ok(mut bytes) => bytes.extend_from_slice(buf)?,
+            Err(_) => return Err(io::Error::from(ErrorKind::Other)),
+        }
+        Ok(buf.len())
+    }
+
+    fn flush(&mut self) -> io::Result<()> {
+        Ok(())
+    }
+}
+
+/// How a script ended, whether each line of its trace is out, and the text with the trace.
+pub type Told = (Result<(), ScriptFault>, bool, Vec<u8>);
+
+/// What a row ends with and prints with its trace, where FILE stands for these bytes.
+pub fn told(alloc: Global, given: Option<&[u8]>, row: &str) -> Result<Told, AllocError> {
+    let text = text_of(alloc, row)?;
+    let bytes = RefCell::new(Vec::new(alloc));
+    let (end, is_traced) = script_traced_with(
+        alloc,
+        given,
+        text.as_slice(),
+        &mut Both(&bytes),
+        &mut Both(&bytes),
+    );
+    Ok((end, is_traced, bytes.into_inner()))
 }

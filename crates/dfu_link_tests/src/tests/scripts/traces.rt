@@ -1,16 +1,16 @@
 //! Scripts with a line for each action, worked out by hand.
 
-use super::rows::text_of;
-use dfu_link::{script_traced, script_traced_with};
+use super::rows::{text_of, told};
+use dfu_link::{ScriptFault, script, script_traced};
 use std::alloc::Global;
+use std::io::{self, ErrorKind, Write};
 use std::process::Abort;
 use std::test::Fail;
 
 /// What a row prints with a trace.
 fn traced(rt: &impl Abort, alloc: Global, row: &str, wanted: &str) -> Result<(), Fail> {
-    let text = text_of(alloc, row)?;
-    let (answer, out) = script_traced(alloc, text.as_slice(), Vec::new(alloc));
-    assert!(rt; answer.is_ok());
+    let (end, is_traced, out) = told(alloc, None, row)?;
+    assert!(rt; end.is_ok() && is_traced);
     assert_eq!(rt; std::str::from_utf8(&out)?, wanted);
     Ok(())
 }
@@ -95,9 +95,8 @@ fn traced_from(
     from: &str,
     wanted: &str,
 ) -> Result<(), Fail> {
-    let text = text_of(alloc, row)?;
-    let (answer, out) = script_traced_with(alloc, Some(given), text.as_slice(), Vec::new(alloc));
-    assert!(rt; answer.is_ok());
+    let (end, is_traced, out) = told(alloc, Some(given), row)?;
+    assert!(rt; end.is_ok() && is_traced);
     match std::str::from_utf8(&out)?.find(from) {
         Some(at) => assert_eq!(rt; std::str::from_utf8(&out)?.get(at..), Some(wanted)),
         None => panic!(rt; "the action isn't told"),
@@ -140,4 +139,86 @@ fn the_last_writes_are_told(rt: HostRuntime) -> Result<(), Fail> {
         "# 7 ",
         MANY,
     )
+}
+
+/// An upload in which time slips in behind an answer. Then the power is cut at an action that the device answers, and the
+/// limits allow no restart.
+const ANSWERS: &str = "\
+# 1 Find; GETSTATUS 0 6; slip 300; OK 0 appIDLE; appIDLE; appIDLE; -; 300 ms
+# 2 Detach; DETACH 255 0; pass; ack; appIDLE; appDETACH; -; 300 ms
+# 3 Enter; reset; pass; -; appDETACH; dfuIDLE; -; 300 ms
+# 4 Find; GETSTATUS 0 6; pass; OK 0 dfuIDLE; dfuIDLE; dfuIDLE; -; 300 ms
+# 5 Fetch 0; UPLOAD 0 8; pass; 1 bytes; dfuIDLE; dfuIDLE; -; 300 ms
+# 6 LastUploaded; reset; pass; -; dfuIDLE; appIDLE; -; 300 ms
+report uploaded 00
+# 7 Find; GETSTATUS 0 6; cut 0 -; -; appIDLE; appIDLE; -; 300 ms
+report restarts-spent
+image 00
+";
+
+#[test]
+fn answers_are_told(rt: HostRuntime) -> Result<(), Fail> {
+    traced(
+        &rt,
+        rt.alloc(),
+        "upload/go slip 300/go pass 5/upload/go cut 0 -",
+        ANSWERS,
+    )
+}
+
+/// A writer that fails at a byte, and counts what it was asked for after that.
+#[derive(Drop)]
+struct Failing {
+    room: usize,
+    late: usize,
+}
+
+impl Write for Failing {
+    fn write(&mut self, buf: &[u8]) -> io::Result<usize> {
+        if self.room == 0 {
+            self.late = self.late.saturating_add(1);
+            return Err(io::Error::from(ErrorKind::Other));
+        }
+        let count = buf.len().min(self.room);
+        self.room -= count;
+        Ok(count)
+    }
+
+    fn flush(&mut self) -> io::Result<()> {
+        Ok(())
+    }
+}
+
+/// Where the trace can't be written the text is the same, no further line is tried, and the answer says so.
+#[test]
+fn a_trace_that_fails_leaves_the_text(rt: HostRuntime) -> Result<(), Fail> {
+    let text = text_of(rt.alloc(), "offer W/go pass 13")?;
+    let mut wanted = Vec::new(rt.alloc());
+    let end = script(rt.alloc(), text.as_slice(), &mut wanted);
+    for room in [0, 1, 90, 500] {
+        let mut trace = Failing { room, late: 0 };
+        let mut out = Vec::new(rt.alloc());
+        let (told_end, is_traced) = script_traced(
+            rt.alloc(),
+            text.as_slice(),
+            &mut out,
+            &mut trace,
+        );
+        assert_eq!(rt; told_end, end);
+        assert_eq!(rt; out.as_slice(), wanted.as_slice());
+        assert!(rt; !is_traced && trace.late == 1);
+    }
+    Ok(())
+}
+
+/// Where the text can't be written the script stops, whatever its trace is.
+#[test]
+fn a_text_that_fails_stops_the_script(rt: HostRuntime) -> Result<(), Fail> {
+    let text = text_of(rt.alloc(), "offer W/go pass 13")?;
+    let mut trace = Vec::new(rt.alloc());
+    let mut out = Failing { room: 3, late: 0 };
+    let (end, is_traced) = script_traced(rt.alloc(), text.as_slice(), &mut out, &mut trace);
+    assert_eq!(rt; end, Err(ScriptFault::Write));
+    assert!(rt; is_traced && trace.starts_with(b"# 1 Find") && trace.ends_with(b" 15 ms\n"));
+    Ok(())
 }

@@ -6,8 +6,8 @@ use Rattle.dfu_link.proofs.scripting.after_start.follow.Given as goal
 abbrev pub invariant-lines : goal.invariant-lines
 invariant-lines g l = record {
   room : l.source.room ≤ l.fn.source.room;
-  moves : Moves (at_point l.fn.ahead l.fn.world.bench) l.fn.source (g.T.Telling.held l.fn.writer) (at_point l.ahead l.world.bench) l.source
-      (g.T.Telling.held l.writer);
+  moves : Moves (at_point l.fn.ahead l.fn.world.bench) l.fn.source (g.W.Write.contents l.fn.writer) (at_point l.ahead l.world.bench) l.source
+      (g.W.Write.contents l.writer);
 }
 
 abbrev pub decreases-lines : goal.decreases-lines

@@ -1,10 +1,8 @@
 use Rattle.std.proofs.Common.{sym}
 use Rattle.std.proofs.lemmas.Result.{err_from_is_err_and}
 use Rattle.dfu_link.specs.inside.Expected.{at_point}
-use Rattle.dfu_link.specs.inside.Telling.{Traces}
-use Rattle.dfu_link.specs.inside.Moving.{LinePart}
 use Rattle.dfu_link.proofs.WriteLaws.{on_err}
-use Rattle.dfu_link.proofs.RestLaws.{no_tear, nothing_part, events_break, events_part, events_play}
+use Rattle.dfu_link.proofs.RestLaws.{no_tear, events_break, events_play}
 use Rattle.dfu_link.proofs.scripting.after_start.live_line.Goals as goal
 
 pub returns-in_err-plain-clause-fault : goal.returns-in_err-plain-clause-fault
@@ -16,7 +14,7 @@ pub returns-in_err-torn-clause-fault : goal.returns-in_err-torn-clause-fault
 returns-in_err-torn-clause-fault g c =
     let failed = err_from_is_err_and c.from_residual-in_err-torn.result c.from_residual-in_err-torn.ensures.1 in
     rw (failed.1, failed.2) (no_tear c.device.result.now c.args.ahead.now c.plain_line.new.ahead c.args.number c.args.line.now
-    (g.T.Telling.held c.args.writer.now) (g.T.Telling.held c.plain_line.new.writer) c.args.world.now.bench c.in-Some.events
+    (g.W.Write.contents c.args.writer.now) (g.W.Write.contents c.plain_line.new.writer) c.args.world.now.bench c.in-Some.events
     c.in_err-torn.field-0.0 c.in_ok-plain.ensures.ok c.in-Some.is
     c.in_err-torn.ensures.fault)
 
@@ -24,35 +22,12 @@ pub returns-in_err-play_live-clause-fault : goal.returns-in_err-play_live-clause
 returns-in_err-play_live-clause-fault g c =
     let failed = err_from_is_err_and c.from_residual-in_err-play_live.result c.from_residual-in_err-play_live.ensures.1 in
     rw (failed.1, failed.2) (events_break c.device.result.now c.args.ahead.now c.plain_line.new.ahead c.args.number c.args.line.now
-    (g.T.Telling.held c.args.writer.now) (g.T.Telling.held c.plain_line.new.writer) c.args.world.now.bench c.in-Some.events
+    (g.W.Write.contents c.args.writer.now) (g.W.Write.contents c.plain_line.new.writer) c.args.world.now.bench c.in-Some.events
     c.in_err-play_live.field-0.0 c.in_ok-plain.ensures.ok
     c.in-Some.is c.in_err-play_live.ensures.fault)
 
 pub returns-in_ok-play_live-clause-ok : goal.returns-in_ok-play_live-clause-ok
 returns-in_ok-play_live-clause-ok g c =
     events_play c.device.result.now c.args.ahead.now c.plain_line.new.ahead c.args.number c.args.line.now
-    (g.T.Telling.held c.args.writer.now) c.args.world.now.bench c.in-Some.events
+    (g.W.Write.contents c.args.writer.now) c.args.world.now.bench c.in-Some.events
     c.in_ok-plain.ensures.ok c.in-Some.is c.in_ok-play_live.ensures.ok
-
-pub returns-in_err-plain-clause-part : goal.returns-in_err-plain-clause-part
-returns-in_err-plain-clause-part g c = on_err c.from_residual.result
-    (Traces (λ k text k'. LinePart (at_point c.args.ahead.now c.args.world.now.bench) k c.args.line.now text)
-    (g.T.Telling.held c.args.writer.now) (g.T.Telling.held c.plain_line.new.writer))
-    (c.in_err-plain.ensures.part c.args.world.now.bench (sym c.device.ensures.device))
-
-pub returns-in_err-torn-clause-part : goal.returns-in_err-torn-clause-part
-returns-in_err-torn-clause-part g c = on_err c.from_residual-in_err-torn.result
-    (Traces (λ k text k'. LinePart (at_point c.args.ahead.now c.args.world.now.bench) k c.args.line.now text)
-    (g.T.Telling.held c.args.writer.now) (g.T.Telling.held c.plain_line.new.writer))
-    (nothing_part c.device.result.now c.args.ahead.now c.plain_line.new.ahead c.args.number c.args.line.now
-    (g.T.Telling.held c.args.writer.now)
-    (g.T.Telling.held c.plain_line.new.writer) c.args.world.now.bench c.in-Some.events c.in_ok-plain.ensures.ok c.in-Some.is)
-
-pub returns-in_err-play_live-clause-part : goal.returns-in_err-play_live-clause-part
-returns-in_err-play_live-clause-part g c = on_err c.from_residual-in_err-play_live.result
-    (Traces (λ k text k'. LinePart (at_point c.args.ahead.now c.args.world.now.bench) k c.args.line.now text)
-    (g.T.Telling.held c.args.writer.now) (g.T.Telling.held c.play_live.new.writer))
-    (events_part c.device.result.now c.args.ahead.now c.plain_line.new.ahead c.args.number c.args.line.now
-    (g.T.Telling.held c.args.writer.now)
-    (g.T.Telling.held c.plain_line.new.writer) c.args.world.now.bench c.in-Some.events c.in_ok-plain.ensures.ok c.in-Some.is
-    c.in_err-play_live.ensures.part)

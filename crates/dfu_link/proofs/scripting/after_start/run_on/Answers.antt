@@ -17,7 +17,7 @@ use Rattle.dfu_link.proofs.scripting.after_start.run_on.Goals as goal
 pub loop-more-init : goal.loop-more-init
 loop-more-init g c = record {
   unarmed = c.requires;
-  moves = moved_none c.args.given c.args.source.now (at_point c.args.ahead (at_rest c.args.device)) (g.T.Telling.held c.args.writer.now);
+  moves = moved_none c.args.given c.args.source.now (at_point c.args.ahead (at_rest c.args.device)) (g.W.Write.contents c.args.writer.now);
 }
 
 pub returns-in_err-after-clause-fault : goal.returns-in_err-after-clause-fault
@@ -25,7 +25,7 @@ returns-in_err-after-clause-fault g c =
     let failed = err_from_is_err_and c.from_residual.result c.from_residual.ensures.1 in
     let x = c.loop-more in
     let moved = subst (λ (more : Bool). HasMoved c.args.given c.args.source.now (at_point c.args.ahead (at_rest c.args.device))
-    (g.T.Telling.held c.args.writer.now) (at_point x.ahead (at_rest x.device)) more x.source (g.T.Telling.held x.writer))
+    (g.W.Write.contents c.args.writer.now) (at_point x.ahead (at_rest x.device)) more x.source (g.W.Write.contents x.writer))
     c.loop-more-test.true x.invariant.moves in
     rw (failed.1, failed.2) (moved_and_fell c.in_err-after.field-0.0 moved c.in_err-after.ensures.fault).from
 
@@ -33,10 +33,10 @@ pub returns-in-None-clause-ok : goal.returns-in-None-clause-ok
 returns-in-None-clause-ok g c =
     let x = c.loop-more in
     let p = at_point x.ahead (at_rest x.device) in
-    let mid = g.T.Telling.held x.writer in
-    let new = g.T.Telling.held c.act.new.writer in
+    let mid = g.W.Write.contents x.writer in
+    let new = g.W.Write.contents c.act.new.writer in
     let moved = subst (λ (more : Bool). HasMoved c.args.given c.args.source.now (at_point c.args.ahead (at_rest c.args.device))
-    (g.T.Telling.held c.args.writer.now) p more x.source mid) c.loop-more-test.true x.invariant.moves in
+    (g.W.Write.contents c.args.writer.now) p more x.source mid) c.loop-more-test.true x.invariant.moves in
     let ends : (r : SourceState) → GivesLine r x.source → Ends p r mid new = λ r gives. subst
     (λ (d : Option Shown). LinesDone p r mid d (at_point c.act.new.ahead) c.act.new.source new) c.in-None.is
     (c.in_ok-after.ensures.ok r gives) in
@@ -47,11 +47,11 @@ returns-in_err-more-clause-fault g c =
     let failed = err_from_is_err_and c.from_residual-in_err-more.result c.from_residual-in_err-more.ensures.1 in
     let x = c.loop-more in
     let p = at_point x.ahead (at_rest x.device) in
-    let mid = g.T.Telling.held x.writer in
-    let new = g.T.Telling.held c.act.new.writer in
+    let mid = g.W.Write.contents x.writer in
+    let new = g.W.Write.contents c.act.new.writer in
     let q = at_point c.act.new.ahead (at_rest c.in-Some.after) in
     let moved = subst (λ (more : Bool). HasMoved c.args.given c.args.source.now (at_point c.args.ahead (at_rest c.args.device))
-    (g.T.Telling.held c.args.writer.now) p more x.source mid) c.loop-more-test.true x.invariant.moves in
+    (g.W.Write.contents c.args.writer.now) p more x.source mid) c.loop-more-test.true x.invariant.moves in
     let moves : (r : SourceState) → GivesLine r x.source → Moves p r mid q c.act.new.source new = λ r gives. (subst
     (λ (d : Option Shown). LinesDone p r mid d (at_point c.act.new.ahead) c.act.new.source new) c.in-Some.is
     (c.in_ok-after.ensures.ok r gives)).1 in
@@ -71,11 +71,11 @@ pub loop-more-preserved : goal.loop-more-preserved
 loop-more-preserved g c =
     let x = c.loop-more in
     let p = at_point x.ahead (at_rest x.device) in
-    let mid = g.T.Telling.held x.writer in
-    let new = g.T.Telling.held c.act.new.writer in
+    let mid = g.W.Write.contents x.writer in
+    let new = g.W.Write.contents c.act.new.writer in
     let q = at_point c.act.new.ahead (at_rest c.in-Some.after) in
     let moved = subst (λ (more : Bool). HasMoved c.args.given c.args.source.now (at_point c.args.ahead (at_rest c.args.device))
-    (g.T.Telling.held c.args.writer.now) p more x.source mid) c.loop-more-test.true x.invariant.moves in
+    (g.W.Write.contents c.args.writer.now) p more x.source mid) c.loop-more-test.true x.invariant.moves in
     let moves : (r : SourceState) → GivesLine r x.source → Moves p r mid q c.act.new.source new = λ r gives. (subst
     (λ (d : Option Shown). LinesDone p r mid d (at_point c.act.new.ahead) c.act.new.source new) c.in-Some.is
     (c.in_ok-after.ensures.ok r gives)).1 in
@@ -89,30 +89,30 @@ returns-clause-ok g c =
     let x = c.loop-more in
     let q = at_point x.ahead (at_rest x.device) in
     let p = at_point c.args.ahead (at_rest c.args.device) in
-    let old = g.T.Telling.held c.args.writer.now in
-    let mid = g.T.Telling.held x.writer in
-    let new = g.T.Telling.held c.image.new.writer in
+    let old = g.W.Write.contents c.args.writer.now in
+    let mid = g.W.Write.contents x.writer in
+    let new = g.W.Write.contents c.image_next.new.writer in
     let moved = subst (λ (more : Bool). HasMoved c.args.given c.args.source.now p old q more x.source mid) c.loop-more-test.false
     x.invariant.moves in
-    on_ok_map c.image.result
-    (Prints (expectation_of x.ahead.next) mid.seen (image_line x.device) (expectation_of c.image.new.next) new.seen)
+    on_ok_map c.image_next.result
+    (Prints (expectation_of x.ahead.next) mid (image_line x.device) (expectation_of c.image_next.new.next) new)
     ((s : SourceState) → Next s c.args.given c.args.source.now → Ends p s old new)
-    (λ prints. moved_ends moved prints c.image.ensures.traces) c.image.ensures.ok
+    (λ prints. moved_ends moved prints) c.image_next.ensures.ok
 
 pub returns-clause-fault : goal.returns-clause-fault
 returns-clause-fault g c =
     let x = c.loop-more in
     let q = at_point x.ahead (at_rest x.device) in
     let p = at_point c.args.ahead (at_rest c.args.device) in
-    let old = g.T.Telling.held c.args.writer.now in
-    let mid = g.T.Telling.held x.writer in
-    let new = g.T.Telling.held c.image.new.writer in
+    let old = g.W.Write.contents c.args.writer.now in
+    let mid = g.W.Write.contents x.writer in
+    let new = g.W.Write.contents c.image_next.new.writer in
     let moved = subst (λ (more : Bool). HasMoved c.args.given c.args.source.now p old q more x.source mid) c.loop-more-test.false
     x.invariant.moves in
-    if_err_map c.image.result (λ f. Fails (expectation_of x.ahead.next) (image_line x.device) mid.seen new.seen f
-    × IsOutInPart mid.seen new.seen (image_line x.device))
+    if_err_map c.image_next.result (λ f. Fails (expectation_of x.ahead.next) (image_line x.device) mid new f
+    × IsOutInPart mid new (image_line x.device))
     (λ f. (s : SourceState) → Next s c.args.given c.args.source.now → MovesAndFalls p s old new f)
-    (λ f both. (moved_breaks f moved both.0 both.1 c.image.ensures.traces).from)
-    (if_err_both c.image.result (λ f. Fails (expectation_of x.ahead.next) (image_line x.device) mid.seen new.seen f)
-    (IsOutInPart mid.seen new.seen (image_line x.device)) c.image.ensures.fault
-    c.image.ensures.err)
+    (λ f both. (moved_breaks f moved both.0 both.1).from)
+    (if_err_both c.image_next.result (λ f. Fails (expectation_of x.ahead.next) (image_line x.device) mid new f)
+    (IsOutInPart mid new (image_line x.device)) c.image_next.ensures.fault
+    c.image_next.ensures.err)

@@ -12,8 +12,8 @@ turns false room = 0
 abbrev pub invariant-loop-more : goal.invariant-loop-more
 invariant-loop-more g l = record {
   unarmed : IsUnarmed l.device;
-  moves : HasMoved l.fn.given l.fn.source (at_point l.fn.ahead (at_rest l.fn.device)) (g.T.Telling.held l.fn.writer)
-      (at_point l.ahead (at_rest l.device)) l.more l.source (g.T.Telling.held l.writer);
+  moves : HasMoved l.fn.given l.fn.source (at_point l.fn.ahead (at_rest l.fn.device)) (g.W.Write.contents l.fn.writer)
+      (at_point l.ahead (at_rest l.device)) l.more l.source (g.W.Write.contents l.writer);
 }
 
 abbrev pub decreases-loop-more : goal.decreases-loop-more

@@ -1,9 +1,9 @@
 use Rattle.std.specs.Prelude.{replicate}
-use Rattle.dfu_link.specs.Happening.{Goes, fate_of, harm_in}
+use Rattle.dfu_sim.specs.Happening.{Goes, fate_of, harm_in}
 use Rattle.dfu_link.specs.inside.Expected.{expectation_of}
 use Rattle.dfu_link.specs.inside.Moving.{HasPlayed}
 use Rattle.dfu_link.proofs.scripting.playing.play_actions.Given as goal
 
 abbrev pub invariant-loop-turn : goal.invariant-loop-turn
 invariant-loop-turn g l = HasPlayed l.fn.world.bench (expectation_of l.fn.next) (replicate l.turn (Goes (fate_of l.fate) (harm_in l.fate)))
-    (g.T.Telling.held l.fn.writer) l.world.bench (expectation_of l.next) (g.T.Telling.held l.writer)
+    (g.W.Write.contents l.fn.writer) l.world.bench (expectation_of l.next) (g.W.Write.contents l.writer)

@@ -1,6 +1,0 @@
-use Rattle.dfu_link.specs.inside.Acting.{course_in}
-use Rattle.dfu_link.proofs.Acts.{resets_by}
-use Rattle.dfu_link.proofs.acting.reset_bus.Goals as goal
-
-pub returns-clause-hears : goal.returns-clause-hears
-returns-clause-hears g c = resets_by _ _ (course_in c.args.course) c.usb_reset.ensures c.slip.ensures c.seen_after.ensures

@@ -1,6 +1,0 @@
-use Rattle.dfu_link.specs.inside.Acting.{course_in}
-use Rattle.dfu_link.proofs.Acts.{waits_by}
-use Rattle.dfu_link.proofs.acting.wait.Goals as goal
-
-pub returns-clause-hears : goal.returns-clause-hears
-returns-clause-hears g c = waits_by _ _ _ (course_in c.args.course) c.elapse.ensures.row c.time_of.ensures c.seen_after.ensures

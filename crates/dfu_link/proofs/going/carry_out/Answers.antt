@@ -1,6 +1,0 @@
-use Rattle.dfu_link.proofs.Acts.{gone_by}
-use Rattle.dfu_link.proofs.going.carry_out.Goals as goal
-
-pub returns : goal.returns
-returns g c = gone_by c.course_by-course.ensures.course c.course_by-course.ensures.harm c.arm.ensures c.act.ensures.acts
-    c.settle.ensures

@@ -1,5 +1,0 @@
-use Rattle.dfu_link.proofs.Projected.{bytes_show}
-use Rattle.dfu_link.proofs.laws.bytes_show.Goals as goal
-
-pub returns : goal.returns
-returns g = bytes_show

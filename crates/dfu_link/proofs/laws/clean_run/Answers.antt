@@ -1,5 +1,0 @@
-use Rattle.dfu_link.proofs.Clean.{clean_run}
-use Rattle.dfu_link.proofs.laws.clean_run.Goals as goal
-
-pub returns : goal.returns
-returns g = clean_run

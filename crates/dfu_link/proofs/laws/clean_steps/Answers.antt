@@ -1,6 +1,0 @@
-use Rattle.dfu_link.proofs.CleanRuns.{steps_install}
-use Rattle.dfu_link.proofs.CleanStops.{steps_stand}
-use Rattle.dfu_link.proofs.laws.clean_steps.Goals as goal
-
-pub returns : goal.returns
-returns g = record { install = steps_install; stand = steps_stand }

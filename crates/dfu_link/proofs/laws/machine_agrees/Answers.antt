@@ -1,5 +1,0 @@
-use Rattle.dfu_link.proofs.Agreeing.{some_agrees, fresh_agrees, agrees_on}
-use Rattle.dfu_link.proofs.laws.machine_agrees.Goals as goal
-
-pub returns : goal.returns
-returns g = record { some = some_agrees; fresh = fresh_agrees; on = agrees_on }

@@ -1,6 +1,0 @@
-use Rattle.dfu_link.proofs.Refusals.{one_refusal, refused_no_play, one_event}
-use Rattle.dfu_link.proofs.Harmed.{one_result}
-use Rattle.dfu_link.proofs.laws.one_answer.Goals as goal
-
-pub returns : goal.returns
-returns g = record { fault = one_refusal; no_play = refused_no_play; event = one_event; result = one_result }

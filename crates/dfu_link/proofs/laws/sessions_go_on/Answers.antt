@@ -1,5 +1,0 @@
-use Rattle.dfu_link.proofs.Agreeing.{sessions_go_on}
-use Rattle.dfu_link.proofs.laws.sessions_go_on.Goals as goal
-
-pub returns : goal.returns
-returns g = sessions_go_on

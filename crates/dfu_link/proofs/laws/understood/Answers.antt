@@ -1,5 +1,0 @@
-use Rattle.dfu_link.proofs.Replies.{understood}
-use Rattle.dfu_link.proofs.laws.understood.Goals as goal
-
-pub returns : goal.returns
-returns g = understood

@@ -1,5 +1,0 @@
-use Rattle.dfu_link.proofs.Steady.{uploads_give, rest_is_steady}
-use Rattle.dfu_link.proofs.laws.uploads_give_the_image.Goals as goal
-
-pub returns : goal.returns
-returns g = record { gives = uploads_give; rest = rest_is_steady }

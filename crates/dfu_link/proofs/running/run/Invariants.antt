@@ -1,5 +1,0 @@
-use Rattle.dfu_link.proofs.Chains.{Ran}
-use Rattle.dfu_link.proofs.running.run.Given as goal
-
-abbrev pub invariant-loop-i : goal.invariant-loop-i
-invariant-loop-i g l = Ran l.initial.world l.events l.i l.reports.items l.world

@@ -1,0 +1,116 @@
+-- The phases of a clean comparison: each block of the image comes back, and what is behind the last full one.
+use Rattle.std.proofs.Common.{◌≡◌, ℕ, zero, suc, ◌+◌, ◌*◌, ◌%◌, ◌/◌, ◌<◌, ◌≤◌, ◌==◌, nat_lt, true, false, if◌then◌else◌, List, [], length, slice_index_or, take, drop, refl, sym, ap, ◌∙◌, subst, arith, length-take, length-drop}
+use Rattle.std.proofs.Math.Nat.{suc-mul, div-mul-le_self, lt-div-mul-add}
+use Rattle.std.proofs.lemmas.Bool.Decides.{nat_tests}
+use Rattle.std.proofs.lemmas.Slice.Eq.{bytes_eq-Decides}
+use Rattle.std.specs.Str.{bytes_eq}
+use Rattle.dfu_device.specs.Stage.{Data, Upload, Profile, Stage, InAppIdle, InDfuIdle, InUploadIdle}
+use Rattle.dfu_device.specs.Table.{Plan, Sure, plan, next_number}
+use Rattle.dfu_device.specs.Outcome.{Works, outcome}
+use Rattle.dfu_host.specs.declared.report.Report.TheVariants.{Verified}
+use Rattle.dfu_host.specs.Blocks.{blocks}
+use Rattle.dfu_host.specs.BlockLaws.{block_at}
+use Rattle.dfu_host.specs.Phases.{ToCompare, Phase, Find, Compare, Last, Part}
+use Rattle.dfu_host.specs.Table.{compared}
+use Rattle.dfu_sim.specs.Play.{heard_as, Passed}
+use Rattle.dfu_sim.proofs.Passes.{Leads, leads_on, none, one, one_by}
+use Rattle.dfu_sim.proofs.Finding.{find_app, detach, enter}
+
+module _ (c : Profile) (p : List ℕ) (again : ℕ) where
+  abbrev GoesWell : Stage → Phase → ℕ → Stage → Phase → Type 0
+  GoesWell s phase k t next = Leads c (ToCompare p) again p s phase k p t next
+
+  -- The host finds the device in dfuIDLE.
+  find_idle : GoesWell InDfuIdle Find 1 InDfuIdle (Compare 0)
+  find_idle = one c (ToCompare p) again (λ l k room. refl)
+
+  -- Where k full parts were given.
+  abbrev Given : ℕ → Stage
+  Given zero = InDfuIdle
+  Given (suc k) = InUploadIdle (suc k * c.transfer) (suc k % 65536)
+
+  abbrev part : ℕ → List ℕ
+  part k = take c.transfer (drop (k * c.transfer) p)
+
+  abbrev block : ℕ → List ℕ
+  block k = slice_index_or (blocks p c.transfer) k []
+
+  -- The device's answer to UPLOAD of part k: the bytes at its place, of a part that is full or not.
+  gives : (k : ℕ) → c.can_upload ≡ true → 0 < c.transfer → plan c p (Given k) (Upload (k % 65536) c.transfer)
+      ≡ (if nat_lt (length (part k)) c.transfer then Sure (Data (part k)) InDfuIdle else Sure (Data (part k)) (Given (suc k)))
+  gives zero can sized =
+      let e : (c.transfer == 0) ≡ false = grind (arith, nat_tests) in
+      let f : nat_lt c.transfer c.transfer ≡ false = grind (arith, nat_tests) in
+      let z : 0 * c.transfer ≡ 0 = omega arith in
+      let o : 1 * c.transfer ≡ 0 + c.transfer = omega arith in
+      rw (can, e, f, z, o) refl
+  gives (suc k) can sized =
+      let e : (c.transfer == 0) ≡ false = grind (arith, nat_tests) in
+      let f : nat_lt c.transfer c.transfer ≡ false = grind (arith, nat_tests) in
+      let g : (suc k % 65536 == suc k % 65536) ≡ true = grind (arith, nat_tests) in
+      let z : suc (suc k) * c.transfer ≡ suc k * c.transfer + c.transfer = omega (arith, suc-mul (suc k) c.transfer) in
+      let n : next_number (suc k % 65536) ≡ suc (suc k) % 65536 = omega arith in
+      rw (e, f, g, z, n) refl
+
+  answered : (q : Plan) (stage : Stage) (bytes : List ℕ) → q ≡ Sure (Data bytes) stage
+      → ◌≡◌ {A = Passed} (let o = outcome p q Works in record { device = o.after; heard = heard_as o.reply })
+      (record { device = record { image = p; stage = stage }; heard = Part bytes })
+  answered q stage bytes e = ap (λ (x : Plan). let o = outcome p x Works in record { device = o.after; heard = heard_as o.reply }) e
+
+  module _ (can : c.can_upload ≡ true) (sized : 0 < c.transfer) where
+    same : (k : ℕ) → bytes_eq (part k) (block k) ≡ true
+    same k = (bytes_eq-Decides (part k) (block k)).1 (sym (block_at p c.transfer k sized))
+
+    fits : (k : ℕ) → nat_lt c.transfer (length (part k)) ≡ false
+    fits k = let e : length (part k) ≤ c.transfer = omega (arith, length-take c.transfer (drop (k * c.transfer) p)) in
+        grind (arith, nat_tests)
+
+    -- A full part.
+    full : (k : ℕ) → suc k < 65535 → suc k * c.transfer ≤ length p → GoesWell (Given k) (Compare k) 1 (Given (suc k)) (Compare (suc k))
+    full k less inside =
+        let size : length (part k) ≡ c.transfer = omega (
+          arith,
+          length-take c.transfer (drop (k * c.transfer) p),
+          length-drop (k * c.transfer) p,
+          suc-mul k c.transfer,
+          inside,
+        ) in
+        let long : nat_lt (length (part k)) c.transfer ≡ false = grind (arith, nat_tests) in
+        let more : (suc k == 65535) ≡ false = grind (arith, nat_tests) in
+        let row : compared c.transfer k (block k) (part k) ≡ Compare (suc k) = rw (fits k, same k, long, more) refl in
+        one_by c (ToCompare p) again (Part (part k)) (compared c.transfer k (block k) (part k))
+        (λ l. answered _ (Given (suc k)) (part k) (gives k can sized ∙ rw long refl)) (λ l room. refl) row tt
+
+    -- The last one.
+    last : (k : ℕ) → length p < suc k * c.transfer → GoesWell (Given k) (Compare k) 1 InDfuIdle (Last Verified)
+    last k past =
+        let size : length (part k) < c.transfer = omega (
+          arith,
+          length-take c.transfer (drop (k * c.transfer) p),
+          length-drop (k * c.transfer) p,
+          suc-mul k c.transfer,
+          past,
+        ) in
+        let short : nat_lt (length (part k)) c.transfer ≡ true = grind (arith, nat_tests) in
+        let row : compared c.transfer k (block k) (part k) ≡ Last Verified = rw (fits k, same k, short) refl in
+        one_by c (ToCompare p) again (Part (part k)) (compared c.transfer k (block k) (part k))
+        (λ l. answered _ InDfuIdle (part k) (gives k can sized ∙ rw short refl)) (λ l room. refl) row tt
+
+    parts : (k : ℕ) → k < 65535 → k * c.transfer ≤ length p → GoesWell InDfuIdle (Compare 0) k (Given k) (Compare k)
+    parts zero less inside = none c (ToCompare p) again
+    parts (suc k) less inside =
+        let n : k + 1 ≡ suc k = omega arith in
+        subst (λ z. GoesWell InDfuIdle (Compare 0) z (Given (suc k)) (Compare (suc k))) n
+        (leads_on c (ToCompare p) again (parts k (omega (arith, less)) (omega (arith, inside, suc-mul k c.transfer))) (full k less inside))
+
+    -- From appIDLE to the last phase.
+    pub whole_comparison : length p / c.transfer < 65535 → GoesWell InAppIdle Find (1 + (1 + (1 + (1 + (length p / c.transfer + 1)))))
+        InDfuIdle (Last Verified)
+    whole_comparison less =
+        let q = length p / c.transfer in
+        let low : q * c.transfer ≤ length p = div-mul-le_self (length p) c.transfer in
+        let high : length p < q * c.transfer + c.transfer = lt-div-mul-add {a = length p} sized in
+        let past : length p < suc q * c.transfer = omega (arith, high, suc-mul q c.transfer) in
+        leads_on c (ToCompare p) again (find_app c (ToCompare p) again p) (leads_on c (ToCompare p) again (detach c (ToCompare p) again p)
+        (leads_on c (ToCompare p) again (enter c (ToCompare p) again p _) (leads_on c (ToCompare p) again find_idle
+        (leads_on c (ToCompare p) again (parts q less low) (last q past)))))

@@ -1,0 +1,119 @@
+-- A clean run stops only where there is no memory for a report.
+use Rattle.std.proofs.Common.{◌≡◌, ℕ, zero, suc, ◌-◌, ◌<◌, ◌≤◌, true, List, [], ◌∷◌, ◌++◌, take, drop, replicate, Option, Some, None, refl, sym, ap, ◌∙◌, subst, arith}
+use Rattle.std.proofs.lemmas.List.{take-replicate}
+use Rattle.dfu_device.specs.Stage.{Profile}
+use Rattle.dfu_device.specs.Outcome.{Works}
+use Rattle.dfu_device.specs.Shown.{profile}
+use Rattle.dfu_host.specs.declared.limits.Limits.{Limits}
+use Rattle.dfu_host.specs.declared.report.Report.{Report}
+use Rattle.dfu_sim.specs.Session.{said}
+use Rattle.dfu_sim.specs.declared.aim.Aim.{Aim}
+use Rattle.dfu_sim.specs.Happening.{Pass, Happening, Offers, Uploads, Aborts, Goes, Passes, Resets, Cuts}
+use Rattle.dfu_sim.specs.Play.{Link, Played, gone}
+use Rattle.dfu_sim.specs.Bench.{Session, Nobody, Bench, LinkState}
+use Rattle.dfu_sim.specs.CleanRun.{report_of, PassesTo, Quietly, here, there, resting}
+use Rattle.dfu_sim.specs.Refusing.{IsLive, IsRefused}
+use Rattle.dfu_sim.specs.CleanInstall.{clean_passes, CanInstall, offer_and_passes}
+use Rattle.dfu_sim.specs.declared.fault.LinkFault.{LinkFault}
+use Rattle.dfu_sim.specs.declared.fault.LinkFault.TheVariants as fault
+use Rattle.dfu_sim.specs.Running.{IsStop}
+use Rattle.dfu_sim.proofs.Refusals.{offered_not_bad}
+use Rattle.dfu_sim.proofs.Chains.{Stopped, stop_why}
+use Rattle.dfu_sim.specs.CleanSteps.{SureSteps, no_step, one_step, StepsStand}
+use Rattle.dfu_sim.proofs.CleanRuns.{sure_chain, pass, quiet_passes, has_begun}
+
+-- With no session passes lead nowhere.
+nobody_stays : {c : Profile} {w end : Link} {n : ℕ} → Quietly c w n end → w.session ≡ Nobody → end.session ≡ Nobody
+nobody_stays here e = e
+nobody_stays {c = c} {w = w} (there {mid = mid} p q) e =
+    let none : (gone c w w.session Pass Works Works true).link.session
+    ≡ Nobody = subst (λ (s : Session). (gone c w s Pass Works Works true).link.session ≡ Nobody) (sym e) e in
+    nobody_stays q (sym (ap (λ (x : Played). x.link.session) (p Works true)) ∙ none)
+
+nobody_installs : (c : Profile) (w end : Link) (r : Report) → PassesTo c w end (record { report = Some r; gave = None })
+    → w.session ≡ Nobody → ⊥
+nobody_installs c w end r p e =
+    let none : (gone c w w.session Pass Works Works true).answer.report
+    ≡ None = subst (λ (s : Session). (gone c w s Pass Works Works true).answer.report ≡ None) (sym e) refl in
+    let some : (gone c w w.session Pass Works Works true).answer.report
+    ≡ Some r = ap (λ (x : Played). x.answer.report) (p Works true) in
+    absurd cc
+
+-- The offer is not refused.
+offer_stands : (b : Bench) (aim : Aim) (file : List ℕ) (limits : Limits) (payload : List ℕ) → CanInstall b aim file limits payload
+    → (why : LinkFault)
+    → IsStop b (Offers aim file limits) why → why ≡ fault.NoMemory
+offer_stands b aim file limits payload can fault.NoMemory h = refl
+offer_stands b aim file limits payload can fault.HostBusy h = absurd (subst IsLive can.free h)
+offer_stands b aim file limits payload can fault.NoHost h = elim h [ ]
+offer_stands b aim file limits payload can (fault.BadOffer f) h =
+    absurd (offered_not_bad b.device.config aim file payload f can.offered h.1)
+
+-- Nor is a pass, while a session is live.
+pass_stands : (b : Bench) → (b.session ≡ Nobody → ⊥) → (why : LinkFault) → IsStop b pass why → why ≡ fault.NoMemory
+pass_stands b live fault.NoMemory h = refl
+pass_stands b live fault.NoHost h = absurd (live h)
+pass_stands b live why h = elim h [ ]
+
+-- Each of so many passes is one.
+next_pass : (count k : ℕ) {next : Happening} {more : List Happening} → drop k (replicate count pass) ≡ next ∷ more
+    → (k < count) × (next ≡ pass)
+next_pass zero zero e = absurd cc
+next_pass zero (suc k) e = absurd cc
+next_pass (suc count) zero e = (omega arith, cc)
+next_pass (suc count) (suc k) e = let x = next_pass count k e in (omega (arith, x.0), x.1)
+
+-- No event is refused for want of memory.
+never_full : (b : Bench) (h : Happening) → ¬ IsRefused b h fault.NoMemory
+never_full b (Offers aim file limits) refused = refused
+never_full b (Uploads limits) refused = refused
+never_full b Aborts refused = refused
+never_full b (Goes f harm) refused = refused
+never_full b (Passes ms) refused = refused
+never_full b Resets refused = refused
+never_full b Cuts refused = refused
+
+record StopsCleanly (why : LinkFault) (reports : List Report) : Type 0 where
+  pub fault : why ≡ fault.NoMemory
+  pub none : reports ≡ []
+
+clean_stop : {b b' : Bench} {next : Happening} {more : List Happening} {why : LinkFault} {reports : List Report} (aim : Aim) (file : List ℕ)
+    (limits : Limits) (payload : List ℕ) (count at : ℕ) → CanInstall b aim file limits payload
+    → count ≤ clean_passes aim b.device.config payload → drop at (offer_and_passes aim file limits count) ≡ next ∷ more
+    → SureSteps b (take at (offer_and_passes aim file limits count)) reports b' → IsStop b' next why → StopsCleanly why reports
+clean_stop {b = b} {next = next} {why = why} aim file limits payload count zero can most next_is no_step stop =
+    let same : next ≡ Offers aim file limits = cc in
+    record { fault = offer_stands b aim file limits payload can why (subst (λ (h : Happening). IsStop b h why) same stop); none = refl }
+clean_stop {b = b} {b' = b'} {why = why} aim file limits payload count (suc k) can most next_is
+    (one_step {mid = mid} {report = report} {reports = later} s more) stop =
+    let n : ℕ = clean_passes aim b.device.config payload in
+    let y = next_pass count k next_is in
+    let x = has_begun b mid report aim file limits payload can s in
+    let cut : take k (replicate count pass) ≡ replicate k pass = take-replicate k count pass (omega (arith, y.0)) in
+    let q = quiet_passes k (n - 1) (omega (arith, y.0, most)) (subst (λ (hs : List Happening). SureSteps mid hs later b') cut more) x.fixed
+    x.quiet in
+    record {
+      fault = pass_stands b' (λ e. nobody_installs (profile b.device) x.before (resting payload) (report_of aim) x.last
+          (nobody_stays q.rest e)) why
+          (subst (λ (h : Happening). IsStop b' h why) y.1 stop);
+      none = ap (λ (r : Option Report). said r ++ later) x.told ∙ q.none;
+    }
+
+-- A run that stops before the end of a clean run had no memory, and reported nothing.
+pub stopped_clean : {w w' : LinkState} {hs : List Happening} {why : LinkFault} {at : ℕ} {reports : List Report} (aim : Aim) (file : List ℕ)
+    (limits : Limits) (payload : List ℕ) (count : ℕ) → Stopped w hs why at reports w'
+    → CanInstall w.bench aim file limits payload → hs ≡ offer_and_passes aim file limits count
+    → count ≤ clean_passes aim w.bench.device.config payload
+    → (why ≡ fault.NoMemory) × (reports ≡ [])
+stopped_clean {w = w} {w' = w'} {at = at} {reports = reports} aim file limits payload count s can is most =
+    let x =
+    clean_stop aim file limits payload count at can most (subst (λ (hs : List Happening). drop at hs ≡ s.runs.next ∷ s.runs.more) is
+    s.runs.here)
+    (subst (λ (hs : List Happening). SureSteps w.bench (take at hs) reports w'.bench) is (sure_chain s.chain)) s.runs.why in
+    (x.fault, x.none)
+
+-- No step of a clean run is refused.
+pub steps_stand : StepsStand
+steps_stand b b' aim file limits payload count at reports next more why can most steps next_is refused =
+    let x = clean_stop aim file limits payload count at can most next_is steps (stop_why b' next why refused) in
+    never_full b' next (subst (λ (f : LinkFault). IsRefused b' next f) x.fault refused)

@@ -1,0 +1,258 @@
+-- Each event, put together: a play with its bytes, or a refusal.
+use Rattle.std.proofs.Common.{◌≡◌, ◌↔◌, ℕ, ◌+◌, ◌<◌, ◌==◌, not, cond, is_some, Bool, true, false, List, length, Option, Some, None, Result, Ok, Err, refl, ap, ◌∙◌, subst, arith}
+use Rattle.std.proofs.lemmas.Bool.Decides.{nat_tests}
+use Rattle.dfu_slots.specs.Medium.Fuse.{Whole}
+use Rattle.dfu_suffix.specs.Grammar.{Content, IsFile}
+use Rattle.dfu_device.specs.Setting.{Setting}
+use Rattle.dfu_device.specs.Shown.{Shown}
+use Rattle.dfu_device.specs.Rows.{Elapses}
+use Rattle.dfu_wire.specs.declared.functionals.Functional.{Functional}
+use Rattle.dfu_wire.specs.declared.ids.Ids.{Ids}
+use Rattle.dfu_host.specs.Download.{is_for, first_download_fault, first_verify_fault}
+use Rattle.dfu_host.specs.declared.fault.HostFault.{HostFault}
+use Rattle.dfu_host.specs.declared.limits.Limits.{Limits}
+use Rattle.dfu_host.specs.declared.report.Report.{Report}
+use Rattle.dfu_host.specs.Host.{HostState, started}
+use Rattle.dfu_sim.specs.declared.aim.Aim.{Aim}
+use Rattle.dfu_sim.specs.declared.aim.Aim.TheVariants.{Install, Verify}
+use Rattle.dfu_sim.specs.declared.fault.LinkFault.TheVariants as fault
+use Rattle.dfu_sim.specs.declared.fault.OfferFault.{OfferFault}
+use Rattle.dfu_sim.specs.declared.fault.OfferFault.TheVariants as offer_fault
+use Rattle.dfu_sim.specs.Course.{course_of}
+use Rattle.dfu_sim.specs.Happening.{Fate, Harm, Offers, Goes, Passes, Resets, Cuts}
+use Rattle.dfu_sim.specs.Opening.{goal_of}
+use Rattle.dfu_sim.specs.Play.{given, silent, told, took, settled, IsAllowed}
+use Rattle.dfu_sim.specs.Bench.{Session, Nobody, Hosted}
+use Rattle.dfu_sim.specs.Bytes.{powered_up, bus_was_reset, HostActsArmed}
+use Rattle.dfu_sim.specs.Refusing.{first_offer_fault, IsOffered, IsBadOffer}
+use Rattle.dfu_sim.specs.Comes.{refuses, happens, HasCome, HasComeAlone}
+use Rattle.dfu_sim.specs.Standing.{session_of, given_by, bench_of, link_state, SendsBytes, IsCountedIn}
+use Rattle.dfu_sim.specs.inside.Acting.{ended, HasBegun}
+use Rattle.dfu_sim.proofs.Counted.{took_whole, told_whole}
+
+time_allowed : (s : Session) (ms : ℕ) → IsAllowed s (Passes ms)
+time_allowed Nobody ms = tt
+time_allowed (Hosted h) ms = tt
+
+reset_allowed : (s : Session) → IsAllowed s Resets
+reset_allowed Nobody = tt
+reset_allowed (Hosted h) = tt
+
+cut_allowed : (s : Session) → IsAllowed s Cuts
+cut_allowed Nobody = tt
+cut_allowed (Hosted h) = tt
+
+-- Time that passes.
+pub time_comes : (ms : ℕ) (w w' : Shown) (host gave : Option HostState) → w.slots.medium.fuse ≡ Whole → Elapses ms w w'
+    → HasCome (link_state w host gave) (Passes ms) (link_state w' host gave) (Ok None)
+time_comes ms w w' host gave e row = record {
+  answer = Ok silent;
+  whole = tt;
+  up_is = refl;
+  comes = happens {event = Passes ms} refl
+      (record { allowed = time_allowed (session_of host) ms; unarmed = e; happens = (row, refl, refl) });
+  told = refl;
+}
+
+-- A reset of the bus, not by the host.
+pub reset_comes : (w w' : Shown) (host host' gave gave' : Option HostState) (report : Option Report) → SendsBytes (session_of host)
+    → IsCountedIn (session_of host) → w.slots.medium.fuse ≡ Whole → w' ≡ bus_was_reset w
+    → session_of host' ≡ (told (session_of host)).session
+    → given_by gave' ≡ given (told (session_of host)).answer.gave (given_by gave) → report ≡ (told (session_of host)).answer.report
+    → HasCome (link_state w host gave) Resets (link_state w' host' gave') (Ok report)
+reset_comes w w' host host' gave gave' report sized counted e device session kept says = record {
+  answer = Ok (told (session_of host)).answer;
+  whole = told_whole (session_of host) sized counted;
+  up_is = kept;
+  comes = happens {event = Resets} refl (record {
+    allowed = reset_allowed (session_of host);
+    unarmed = e;
+    happens = ((λ i. record { device = device i; session = session i }), refl);
+  });
+  told = ap Ok says;
+}
+
+-- A cut of the power, not in an action of the host.
+pub cut_comes : (w w' : Shown) (host host' gave gave' : Option HostState) (report : Option Report) → SendsBytes (session_of host)
+    → IsCountedIn (session_of host) → w.slots.medium.fuse ≡ Whole → w' ≡ powered_up w → session_of host' ≡ (told (session_of host)).session
+    → given_by gave' ≡ given (told (session_of host)).answer.gave (given_by gave) → report ≡ (told (session_of host)).answer.report
+    → HasCome (link_state w host gave) Cuts (link_state w' host' gave') (Ok report)
+cut_comes w w' host host' gave gave' report sized counted e device session kept says = record {
+  answer = Ok (told (session_of host)).answer;
+  whole = told_whole (session_of host) sized counted;
+  up_is = kept;
+  comes = happens {event = Cuts} refl (record {
+    allowed = cut_allowed (session_of host);
+    unarmed = e;
+    happens = ((λ i. record { device = device i; session = session i }), refl);
+  });
+  told = ap Ok says;
+}
+
+-- The host's next action.
+pub go_comes : (fate : Fate) (harm : Harm) (w w' : Shown) (h h' : HostState) (host' gave gave' : Option HostState) (report : Option Report)
+    → SendsBytes (Hosted h) → IsCountedIn (Hosted h) → w.slots.medium.fuse ≡ Whole → HostActsArmed h (course_of fate) harm w w' h'
+    → session_of host' ≡ (ended (Hosted h')).session → given_by gave' ≡ given (ended (Hosted h')).answer.gave (given_by gave)
+    → report ≡ (ended (Hosted h')).answer.report
+    → HasCome (link_state w (Some h) gave) (Goes fate harm) (link_state w' host' gave') (Ok report)
+go_comes fate harm w w' h h' host' gave gave' report sized counted e gone session kept says = record {
+  answer = Ok (took h gone.acted.heard).answer;
+  whole = took_whole h gone.acted.heard sized counted;
+  up_is = kept ∙ ap (λ (x : HostState). given (settled x x.phase).answer.gave (given_by gave)) gone.acted.same;
+  comes = happens {event = Goes fate harm} refl (record {
+    allowed = tt;
+    unarmed = e;
+    happens = record {
+      host = h;
+      live = refl;
+      next = h';
+      gone = gone;
+      session = session ∙ ap (λ (x : HostState). (settled x x.phase).session) gone.acted.same;
+      answered = refl;
+    };
+  });
+  told = ap Ok (says ∙ ap (λ (x : HostState). (settled x x.phase).answer.report) gone.acted.same);
+}
+
+-- An action where no session is live.
+pub go_refused : (f : Fate) (harm : Harm) (w : Shown) (gave : Option HostState)
+    → HasCome (link_state w None gave) (Goes f harm) (link_state w None gave) (Err fault.NoHost)
+go_refused f harm w gave = record { answer = Err fault.NoHost; comes = refuses refl; whole = tt; up_is = refl; told = refl }
+
+-- The first of these faults is none, so it is none of them.
+pub not_first : (t : Bool) (fault : HostFault) (rest : Option HostFault) → cond t (Some fault) rest ≡ None → (t ≡ false) × (rest ≡ None)
+not_first true fault rest e = absurd cc
+not_first false fault rest e = (refl, e)
+
+is_true : (t : Bool) → not t ≡ false → t ≡ true
+is_true true e = refl
+is_true false e = absurd cc
+
+-- What is known of a payload and of a device's descriptor, where a session that is offered has no fault.
+record NoFault (aim : Aim) (payload : List ℕ) (f : Functional) : Type 0 where
+  some : (length payload == 0) ≡ false
+  loads : f.can_download ≡ true
+  gives : aim ≡ Verify → f.can_upload ≡ true
+  sized : (f.transfer == 0) ≡ false
+
+no_fault : (aim : Aim) (file : Content) (f : Functional) (ids : Ids) → first_offer_fault aim file f ids ≡ None → NoFault aim file.payload f
+no_fault Install file f ids e =
+    let a = not_first (length file.payload == 0) _ _ e in
+    let b = not_first (not (is_for file.ids ids)) _ _ a.1 in
+    let d = not_first (not f.can_download) _ _ b.1 in
+    let z = not_first (f.transfer == 0) _ _ d.1 in
+    record { some = a.0; loads = is_true f.can_download d.0; gives = λ other. absurd cc; sized = z.0 }
+no_fault Verify file f ids e =
+    let a = not_first (length file.payload == 0) _ _ e in
+    let b = not_first (not (is_for file.ids ids)) _ _ a.1 in
+    let d = not_first (not f.can_download) _ _ b.1 in
+    let u = not_first (not f.can_upload) _ _ d.1 in
+    let z = not_first (f.transfer == 0) _ _ u.1 in
+    record { some = a.0; loads = is_true f.can_download d.0; gives = λ same. is_true f.can_upload u.0; sized = z.0 }
+
+offered_so : {s : Setting} {aim : Aim} {file payload : List ℕ} → IsOffered s aim file payload → NoFault aim payload s.functional
+offered_so {s = s} {aim = aim} offered = no_fault aim _ s.functional s.ids offered.taken
+
+-- A file that is taken has bytes of payload, and the device takes blocks of some bytes.
+pub bytes_of : {s : Setting} {aim : Aim} {file payload : List ℕ} → IsOffered s aim file payload → 0 < length payload
+bytes_of {payload = payload} offered = let e : (length payload == 0) ≡ false = (offered_so offered).some in grind (arith, nat_tests)
+
+-- A device to which a file can be offered has a transfer size.
+pub has_transfer : {s : Setting} {aim : Aim} {file payload : List ℕ} → IsOffered s aim file payload → 0 < s.functional.transfer
+has_transfer {s = s} offered = let e : (s.functional.transfer == 0) ≡ false = (offered_so offered).sized in grind (arith, nat_tests)
+
+-- It can download.
+pub can_download : {s : Setting} {aim : Aim} {file payload : List ℕ} → IsOffered s aim file payload → s.functional.can_download ≡ true
+can_download offered = (offered_so offered).loads
+
+-- It can upload, where the file is to be verified.
+pub can_upload : {s : Setting} {file payload : List ℕ} → IsOffered s Verify file payload → s.functional.can_upload ≡ true
+can_upload offered = (offered_so offered).gives refl
+
+-- An offer while a session is live.
+pub offer_busy : (aim : Aim) (file : List ℕ) (limits : Limits) (w : Shown) (host : Option HostState) → is_some host ≡ true
+    → HasComeAlone (bench_of w host) (Offers aim file limits) (bench_of w host) (Err fault.HostBusy)
+offer_busy aim file limits w (Some h) e up =
+    record { answer = Err fault.HostBusy; comes = refuses tt; whole = tt; up_is = refl; told = refl }
+offer_busy aim file limits w None e up = absurd cc
+
+-- An offer of a file that is not taken.
+pub offer_refused : (aim : Aim) (file : List ℕ) (limits : Limits) (w : Shown) (host : Option HostState) (why : OfferFault)
+    → is_some host ≡ false
+    → IsBadOffer w.config aim file why → HasComeAlone (bench_of w host) (Offers aim file limits) (bench_of w host)
+    (Err (fault.BadOffer why))
+offer_refused aim file limits w None why e bad up = record {
+  answer = Err (fault.BadOffer why);
+  comes = refuses (refl, bad);
+  whole = tt;
+  up_is = refl;
+  told = refl;
+}
+offer_refused aim file limits w (Some h) why e bad up = absurd cc
+
+-- An offer with which a session begins.
+pub offer_comes : (aim : Aim) (file : List ℕ) (limits : Limits) (w : Shown) (host : Option HostState) (h : HostState) → is_some host ≡ false
+    → w.slots.medium.fuse ≡ Whole → HasBegun w.config aim file limits h
+    → HasComeAlone (bench_of w host) (Offers aim file limits) (bench_of w (Some h)) (Ok None)
+offer_comes aim file limits w None h n e begun up = record {
+  answer = Ok silent;
+  whole = tt;
+  up_is = refl;
+  comes = happens {event = Offers aim begun.content.payload limits} (begun.content.payload, begun.offered, refl) (record {
+    allowed = bytes_of begun.offered;
+    unarmed = e;
+    happens = ((λ i. record { device = w; session = Hosted (begun.host i) }), refl);
+  });
+  told = refl;
+}
+offer_comes aim file limits w (Some h) k n e begun up = absurd cc
+
+-- The faults of a session that is offered go by the payload and the identifiers alone.
+pub same_fault : (aim : Aim) (c d : Content) (f : Functional) (ids : Ids) → c.payload ≡ d.payload → c.ids ≡ d.ids
+    → first_offer_fault aim c f ids ≡ first_offer_fault aim d f ids
+same_fault Install c d f ids p q = λ i. first_download_fault (record { payload = p i; ids = q i; dfu = c.dfu; suffix = c.suffix }) f ids
+same_fault Verify c d f ids p q = λ i. first_verify_fault (record { payload = p i; ids = q i; dfu = c.dfu; suffix = c.suffix }) f ids
+
+-- What was found of a file.
+abbrev Found : List ℕ → Content → Type 0
+Found file content = (extra : List ℕ) × IsFile content.payload content.ids content.dfu extra file × (content.suffix ≡ 16 + length extra)
+
+-- A file that is read but not taken.
+pub offer_bad : (s : Setting) (aim : Aim) (file : List ℕ) (content : Content) (f : Functional) (ids : Ids) (why : HostFault)
+    → f ≡ s.functional
+    → ids ≡ s.ids → Found file content
+    → first_offer_fault aim content f ids ≡ Some why → IsBadOffer s aim file (offer_fault.Host why)
+offer_bad s aim file content f ids why e k found h = (
+  content,
+  record { extra = found.0; reads = found.1; suffix = found.2 },
+  subst (λ (x : Functional). first_offer_fault aim content x s.ids ≡ Some why) e
+      (subst (λ (y : Ids). first_offer_fault aim content f y ≡ Some why) k h),
+)
+
+-- Where a session begins, the download has no fault.
+pub none_of : (o : Option HostFault) (h : HostState) → ((why : HostFault)
+    → (◌≡◌ {A = Result HostState HostFault} (Ok h) (Err why)) ↔ (o ≡ Some why)) → o ≡ None
+none_of None h f = refl
+none_of (Some why) h f = let e : ◌≡◌ {A = Result HostState HostFault} (Ok h) (Err why) = (f why).1 refl in absurd cc
+
+-- A file that is read and taken.
+pub offer_begins : (s : Setting) (aim : Aim) (file : List ℕ) (limits : Limits) (content : Content) (f : Functional) (ids : Ids)
+    (h : HostState)
+    → f ≡ s.functional → ids ≡ s.ids → Found file content
+    → ((why : HostFault) → (◌≡◌ {A = Result HostState HostFault} (Ok h) (Err why)) ↔ (first_offer_fault aim content f ids ≡ Some why))
+    → h ≡ started f (goal_of aim content.payload) limits → HasBegun s aim file limits h
+offer_begins s aim file limits content f ids h e k found none is =
+    let taken : first_offer_fault aim content s.functional s.ids ≡ None =
+    subst (λ (x : Functional). first_offer_fault aim content x s.ids ≡ None) e
+    (subst (λ (y : Ids). first_offer_fault aim content f y ≡ None) k (none_of (first_offer_fault aim content f ids) h none)) in
+    record {
+      content = content;
+      offered = record {
+        ids = content.ids;
+        dfu = content.dfu;
+        extra = found.0;
+        reads = found.1;
+        taken = same_fault aim _ content s.functional s.ids refl refl ∙ taken;
+      };
+      host = is ∙ ap (λ (x : Functional). started x (goal_of aim content.payload) limits) e;
+    }

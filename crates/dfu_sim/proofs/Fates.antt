@@ -1,0 +1,165 @@
+-- What an action that asks, waits or resets does to the device, whatever its fate.
+use Rattle.std.proofs.Common.{◌≡◌, ℕ, Bool, true, false, List, refl}
+use Rattle.dfu_device.specs.Stage.{Request, GetStatus, GetState, Profile}
+use Rattle.dfu_device.specs.Table.{plan, reset_stage}
+use Rattle.dfu_device.specs.Outcome.{Situation, Luck, handled, was_reset, powered}
+use Rattle.dfu_host.specs.Phases.{Phase, Heard, Part, Nothing, Restarted}
+use Rattle.dfu_sim.specs.declared.course.Handling.{Handling}
+use Rattle.dfu_sim.specs.declared.course.Handling.TheVariants.{Unseen, Once, Again, Late}
+use Rattle.dfu_sim.specs.declared.course.Harming.{Harming}
+use Rattle.dfu_sim.specs.declared.course.Harming.TheVariants.{NoWrite, CutsPower, FailsWrite, LiesInWrite}
+use Rattle.dfu_sim.specs.Course.{Course}
+use Rattle.dfu_sim.specs.Play.{heard_as, remembered, Passed, reached, heard_back, over, ends_by, slipped, waits_for, sent, waited, bus_reset}
+use Rattle.dfu_sim.specs.LinkAgreement.{IsSound}
+use Rattle.dfu_sim.specs.Fact.{Fact}
+use Rattle.dfu_sim.proofs.Quiet.{stays, forgets, IsQuiet, IsPolite, quiet_polite, quiet_time, quiet_reset, quiet_then}
+use Rattle.dfu_sim.proofs.Tells.{ToldBy, told_time, status_told, state_told}
+use Rattle.dfu_sim.proofs.Kept.{AsksStatus, AsksState, fact_status, fact_state, fact_time}
+
+-- Where the host hears anything but a restart.
+abbrev pub IfHeard : Heard → (Heard → Type 0) → Type 0
+IfHeard Restarted P = Unit {0}
+IfHeard heard P = P heard
+
+-- What holds of what is heard holds also where that is no restart.
+pub if_some : (heard : Heard) (P : Heard → Type 0) → P heard → IfHeard heard P
+if_some Restarted P h = tt
+if_some heard P h = h
+
+-- What holds before the end of an action holds after it, where the host hears of no restart.
+pub if_ended : (harming : Harming) (d : Passed) (P : Heard → Situation → Type 0) → P d.heard d.device
+    → IfHeard (ends_by harming d).heard (λ heard. P heard (ends_by harming d).device)
+if_ended CutsPower d P h = tt
+if_ended NoWrite d P h = if_some d.heard (λ heard. P heard d.device) h
+if_ended FailsWrite d P h = if_some d.heard (λ heard. P heard d.device) h
+if_ended LiesInWrite d P h = if_some d.heard (λ heard. P heard d.device) h
+
+-- What holds of what is heard may be weakened.
+pub if_heard : {P Q : Heard → Type 0} (heard : Heard) → ((x : Heard) → P x → Q x) → IfHeard heard P → IfHeard heard Q
+if_heard Restarted f h = tt
+if_heard heard f h = f heard h
+
+-- What holds of all that may be heard holds of what is heard.
+pub any_heard : (heard : Heard) (P : Heard → Type 0) → ((x : Heard) → P x) → IfHeard heard P
+any_heard Restarted P f = tt
+any_heard heard P f = f heard
+
+-- With memory all is heard as it is.
+pub all_remembered : (x : Heard) → x ≡ remembered x true
+all_remembered (Part bytes) = refl
+all_remembered x = refl
+
+module _ (c : Profile) (offers : List (List ℕ)) where
+  -- A cut of the power is quiet.
+  pub quiet_power : (s : Situation) → IsQuiet offers s (powered s)
+  quiet_power s = record { moves = forgets; sound = tt }
+
+  -- Nothing at all is quiet.
+  pub quiet_none : (s : Situation) → IsSound offers s.stage → IsQuiet offers s s
+  quiet_none s h = record { moves = stays; sound = h }
+
+  -- The end of an action is quiet.
+  ended_quiet : (s d : Situation) (harming : Harming) → IsQuiet offers s d → IsQuiet offers s (over harming d)
+  ended_quiet s d NoWrite q = q
+  ended_quiet s d CutsPower q = quiet_then q (quiet_power _)
+  ended_quiet s d FailsWrite q = q
+  ended_quiet s d LiesInWrite q = q
+
+  reached_quiet : (s : Situation) (r : Request) (how : Handling) (l k : Luck) → IsPolite r → IsSound offers s.stage
+      → IsQuiet offers s (reached c s r (plan c s.image s.stage r) how l k).device
+  reached_quiet s r Unseen l k p h = quiet_none s h
+  reached_quiet s r Once l k p h = quiet_polite c offers s.image r s.stage p h l
+  reached_quiet s r Again l k p h = let q = quiet_polite c offers s.image r s.stage p h l in let o = (handled c s r l).after in
+      quiet_then q (quiet_polite c offers o.image r o.stage p q.sound k)
+  reached_quiet s r (Late ms) l k p h = let q = quiet_polite c offers s.image r s.stage p h l in let o = (handled c s r l).after in
+      quiet_then q (quiet_time c offers o.image ms o.stage q.sound k)
+
+  slipped_quiet : (s : Situation) (how : Handling) (l : Luck) → IsQuiet offers s (slipped c (was_reset s) how l)
+  slipped_quiet s (Late ms) l = let q = quiet_reset c offers s.image s.stage in let o = was_reset s in
+      quiet_then q (quiet_time c offers o.image ms o.stage q.sound l)
+  slipped_quiet s how l = quiet_reset c offers s.image s.stage
+
+  -- A request that is polite is quiet by each course.
+  pub sent_quiet : (s : Situation) (r : Request) (course : Course) (l k : Luck) → IsPolite r → IsSound offers s.stage
+      → IsQuiet offers s (sent c s r course l k).device
+  sent_quiet s r course l k p h = ended_quiet s _ course.harming (reached_quiet s r course.handling l k p h)
+
+  -- A wait is quiet by each course.
+  pub waited_quiet : (s : Situation) (ms : ℕ) (course : Course) (l : Luck) → IsSound offers s.stage
+      → IsQuiet offers s (waited c s ms course l).device
+  waited_quiet s ms course l h =
+      ended_quiet s _ course.harming (quiet_time c offers s.image (waits_for course.handling ms) s.stage h l)
+
+  -- A reset of the bus is quiet by each course.
+  pub bus_reset_quiet : (s : Situation) (course : Course) (l : Luck) → IsQuiet offers s (bus_reset c s course l).device
+  bus_reset_quiet s course l = ended_quiet s _ course.harming (slipped_quiet s course.handling l)
+
+  -- What an asking phase knows of the device and of what was seen.
+  pub record Knows (p : List ℕ) (phase : Phase) (d : Situation) (heard : Heard) : Type 0 where
+    pub fact : Fact c p phase d
+    pub told : ToldBy heard d.stage
+
+  -- So it is of what was heard after an action, but for a restart.
+  abbrev pub KnowsIf : List ℕ → Phase → Passed → Type 0
+  KnowsIf p phase d = IfHeard d.heard (λ heard. Knows p phase d.device heard)
+
+  sent_knows : (p : List ℕ) (phase : Phase) (harming : Harming) (back : Bool) (d : Passed) → Knows p phase d.device d.heard
+      → KnowsIf p phase (ends_by harming (record { device = d.device; heard = heard_back back d.heard }))
+  sent_knows p phase harming true d k = if_ended harming d (λ heard x. Knows p phase x heard) k
+  sent_knows p phase harming false d k = if_ended harming (record { device = d.device; heard = Nothing })
+      (λ heard x. Knows p phase x heard) (record { fact = k.fact; told = tt })
+
+  status_reached : (p : List ℕ) (phase : Phase) (s : Situation) (how : Handling) (l k : Luck) → AsksStatus c s.image phase
+      → Fact c p phase s
+      → let d = reached c s GetStatus (plan c s.image s.stage GetStatus) how l k in Knows p phase d.device d.heard
+  status_reached p phase s Unseen l k a h = record { fact = h; told = tt }
+  status_reached p phase s Once l k a h = record {
+    fact = fact_status c s.image p phase s.stage a h l;
+    told = status_told c s.image s.stage l;
+  }
+  status_reached p phase s Again l k a h = let o = (handled c s GetStatus l).after in
+      record {
+        fact = fact_status c o.image p phase o.stage a (fact_status c s.image p phase s.stage a h l) k;
+        told = status_told c o.image o.stage k;
+      }
+  status_reached p phase s (Late ms) l k a h = let o = handled c s GetStatus l in
+      record {
+        fact = fact_time c o.after.image p phase ms o.after.stage (fact_status c s.image p phase s.stage a h l) k;
+        told = told_time c o.after.image (heard_as o.reply) o.after.stage ms k (status_told c s.image s.stage l);
+      }
+
+  -- GETSTATUS keeps what is known, by each course.
+  pub status_knows : (p : List ℕ) (phase : Phase) (s : Situation) (course : Course) (l k : Luck) → AsksStatus c s.image phase
+      → Fact c p phase s → KnowsIf p phase (sent c s GetStatus course l k)
+  status_knows p phase s course l k a h =
+      sent_knows p phase course.harming course.back _ (status_reached p phase s course.handling l k a h)
+
+  state_reached : (p : List ℕ) (phase : Phase) (s : Situation) (how : Handling) (l k : Luck) → AsksState c s.image phase → Fact c p phase s
+      → let d = reached c s GetState (plan c s.image s.stage GetState) how l k in Knows p phase d.device d.heard
+  state_reached p phase s Unseen l k a h = record { fact = h; told = tt }
+  state_reached p phase s Once l k a h = record {
+    fact = fact_state c s.image p phase s.stage a h l;
+    told = state_told c s.image s.stage l;
+  }
+  state_reached p phase s Again l k a h = let o = (handled c s GetState l).after in
+      record {
+        fact = fact_state c o.image p phase o.stage a (fact_state c s.image p phase s.stage a h l) k;
+        told = state_told c o.image o.stage k;
+      }
+  state_reached p phase s (Late ms) l k a h = let o = handled c s GetState l in
+      record {
+        fact = fact_time c o.after.image p phase ms o.after.stage (fact_state c s.image p phase s.stage a h l) k;
+        told = told_time c o.after.image (heard_as o.reply) o.after.stage ms k (state_told c s.image s.stage l);
+      }
+
+  -- GETSTATE keeps what is known, by each course.
+  pub state_knows : (p : List ℕ) (phase : Phase) (s : Situation) (course : Course) (l k : Luck) → AsksState c s.image phase
+      → Fact c p phase s → KnowsIf p phase (sent c s GetState course l k)
+  state_knows p phase s course l k a h =
+      sent_knows p phase course.harming course.back _ (state_reached p phase s course.handling l k a h)
+
+  -- After a reset of the bus.
+  pub slipped_fact : (p : List ℕ) (phase : Phase) (s : Situation) (how : Handling) (l : Luck) → Fact c p phase (was_reset s)
+      → Fact c p phase (slipped c (was_reset s) how l)
+  slipped_fact p phase s (Late ms) l h = fact_time c s.image p phase ms (reset_stage s.stage) h l
+  slipped_fact p phase s how l h = h

@@ -1,0 +1,194 @@
+-- The phase that fetches a part of the active image.
+use Rattle.std.proofs.Common.{◌≡◌, ℕ, suc, ◌+◌, ◌%◌, ◌<◌, ◌≤◌, ◌==◌, nat_lt, not, Bool, true, false, cond, List, [], ◌++◌, length, take, drop, None, refl, sym, ap, ◌∙◌, subst, arith, take-append-drop, length-take, take_all, take-add}
+use Rattle.std.proofs.lemmas.Bool.Decides.{nat_tests}
+use Rattle.dfu_wire.specs.declared.codes.Code.{Code}
+use Rattle.dfu_wire.specs.declared.codes.Code.TheVariants.{StalledPkt as ErrStalledPkt, Address as ErrAddress}
+use Rattle.dfu_device.specs.Stage.{Upload, Data, Profile, Stage, InDfuIdle, InUploadIdle}
+use Rattle.dfu_device.specs.Table.{Plan, Sure, error, plan, upload_plan, next_number}
+use Rattle.dfu_device.specs.Outcome.{Situation, Luck, outcome}
+use Rattle.dfu_device.specs.Cases.{either_way}
+use Rattle.dfu_host.specs.declared.report.Report.TheVariants.{TooManyBlocks}
+use Rattle.dfu_host.specs.Phases.{ToFetch, Find, Fetch, LastUploaded, Over, Nothing}
+use Rattle.dfu_host.specs.Table.{fetched, on_part}
+use Rattle.dfu_sim.specs.declared.course.Handling.{Handling}
+use Rattle.dfu_sim.specs.declared.course.Handling.TheVariants.{Unseen, Once, Again, Late}
+use Rattle.dfu_sim.specs.declared.course.Harming.{Harming}
+use Rattle.dfu_sim.specs.declared.course.Harming.TheVariants.{NoWrite, CutsPower, FailsWrite, LiesInWrite}
+use Rattle.dfu_sim.specs.Course.{Course}
+use Rattle.dfu_sim.specs.Play.{heard_as, Passed, reached, heard_back, ends_by, sent}
+use Rattle.dfu_sim.specs.LinkAgreement.{pending_of, IsSound}
+use Rattle.dfu_sim.specs.Fact.{Fetches, FetchFact}
+use Rattle.dfu_sim.proofs.Quiet.{Quiet, stays, forgets, quiet_on}
+use Rattle.dfu_sim.proofs.Fates.{if_some}
+use Rattle.dfu_sim.proofs.GoCommon.{GoesQuietly}
+
+module _ (c : Profile) (offers : List (List ℕ)) (k : ℕ) (kept : List ℕ) where
+  -- A request for part k goes quietly by its course.
+  abbrev pub Fetched : Situation → Passed → Type 0
+  Fetched s d = GoesQuietly c offers ToFetch (on_part c.transfer k kept) s d
+
+  -- What such a request comes to where its answer comes back; where it is lost, the host looks for the device.
+  record Reached (s : Situation) (d : Passed) : Type 0 where
+    moves : Quiet offers s.image (pending_of s.stage) d.device.image (pending_of d.device.stage)
+    sound : IsSound offers d.device.stage
+    next : FetchFact (on_part c.transfer k kept d.heard) d.device
+
+  ended_fetch : (s : Situation) (harming : Harming) (d : Passed) → Reached s d → Fetched s (ends_by harming d)
+  ended_fetch s NoWrite d r = record { quiet = record { moves = r.moves; sound = r.sound }; next = if_some d.heard _ r.next }
+  ended_fetch s CutsPower d r = record { quiet = record { moves = quiet_on r.moves forgets; sound = tt }; next = tt }
+  ended_fetch s FailsWrite d r = record { quiet = record { moves = r.moves; sound = r.sound }; next = if_some d.heard _ r.next }
+  ended_fetch s LiesInWrite d r = record { quiet = record { moves = r.moves; sound = r.sound }; next = if_some d.heard _ r.next }
+
+  fetched_by : (s : Situation) (harming : Harming) (back : Bool) (d : Passed) → Reached s d
+      → Fetched s (ends_by harming (record { device = d.device; heard = heard_back back d.heard }))
+  fetched_by s harming true d r = ended_fetch s harming d r
+  fetched_by s harming false d r = ended_fetch s harming (record { device = d.device; heard = Nothing })
+      (record { moves = r.moves; sound = r.sound; next = tt })
+
+  fetch_fault : (number size : ℕ) (s : Situation) (code : Code) → IsSound offers s.stage → (how : Handling) (l r : Luck)
+      → Reached s (reached c s (Upload number size) (error code) how l r)
+  fetch_fault number size s code h Unseen l r = record { moves = stays; sound = h; next = tt }
+  fetch_fault number size s code h Once l r = record { moves = forgets; sound = tt; next = tt }
+  fetch_fault number size s code h Again l r = record { moves = forgets; sound = tt; next = tt }
+  fetch_fault number size s code h (Late ms) l r = record { moves = forgets; sound = tt; next = tt }
+
+  -- The end of the image.
+  part_ends : (image : List ℕ) (place t : ℕ) → length (take t (drop place image)) < t → kept ≡ take place image
+      → kept ++ take t (drop place image) ≡ image
+  part_ends image place t h e =
+      let f : length (drop place image) ≤ t = omega (arith, length-take t (drop place image)) in
+      ap (λ x. x ++ take t (drop place image)) e ∙ ap (λ x. take place image ++ x) (take_all t (drop place image) f)
+      ∙ take-append-drop place image
+
+  short_after : (image part : List ℕ) → length part < c.transfer → kept ++ part ≡ image
+      → FetchFact (fetched c.transfer k kept part) (record { image = image; stage = InDfuIdle })
+  short_after image part h e =
+      let f : (length part == c.transfer) ≡ false = grind (arith, nat_tests) in
+      let g : nat_lt (length part) c.transfer ≡ true = grind (arith, nat_tests) in
+      subst (λ t. FetchFact (cond t (cond (suc k == 65535) (Over TooManyBlocks) (Fetch (suc k) (kept ++ part)))
+      (cond (nat_lt (length part) c.transfer) (LastUploaded (kept ++ part)) Find)) (record { image = image; stage = InDfuIdle })) (sym f)
+      (subst (λ t. FetchFact (cond t (LastUploaded (kept ++ part)) Find) (record { image = image; stage = InDfuIdle })) (sym g) (e, tt))
+
+  many_after : (image part : List ℕ) (place number : ℕ) (t : Bool) → (suc k == 65535) ≡ t → k < 65535 → number ≡ suc k % 65536
+      → kept ++ part ≡ take place image → FetchFact (cond t (Over TooManyBlocks) (Fetch (suc k) (kept ++ part)))
+      (record { image = image; stage = InUploadIdle place number })
+  many_after image part place number true f b n e = tt
+  many_after image part place number false f b n e = (grind (arith, nat_tests), (omega arith, n, e))
+
+  full_after : (image part : List ℕ) (place number : ℕ) → k < 65535 → length part ≡ c.transfer → number ≡ suc k % 65536
+      → kept ++ part ≡ take place image → FetchFact (fetched c.transfer k kept part)
+      (record { image = image; stage = InUploadIdle place number })
+  full_after image part place number b h n e =
+      let f : (length part == c.transfer) ≡ true = grind (arith, nat_tests) in
+      subst (λ t. FetchFact (cond t (cond (suc k == 65535) (Over TooManyBlocks) (Fetch (suc k) (kept ++ part)))
+      (cond (nat_lt (length part) c.transfer) (LastUploaded (kept ++ part)) Find))
+      (record { image = image; stage = InUploadIdle place number })) (sym f)
+      (many_after image part place number (suc k == 65535) refl b n e)
+
+  upload_cases : (P : Plan → Type 0) (image : List ℕ) (place expected number : ℕ) → let part = take c.transfer (drop place image) in
+      ((code : Code) → P (error code)) →
+      (number ≡ expected → length part < c.transfer → P (Sure (Data part) InDfuIdle))
+      → (number ≡ expected → length part ≡ c.transfer → P (Sure (Data part) (InUploadIdle (place + c.transfer) (next_number expected))))
+      → P (upload_plan c image place expected number c.transfer)
+  upload_cases P image place expected number pf ps pl =
+      let part = take c.transfer (drop place image) in
+      either_way P (c.transfer == 0) _ _ (pf ErrStalledPkt)
+      (either_way P (nat_lt c.transfer c.transfer) _ _ (pf ErrStalledPkt)
+      (by_number (number == expected) refl))
+    where
+      by_short : (t : Bool) → nat_lt (length (take c.transfer (drop place image))) c.transfer ≡ t → number ≡ expected →
+          P (cond t (Sure (Data (take c.transfer (drop place image))) InDfuIdle)
+          (Sure (Data (take c.transfer (drop place image))) (InUploadIdle (place + c.transfer) (next_number expected))))
+      by_short true e n = ps n (grind (arith, nat_tests))
+      by_short false e n = pl n (let h : c.transfer ≤ length (take c.transfer (drop place image)) = grind (arith, nat_tests) in
+          omega (arith, length-take c.transfer (drop place image)))
+
+      by_number : (t : Bool) → (number == expected) ≡ t → P (cond (not t) (error ErrAddress)
+          (cond (nat_lt (length (take c.transfer (drop place image))) c.transfer)
+          (Sure (Data (take c.transfer (drop place image))) InDfuIdle)
+          (Sure (Data (take c.transfer (drop place image))) (InUploadIdle (place + c.transfer) (next_number expected)))))
+      by_number true e = by_short (nat_lt (length (take c.transfer (drop place image))) c.transfer) refl (grind (arith, nat_tests))
+      by_number false e = pf ErrAddress
+
+  -- A second time.
+  record Second (image : List ℕ) (p : Plan) : Type 0 where
+    moves : (luck : Luck) → Quiet offers image None (outcome image p luck).after.image (pending_of (outcome image p luck).after.stage)
+    sound : (luck : Luck) → IsSound offers (outcome image p luck).after.stage
+    next : (luck : Luck) → FetchFact (on_part c.transfer k kept (heard_as (outcome image p luck).reply)) (outcome image p luck).after
+
+  second_fault : (image : List ℕ) (code : Code) → Second image (error code)
+  second_fault image code = record { moves = λ luck. forgets; sound = λ luck. tt; next = λ luck. tt }
+
+  -- From state 2, where nothing was kept.
+  from_idle : (image : List ℕ) → k < 65535 → (k ≡ 0 → kept ≡ []) → Second image (plan c image InDfuIdle (Upload (k % 65536) c.transfer))
+  from_idle image b e =
+      either_way (Second image) c.can_upload _ _
+      (upload_cases (Second image) image 0 0 (k % 65536) (second_fault image)
+      (λ n h. record {
+        moves = λ luck. stays;
+        sound = λ luck. tt;
+        next = λ luck. short_after image _ h (part_ends image 0 c.transfer h (e (omega arith)));
+      })
+      (λ n h. record {
+        moves = λ luck. stays;
+        sound = λ luck. tt;
+        next = λ luck. full_after image _ _ _ b h (omega arith)
+            (ap (λ x. x ++ take c.transfer image) (e (omega arith)) ∙ sym (ap (λ z. take z image) (zero_add c.transfer)));
+      }))
+      (second_fault image ErrStalledPkt)
+    where
+      zero_add : (n : ℕ) → 0 + n ≡ n
+      zero_add n = omega arith
+
+  sent_part : (part : List ℕ) (s : Situation) → IsSound offers s.stage
+      → FetchFact (fetched c.transfer k kept part) (record { image = s.image; stage = InDfuIdle })
+      → Second s.image (plan c s.image InDfuIdle (Upload (k % 65536) c.transfer)) → (how : Handling) (l r : Luck)
+      → Reached s (reached c s (Upload (k % 65536) c.transfer) (Sure (Data part) InDfuIdle) how l r)
+  sent_part part s h n q Unseen l r = record { moves = stays; sound = h; next = tt }
+  sent_part part s h n q Once l r = record { moves = forgets; sound = tt; next = n }
+  sent_part part s h n q Again l r = record { moves = quiet_on forgets (q.moves r); sound = q.sound r; next = q.next r }
+  sent_part part s h n q (Late ms) l r = record { moves = forgets; sound = tt; next = n }
+
+  sent_full : (part : List ℕ) (place number : ℕ) (s : Situation) → IsSound offers s.stage
+      → FetchFact (fetched c.transfer k kept part) (record { image = s.image; stage = InUploadIdle place number })
+      → Second s.image (plan c s.image (InUploadIdle place number) (Upload (k % 65536) c.transfer)) → (how : Handling) (l r : Luck)
+      → Reached s (reached c s (Upload (k % 65536) c.transfer) (Sure (Data part) (InUploadIdle place number)) how l r)
+  sent_full part place number s h n q Unseen l r = record { moves = stays; sound = h; next = tt }
+  sent_full part place number s h n q Once l r = record { moves = forgets; sound = tt; next = n }
+  sent_full part place number s h n q Again l r = record { moves = quiet_on forgets (q.moves r); sound = q.sound r; next = q.next r }
+  sent_full part place number s h n q (Late ms) l r = record { moves = forgets; sound = tt; next = n }
+
+  -- A second time, where the number is past.
+  past : (image : List ℕ) (place number : ℕ) → number ≡ k % 65536
+      → Second image (plan c image (InUploadIdle place (next_number number)) (Upload (k % 65536) c.transfer))
+  past image place number e =
+      upload_cases (Second image) image place (next_number number) (k % 65536) (second_fault image)
+      (λ n h. absurd (omega arith)) (λ n h. absurd (omega arith))
+
+  -- The phase that fetches part k goes well by each course.
+  pub go_fetch : (image : List ℕ) (stage : Stage) → k < 65535 → Fetches k kept image stage → IsSound offers stage
+      → (course : Course) (l r : Luck) → let s : Situation = record { image = image; stage = stage } in
+      Fetched s (sent c s (Upload (k % 65536) c.transfer) course l r)
+  go_fetch image InDfuIdle b f h course l r =
+      let s : Situation = record { image = image; stage = InDfuIdle } in
+      let how = course.handling in
+      let P : Plan → Type 0 = λ p. Reached s (reached c s (Upload (k % 65536) c.transfer) p how l r) in
+      fetched_by s course.harming course.back _
+      (either_way P c.can_upload _ _
+      (upload_cases P image 0 0 (k % 65536) (λ code. fetch_fault (k % 65536) c.transfer s code h how l r)
+      (λ n g. sent_part _ s h (short_after image _ g (part_ends image 0 c.transfer g f.1)) (from_idle image b (λ e. f.1)) how l r)
+      (λ n g. sent_full _ _ _ s h (full_after image _ _ _ b g (omega (arith, f.0))
+      (ap (λ x. x ++ take c.transfer (drop 0 image)) f.1 ∙ sym (take-add 0 c.transfer image))) (past image _ 0 (sym n)) how l r))
+      (fetch_fault (k % 65536) c.transfer s ErrStalledPkt h how l r))
+  go_fetch image (InUploadIdle place number) b f h course l r =
+      let s : Situation = record { image = image; stage = InUploadIdle place number } in
+      let how = course.handling in
+      let P : Plan → Type 0 = λ p. Reached s (reached c s (Upload (k % 65536) c.transfer) p how l r) in
+      fetched_by s course.harming course.back _
+      (upload_cases P image place number (k % 65536) (λ code. fetch_fault (k % 65536) c.transfer s code h how l r)
+      (λ n g. sent_part _ s h (short_after image _ g (part_ends image place c.transfer g f.2))
+      (from_idle image b (λ e. absurd (omega (arith, f.0)))) how l r)
+      (λ n g. sent_full _ _ _ s h (full_after image _ _ _ b g (omega (arith, f.1))
+      (ap (λ x. x ++ take c.transfer (drop place image)) f.2 ∙ sym (take-add place c.transfer image))) (past image _ number (sym n))
+      how l r))
+  go_fetch image stage b f h course l r = elim f [ ]

@@ -1,0 +1,87 @@
+-- One action of the host in a phase that each session has, whatever the session is for, and with each fate.
+use Rattle.std.proofs.Common.{ℕ, max, List, []}
+use Rattle.dfu_device.specs.Stage.{Detach as AskDetach, GetStatus, ClrStatus, Abort, Profile}
+use Rattle.dfu_device.specs.Outcome.{Situation, Luck, elapsed, was_reset}
+use Rattle.dfu_device.specs.Cases.{either_way}
+use Rattle.dfu_host.specs.Phases.{Goal, Phase, Find, FindAgain, Detach, Enter, Clear, Quit, WaitFind, ResetFind, Trouble, GiveUp, Heard}
+use Rattle.dfu_host.specs.Table.{deed, on_waited, on_reset, row}
+use Rattle.dfu_host.specs.CommonPhases.{IsCommon, IsSeeking}
+use Rattle.dfu_host.specs.RowLaws.{after_common}
+use Rattle.dfu_sim.specs.Course.{Course}
+use Rattle.dfu_sim.specs.Opening.{task_for}
+use Rattle.dfu_sim.specs.Play.{Passed, slipped, waits_for, sent, waited, bus_reset, acted}
+use Rattle.dfu_sim.specs.LinkAgreement.{IsSound}
+use Rattle.dfu_sim.specs.Fact.{GoalFact, HasBlocks}
+use Rattle.dfu_sim.proofs.Quiet.{IsQuiet}
+use Rattle.dfu_sim.proofs.Tells.{ToldBy}
+use Rattle.dfu_sim.proofs.Fates.{IfHeard, if_ended, if_heard, any_heard, Knows, sent_quiet, waited_quiet, bus_reset_quiet, status_knows}
+use Rattle.dfu_sim.proofs.CommonFacts.{common_facts}
+
+module _ (c : Profile) (offers : List (List ℕ)) (g : Goal) where
+  -- An action goes quietly: the image and the pending bytes move quietly, and the fact of the phase that follows holds.
+  pub record GoesQuietly (follows : Heard → Phase) (s : Situation) (d : Passed) : Type 0 where
+    pub quiet : IsQuiet offers s d.device
+    pub next : IfHeard d.heard (λ heard. GoalFact c g (follows heard) d.device)
+
+  -- A wait goes quietly, where the fact of the phase after it holds as time passes.
+  pub go_wait : (next again : Phase) (s : Situation) (ms : ℕ) (course : Course) (l : Luck)
+      → GoalFact c g next (elapsed c s (waits_for course.handling ms) l) → IsSound offers s.stage
+      → GoesQuietly (λ heard. on_waited heard next again) s (waited c s ms course l)
+  go_wait next again s ms course l f q = record {
+    quiet = waited_quiet c offers s ms course l q;
+    next = if_ended course.harming _ (λ heard x. GoalFact c g (on_waited heard next again) x) f;
+  }
+
+  -- A reset of the bus goes quietly, where the fact of the phase after it holds of the device that was reset.
+  pub go_reset : (next again : Phase) (s : Situation) (course : Course) (l : Luck)
+      → GoalFact c g next (slipped c (was_reset s) course.handling l)
+      → GoesQuietly (λ heard. on_reset heard next again) s (bus_reset c s course l)
+  go_reset next again s course l f = record {
+    quiet = bus_reset_quiet c offers s course l;
+    next = if_ended course.harming _ (λ heard x. GoalFact c g (on_reset heard next again) x) f;
+  }
+
+  module _ (some : HasBlocks c g) where
+    -- The phase that follows, by what is heard.
+    abbrev Follows : Phase → Heard → Phase
+    Follows phase = row (task_for c g) phase
+
+    -- A phase that asks for the status. What is known of the device is what is known in Find, which is nothing.
+    seeks : (phase : Phase) (s : Situation) → IsCommon phase → IsSound offers s.stage → (course : Course) (l k : Luck)
+        → GoesQuietly (Follows phase) s (sent c s GetStatus course l k)
+    seeks phase s a q course l k = let d = sent c s GetStatus course l k in
+        record {
+          quiet = sent_quiet c offers s GetStatus course l k tt q;
+          next = if_heard {P = Knows c offers [] Find d.device} {Q = λ heard. GoalFact c g (Follows phase heard) d.device} d.heard
+              (λ heard w. after_common (task_for c g) (λ x. GoalFact c g x d.device) (λ x. ToldBy x d.device.stage)
+              (common_facts c g some d.device) phase heard a (λ x. w.told))
+              (status_knows c offers [] Find s course l k tt tt);
+        }
+
+    -- A phase that brings the device on, whatever is heard.
+    brings : (phase : Phase) (s : Situation) (d : Passed) → IsCommon phase → (IsSeeking phase → ⊥) → IsQuiet offers s d.device
+        → GoesQuietly (Follows phase) s d
+    brings phase s d a n q = record {
+      quiet = q;
+      next = any_heard d.heard (λ heard. GoalFact c g (Follows phase heard) d.device)
+          (λ heard. after_common (task_for c g) (λ x. GoalFact c g x d.device) (λ x. ToldBy x d.device.stage)
+          (common_facts c g some d.device) phase heard a (λ x. elim (n x) [ ]));
+    }
+
+    -- Each phase that each session has goes quietly by each course.
+    pub go_common : (phase : Phase) (s : Situation) → IsCommon phase → IsSound offers s.stage → (course : Course) (l k : Luck)
+        → GoesQuietly (Follows phase) s (acted c s (deed (task_for c g) phase) course l k)
+    go_common Find s a q course l k = seeks Find s tt q course l k
+    go_common FindAgain s a q course l k = seeks FindAgain s tt q course l k
+    go_common Trouble s a q course l k = seeks Trouble s tt q course l k
+    go_common Detach s a q course l k =
+        brings Detach s _ tt (λ x. x) (sent_quiet c offers s (AskDetach c.detach_ms) course l k tt q)
+    go_common Enter s a q course l k = brings Enter s _ tt (λ x. x)
+        (either_way (λ a. IsQuiet offers s (acted c s a course l k).device) c.will_detach _ _
+        (waited_quiet c offers s (max 1 c.detach_ms) course l q) (bus_reset_quiet c offers s course l))
+    go_common Clear s a q course l k = brings Clear s _ tt (λ x. x) (sent_quiet c offers s ClrStatus course l k tt q)
+    go_common Quit s a q course l k = brings Quit s _ tt (λ x. x) (sent_quiet c offers s Abort course l k tt q)
+    go_common (WaitFind poll) s a q course l k = brings (WaitFind poll) s _ tt (λ x. x) (waited_quiet c offers s poll course l q)
+    go_common ResetFind s a q course l k = brings ResetFind s _ tt (λ x. x) (bus_reset_quiet c offers s course l)
+    go_common GiveUp s a q course l k = brings GiveUp s _ tt (λ x. x) (sent_quiet c offers s Abort course l k tt q)
+    go_common phase s a q course l k = elim a [ ]

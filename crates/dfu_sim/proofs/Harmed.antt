@@ -1,0 +1,170 @@
+-- An action in which a write is harmed has one result.
+use Rattle.std.proofs.Common.{◌≡◌, ℕ, Bool, true, List, [], refl, sym, ap, ◌∙◌, subst}
+use Rattle.dfu_wire.specs.declared.requests.Request.{Request as Asked}
+use Rattle.dfu_slots.specs.Seen.{image_of}
+use Rattle.dfu_slots.specs.OneWrite.{IsKnown}
+use Rattle.dfu_device.specs.declared.answer.Answer.{Answer}
+use Rattle.dfu_device.specs.declared.answer.Answer.TheVariants as answer
+use Rattle.dfu_device.specs.Table.{plan, time_plan}
+use Rattle.dfu_device.specs.Outcome.{outcome}
+use Rattle.dfu_device.specs.Shown.{Shown, profile}
+use Rattle.dfu_device.specs.Rows.{meant, asked_length, Done, Handles}
+use Rattle.dfu_device.specs.Came.{row_of}
+use Rattle.dfu_host.specs.Phases.{Deed, Send, Wait, Reset, Done as IsDone, Heard, Waited, WasReset, Restarted}
+use Rattle.dfu_host.specs.Table.{deed}
+use Rattle.dfu_host.specs.Host.{HostState}
+use Rattle.dfu_host.specs.Wire.{IsAsked}
+use Rattle.dfu_sim.specs.declared.back.Back.{Back}
+use Rattle.dfu_sim.specs.declared.back.Back.TheVariants as back
+use Rattle.dfu_sim.specs.declared.course.Handling.TheVariants.{Once}
+use Rattle.dfu_sim.specs.declared.course.Harming.{Harming}
+use Rattle.dfu_sim.specs.declared.course.Harming.TheVariants.{NoWrite, CutsPower, FailsWrite, LiesInWrite}
+use Rattle.dfu_sim.specs.Course.{course_of}
+use Rattle.dfu_sim.specs.Happening.{Fate, CutIn, Fail, Lie, Harm, Happening}
+use Rattle.dfu_sim.specs.Bench.{Hosted, Bench}
+use Rattle.dfu_sim.specs.Play.{Answered, took, heard_as, remembered}
+use Rattle.dfu_sim.specs.Bytes.{fuse_of, armed, HearsBack, Reaches, once, Sends, Acts, left_by, NextAction, Happens}
+use Rattle.dfu_sim.specs.Comes.{happens}
+use Rattle.dfu_sim.specs.OneResult.{SameDevice, AreOne, HarmsAWrite, OneResult}
+use Rattle.dfu_sim.proofs.DoneOnce.{same_device, powered_same, disarmed_same, DoneOnce, done_once}
+use Rattle.dfu_sim.proofs.Replies.{IsHosts, HostsDeed, hosts_deed, plan_heard, served}
+
+-- What two results of an action have in common: the devices are the same, and one thing is heard, but for want of memory.
+record ActedOnce (w' v' : Shown) (heard other : Heard) : Type 0 where
+  device : SameDevice w' v'
+  hears : Heard
+  first : (room : Bool) × (heard ≡ remembered hears room)
+  second : (room : Bool) × (other ≡ remembered hears room)
+
+-- A request that is handled once: there is one answer.
+reached_once : {setup body : List ℕ} {w w' : Shown} {came : Back} {out : List ℕ} → Reaches setup body Once w came out w'
+    → (a : Answer) × (came ≡ back.Answered a) × Handles setup body w a out w'
+reached_once (once {a = a} h) = (a, refl, h)
+
+module _ (q : Asked) (body : List ℕ) (is : IsHosts q body) (w : Shown) (known : IsKnown w.slots.medium.fuse) where
+  -- A request goes by its plan, whatever bytes ask for it.
+  goes_by : (setup : List ℕ) (w' : Shown) (a : Answer) (out : List ℕ) → IsAsked q setup → Handles setup body w a out w'
+      → Done (plan (profile w) (image_of w.slots) w.stage (meant q body)) (asked_length q) w a out w'
+  goes_by setup w' a out asked h =
+      rw (served asked.setup q body is asked.asks) at (row_of asked.setup q setup body w a out w' asked.fields asked.asks h)
+
+  handled_once : (setup setup2 : List ℕ) (w' v' : Shown) (a b : Answer) (out other : List ℕ) → IsAsked q setup → IsAsked q setup2
+      → Handles setup body w a out w' → Handles setup2 body w b other v'
+      → DoneOnce (plan (profile w) (image_of w.slots) w.stage (meant q body)) (asked_length q) w w' v' a b out other
+  handled_once setup setup2 w' v' a b out other asked asked2 h k =
+      done_once (plan (profile w) (image_of w.slots) w.stage (meant q body)) (asked_length q) w w' v' a b out other known
+      (goes_by setup w' a out asked h) (goes_by setup2 v' b other asked2 k)
+
+  -- A request whose answer comes back: one thing is heard of it.
+  answered_once : (setup setup2 : List ℕ) (w' v' : Shown) (heard heard2 : Heard) (came came2 : Back) (out out2 : List ℕ)
+      → IsAsked q setup → IsAsked q setup2 → Reaches setup body Once w came out w' → Reaches setup2 body Once w came2 out2 v'
+      → HearsBack (Send q body) came out heard → HearsBack (Send q body) came2 out2 heard2 → ActedOnce w' v' heard heard2
+  answered_once setup setup2 w' v' heard heard2 came came2 out out2 asked asked2 h k says says2 =
+      let a = reached_once h in
+      let b = reached_once k in
+      let x = handled_once setup setup2 w' v' a.0 b.0 out out2 asked asked2 a.2 b.2 in
+      let p = plan (profile w) (image_of w.slots) w.stage (meant q body) in
+      record {
+        device = x.device;
+        hears = heard_as (outcome (image_of w.slots) p x.luck).reply;
+        first = plan_heard q body (profile w) (image_of w.slots) w.stage x.luck a.0 out heard is x.first
+            (subst (λ (c : Back). HearsBack (Send q body) c out heard) a.1 says);
+        second = plan_heard q body (profile w) (image_of w.slots) w.stage x.luck b.0 out2 heard2 is x.second
+            (subst (λ (c : Back). HearsBack (Send q body) c out2 heard2) b.1 says2);
+      }
+
+  sends_once : (fate : Fate) (setup setup2 : List ℕ) (w' v' : Shown) (heard heard2 : Heard) → HarmsAWrite (course_of fate).harming
+      → IsAsked q setup → IsAsked q setup2 → Sends q setup body (course_of fate) w w' heard
+      → Sends q setup2 body (course_of fate) w v' heard2
+      → ActedOnce w' v' heard heard2
+  sends_once CutIn setup setup2 w' v' heard heard2 harms asked asked2 h k =
+      let a = reached_once h.reaches in
+      let b = reached_once k.reaches in
+      let x = handled_once setup setup2 w' v' a.0 b.0 h.out k.out asked asked2 a.2 b.2 in
+      record { device = x.device; hears = Restarted; first = (true, h.hears); second = (true, k.hears) }
+  sends_once Fail setup setup2 w' v' heard heard2 harms asked asked2 h k =
+      answered_once setup setup2 w' v' heard heard2 h.came k.came h.out k.out asked asked2 h.reaches k.reaches h.hears k.hears
+  sends_once Lie setup setup2 w' v' heard heard2 harms asked asked2 h k =
+      answered_once setup setup2 w' v' heard heard2 h.came k.came h.out k.out asked asked2 h.reaches k.reaches h.hears k.hears
+  sends_once fate setup setup2 w' v' heard heard2 harms asked asked2 h k = elim harms [ ]
+
+-- An action in which a write is harmed, from one device.
+acts_once : (d : Deed) (fate : Fate) (w w' v' : Shown) (heard heard2 : Heard) → HostsDeed d
+    → HarmsAWrite (course_of fate).harming → IsKnown w.slots.medium.fuse → Acts d (course_of fate) w w' heard
+    → Acts d (course_of fate) w v' heard2 → ActedOnce w' v' heard heard2
+acts_once (Send q body) fate w w' v' heard heard2 is harms known (setup, asked, h) (setup2, asked2, k) =
+    sends_once q body is w known fate setup setup2 w' v' heard heard2 harms asked asked2 h k
+acts_once (Wait ms) CutIn w w' v' heard heard2 is harms known (h, e) (k, f) =
+    let x = done_once (time_plan (profile w) w.stage ms) 0 w w' v' answer.Ack answer.Ack [] [] known h k in
+    record { device = x.device; hears = Restarted; first = (true, e); second = (true, f) }
+acts_once (Wait ms) Fail w w' v' heard heard2 is harms known (h, e) (k, f) =
+    let x = done_once (time_plan (profile w) w.stage ms) 0 w w' v' answer.Ack answer.Ack [] [] known h k in
+    record { device = x.device; hears = Waited; first = (true, e); second = (true, f) }
+acts_once (Wait ms) Lie w w' v' heard heard2 is harms known (h, e) (k, f) =
+    let x = done_once (time_plan (profile w) w.stage ms) 0 w w' v' answer.Ack answer.Ack [] [] known h k in
+    record { device = x.device; hears = Waited; first = (true, e); second = (true, f) }
+acts_once Reset CutIn w w' v' heard heard2 is harms known (h, e) (k, f) =
+    record { device = same_device (h ∙ sym k); hears = Restarted; first = (true, e); second = (true, f) }
+acts_once Reset Fail w w' v' heard heard2 is harms known (h, e) (k, f) =
+    record { device = same_device (h ∙ sym k); hears = WasReset; first = (true, e); second = (true, f) }
+acts_once Reset Lie w w' v' heard heard2 is harms known (h, e) (k, f) =
+    record { device = same_device (h ∙ sym k); hears = WasReset; first = (true, e); second = (true, f) }
+acts_once (Wait ms) fate w w' v' heard heard2 is harms known h k = elim harms [ ]
+acts_once Reset fate w w' v' heard heard2 is harms known h k = elim harms [ ]
+acts_once (IsDone report) fate w w' v' heard heard2 is harms known h k = absurd h
+
+-- The fuse of an action in which a write is harmed is known.
+fuse_known : (harming : Harming) (harm : Harm) → HarmsAWrite harming → IsKnown (fuse_of harming harm)
+fuse_known NoWrite harm harms = elim harms [ ]
+fuse_known CutsPower harm harms = tt
+fuse_known FailsWrite harm harms = tt
+fuse_known LiesInWrite harm harms = tt
+
+left_same : (harming : Harming) {w v : Shown} → SameDevice w v → SameDevice (left_by harming w) (left_by harming v)
+left_same NoWrite same = disarmed_same same
+left_same CutsPower same = powered_same same
+left_same FailsWrite same = disarmed_same same
+left_same LiesInWrite same = disarmed_same same
+
+hosted_one : (h k : HostState) → Hosted h ≡ Hosted k → k ≡ h
+hosted_one h k e = sym cc
+
+-- The host's next action, where a write is harmed in it.
+action_once : (fate : Fate) (harm : Harm) (b c d : Bench) (x y : Answered) → HarmsAWrite (course_of fate).harming
+    → NextAction b.session fate harm b c x → NextAction b.session fate harm b d y → AreOne c d x y
+action_once fate harm b c d x y harms g k =
+    let harming = (course_of fate).harming in
+    let w = armed b.device (fuse_of harming harm) in
+    let same : k.host ≡ g.host = hosted_one g.host k.host (sym g.live ∙ k.live) in
+    let acts : Acts (deed g.host.task g.host.phase) (course_of fate) w k.gone.last k.gone.acted.heard = subst
+    (λ (h : HostState). Acts (deed h.task h.phase) (course_of fate) w k.gone.last k.gone.acted.heard) same k.gone.acted.acts in
+    let one = acts_once (deed g.host.task g.host.phase) fate w g.gone.last k.gone.last g.gone.acted.heard k.gone.acted.heard
+    (hosts_deed g.host.task g.host.phase) harms
+    (fuse_known harming harm harms) g.gone.acted.acts acts in
+    record {
+      device = subst (λ (z : Shown). SameDevice z d.device) (sym g.gone.device)
+          (subst (λ (z : Shown). SameDevice (left_by harming g.gone.last) z) (sym k.gone.device) (left_same harming one.device));
+      rule = λ room. took g.host (remembered one.hears room);
+      first = (
+        one.first.0,
+        λ i. record {
+          session = (ap (λ (z : Heard). (took g.host z).session) (sym one.first.1) ∙ sym g.session) i;
+          answer = (ap (λ (z : Heard). (took g.host z).answer) (sym one.first.1) ∙ sym g.answered) i;
+        },
+      );
+      second = (
+        one.second.0,
+        λ i. record {
+          session = (ap (λ (z : Heard). (took g.host z).session) (sym one.second.1)
+              ∙ ap (λ (h : HostState). (took h k.gone.acted.heard).session) (sym same) ∙ sym k.session) i;
+          answer = (ap (λ (z : Heard). (took g.host z).answer) (sym one.second.1)
+              ∙ ap (λ (h : HostState). (took h k.gone.acted.heard).answer) (sym same) ∙ sym k.answered) i;
+        },
+      );
+    }
+
+-- An action in which a write is harmed has one result.
+pub one_result : OneResult
+one_result b c d fate harm x y harms (happens {event = event} means play) (happens {event = other} same again) =
+    action_once fate harm b c d x y harms
+    (subst (λ (e : Happening). Happens e b c x) means play.happens) (subst (λ (e : Happening). Happens e b d y) same again.happens)

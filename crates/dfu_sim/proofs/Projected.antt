@@ -1,0 +1,167 @@
+-- A play with its bytes is a play of what the benches show.
+use Rattle.std.proofs.Common.{◌≡◌, Bool, true, false, IsTrue, refl, sym, ap, ◌∙◌, subst}
+use Rattle.dfu_slots.specs.Medium.{Fuse}
+use Rattle.dfu_slots.specs.Medium.Fuse.{Whole}
+use Rattle.dfu_slots.specs.Seen.{image_restarted, room_restarted}
+use Rattle.dfu_device.specs.Stage.{Profile, InAppIdle}
+use Rattle.dfu_device.specs.Outcome.{Situation, Luck, Works, Outcome, elapsed, powered}
+use Rattle.dfu_device.specs.Shown.{Shown, profile, situation}
+use Rattle.dfu_device.specs.Came.{time_came}
+use Rattle.dfu_host.specs.Phases.{Phase, Fetch, Deed, Heard, Part, NoRoom}
+use Rattle.dfu_host.specs.Table.{deed}
+use Rattle.dfu_host.specs.Host.{wants_memory}
+use Rattle.dfu_sim.specs.Happening.{Fate, Harm, Happening, Offers, Uploads, Aborts, Goes, Passes, Resets, Cuts}
+use Rattle.dfu_sim.specs.declared.course.Harming.{Harming}
+use Rattle.dfu_sim.specs.declared.course.Harming.TheVariants.{NoWrite, CutsPower, FailsWrite, LiesInWrite}
+use Rattle.dfu_sim.specs.Course.{Course, course_of}
+use Rattle.dfu_sim.specs.Play.{Answered, remembered, has_room, over, acted, took, told, played, gone, IsAllowed}
+use Rattle.dfu_sim.specs.Bench.{Session, Bench}
+use Rattle.dfu_sim.specs.Bytes.{fuse_of, armed, powered_up, left_by, link_of, NextAction, Happens, BytePlay}
+use Rattle.dfu_sim.specs.Understood.{Shows, BytesShow}
+use Rattle.dfu_sim.proofs.Replies.{hosts_deed}
+use Rattle.dfu_sim.proofs.Actions.{armed_profile, armed_situation, Went, acts_go}
+
+-- An action on an armed medium.
+armed_goes : (d : Deed) (course : Course) (fuse : Fuse) (w w' : Shown) (heard : Heard)
+    → Went fuse (profile (armed w fuse)) (situation (armed w fuse)) d course w' heard
+    → Went fuse (profile w) (situation w) d course w' heard
+armed_goes d course fuse w w' heard x =
+    subst (λ (s : Situation). Went fuse (profile w) s d course w' heard) (armed_situation w fuse)
+    (subst (λ (c : Profile). Went fuse c (situation (armed w fuse)) d course w' heard) (armed_profile w fuse) x)
+
+powered_situation : (w : Shown) → situation (powered_up w) ≡ powered (situation w)
+powered_situation w = λ k. record { image = image_restarted w.slots Whole k; stage = InAppIdle }
+
+powered_profile : (w : Shown) → profile (powered_up w) ≡ profile w
+powered_profile w = λ k. record (profile w) { capacity = room_restarted w.slots Whole k }
+
+after_situation : (harming : Harming) (w : Shown) → situation (left_by harming w) ≡ over harming (situation w)
+after_situation NoWrite w = armed_situation w Whole
+after_situation CutsPower w = powered_situation w
+after_situation FailsWrite w = armed_situation w Whole
+after_situation LiesInWrite w = armed_situation w Whole
+
+after_profile : (harming : Harming) (w : Shown) → profile (left_by harming w) ≡ profile w
+after_profile NoWrite w = armed_profile w Whole
+after_profile CutsPower w = powered_profile w
+after_profile FailsWrite w = armed_profile w Whole
+after_profile LiesInWrite w = armed_profile w Whole
+
+after_whole : (harming : Harming) (w : Shown) → (left_by harming w).slots.medium.fuse ≡ Whole
+after_whole NoWrite w = refl
+after_whole CutsPower w = refl
+after_whole FailsWrite w = refl
+after_whole LiesInWrite w = refl
+
+-- The fuse of the medium in an event: only an action can be harmed.
+abbrev pub fuse_in : Happening → Fuse
+fuse_in (Goes fate harm) = fuse_of (course_of fate).harming harm
+fuse_in event = Whole
+
+-- What benches show of an event; where no write is harmed it goes at the luck that the medium works.
+record Showed (b : Bench) (event : Happening) (fuse : Fuse) (b' : Bench) (answer : Answered) : Type 0 where
+  shown : Shows b event b' answer
+  sure : fuse ≡ Whole → (room : Bool) × (played (profile b.device) (link_of b) event Works Works room
+      ≡ record { link = link_of b'; answer = answer })
+
+-- A host whose phase wants no memory hears what it would hear with memory.
+heard_in : (phase : Phase) (heard x : Heard) (room : Bool) → heard ≡ remembered x room → (heard ≡ NoRoom → IsTrue (wants_memory phase))
+    → heard ≡ remembered x (has_room phase room)
+heard_in (Fetch k kept) heard x room e h = e
+heard_in phase heard x true e h = e
+heard_in phase heard (Part bytes) false e h = let none : false ≡ true = h e in absurd cc
+heard_in phase heard x false e h = e
+
+goes_show : (fate : Fate) (harm : Harm) (b b' : Bench) (answer : Answered) → IsAllowed b.session (Goes fate harm)
+    → NextAction b.session fate harm b b' answer → Showed b (Goes fate harm) (fuse_of (course_of fate).harming harm) b' answer
+goes_show fate harm b b' answer allowed g =
+    let d = deed g.host.task g.host.phase in
+    let course = course_of fate in
+    let x = armed_goes d course (fuse_of course.harming harm) b.device g.gone.last g.gone.acted.heard
+    (acts_go d course (armed b.device (fuse_of course.harming harm)) g.gone.last g.gone.acted.heard
+    (hosts_deed g.host.task g.host.phase) g.gone.acted.acts) in
+    let hears = heard_in g.host.phase g.gone.acted.heard _ x.room x.hears g.gone.acted.room in
+    let there : (acted (profile b.device) (situation b.device) d course x.first x.second).device ≡ situation b'.device = x.device
+    ∙ sym (after_situation course.harming g.gone.last) ∙ sym (ap situation g.gone.device) in
+    let same : played (profile b.device) (link_of b) (Goes fate harm) x.first x.second x.room
+    ≡ record { link = link_of b'; answer = answer } =
+    ap (λ (z : Session). gone (profile b.device) (link_of b) z fate x.first x.second x.room) g.live
+    ∙ (λ i. record {
+      link = record { device = there i; session = (ap (λ (h : Heard). (took g.host h).session) (sym hears) ∙ sym g.session) i };
+      answer = (ap (λ (h : Heard). (took g.host h).answer) (sym hears) ∙ sym g.answered) i;
+    }) in
+    record {
+      shown = record {
+        play = record { allowed = allowed; first = x.first; second = x.second; room = x.room; same = same };
+        fixed = ap profile g.gone.device ∙ after_profile course.harming g.gone.last ∙ x.fixed;
+        unarmed = ap (λ (w : Shown). w.slots.medium.fuse) g.gone.device ∙ after_whole course.harming g.gone.last;
+      };
+      sure = λ whole. (
+        x.room,
+        subst (λ (k : Luck). played (profile b.device) (link_of b) (Goes fate harm) Works k x.room ≡ record
+            { link = link_of b'; answer = answer })
+            (x.lucky whole).1
+            (subst (λ (l : Luck). played (profile b.device) (link_of b) (Goes fate harm) l x.second x.room
+            ≡ record { link = link_of b'; answer = answer }) (x.lucky whole).0 same),
+      );
+    }
+
+-- An event that comes at once to this bench, whatever the medium does.
+at_once : (b b' now : Bench) (event : Happening) (answer said : Answered) → IsAllowed b.session event → b.device.slots.medium.fuse ≡ Whole
+    → played (profile b.device) (link_of b) event Works Works true ≡ record { link = link_of now; answer = said }
+    → profile now.device ≡ profile b.device → now.device.slots.medium.fuse ≡ Whole
+    → b' ≡ now → answer ≡ said → Showed b event Whole b' answer
+at_once b b' now event answer said allowed unarmed same fixed whole e f =
+    let there : played (profile b.device) (link_of b) event Works Works true ≡ record { link = link_of b'; answer = answer } = same
+    ∙ (λ i. record { link = link_of (sym e i); answer = sym f i }) in
+    record {
+      shown = record {
+        play = record { allowed = allowed; first = Works; second = Works; room = true; same = there };
+        fixed = ap (λ (z : Bench). profile z.device) e ∙ fixed;
+        unarmed = ap (λ (z : Bench). z.device.slots.medium.fuse) e ∙ whole;
+      };
+      sure = λ whole. (true, there);
+    }
+
+shows : (event : Happening) (b b' : Bench) (answer : Answered) → IsAllowed b.session event → b.device.slots.medium.fuse ≡ Whole
+    → Happens event b b' answer → Showed b event (fuse_in event) b' answer
+shows (Offers aim payload limits) b b' answer allowed unarmed (e, f) =
+    at_once b b' _ (Offers aim payload limits) answer _ allowed unarmed refl refl unarmed e f
+shows (Uploads limits) b b' answer allowed unarmed (e, f) =
+    at_once b b' _ (Uploads limits) answer _ allowed unarmed refl refl unarmed e f
+shows Aborts b b' answer allowed unarmed (e, f) = at_once b b' _ Aborts answer _ allowed unarmed refl refl unarmed e f
+shows (Goes fate harm) b b' answer allowed unarmed g = goes_show fate harm b b' answer allowed g
+shows (Passes ms) b b' answer allowed unarmed (e, s, n) =
+    let y = time_came ms b.device b'.device e in
+    let works = y.unarmed unarmed in
+    let there : elapsed (profile b.device) (situation b.device) ms Works
+    ≡ situation b'.device = ap (λ (l : Luck). elapsed (profile b.device) (situation b.device) ms l) (sym works.0)
+    ∙ ap (λ (o : Outcome). o.after) y.same in
+    let same : played (profile b.device) (link_of b) (Passes ms) Works Works true
+    ≡ record { link = link_of b'; answer = answer } = λ i. record {
+      link = record { device = there i; session = sym s i };
+      answer = sym n i;
+    } in
+    record {
+      shown = record {
+        play = record { allowed = allowed; first = Works; second = Works; room = true; same = same };
+        fixed = y.fixed;
+        unarmed = works.1;
+      };
+      sure = λ whole. (true, same);
+    }
+shows Resets b b' answer allowed unarmed (e, f) = at_once b b' _ Resets answer _ allowed unarmed refl refl unarmed e f
+shows Cuts b b' answer allowed unarmed (e, f) =
+    at_once b b' _ Cuts answer _ allowed unarmed (λ i. let t = told b.session in
+    record { link = record { device = sym (powered_situation b.device) i; session = t.session }; answer = t.answer })
+    (powered_profile b.device) refl e f
+
+-- Each play with its bytes is a play of the links that are shown.
+pub bytes_show : BytesShow
+bytes_show b b' event answer p = (shows event b b' answer p.allowed p.unarmed p.happens).shown
+
+-- Where no write is harmed, the play is the one at the luck that the medium works.
+pub bytes_sure : (b b' : Bench) (event : Happening) (answer : Answered) → BytePlay b event b' answer
+    → fuse_in event ≡ Whole
+    → (room : Bool) × (played (profile b.device) (link_of b) event Works Works room ≡ record { link = link_of b'; answer = answer })
+bytes_sure b b' event answer p whole = (shows event b b' answer p.allowed p.unarmed p.happens).sure whole

@@ -1,0 +1,236 @@
+-- What holds of a link between events is kept by each, and the session machine follows.
+use Rattle.std.proofs.Common.{◌≡◌, ◌⊎◌, ℕ, ◌<◌, List, [], Option, Some, None, Result, Ok, Err, refl, sym, ap, ◌∙◌, subst, inl, inr}
+use Rattle.dfu_slots.specs.Medium.Fuse.{Whole}
+use Rattle.dfu_device.specs.Stage.{Profile}
+use Rattle.dfu_device.specs.Shown.{Shown, profile, situation}
+use Rattle.dfu_host.specs.declared.report.Report.{Report}
+use Rattle.dfu_host.specs.declared.report.Report.TheVariants.{Uploaded}
+use Rattle.dfu_device.specs.Setting.{Setting}
+use Rattle.dfu_sim.specs.declared.fault.LinkFault.{LinkFault}
+use Rattle.dfu_sim.specs.Session.{Machine, Loading}
+use Rattle.dfu_sim.specs.Play.{kind_of, Answered, given, IsAllowed}
+use Rattle.dfu_sim.specs.declared.course.Harming.{Harming}
+use Rattle.dfu_sim.specs.declared.course.Harming.TheVariants.{NoWrite, CutsPower, FailsWrite, LiesInWrite}
+use Rattle.dfu_sim.specs.Course.{course_of}
+use Rattle.dfu_sim.specs.Happening.{Harm, Happening, Offers, Uploads, Goes, Passes, Resets, Cuts}
+use Rattle.dfu_sim.specs.Bench.{Session, Nobody, Hosted, Bench, ShowsActive, LinkState, linked}
+use Rattle.dfu_sim.specs.LinkAgreement.{Agrees}
+use Rattle.dfu_sim.specs.Fact.{SessionFact}
+use Rattle.dfu_sim.specs.Simulation.{Follows}
+use Rattle.dfu_sim.specs.Bytes.{fuse_of, link_of, Happens, BytePlay}
+use Rattle.dfu_sim.specs.Understood.{Shows, ImageShown}
+use Rattle.dfu_sim.specs.Comes.{Means, Comes, refuses, happens, shown_as, gave_of, HasCome}
+use Rattle.dfu_sim.specs.Standing.{SendsBytes, IsSteady}
+use Rattle.dfu_sim.specs.Following.{IsOfKind, AllFollow}
+use Rattle.dfu_sim.specs.Giving.{Gives, UploadsGive, RestIsSteady}
+use Rattle.dfu_sim.specs.Sure.{HarmsNothing, IsHarmless, IsAsPlayed, AllSure}
+use Rattle.dfu_sim.proofs.Config.{happens_config}
+use Rattle.dfu_sim.proofs.Projected.{fuse_in, bytes_show, bytes_sure}
+use Rattle.dfu_sim.proofs.EachEvent.{Sizes, all_sized, follows_sized}
+use Rattle.dfu_sim.proofs.Saying.{step_up}
+use Rattle.dfu_sim.proofs.Counted.{FitsIn, happens_counted, happens_fits}
+use Rattle.dfu_sim.proofs.Events.{has_transfer}
+use Rattle.dfu_sim.proofs.Uploads.{gives_transfer}
+use Rattle.dfu_sim.proofs.Agreeing.{machine_of, machine_agrees, agrees_on, link_agrees}
+
+-- What happens is of the kind that its event is of.
+kind_is : (s : Setting) (h event : Happening) → Means s h event → IsOfKind h (kind_of event)
+kind_is s (Offers aim file limits) event m = (m.0, m.1.ids, m.1.dfu, m.1.extra, m.1.reads, ap kind_of m.2)
+kind_is s (Uploads limits) event m = ap kind_of m.1
+kind_is s h event m = ap kind_of m
+
+-- The transfer size, where it is needed.
+
+-- An event with which a session begins knows the transfer size.
+abbrev BeginsSized : (t : ℕ) → Happening → Type 0
+BeginsSized t (Offers aim payload limits) = 0 < t
+BeginsSized t (Uploads limits) = 0 < t
+BeginsSized t event = Unit {0}
+
+begins_sized : (s : Setting) (h event : Happening) → Means s h event → BeginsSized s.functional.transfer event
+begins_sized s (Offers aim file limits) event m = subst (BeginsSized s.functional.transfer) (sym m.2) (has_transfer m.1)
+begins_sized s (Uploads limits) event m = subst (BeginsSized s.functional.transfer) (sym m.1) (gives_transfer s m.0)
+begins_sized s h event m = subst (BeginsSized s.functional.transfer) (sym m) tt
+
+sizes : (w : Shown) (session : Session) (event : Happening) → BeginsSized w.config.functional.transfer event
+    → SessionFact (profile w) (situation w) session → SendsBytes session → Sizes (profile w) session event
+sizes w (Hosted host) event begins f z = all_sized (profile w) (Hosted host) event (subst (λ (n : ℕ). 0 < n) f.task_is.transfer z)
+sizes w Nobody (Offers aim payload limits) begins f z = begins
+sizes w Nobody event begins f z = tt
+
+-- After an event no session is live, or the transfer size is known.
+sized_or_none : (w : Shown) (session : Session) (event : Happening) (b' : Bench) (answer : Answered)
+    → BeginsSized w.config.functional.transfer event → SessionFact (profile w) (situation w) session → SendsBytes session
+    → IsAllowed session event → Happens event (record { device = w; session = session }) b' answer
+    → (0 < (profile w).transfer) ⊎ (b'.session ≡ Nobody)
+sized_or_none w (Hosted host) event b' answer begins f z a x = inl (subst (λ (n : ℕ). 0 < n) f.task_is.transfer z)
+sized_or_none w Nobody (Offers aim payload limits) b' answer begins f z a x = inl begins
+sized_or_none w Nobody (Uploads limits) b' answer begins f z a x = inl begins
+sized_or_none w Nobody (Passes ms) b' answer begins f z a x = inr x.1
+sized_or_none w Nobody Resets b' answer begins f z a x = inr (ap (λ (b : Bench). b.session) x.0)
+sized_or_none w Nobody Cuts b' answer begins f z a x = inr (ap (λ (b : Bench). b.session) x.0)
+sized_or_none w Nobody event b' answer begins f z a x = elim a [ ]
+
+sized_by : (c : Profile) (w : Shown) (session : Session) → SessionFact c (situation w) session → (0 < c.transfer) ⊎ (session ≡ Nobody)
+    → SendsBytes session
+sized_by c w Nobody f z = tt
+sized_by c w (Hosted host) f (inl z) = subst (λ (n : ℕ). 0 < n) (sym f.task_is.transfer) z
+sized_by c w (Hosted host) f (inr e) = absurd cc
+
+-- One event.
+
+follows_play : (b b' : Bench) (event : Happening) (answer : Answered) (up : List ℕ) (m : Machine) → IsSteady b
+    → BeginsSized b.device.config.functional.transfer event → BytePlay b event b' answer → Agrees (link_of b) up m
+    → Follows (profile b.device) m event (link_of b') (given answer.gave up) answer.report
+follows_play b b' event answer up m steady begins play agrees =
+    follows_sized (profile b.device) (link_of b) (link_of b') up m event answer
+    (sizes b.device b.session event begins steady.fact steady.sized) steady.fact agrees (bytes_show b b' event answer play).play
+
+play_steady : (b b' : Bench) (event : Happening) (answer : Answered) → IsSteady b → BeginsSized b.device.config.functional.transfer event
+    → BytePlay b event b' answer → IsSteady b'
+play_steady b b' event answer steady begins play =
+    let s : Shows b event b' answer = bytes_show b b' event answer play in
+    let f = follows_play b b' event answer [] (machine_of (link_of b) []) steady begins play (machine_agrees (link_of b) []) in
+    record {
+      fact = subst (λ (c : Profile). SessionFact c (situation b'.device) b'.session) (sym s.fixed) f.fact;
+      unarmed = s.unarmed;
+      counted = happens_counted event b b' answer steady.sized steady.counted play.happens;
+      sized = sized_by (profile b.device) b'.device b'.session f.fact
+          (sized_or_none b.device b.session event b' answer begins steady.fact steady.sized play.allowed play.happens);
+    }
+
+comes_steady : {b b' : Bench} {h : Happening} {answer : Result Answered LinkFault} → IsSteady b → Comes b h b' answer → IsSteady b'
+comes_steady steady (refuses why) = steady
+comes_steady {b = b} {b' = b'} {h = h} steady (happens {event = event} {answer = answer} means play) =
+    play_steady b b' event answer steady (begins_sized b.device.config h event means) play
+
+-- What holds of a link between events holds after each event that comes.
+pub come_steady : {w w' : LinkState} {h : Happening} {result : Result (Option Report) LinkFault} → IsSteady w.bench → HasCome w h w' result
+    → IsSteady w'.bench
+come_steady steady x = comes_steady steady x.comes
+
+-- The session machine follows what comes of an event.
+pub comes_follow : ImageShown → {b b' : Bench} {h : Happening} {answer : Result Answered LinkFault} (up : List ℕ) → IsSteady b
+    → ShowsActive b'
+    → Comes b h b' answer → AllFollow (linked b up) h (linked b' (given (gave_of answer) up)) (shown_as answer)
+comes_follow shown up steady shows (refuses why) = refl
+comes_follow shown {b = b} {b' = b'} {h = h} up steady shows (happens {event = event} {answer = answer} means play) = λ m agrees.
+    let f = follows_play b b' event answer up m steady (begins_sized b.device.config h event means) play
+    (link_agrees shown b up m agrees) in
+    record {
+      kind = kind_of event;
+      is = kind_is b.device.config h event means;
+      after = f.after;
+      step = f.step;
+      agrees = agrees_on b' (given answer.gave up) f.after shows f.agrees;
+      in_place = λ e. let x = f.in_place e in (x.0, x.1 ∙ ap Loading (sym f.agrees.cur));
+    }
+
+-- The session machine follows each event that comes.
+pub come_follow : ImageShown → {w w' : LinkState} {h : Happening} {result : Result (Option Report) LinkFault} → IsSteady w.bench
+    → ShowsActive w'.bench → HasCome w h w' result → AllFollow w h w' result
+come_follow shown {w = w} {w' = w'} {h = h} {result = result} steady shows x =
+    let follow = comes_follow shown w.up steady shows x.comes in
+    subst (λ (up : List ℕ). AllFollow w h (linked w'.bench up) result) (sym x.up_is)
+    (subst (λ (r : Result (Option Report) LinkFault). AllFollow w h (linked w'.bench (given (gave_of x.answer) w.up)) r) (sym x.told)
+    follow)
+
+-- What an upload gives.
+
+-- The active image, where Uploaded is reported.
+image_given : (b b' : Bench) (event : Happening) (answer : Answered) (up : List ℕ) → IsSteady b
+    → BeginsSized b.device.config.functional.transfer event → BytePlay b event b' answer → answer.report ≡ Some Uploaded
+    → given answer.gave up ≡ (link_of b').device.image
+image_given b b' event answer up steady begins play e =
+    let f = follows_play b b' event answer up (machine_of (link_of b) up) steady begins play (machine_agrees (link_of b) up) in
+    sym f.agrees.up_is ∙ (step_up f.step e ∙ f.agrees.cur)
+
+gives_in : (b' : Bench) (up : List ℕ) (report : Option Report) (gave : Option (List ℕ)) (w : LinkState) → w.up ≡ up
+    → FitsIn b'.device.config.functional.transfer report gave → (report ≡ Some Uploaded → given gave up ≡ (link_of b').device.image)
+    → Gives w (linked b' (given gave up)) (Ok report)
+gives_in b' up (Some Uploaded) (Some bytes) w same fits image = record { image = image refl; short = fits }
+gives_in b' up (Some Uploaded) None w same fits image = elim fits [ ]
+gives_in b' up report (Some bytes) w same fits image = elim fits [ ]
+gives_in b' up report None w same fits image = sym same
+
+comes_give : {b b' : Bench} {h : Happening} {answer : Result Answered LinkFault} (up : List ℕ) → IsSteady b → Comes b h b' answer
+    → Gives (linked b up) (linked b' (given (gave_of answer) up)) (shown_as answer)
+comes_give up steady (refuses why) = refl
+comes_give {b = b} {b' = b'} {h = h} up steady (happens {event = event} {answer = answer} means play) =
+    let fits = happens_fits (profile b.device) (situation b.device) event b b' answer steady.fact steady.sized steady.counted
+    play.happens in
+    let same : b.device.config.functional.transfer ≡ b'.device.config.functional.transfer = ap (λ (s : Setting). s.functional.transfer)
+    (sym (happens_config event b b' answer play.happens)) in
+    gives_in b' up answer.report answer.gave (linked b up) refl (subst (λ (n : ℕ). FitsIn n answer.report answer.gave) same fits)
+    (image_given b b' event answer up steady (begins_sized b.device.config h event means) play)
+
+-- Each event that comes gives what it should.
+pub come_gives : {w w' : LinkState} {h : Happening} {result : Result (Option Report) LinkFault} → IsSteady w.bench → HasCome w h w' result
+    → Gives w w' result
+come_gives {w = w} {w' = w'} {result = result} steady x =
+    let gives = comes_give w.up steady x.comes in
+    subst (λ (up : List ℕ). Gives w (linked w'.bench up) result) (sym x.up_is)
+    (subst (λ (r : Result (Option Report) LinkFault). Gives w (linked w'.bench (given (gave_of x.answer) w.up)) r) (sym x.told) gives)
+
+gave_image : (t : ℕ) (up image : List ℕ) (report : Option Report) (gave : Option (List ℕ)) → FitsIn t report gave → given gave up ≡ image
+    → report ≡ Some Uploaded → gave ≡ Some image
+gave_image t up image report (Some bytes) fits e u = ap Some e
+gave_image t up image report None fits e u = absurd (subst (λ (r : Option Report). FitsIn t r None) u fits)
+
+abbrev GivesThen : Bench → Result Answered LinkFault → Type 0
+GivesThen b (Ok answer) = answer.report ≡ Some Uploaded → answer.gave ≡ Some (link_of b).device.image
+GivesThen b (Err fault) = Unit {0}
+
+gives_then : {b b' : Bench} {h : Happening} {result : Result Answered LinkFault} → IsSteady b → Comes b h b' result → GivesThen b' result
+gives_then steady (refuses why) = tt
+gives_then {b = b} {b' = b'} {h = h} steady (happens {event = event} {answer = answer} means play) = λ e.
+    gave_image (profile b.device).transfer [] (link_of b').device.image answer.report answer.gave
+    (happens_fits (profile b.device) (situation b.device) event b b' answer steady.fact steady.sized steady.counted
+    play.happens)
+    (image_given b b' event answer [] steady (begins_sized b.device.config h event means) play e) e
+
+-- With Uploaded come the bytes of the active image.
+pub uploads_give : UploadsGive
+uploads_give b b' h answer steady comes = (comes_steady steady comes, gives_then steady comes)
+
+-- What holds of a link between events holds of a device with no session that is not armed.
+pub rest_is_steady : RestIsSteady
+rest_is_steady device unarmed = record { fact = tt; unarmed = unarmed; sized = tt; counted = tt }
+
+-- Nothing is cut and nothing fails.
+
+unharmed_whole : (harming : Harming) (harm : Harm) → HarmsNothing harming → fuse_of harming harm ≡ Whole
+unharmed_whole NoWrite harm h = refl
+unharmed_whole CutsPower harm h = elim h [ ]
+unharmed_whole FailsWrite harm h = elim h [ ]
+unharmed_whole LiesInWrite harm h = elim h [ ]
+
+harmless_whole : (event : Happening) → IsHarmless event → fuse_in event ≡ Whole
+harmless_whole (Goes fate harm) h = unharmed_whole (course_of fate).harming harm h
+harmless_whole event h = refl
+
+as_played : (b b' : Bench) (event : Happening) (answer : Answered) → BytePlay b event b' answer → IsHarmless event
+    → IsAsPlayed b event b' answer.report
+as_played b b' event answer play h =
+    let s = bytes_sure b b' event answer play (harmless_whole event h) in
+    record { room = s.0; answer = answer; same = s.1; told = refl }
+
+-- What comes of an event goes as the table of fates says, where no write is harmed.
+pub comes_sure : {b b' : Bench} {h : Happening} {answer : Result Answered LinkFault} → Comes b h b' answer
+    → AllSure b h b' (shown_as answer)
+comes_sure (refuses why) = tt
+comes_sure {b = b} {b' = b'} {h = h} (happens {event = event} {answer = answer} means play) = record {
+  event = event;
+  means = means;
+  kept = record {
+    config = happens_config event b b' answer play.happens;
+    room = ap (λ (c : Profile). c.capacity) (bytes_show b b' event answer play).fixed;
+  };
+  works = as_played b b' event answer play;
+}
+
+-- Each event that comes goes as the table of fates says, where no write is harmed.
+pub come_sure : {w w' : LinkState} {h : Happening} {result : Result (Option Report) LinkFault} → HasCome w h w' result
+    → AllSure w.bench h w'.bench result
+come_sure {w = w} {w' = w'} {h = h} x = subst (λ (r : Result (Option Report) LinkFault). AllSure w.bench h w'.bench r) (sym x.told)
+    (comes_sure x.comes)

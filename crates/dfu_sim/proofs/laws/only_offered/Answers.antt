@@ -1,0 +1,5 @@
+use Rattle.dfu_sim.proofs.Saying.{only_offered}
+use Rattle.dfu_sim.proofs.laws.only_offered.Goals as goal
+
+pub returns : goal.returns
+returns g = only_offered

@@ -1,0 +1,5 @@
+use Rattle.dfu_sim.proofs.Agreeing.{sessions_go_on}
+use Rattle.dfu_sim.proofs.laws.sessions_go_on.Goals as goal
+
+pub returns : goal.returns
+returns g = sessions_go_on

@@ -1,0 +1,23 @@
+use Rattle.dfu_sim.proofs.Steady.{come_steady, come_follow, come_sure, come_gives}
+use Rattle.dfu_sim.proofs.HeadlineKept.{step_keeps}
+use Rattle.dfu_sim.proofs.world.World.step.Goals as goal
+
+pub invariant_of-self : goal.invariant_of-self
+invariant_of-self g c = record {
+  steady = come_steady c.self.invariant.steady c.play.ensures.comes;
+  active = c.play.ensures.active;
+}
+
+pub returns-clause-legal : goal.returns-clause-legal
+returns-clause-legal g c = rw (← c.self.view_is) (come_follow c.image_shown.ensures c.self.invariant.steady c.play.ensures.active
+    c.play.ensures.comes)
+
+pub returns-clause-sure : goal.returns-clause-sure
+returns-clause-sure g c = rw (← c.self.view_is) (come_sure c.play.ensures.comes)
+
+pub returns-clause-gives : goal.returns-clause-gives
+returns-clause-gives g c = rw (← c.self.view_is) (come_gives c.self.invariant.steady c.play.ensures.comes)
+
+pub returns-clause-headline : goal.returns-clause-headline
+returns-clause-headline g c = rw (← c.self.view_is) (step_keeps _ _ _ _ (come_follow c.image_shown.ensures c.self.invariant.steady
+    c.play.ensures.active c.play.ensures.comes))

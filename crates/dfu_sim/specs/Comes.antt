@@ -1,0 +1,62 @@
+-- What comes of an event: it is refused and nothing changes, or it is a play with its bytes; and what its caller is told.
+use Rattle.std.specs.Prelude.{◌≡◌, ℕ, List, Option, Some, None, Result, Ok, Err}
+use Rattle.dfu_host.specs.declared.report.Report.{Report}
+use Rattle.dfu_host.specs.declared.report.Report.TheVariants.{Uploaded}
+use Rattle.dfu_host.specs.Counting.{GivesNothing}
+use Rattle.dfu_device.specs.Setting.{Setting}
+use Rattle.dfu_sim.specs.declared.fault.LinkFault.{LinkFault}
+use Rattle.dfu_sim.specs.Play.{Answered, given}
+use Rattle.dfu_sim.specs.Happening.{Happening, Offers, Uploads, Aborts, Goes, Passes, Resets, Cuts}
+use Rattle.dfu_sim.specs.Bench.{Bench, LinkState, linked}
+use Rattle.dfu_sim.specs.Bytes.{BytePlay}
+use Rattle.dfu_sim.specs.Refusing.{IsOffered, CanGive, IsRefused}
+
+-- What happens, as the event of a device of these settings: an offer is that of the file's payload, and all else is what it is.
+abbrev pub Means : Setting → Happening → Happening → Type 0
+Means s (Offers aim file limits) e = (payload : List ℕ) × IsOffered s aim file payload × (e ≡ Offers aim payload limits)
+Means s (Uploads limits) e = CanGive s × (e ≡ Uploads limits)
+Means s Aborts e = e ≡ Aborts
+Means s (Goes fate harm) e = e ≡ Goes fate harm
+Means s (Passes ms) e = e ≡ Passes ms
+Means s Resets e = e ≡ Resets
+Means s Cuts e = e ≡ Cuts
+
+-- What comes of an event: it is refused and nothing changes, or it is a play with its bytes.
+pub data Comes (b : Bench) (h : Happening) : Bench → Result Answered LinkFault → Type 0 where
+  refuses : {fault : LinkFault} → IsRefused b h fault → Comes b h b (Err fault)
+  happens : {event : Happening} {b' : Bench} {answer : Answered} → Means b.device.config h event → BytePlay b event b' answer
+      → Comes b h b' (Ok answer)
+
+-- What a caller is told of it: the report.
+abbrev pub shown_as : Result Answered LinkFault → Result (Option Report) LinkFault
+shown_as (Ok answer) = Ok answer.report
+shown_as (Err fault) = Err fault
+
+-- What was uploaded, of what comes of an event: nothing where it is refused.
+abbrev pub gave_of : Result Answered LinkFault → Option (List ℕ)
+gave_of (Ok answer) = answer.gave
+gave_of (Err fault) = None
+
+-- Bytes come with Uploaded, and with no other report.
+abbrev pub ComesWith : Option Report → Option (List ℕ) → Type 0
+ComesWith None None = Unit {0}
+ComesWith (Some report) None = GivesNothing report
+ComesWith (Some Uploaded) (Some bytes) = Unit {0}
+ComesWith report (Some bytes) = ⊥
+
+-- So it is of what comes of an event.
+abbrev pub GivesWithUploaded : Result Answered LinkFault → Type 0
+GivesWithUploaded (Ok answer) = ComesWith answer.report answer.gave
+GivesWithUploaded (Err fault) = Unit {0}
+
+-- An event came, what was uploaded took the place of what the upload before gave, and its caller was told of it.
+pub record HasCome (w : LinkState) (h : Happening) (w' : LinkState) (result : Result (Option Report) LinkFault) : Type 0 where
+  pub answer : Result Answered LinkFault
+  pub comes : Comes w.bench h w'.bench answer
+  pub whole : GivesWithUploaded answer
+  pub up_is : w'.up ≡ given (gave_of answer) w.up
+  pub told : result ≡ shown_as answer
+
+-- An event came with which nothing is given.
+abbrev pub HasComeAlone : Bench → Happening → Bench → Result (Option Report) LinkFault → Type 0
+HasComeAlone b h b' result = (up : List ℕ) → HasCome (linked b up) h (linked b' up) result

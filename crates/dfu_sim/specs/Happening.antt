@@ -1,0 +1,81 @@
+-- What happens to a link, as its caller gives it.
+use Rattle.std.specs.Prelude.{ℕ, List, [], take}
+use Rattle.dfu_host.specs.declared.limits.Limits.{Limits}
+use Rattle.dfu_sim.specs.declared.fate.Fate.{Fate as GivenFate}
+use Rattle.dfu_sim.specs.declared.fate.Fate.TheVariants as fate
+use Rattle.dfu_sim.specs.declared.aim.Aim.{Aim}
+use Rattle.dfu_sim.specs.declared.aim.Aim.TheVariants.{Install, Verify}
+use Rattle.dfu_sim.specs.declared.event.Event.{Event as GivenEvent}
+use Rattle.dfu_sim.specs.declared.event.Event.TheVariants as event
+
+-- What becomes of one action of the host: it passes; its request or its answer is lost; it is handled twice, and then perhaps its answer is
+-- lost; time passes after it; the power is cut in it, at any write of the medium; or in it a write of the medium fails, or lies.
+pub data Fate : Type 0 where
+  Pass : Fate
+  LostOut : Fate
+  LostBack : Fate
+  Twice : Fate
+  TwiceLostBack : Fate
+  Slip : (ms : ℕ) → Fate
+  CutIn : Fate
+  Fail : Fate
+  Lie : Fate
+
+-- How a write is harmed by a cut, a failure or a lie: after so many writes that work one leaves the front of these bytes.
+pub record Harm : Type 0 where
+  pub writes : ℕ
+  pub tear : List ℕ
+
+-- An event, as its caller gives it; in a play the bytes of an offer are the payload. A file is offered to be installed, or to be installed
+-- and verified.
+pub data Happening : Type 0 where
+  Offers : Aim → (file : List ℕ) → Limits → Happening
+  Uploads : Limits → Happening
+  Aborts : Happening
+  Goes : Fate → Harm → Happening
+  Passes : (ms : ℕ) → Happening
+  Resets : Happening
+  Cuts : Happening
+
+-- No write is harmed.
+abbrev pub unharmed : Harm
+unharmed = record { writes = 0; tear = [] }
+
+-- A write is harmed after so many that work, and leaves the front of this tear, of which a medium keeps at most 4,096 bytes.
+abbrev pub harmed : (writes : ℕ) (tear : List ℕ) → Harm
+harmed writes tear = record { writes = writes; tear = take 4096 tear }
+
+-- The fate that a caller names.
+abbrev pub fate_of : GivenFate → Fate
+fate_of fate.Pass = Pass
+fate_of fate.LostOut = LostOut
+fate_of fate.LostBack = LostBack
+fate_of fate.Twice = Twice
+fate_of fate.TwiceLostBack = TwiceLostBack
+fate_of (fate.Slip ms) = Slip ms
+fate_of (fate.Cut writes tear) = CutIn
+fate_of (fate.Fail writes tear) = Fail
+fate_of (fate.Lie writes tear) = Lie
+
+-- How the fate that a caller names harms a write.
+abbrev pub harm_in : GivenFate → Harm
+harm_in fate.Pass = unharmed
+harm_in fate.LostOut = unharmed
+harm_in fate.LostBack = unharmed
+harm_in fate.Twice = unharmed
+harm_in fate.TwiceLostBack = unharmed
+harm_in (fate.Slip ms) = unharmed
+harm_in (fate.Cut writes tear) = harmed writes tear.now
+harm_in (fate.Fail writes tear) = harmed writes tear.now
+harm_in (fate.Lie writes tear) = harmed writes tear.now
+
+-- What happens, of the event that a caller names.
+abbrev pub happening : GivenEvent → Happening
+happening (event.Offer file limits) = Offers Install file.now limits
+happening (event.OfferVerified file limits) = Offers Verify file.now limits
+happening (event.Upload limits) = Uploads limits
+happening event.Abort = Aborts
+happening (event.Go f) = Goes (fate_of f) (harm_in f)
+happening (event.Time ms) = Passes ms
+happening event.Reset = Resets
+happening event.Cut = Cuts

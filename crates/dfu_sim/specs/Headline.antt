@@ -1,0 +1,114 @@
+-- The headline: which image is active after any events, and what a report of Installed or Verified means.
+use Rattle.std.specs.Prelude.{◌≡◌, ◌⊎◌, ℕ, List, [], ◌∷◌, ◌++◌, take, Option, None, Result, Ok, Err}
+use Rattle.std.specs.declared.vec.Vec.{Vec}
+use Rattle.std.specs.declared.alloc.Global.{Global}
+use Rattle.dfu_wire.specs.declared.ids.Ids.{Ids}
+use Rattle.dfu_suffix.specs.Grammar.{IsFile}
+use Rattle.dfu_slots.specs.Image.{Active}
+use Rattle.dfu_device.specs.Stage.{Stage, InAppIdle, InManifestSync, InManifest}
+use Rattle.dfu_host.specs.Phases.{Goal, ToLoad, ToFetch, ToVerify, ToCompare}
+use Rattle.dfu_host.specs.declared.report.Report.{Report}
+use Rattle.dfu_sim.specs.declared.event.Event.{Event}
+use Rattle.dfu_sim.specs.declared.event.Event.TheVariants.{Offer, OfferVerified, Upload, Abort, Go, Time, Reset, Cut}
+use Rattle.dfu_sim.specs.declared.fault.LinkFault.{LinkFault}
+use Rattle.dfu_sim.specs.declared.running.Stop.{Stop}
+use Rattle.dfu_sim.specs.Session.{SaysInPlace, said}
+use Rattle.dfu_sim.specs.Bench.{Session, Nobody, Hosted, Bench, LinkState}
+
+-- How a session began: with the offer of a file, or as an upload of the active image.
+pub data Begun : Type 0 where
+  WithOffer : (file : List ℕ) → Begun
+  AsUpload : Begun
+
+-- The sessions that have begun once this event has come too; the last one comes first.
+abbrev pub begun : Event → List Begun → List Begun
+begun (Offer file limits) past = WithOffer file.now ∷ past
+begun (OfferVerified file limits) past = WithOffer file.now ∷ past
+begun (Upload limits) past = AsUpload ∷ past
+begun Abort past = past
+begun (Go fate) past = past
+begun (Time ms) past = past
+begun Reset past = past
+begun Cut past = past
+
+-- These bytes are the whole payload of the file, by the grammar of DFU files.
+abbrev pub IsPayload : List ℕ → (file : List ℕ) → Type 0
+IsPayload x file = (ids : Ids) × (dfu : ℕ) × (extra : List ℕ) × IsFile x ids dfu extra file
+
+-- These bytes are the whole payload of one of the files offered so far.
+abbrev pub WasOffered : (past : List Begun) → List ℕ → Type 0
+WasOffered [] x = ⊥
+WasOffered (WithOffer file ∷ past) x = IsPayload x file ⊎ WasOffered past x
+WasOffered (AsUpload ∷ past) x = WasOffered past x
+
+-- The last session began with the offer of a file, and these bytes are its whole payload.
+abbrev pub IsLastPayload : (past : List Begun) → List ℕ → Type 0
+IsLastPayload [] x = ⊥
+IsLastPayload (WithOffer file ∷ past) x = IsPayload x file
+IsLastPayload (AsUpload ∷ past) x = ⊥
+
+-- What the headline says, when these sessions have begun and this was reported last. The active image is the factory image or a payload
+-- offered so far. Where Installed or Verified was reported, the device is in appIDLE, and that image is the last session's payload.
+pub record HeadlineSays (factory : List ℕ) (past : List Begun) (report : Option Report) (b : Bench) : Type 0 where
+  pub image : List ℕ
+  pub active : Active b.device.slots.medium image
+  pub known : (image ≡ factory) ⊎ WasOffered past image
+  pub in_place : SaysInPlace report → (b.device.stage ≡ InAppIdle) × IsLastPayload past image
+
+-- The device has all bytes of an image, these, and has not put it in place yet.
+abbrev pub IsWaiting : Stage → List ℕ → Type 0
+IsWaiting (InManifestSync taken) x = x ≡ taken
+IsWaiting (InManifest taken passed) x = x ≡ taken
+IsWaiting stage x = ⊥
+
+-- A session with this goal installs this payload or compares it.
+abbrev pub IsGoalPayload : Goal → List ℕ → Type 0
+IsGoalPayload (ToLoad payload) x = x ≡ payload
+IsGoalPayload ToFetch x = ⊥
+IsGoalPayload (ToVerify payload) x = x ≡ payload
+IsGoalPayload (ToCompare payload) x = x ≡ payload
+
+-- A session is live, and this is its payload.
+abbrev pub IsLivePayload : Session → List ℕ → Type 0
+IsLivePayload Nobody x = ⊥
+IsLivePayload (Hosted host) x = IsGoalPayload host.task.goal x
+
+-- What keeps the headline: an image that waits to be put in place was offered, and a live session's payload is that of the last offer.
+pub record KeepsHeadline (past : List Begun) (b : Bench) : Type 0 where
+  pub waiting : (x : List ℕ) → IsWaiting b.device.stage x → WasOffered past x
+  pub live : (x : List ℕ) → IsLivePayload b.session x → IsLastPayload past x
+
+-- The headline holds: it is so, and what keeps it is so.
+pub record HeadlineHolds (factory : List ℕ) (past : List Begun) (report : Option Report) (b : Bench) : Type 0 where
+  pub says : HeadlineSays factory past report b
+  pub kept : KeepsHeadline past b
+
+-- Where the headline holds before an event, it holds after it, with what the event reports. A refused event changes nothing.
+abbrev pub StepKeepsHeadline : LinkState → Event → LinkState → Result (Option Report) LinkFault → Type 0
+StepKeepsHeadline w event w' (Ok report) = (factory : List ℕ) (past : List Begun) (before : Option Report)
+    → HeadlineHolds factory past before w.bench → HeadlineHolds factory (begun event past) report w'.bench
+StepKeepsHeadline w event w' (Err fault) = w' ≡ w
+
+-- The headline holds after each of these events, with what that event reports. These are the reports in order, and the link at the end.
+pub data HoldsAfterEach (factory : List ℕ) : (past : List Begun) → LinkState → List Event → List Report → LinkState → Type 0 where
+  no_event : {past : List Begun} {w : LinkState} → HoldsAfterEach factory past w [] [] w
+  one_event : {past : List Begun} {w mid w' : LinkState} {event : Event} {events : List Event} {report : Option Report}
+      {reports : List Report}
+      → HeadlineHolds factory (begun event past) report mid.bench → HoldsAfterEach factory (begun event past) mid events reports w'
+      → HoldsAfterEach factory past w (event ∷ events) (said report ++ reports) w'
+
+-- Where the headline holds before these events, it holds after each of them.
+abbrev pub EventsKeepHeadline : LinkState → List Event → List Report → LinkState → Type 0
+EventsKeepHeadline w events reports w' = (factory : List ℕ) (past : List Begun) (before : Option Report)
+    → HeadlineHolds factory past before w.bench → HoldsAfterEach factory past w events reports w'
+
+-- A run keeps the headline through all of its events, or through those before the one at which it stopped.
+abbrev pub RunKeepsHeadline : LinkState → List Event → LinkState → Result (Vec Report Global) Stop → Type 0
+RunKeepsHeadline w events w' (Ok reports) = EventsKeepHeadline w events reports.items w'
+RunKeepsHeadline w events w' (Err stop) = EventsKeepHeadline w (take stop.at events) stop.reports.items w'
+
+-- The headline holds at the start. No session has begun, and no complete image waits to be put in place. The factory image is the one that
+-- is active then.
+abbrev pub HoldsAtRest : Type 0
+HoldsAtRest = (b : Bench) (factory : List ℕ) → Active b.device.slots.medium factory → b.session ≡ Nobody
+    → ((x : List ℕ) → IsWaiting b.device.stage x → ⊥) → HeadlineHolds factory [] None b

@@ -1,0 +1,53 @@
+-- When a link of values agrees with a session machine, and that some machine does.
+use Rattle.std.specs.Prelude.{◌≡◌, ℕ, List, [], Option}
+use Rattle.dfu_device.specs.Stage.{Stage}
+use Rattle.dfu_sim.specs.Session.{Machine, NoOne}
+use Rattle.dfu_sim.specs.Play.{Link}
+use Rattle.dfu_sim.specs.Bench.{Bench, Nobody, ShowsActive}
+use Rattle.dfu_sim.specs.Bytes.{link_of}
+use Rattle.dfu_sim.specs.Agreement.{Intake, NothingTaken, Open, Shut, intake_of, pending_in, live_of, IsShutOffer, IsLiveOffer, AgreesOn}
+
+-- What is pending on a device.
+abbrev pub pending_of : Stage → Option (List ℕ)
+pending_of stage = pending_in (intake_of stage)
+
+-- Bytes that were closed on a device are one of the offers.
+abbrev pub IsSound : List (List ℕ) → Stage → Type 0
+IsSound offers stage = IsShutOffer offers (intake_of stage)
+
+-- A link agrees with a session machine in the same way, by the image that it shows.
+pub record Agrees (w : Link) (up : List ℕ) (m : Machine) : Type 0 where
+  pub cur : m.cur ≡ w.device.image
+  pub pending : m.pending ≡ pending_of w.device.stage
+  pub live : m.live ≡ live_of w.session
+  pub up_is : m.up ≡ up
+  pub sound : IsSound m.offers w.device.stage
+  pub offered : IsLiveOffer m.offers (live_of w.session)
+
+-- That some machine agrees, as statements.
+
+-- No bytes are closed, which a host asked to be put in place.
+abbrev pub NothingShut : Intake → Type 0
+NothingShut NothingTaken = Unit {0}
+NothingShut (Open taken) = Unit {0}
+NothingShut (Shut taken) = ⊥
+
+-- So it is on a device.
+abbrev pub NothingClosed : Stage → Type 0
+NothingClosed stage = NothingShut (intake_of stage)
+
+-- The session machine of a link with no session, before anything is offered.
+abbrev pub fresh : Link → Machine
+fresh w = record { cur = w.device.image; offers = []; pending = pending_of w.device.stage; live = NoOne; up = [] }
+
+-- Some session machine agrees with each link, whatever the last reported upload gave.
+abbrev pub SomeAgrees : Type 0
+SomeAgrees = (w : Link) (up : List ℕ) → (m : Machine) × Agrees w up m
+
+-- Where no session is live and no bytes are closed, one agrees to which nothing was offered.
+abbrev pub FreshAgrees : Type 0
+FreshAgrees = (w : Link) → w.session ≡ Nobody → NothingClosed w.device.stage → Agrees w [] (fresh w)
+
+-- A bench that shows the active image of its medium's bytes agrees with each machine that its link agrees with.
+abbrev pub LinkAgreesOn : Type 0
+LinkAgreesOn = (b : Bench) (up : List ℕ) (m : Machine) → ShowsActive b → Agrees (link_of b) up m → AgreesOn b up m

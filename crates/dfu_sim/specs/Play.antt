@@ -1,0 +1,232 @@
+-- The table of fates: what an event of the link does to a device and a host, over the device table and the host table.
+use Rattle.std.specs.Prelude.{◌≡◌, ℕ, ◌<◌, Bool, true, false, List, length, Option, Some, None}
+use Rattle.dfu_host.specs.declared.report.Report.{Report}
+use Rattle.dfu_host.specs.declared.report.Report.TheVariants.{Uploaded}
+use Rattle.dfu_device.specs.Stage.{Request, Reply, Ack, StatusOf, StateOf, Data, Stall, Profile}
+use Rattle.dfu_device.specs.Table.{Plan, plan}
+use Rattle.dfu_device.specs.Outcome.{Situation, Luck, Works, outcome, handled, elapsed, was_reset, powered}
+use Rattle.dfu_device.specs.Rows.{meant}
+use Rattle.dfu_host.specs.Phases.{ToFetch, Phase, Fetch, Over, OverUploaded, Deed, Send, Wait, Reset, Done, Heard, Acked, Status, StateIs, Part, NoRoom, Stalled, Nothing, Waited, WasReset, Restarted}
+use Rattle.dfu_host.specs.Table.{deed}
+use Rattle.dfu_host.specs.Host.{HostState, after, aborted as host_aborted}
+use Rattle.dfu_sim.specs.Opening.{goal_of, opened}
+use Rattle.dfu_sim.specs.Session.{Kind, AnOffer, AnUpload, AnAbort, ATime, ARestart, AGo}
+use Rattle.dfu_sim.specs.Happening.{Fate, Happening, Offers, Uploads, Aborts, Goes, Passes, Resets, Cuts}
+use Rattle.dfu_sim.specs.declared.course.Handling.{Handling}
+use Rattle.dfu_sim.specs.declared.course.Handling.TheVariants.{Unseen, Once, Again, Late}
+use Rattle.dfu_sim.specs.declared.course.Harming.{Harming}
+use Rattle.dfu_sim.specs.declared.course.Harming.TheVariants.{NoWrite, CutsPower, FailsWrite, LiesInWrite}
+use Rattle.dfu_sim.specs.Course.{Course, course_of}
+use Rattle.dfu_sim.specs.Bench.{Session, Nobody, Hosted}
+
+-- The events, in which the bytes of an offer are its payload.
+
+-- What an event is to the session machine.
+abbrev pub kind_of : Happening → Kind
+kind_of (Offers aim payload limits) = AnOffer payload
+kind_of (Uploads limits) = AnUpload
+kind_of Aborts = AnAbort
+kind_of (Goes fate harm) = AGo
+kind_of (Passes ms) = ATime
+kind_of Resets = ARestart
+kind_of Cuts = ARestart
+
+-- The link.
+
+-- The link: a device in its situation, and the session that is live. What was uploaded goes with the answer.
+pub record Link : Type 0 where
+  pub device : Situation
+  pub session : Session
+
+-- What an event answers: a report, or none, and with Uploaded the bytes that were uploaded.
+pub record Answered : Type 0 where
+  pub report : Option Report
+  pub gave : Option (List ℕ)
+
+-- Nothing is reported.
+abbrev pub silent : Answered
+silent = record { report = None; gave = None }
+
+-- What the last reported upload gave, after an answer.
+abbrev pub given : Option (List ℕ) → List ℕ → List ℕ
+given None up = up
+given (Some bytes) up = bytes
+
+-- The link after an event, and what it answers.
+pub record Played : Type 0 where
+  pub link : Link
+  pub answer : Answered
+
+-- What becomes of a session by what its host takes: it stays live, or it is over with its report.
+pub record Took : Type 0 where
+  pub session : Session
+  pub answer : Answered
+
+-- A host that is done ends its session with its report, an upload with what it kept; any other stays live.
+abbrev pub settled : HostState → Phase → Took
+settled h (Over report) = record { session = Nobody; answer = record { report = Some report; gave = None } }
+settled h (OverUploaded kept) = record { session = Nobody; answer = record { report = Some Uploaded; gave = Some kept } }
+settled h phase = record { session = Hosted h; answer = silent }
+
+-- The host takes what it hears, by its own table.
+abbrev pub took : HostState → Heard → Took
+took h heard = let h' = after h heard in settled h' h'.phase
+
+-- A restart that comes from outside is told to a live host at once.
+abbrev pub told : Session → Took
+told Nobody = record { session = Nobody; answer = silent }
+told (Hosted h) = took h Restarted
+
+-- An abort reaches a live host, by the host's own rule.
+abbrev pub aborted : Session → Session
+aborted Nobody = Nobody
+aborted (Hosted h) = Hosted (host_aborted h)
+
+-- One action.
+
+-- What a host hears of a device's reply. That the bytes of the reply are heard like this is a law.
+abbrev pub heard_as : Reply → Heard
+heard_as Ack = Acked
+heard_as (StatusOf code poll state) = Status code poll state
+heard_as (StateOf state) = StateIs state
+heard_as (Data bytes) = Part bytes
+heard_as Stall = Stalled
+
+-- Where there is no memory for a part of an upload, the host hears that instead.
+abbrev pub remembered : Heard → (room : Bool) → Heard
+remembered (Part bytes) false = NoRoom
+remembered heard room = heard
+
+-- Whether there is memory for what a phase keeps: only one that fetches a part of an upload needs any.
+abbrev pub has_room : Phase → (room : Bool) → Bool
+has_room (Fetch k kept) room = room
+has_room phase room = true
+
+-- The device after an action, and what the host hears of it; after a cut it hears of the restart alone.
+pub record Passed : Type 0 where
+  pub device : Situation
+  pub heard : Heard
+
+-- A request that the table answers by this plan: the device after it, and what its host hears where the answer comes back. The medium's
+-- luck is said for the first and for the second thing that the device does.
+abbrev pub reached : Profile → Situation → Request → Plan → Handling → (first second : Luck) → Passed
+reached c s r p Unseen l k = record { device = s; heard = Nothing }
+reached c s r p Once l k = let o = outcome s.image p l in record { device = o.after; heard = heard_as o.reply }
+reached c s r p Again l k = let o = handled c (outcome s.image p l).after r k in record { device = o.after; heard = heard_as o.reply }
+reached c s r p (Late ms) l k = let o = outcome s.image p l in record { device = elapsed c o.after ms k; heard = heard_as o.reply }
+
+-- What is heard, or nothing where it does not come back.
+abbrev pub heard_back : Bool → Heard → Heard
+heard_back true heard = heard
+heard_back false heard = Nothing
+
+-- What is heard once an action is over: where the power was cut, of the restart alone.
+abbrev pub heard_over : Harming → Heard → Heard
+heard_over NoWrite heard = heard
+heard_over CutsPower heard = Restarted
+heard_over FailsWrite heard = heard
+heard_over LiesInWrite heard = heard
+
+-- The device once an action is over: where the power was cut, it starts again.
+abbrev pub over : Harming → Situation → Situation
+over NoWrite s = s
+over CutsPower s = powered s
+over FailsWrite s = s
+over LiesInWrite s = s
+
+-- The end of an action.
+abbrev pub ends_by : Harming → Passed → Passed
+ends_by harming d = record { device = over harming d.device; heard = heard_over harming d.heard }
+
+-- The time that passes in a wait: another where one slips in.
+abbrev pub waits_for : Handling → ℕ → ℕ
+waits_for Unseen ms = ms
+waits_for Once ms = ms
+waits_for Again ms = ms
+waits_for (Late other) ms = other
+
+-- The time that slips in after a reset of the bus, or none.
+abbrev pub slipped : Profile → Situation → Handling → Luck → Situation
+slipped c s Unseen l = s
+slipped c s Once l = s
+slipped c s Again l = s
+slipped c s (Late ms) l = elapsed c s ms l
+
+-- A request by its course, where the table answers it by this plan.
+abbrev pub sent_by : Profile → Situation → Request → Plan → Course → (first second : Luck) → Passed
+sent_by c s r p course l k = let d = reached c s r p course.handling l k in
+    ends_by course.harming (record { device = d.device; heard = heard_back course.back d.heard })
+
+-- A request, by its course.
+abbrev pub sent : Profile → Situation → Request → Course → (first second : Luck) → Passed
+sent c s r course l k = sent_by c s r (plan c s.image s.stage r) course l k
+
+-- A wait, by its course.
+abbrev pub waited : Profile → Situation → ℕ → Course → Luck → Passed
+waited c s ms course l = ends_by course.harming (record { device = elapsed c s (waits_for course.handling ms) l; heard = Waited })
+
+-- A reset of the bus by the host, by its course.
+abbrev pub bus_reset : Profile → Situation → Course → Luck → Passed
+bus_reset c s course l = ends_by course.harming (record { device = slipped c (was_reset s) course.handling l; heard = WasReset })
+
+-- An action of the host, by its course. A host that is done has none.
+abbrev pub acted : Profile → Situation → Deed → Course → (first second : Luck) → Passed
+acted c s (Send q body) course l k = sent c s (meant q body) course l k
+acted c s (Wait ms) course l k = waited c s ms course l
+acted c s Reset course l k = bus_reset c s course l
+acted c s (Done report) course l k = record { device = s; heard = Nothing }
+
+-- The rows.
+
+-- The host's next action, by its fate; the host takes what it hears.
+abbrev pub gone : Profile → Link → Session → Fate → (first second : Luck) → (room : Bool) → Played
+gone c w Nobody fate l k room = record { link = w; answer = silent }
+gone c w (Hosted h) fate l k room =
+    let d = acted c w.device (deed h.task h.phase) (course_of fate) l k in
+    let t = took h (remembered d.heard (has_room h.phase room)) in
+    record { link = record { device = d.device; session = t.session }; answer = t.answer }
+
+-- A restart that comes from outside: the device is in this situation, and a live host is told.
+abbrev pub restarted_to : Situation → Session → Played
+restarted_to s session = let t = told session in record { link = record { device = s; session = t.session }; answer = t.answer }
+
+-- Each event. The harm that an action does to a write is in the luck of the medium. Between actions the medium is not armed, so that it
+-- works while time passes.
+abbrev pub played : Profile → Link → Happening → (first second : Luck) → (room : Bool) → Played
+played c w (Offers aim payload limits) l k room = record {
+  link = record { device = w.device; session = opened c (goal_of aim payload) limits.actions limits.restarts };
+  answer = silent;
+}
+played c w (Uploads limits) l k room =
+    record { link = record { device = w.device; session = opened c ToFetch limits.actions limits.restarts }; answer = silent }
+played c w Aborts l k room = record { link = record { device = w.device; session = aborted w.session }; answer = silent }
+played c w (Goes fate harm) l k room = gone c w w.session fate l k room
+played c w (Passes ms) l k room = record { link = record { device = elapsed c w.device ms Works; session = w.session }; answer = silent }
+played c w Resets l k room = restarted_to (was_reset w.device) w.session
+played c w Cuts l k room = restarted_to (powered w.device) w.session
+
+-- An event that is not refused: a session begins only where none is live, and no offer is empty; an abort and an action need a live
+-- session.
+abbrev pub IsAllowed : Session → Happening → Type 0
+IsAllowed Nobody (Offers aim payload limits) = 0 < length payload
+IsAllowed Nobody (Uploads limits) = Unit {0}
+IsAllowed Nobody Aborts = ⊥
+IsAllowed Nobody (Goes fate harm) = ⊥
+IsAllowed Nobody (Passes ms) = Unit {0}
+IsAllowed Nobody Resets = Unit {0}
+IsAllowed Nobody Cuts = Unit {0}
+IsAllowed (Hosted h) (Offers aim payload limits) = ⊥
+IsAllowed (Hosted h) (Uploads limits) = ⊥
+IsAllowed (Hosted h) Aborts = Unit {0}
+IsAllowed (Hosted h) (Goes fate harm) = Unit {0}
+IsAllowed (Hosted h) (Passes ms) = Unit {0}
+IsAllowed (Hosted h) Resets = Unit {0}
+IsAllowed (Hosted h) Cuts = Unit {0}
+
+-- A play: an event that is not refused, at some luck of the medium and with or without memory for a part of an upload.
+pub record Play (c : Profile) (w : Link) (event : Happening) (w' : Link) (answer : Answered) : Type 0 where
+  pub allowed : IsAllowed w.session event
+  pub first : Luck
+  pub second : Luck
+  pub room : Bool
+  pub same : played c w event first second room ≡ record { link = w'; answer = answer }

@@ -1,0 +1,45 @@
+-- A run: events that come to a link one after the other.
+use Rattle.std.specs.Prelude.{◌≡◌, ℕ, List, [], ◌∷◌, ◌++◌, take, drop, map, Option, Result, Ok, Err}
+use Rattle.std.specs.declared.vec.Vec.{Vec}
+use Rattle.std.specs.declared.alloc.Global.{Global}
+use Rattle.dfu_host.specs.declared.report.Report.{Report}
+use Rattle.dfu_sim.specs.declared.event.Event.{Event as GivenEvent}
+use Rattle.dfu_sim.specs.declared.fault.LinkFault.{LinkFault}
+use Rattle.dfu_sim.specs.declared.fault.LinkFault.TheVariants.{NoMemory}
+use Rattle.dfu_sim.specs.declared.running.Stop.{Stop}
+use Rattle.dfu_sim.specs.Session.{said}
+use Rattle.dfu_sim.specs.Bench.{Bench, LinkState}
+use Rattle.dfu_sim.specs.Happening.{Happening, happening}
+use Rattle.dfu_sim.specs.Refusing.{IsRefused}
+use Rattle.dfu_sim.specs.Comes.{HasCome}
+use Rattle.dfu_sim.specs.Giving.{Gives}
+
+-- What happens comes to a link one after the other, none of it is refused, these are the reports in their order, and with Uploaded the
+-- active image is given.
+pub data Runs : LinkState → List Happening → List Report → LinkState → Type 0 where
+  rests : {w : LinkState} → Runs w [] [] w
+  comes : {w mid w' : LinkState} {h : Happening} {hs : List Happening} {report : Option Report} {reports : List Report}
+      → HasCome w h mid (Ok report) → Gives w mid (Ok report) → Runs mid hs reports w' → Runs w (h ∷ hs) (said report ++ reports) w'
+
+-- What happens, of the events that a caller names.
+abbrev pub happenings : List GivenEvent → List Happening
+happenings events = map happening events
+
+-- Why a run stops before what happens next: that is refused as this fault, or there is no memory for a report.
+abbrev pub IsStop : Bench → Happening → LinkFault → Type 0
+IsStop b next NoMemory = Unit {0}
+IsStop b next fault = IsRefused b next fault
+
+-- A run stopped at this place: what happens before it came, and what is next did not.
+pub record StopsAt (w : LinkState) (hs : List Happening) (fault : LinkFault) (at : ℕ) (reports : List Report)
+    (w' : LinkState) : Type 0 where
+  pub next : Happening
+  pub more : List Happening
+  pub here : drop at hs ≡ next ∷ more
+  pub before : Runs w (take at hs) reports w'
+  pub why : IsStop w'.bench next fault
+
+-- What a run answers: the reports of all that happens, or where it stopped.
+abbrev pub HasRun : LinkState → List Happening → LinkState → Result (Vec Report Global) Stop → Type 0
+HasRun w hs w' (Ok reports) = Runs w hs reports.items w'
+HasRun w hs w' (Err stop) = StopsAt w hs stop.fault stop.at stop.reports.items w'

@@ -1,0 +1,109 @@
+//! Laws of plays. Each is the contract of a function that does nothing, which is proved and not to
+//! be called by programs. `World::step` calls `image_shown`, for its law alone.
+
+ghost use Rattle.dfu_sim.specs.Headline.{HoldsAtRest};
+ghost use Rattle.dfu_sim.specs.LinkAgreement.{SomeAgrees, FreshAgrees, LinkAgreesOn};
+ghost use Rattle.dfu_sim.specs.CleanRun.{CleanRun};
+ghost use Rattle.dfu_sim.specs.CleanSteps.{StepsInstall, StepsStand};
+ghost use Rattle.dfu_sim.specs.NextSession.{SessionsGoOn};
+ghost use Rattle.dfu_sim.specs.Giving.{UploadsGive, RestIsSteady};
+ghost use Rattle.dfu_sim.specs.Simulation.{OnlyOffered, Simulation};
+ghost use Rattle.dfu_sim.specs.OneAnswer.{OneEvent, OneRefusal, RefusedIsNoPlay};
+ghost use Rattle.dfu_sim.specs.OneResult.{OneResult};
+ghost use Rattle.dfu_sim.specs.Power.{PowerComesBack};
+ghost use Rattle.dfu_sim.specs.Understood.{ImageShown, BytesShow, Understood};
+
+use dfu_slots::laws::active_image_is_one;
+
+/// Each play of an event, from a link that agrees with a session machine, is one legal step of it.
+/// Agreement and the phase fact hold again, and Installed and Verified are reported only in appIDLE
+/// with exactly that session's payload active.
+pub fn simulation()
+    ensures { Simulation }
+{}
+
+/// A download in which nothing is lost and nothing fails is installed after exactly the clean count
+/// of actions, and verified after exactly the clean count of that: Installed or Verified is reported
+/// in the last of them and nothing in those before.
+pub fn clean_run()
+    ensures { CleanRun }
+{}
+
+/// The same by steps, with no premise on memory: where each step is one of an offer and at most the
+/// passes of a clean run, as the clause `sure` of `World::step` says of it, the reports are those of
+/// a clean run, and no step is refused.
+pub fn clean_steps()
+    ensures install { StepsInstall }
+    ensures stand { StepsStand }
+{}
+
+/// After a legal run the active image is the one before it, or a whole payload that was offered so
+/// far.
+pub fn only_offered()
+    ensures { OnlyOffered }
+{}
+
+/// Agreement is no empty word: some session machine agrees with each link, and where no session is
+/// live and no bytes are closed, one to which nothing was offered. Where the image that is shown is
+/// the active image of the medium's bytes, such a machine agrees on them too.
+pub fn machine_agrees()
+    ensures some { SomeAgrees }
+    ensures fresh { FreshAgrees }
+    ensures on { LinkAgreesOn }
+{}
+
+/// A world with no session is taken apart, and the next is made over its device: the session machine
+/// goes on, with nothing uploaded so far.
+pub fn sessions_go_on()
+    ensures { SessionsGoOn }
+{}
+
+/// What goes over the wire is understood: what a device answers to a request of a host, in bytes,
+/// is heard as what the device meant. A part of an upload may find no memory.
+pub fn understood()
+    ensures { Understood }
+{}
+
+/// A play with its bytes, over a device on a medium, is a play of the values that it shows.
+pub fn bytes_show()
+    ensures { BytesShow }
+{}
+
+/// An event has one meaning: it is refused as one fault and is then no play, or it means one event.
+/// What a play leads to is said by `sure` of `World::step` where no write is harmed, and where one
+/// is, by `result`: one device but for the count of failed writes, and one session and one answer by
+/// whether there was memory for a part of an upload.
+pub fn one_answer()
+    ensures fault { OneRefusal }
+    ensures no_play { RefusedIsNoPlay }
+    ensures event { OneEvent }
+    ensures result { OneResult }
+{}
+
+/// Whatever comes to a link that began with a device at rest, the bytes that come with Uploaded
+/// are those of the active image. So they are in a script.
+pub fn uploads_give_the_image()
+    ensures gives { UploadsGive }
+    ensures rest { RestIsSteady }
+{}
+
+/// Where the medium's bytes have an active image, it is the one that plays speak of, and no other.
+pub fn image_shown()
+    ensures { ImageShown }
+{
+    active_image_is_one();
+}
+
+/// The power comes back: where a bench shows the active image of its medium's bytes, as that of a
+/// `World` always does, `Device::power_on` is not refused on that medium.
+pub fn power_comes_back()
+    ensures { PowerComesBack }
+{
+    active_image_is_one();
+}
+
+/// The headline holds of a device with no session that has no image to put in place: its factory
+/// image is the one that is active then.
+pub fn headline_at_rest()
+    ensures { HoldsAtRest }
+{}

@@ -1,0 +1,30 @@
+//! The link of a host and a device of USB device firmware upgrade (USB DFU 1.1): what each event
+//! makes of both, and the laws that hold whatever events come.
+//!
+//! A `World` takes one event, `run` a list of them. Memory is taken by `step` for the parts of an
+//! upload, and by `run` for its reports too.
+#![tactic(auto)]
+
+mod acting;
+mod aim;
+mod answered;
+mod back;
+mod course;
+mod event;
+mod fate;
+mod fault;
+mod going;
+pub mod laws;
+mod offering;
+mod play;
+mod power;
+mod running;
+mod uploading;
+mod world;
+
+pub use aim::Aim;
+pub use event::Event;
+pub use fate::Fate;
+pub use fault::{LinkFault, OfferFault};
+pub use running::{Stop, run};
+pub use world::World;

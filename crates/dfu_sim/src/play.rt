@@ -1,0 +1,177 @@
+//! What each event makes of a device and a host.
+
+ghost use Rattle.std.specs.Prelude.{◌≡◌};
+ghost use Rattle.dfu_sim.specs.Bench.{ShowsActive};
+ghost use Rattle.dfu_sim.specs.Course.{course_of};
+ghost use Rattle.dfu_sim.specs.Play.{given, told, aborted};
+ghost use Rattle.dfu_sim.specs.Standing.{session_of, given_by, bench_of, link_state, IsOnIn, SendsBytes, IsCountedIn, IsSteady};
+ghost use Rattle.dfu_sim.specs.Happening.{Offers, Goes, fate_of, harm_in, happening};
+ghost use Rattle.dfu_sim.specs.Comes.{HasCome, HasComeAlone};
+ghost use Rattle.dfu_sim.specs.inside.Acting.{report_of, ended, abort_told};
+
+use crate::aim::Aim;
+use crate::answered::Answered;
+use crate::event::Event;
+use crate::fate::Fate;
+use crate::fault::LinkFault;
+use crate::going::carry_out;
+use crate::offering::begin;
+use crate::power::power_cycle;
+use crate::uploading::upload;
+use dfu_device::Device;
+use dfu_host::{Action, Host, Limits, Report, Seen};
+use dfu_slots::{Faulty, Medium};
+use std::alloc::Global;
+
+/// The report of a host that is done.
+fn report(host: &Host<'_>) -> Option<Report>
+    ensures { result ≡ report_of host.now.phase }
+{
+    match host.next() {
+        Action::Done(report) => Some(report),
+        _ => None,
+    }
+}
+
+/// Ends the session of a host that is done, with its report. A host that reports Uploaded is kept.
+fn end<'f>(host: &mut Option<Host<'f>>, gave: &mut Option<Host<'f>>) -> Option<Report>
+    requires { IsCountedIn (session_of host.old) }
+    ensures session { session_of host.new ≡ (ended (session_of host.old)).session }
+    ensures given { given_by gave.new ≡ given (ended (session_of host.old)).answer.gave (given_by gave.old) }
+    ensures report { result ≡ (ended (session_of host.old)).answer.report }
+{
+    let report = match host {
+        None => None,
+        Some(live) => report(live),
+    };
+    match report {
+        None => {}
+        Some(Report::Uploaded) => *gave = host.take(),
+        Some(_) => *host = None,
+    }
+    report
+}
+
+/// Tells a live host that the device was restarted.
+fn restart<'f>(host: &mut Option<Host<'f>>, gave: &mut Option<Host<'f>>) -> Option<Report>
+    requires sized { SendsBytes (session_of host.old) }
+    requires counted { IsCountedIn (session_of host.old) }
+    ensures session { session_of host.new ≡ (told (session_of host.old)).session }
+    ensures given { given_by gave.new ≡ given (told (session_of host.old)).answer.gave (given_by gave.old) }
+    ensures report { result ≡ (told (session_of host.old)).answer.report }
+{
+    if let Some(live) = host {
+        live.take(Seen::Restarted);
+    }
+    end(host, gave)
+}
+
+/// A file is offered.
+fn offer<'f, M: Medium>(
+    device: &Device<M>,
+    host: &mut Option<Host<'f>>,
+    aim: Aim,
+    file: &'f [u8],
+    limits: Limits,
+) -> Result<Option<Report>, LinkFault>
+    requires { IsSteady (bench_of device.now host.old) }
+    ensures { HasComeAlone (bench_of device.now host.old) (Offers aim file.now limits) (bench_of device.now host.new) result }
+{
+    if host.is_some() {
+        return Err(LinkFault::HostBusy);
+    }
+    match begin(device, aim, file, limits) {
+        Ok(begun) => {
+            *host = Some(begun);
+            Ok(None)
+        }
+        Err(fault) => Err(LinkFault::BadOffer(fault)),
+    }
+}
+
+/// The session is given up.
+fn abort(host: &mut Option<Host<'_>>) -> Result<Option<Report>, LinkFault>
+    requires { IsOnIn (session_of host.old) }
+    ensures session { session_of host.new ≡ aborted (session_of host.old) }
+    ensures told { result ≡ abort_told (session_of host.old) }
+{
+    match host {
+        None => Err(LinkFault::NoHost),
+        Some(live) => {
+            live.abort();
+            Ok(None)
+        }
+    }
+}
+
+/// The host takes its next action. `out` is room for an answer.
+fn go<'f, M: Faulty>(
+    device: &mut Device<M>,
+    host: &mut Option<Host<'f>>,
+    gave: &mut Option<Host<'f>>,
+    fate: Fate<'_>,
+    out: &mut Answered,
+) -> Result<Option<Report>, LinkFault>
+    requires { IsSteady (bench_of device.old host.old) }
+    ensures { HasCome (link_state device.old host.old gave.old) (Goes (fate_of fate.entry) (harm_in fate.entry))
+        (link_state device.new host.new gave.new) result }
+{
+    match host {
+        None => return Err(LinkFault::NoHost),
+        Some(live) => carry_out(device, live, fate, out),
+    }
+    Ok(end(host, gave))
+}
+
+/// An event comes. A refused one changes nothing. `out` is room for an answer.
+fn come<'f, M: Faulty>(
+    alloc: Global,
+    device: &mut Device<M>,
+    host: &mut Option<Host<'f>>,
+    gave: &mut Option<Host<'f>>,
+    event: Event<'f, '_>,
+    out: &mut Answered,
+) -> Result<Option<Report>, LinkFault>
+    requires { IsSteady (bench_of device.old host.old) }
+    ensures { HasCome (link_state device.old host.old gave.old) (happening event.entry) (link_state device.new host.new gave.new) result }
+{
+    match event {
+        Event::Offer { file, limits } => offer(device, host, Aim::Install, file, limits),
+        Event::OfferVerified { file, limits } => offer(device, host, Aim::Verify, file, limits),
+        Event::Upload { limits } => upload(alloc, device, host, limits),
+        Event::Abort => abort(host),
+        Event::Go(fate) => go(device, host, gave, fate, out),
+        Event::Time(ms) => {
+            device.elapse(ms);
+            Ok(None)
+        }
+        Event::Reset => {
+            device.usb_reset();
+            Ok(restart(host, gave))
+        }
+        Event::Cut => {
+            power_cycle(device);
+            Ok(restart(host, gave))
+        }
+    }
+}
+
+/// The same, with what the device shows then.
+pub(crate) fn play<'f, M: Faulty>(
+    alloc: Global,
+    device: &mut Device<M>,
+    host: &mut Option<Host<'f>>,
+    gave: &mut Option<Host<'f>>,
+    event: Event<'f, '_>,
+    out: &mut Answered,
+) -> Result<Option<Report>, LinkFault>
+    requires { IsSteady (bench_of device.old host.old) }
+    ensures comes { HasCome (link_state device.old host.old gave.old) (happening event.entry) (link_state device.new host.new gave.new)
+        result }
+    ensures active { ShowsActive (bench_of device.new host.new) }
+{
+    let told = come(alloc, device, host, gave, event, out);
+    // Called for its clause `image`, which `active` needs; what it answers isn't used.
+    let _ = device.slots().capacity();
+    told
+}

@@ -1,0 +1,78 @@
+//! A list of events.
+
+ghost use Rattle.std.specs.Prelude.{◌≡◌, ◌++◌, ◌<◌, vec_len, vec_capacity};
+ghost use Rattle.dfu_sim.specs.Session.{said};
+ghost use Rattle.dfu_sim.specs.Running.{happenings, HasRun};
+ghost use Rattle.dfu_sim.specs.FollowingRun.{AllFollowRun};
+ghost use Rattle.dfu_sim.specs.Headline.{RunKeepsHeadline};
+ghost use Rattle.dfu_sim.specs.CleanInstall.{RunsCleanly};
+
+use crate::event::Event;
+use crate::fault::LinkFault;
+use crate::world::World;
+use dfu_host::Report;
+use dfu_slots::Faulty;
+use std::alloc::Global;
+
+/// Where a run stopped: before the event `at`, counted from 0, which was refused or for whose report
+/// there was no memory. `reports` are those of the events before it.
+#[derive(Debug, Drop)]
+pub struct Stop {
+    pub fault: LinkFault,
+    pub at: usize,
+    pub reports: Vec<Report>,
+}
+
+/// Adds a report, if there is one.
+fn note(reports: &mut Vec<Report>, report: Option<Report>)
+    requires { vec_len reports.old < vec_capacity reports.old }
+    ensures { reports.new.items ≡ reports.old.items ++ said report }
+{
+    if let Some(report) = report {
+        reports.push_reserved(report);
+    }
+}
+
+/// Lets events come one after the other, up to the first that is refused, and answers their
+/// reports. Room for a report is made before each event.
+///
+/// By `headline` the headline holds after each of the events, where it held before the first: the
+/// active image is the factory image or the payload of a file offered so far, and where the event
+/// reports Installed or Verified, the device is in appIDLE with the payload of the last session.
+///
+/// # Errors
+///
+/// `Stop` where an event is refused, with its fault, or where there is no memory for a report,
+/// `NoMemory`. The link then stands as before that event.
+pub fn run<'f, M: Faulty>(
+    world: &mut World<'f, M>,
+    alloc: Global,
+    events: &[Event<'f, '_>],
+) -> Result<Vec<Report>, Stop>
+    ensures runs { HasRun world.old (happenings events.now) world.new result }
+    ensures legal { AllFollowRun world.old (happenings events.now) world.new result }
+    ensures headline { RunKeepsHeadline world.old events.now world.new result }
+    ensures clean { RunsCleanly world.old.bench (happenings events.now) world.new.bench result }
+{
+    let mut reports = Vec::new(alloc);
+    for i in 0..events.len() {
+        if reports.reserve(1).is_err() {
+            return Err(Stop {
+                fault: LinkFault::NoMemory,
+                at: i,
+                reports,
+            });
+        }
+        match world.step(events[i]) {
+            Ok(report) => note(&mut reports, report),
+            Err(fault) => {
+                return Err(Stop {
+                    fault,
+                    at: i,
+                    reports,
+                });
+            }
+        }
+    }
+    Ok(reports)
+}

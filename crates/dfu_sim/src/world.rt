@@ -1,0 +1,190 @@
+//! A device and a host on a link.
+
+ghost use Rattle.std.specs.Prelude.{◌≡◌, [], true, false, IfOk, IfErr, IfNone};
+ghost use Rattle.dfu_slots.specs.Medium.Fuse.{Whole};
+ghost use Rattle.dfu_sim.specs.Bench.{Nobody};
+ghost use Rattle.dfu_sim.specs.Bytes.{armed};
+ghost use Rattle.dfu_sim.specs.Bench.{ShowsActive};
+ghost use Rattle.dfu_sim.specs.Happening.{happening};
+ghost use Rattle.dfu_sim.specs.Refusing.{IsLive};
+ghost use Rattle.dfu_sim.specs.Comes.{HasCome};
+ghost use Rattle.dfu_sim.specs.Following.{AllFollow};
+ghost use Rattle.dfu_sim.specs.Headline.{StepKeepsHeadline};
+ghost use Rattle.dfu_sim.specs.Sure.{AllSure};
+ghost use Rattle.dfu_sim.specs.Giving.{Gives};
+
+use crate::answered::Answered;
+use crate::back::Back;
+use crate::event::Event;
+use crate::fault::LinkFault;
+use crate::laws::image_shown;
+use crate::play::play;
+use arrayvec::ArrayVec;
+use dfu_device::{Answer, Device};
+use dfu_host::{Action, Host, Phase, Report};
+use dfu_slots::Faulty;
+use std::alloc::Global;
+use std::marker::Model;
+
+/// A device, the host of the session that is live, if one is, and what was uploaded last.
+///
+/// Contracts see it as a `LinkState`. Only `step` takes memory, and only in an upload.
+#[derive(Drop)]
+pub struct World<'f, M: Faulty> {
+    alloc: Global,
+    device: Device<M>,
+    host: Option<Host<'f>>,
+    // The host of the last session that reported Uploaded, if one did.
+    gave: Option<Host<'f>>,
+    out: Answered,
+}
+
+impl<'f, M: Faulty> Model for World<'f, M> {
+    ghost use Rattle.dfu_sim.specs.Bench.{LinkState};
+    ghost use Rattle.dfu_sim.specs.Standing.{bench_of, link_state, Holds};
+
+    ghost Value = { LinkState };
+
+    ghost view = { λ w. link_state w.device w.host w.gave };
+
+    ghost invariant = { λ w. Holds (bench_of w.device w.host) };
+}
+
+impl<'f, M: Faulty> World<'f, M> {
+    /// A link to a device, with no session and nothing uploaded. It disarms the device's medium,
+    /// and keeps the allocator for uploads to come.
+    pub fn new(alloc: Global, device: Device<M>) -> World<'f, M>
+        ensures link { result ≡ record { bench = record { device = armed device Whole; session = Nobody }; up = [] } }
+        ensures active { ShowsActive result.bench }
+    {
+        let mut device = device;
+        device.disarm();
+        // Called for its clause `image`, which `active` needs; what it answers isn't used.
+        let _ = device.slots().capacity();
+        World {
+            alloc,
+            device,
+            host: None,
+            gave: None,
+            out: Answered {
+                came: Back::Lost,
+                bytes: ArrayVec::new(),
+            },
+        }
+    }
+
+    /// Lets an event come, and answers the report of the session that ends with it, if one does.
+    /// It takes memory for the parts of an upload alone; where that is refused, the session ends
+    /// with the report NoMemory.
+    ///
+    /// By `headline` the headline holds after the event with the report that is answered, where it
+    /// held before: the active image is the factory image or the payload of a file offered so far.
+    /// Where the report is Installed or Verified, the device is in appIDLE at this very moment, and
+    /// the payload of the session that reports is the active image.
+    ///
+    /// # Errors
+    ///
+    /// A refused event changes nothing. The faults, in the order in which they are looked for:
+    ///
+    /// 1. `HostBusy`: an offer or an upload while a session is live.
+    /// 2. `NoHost`: an abort or an action, whatever its fate, while no session is live.
+    /// 3. `BadOffer`: of an offer, the fault of `dfu_suffix::read`, else that of `Host::download` or
+    ///    `Host::download_verified`; of an upload, that of `Host::upload`.
+    pub fn step(&mut self, event: Event<'f, '_>) -> Result<Option<Report>, LinkFault>
+        ensures play { HasCome self.old (happening event.entry) self.new result }
+        ensures legal { AllFollow self.old (happening event.entry) self.new result }
+        ensures headline { StepKeepsHeadline self.old event.entry self.new result }
+        ensures sure { AllSure self.old.bench (happening event.entry) self.new.bench result }
+        ensures gives { Gives self.old self.new result }
+        ensures active { ShowsActive self.new.bench }
+    {
+        // Called for its law, which `legal` needs: no image but the one that is shown is active.
+        image_shown();
+        play(
+            self.alloc,
+            &mut self.device,
+            &mut self.host,
+            &mut self.gave,
+            event,
+            &mut self.out,
+        )
+    }
+
+    /// The phase of the host that is live, if one is, and what it asks for next.
+    pub fn asks(&self) -> Option<(Phase, Action<'f>)>
+        ensures { IfNone result (self.now.bench.session ≡ Nobody) }
+    {
+        match &self.host {
+            None => None,
+            Some(host) => Some((host.phase(), host.next())),
+        }
+    }
+
+    /// What the device answered to the host's last action, with the bytes of its answer; also where that was lost
+    /// on its way back. No clause speaks of it: it is for a trace.
+    pub fn answered(&self) -> Option<(Answer, &[u8])> {
+        match self.out.came {
+            Back::Answered(answer) => Some((answer, self.out.bytes.as_slice())),
+            Back::Lost | Back::Restarted => None,
+        }
+    }
+
+    /// What the last session gave that reported Uploaded: the device's active image at that time.
+    /// At first it is empty.
+    pub fn uploaded(&self) -> &[u8]
+        ensures { result.now ≡ self.now.up }
+    {
+        match &self.gave {
+            None => &[],
+            Some(host) => host.uploaded(),
+        }
+    }
+
+    /// The device.
+    pub fn device(&self) -> &Device<M>
+        ensures device { result.now ≡ self.now.bench.device }
+        ensures active { ShowsActive self.now.bench }
+    {
+        &self.device
+    }
+
+    /// The device back, without what was uploaded. Where a session is live, the link back as it is.
+    pub fn into_device(self) -> Result<Device<M>, World<'f, M>>
+        ensures ok { IfOk result (λ device. (self.entry.bench.session ≡ Nobody) × (device ≡ self.entry.bench.device)) }
+        ensures err { IfErr result (λ world. IsLive self.entry.bench.session × (world ≡ self.entry)) }
+        // The medium of the device isn't armed.
+        ensures unarmed { IfOk result (λ device. device.slots.medium.fuse ≡ Whole) }
+    {
+        match &self.host {
+            None => Ok(self.release()),
+            Some(_) => Err(self),
+        }
+    }
+
+    /// Whether a session is live.
+    pub fn is_live(&self) -> bool
+        ensures live { result ≡ true → IsLive self.now.bench.session }
+        ensures none { result ≡ false → self.now.bench.session ≡ Nobody }
+    {
+        match &self.host {
+            None => false,
+            Some(_) => true,
+        }
+    }
+
+    /// The device by itself. Within `into_device` it would be moved piece by piece, in half a megabyte of code.
+    #[inline(never)]
+    pub fn release(self) -> Device<M>
+        ensures device { result ≡ self.entry.bench.device }
+        ensures unarmed { result.slots.medium.fuse ≡ Whole }
+    {
+        let World {
+            alloc: _,
+            device,
+            host: _,
+            gave: _,
+            out: _,
+        } = self;
+        device
+    }
+}

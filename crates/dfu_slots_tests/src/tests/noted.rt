@@ -1,0 +1,80 @@
+//! What a simulated medium notes of its writes.
+use super::{format, formatted, install};
+use dfu_slots::{Faulty, PutFault, SimMedium, Slots, Unit, WriteEnd};
+use std::process::Abort;
+use std::test::Fail;
+
+// A write: whether it erased, where, how many bytes, and how it ended.
+type Wanted = (bool, u32, u32, WriteEnd);
+
+// The last writes of a store's medium are these.
+fn assert_last(rt: &impl Abort, slots: &Slots<SimMedium>, wanted: &[Wanted]) {
+    let notes = slots.medium().noted().notes.as_slice();
+    assert!(rt; wanted.len() <= notes.len());
+    let first = notes.len().saturating_sub(wanted.len());
+    for (note, wanted) in notes.iter().skip(first).zip(wanted) {
+        assert_eq!(rt; (note.erases, note.at, note.len, note.end), *wanted);
+    }
+}
+
+// An install over both slots of a medium with sectors, whose second slot begins at 12,288.
+#[rattlefmt::skip]
+#[test]
+fn erases_and_writes_are_noted(rt: HostRuntime) -> Result<(), Fail> {
+    let mut slots = format(SimMedium::with_sectors(rt.alloc(), 6 * 4096, Unit::U256, 4096)?)?;
+    install(&mut slots, &[0xff; 4])?;
+    install(&mut slots, &[1, 2, 3])?;
+    assert_last(&rt, &slots, &[
+        (true, 0, 4096, WriteEnd::Worked),
+        (true, 8192, 4096, WriteEnd::Worked), (false, 8192, 256, WriteEnd::Worked),
+        (true, 4096, 4096, WriteEnd::Worked), (false, 4096, 256, WriteEnd::Worked),
+        (true, 0, 4096, WriteEnd::Worked), (false, 0, 256, WriteEnd::Worked),
+    ]);
+    Ok(())
+}
+
+// Puts four bytes FFh behind those that were put.
+fn put_four(slots: &mut Slots<SimMedium>) -> Result<(), PutFault> {
+    let at = slots.put_end();
+    slots.put(at, &[0xff; 4])
+}
+
+// The second of two writes lies, and in the next install the first one fails.
+#[rattlefmt::skip]
+#[test]
+fn lies_and_failures_are_noted(rt: HostRuntime) -> Result<(), Fail> {
+    let mut slots = formatted(rt.alloc())?;
+    slots.begin()?;
+    slots.arm_lie(1, &[0xaa]);
+    put_four(&mut slots)?;
+    assert_eq!(rt; put_four(&mut slots), Err(PutFault::NotVerified));
+    assert_last(&rt, &slots, &[(false, 128, 4, WriteEnd::Worked), (false, 132, 4, WriteEnd::Lied)]);
+    slots.begin()?;
+    slots.arm(0, &[], false);
+    assert_eq!(rt; put_four(&mut slots), Err(PutFault::Failed));
+    assert_last(&rt, &slots, &[(false, 128, 4, WriteEnd::Failed)]);
+    Ok(())
+}
+
+// Of twenty writes the last sixteen are kept, and all are counted.
+#[test]
+fn sixteen_writes_are_kept(rt: HostRuntime) -> Result<(), Fail> {
+    let mut slots = formatted(rt.alloc())?;
+    slots.begin()?;
+    let before = slots.medium().noted().count;
+    for byte in 0..20u8 {
+        let at = slots.put_end();
+        slots.put(at, &[byte])?;
+    }
+    let noted = slots.medium().noted();
+    assert_eq!(rt;
+        (noted.count.saturating_sub(before), noted.notes.len()),
+        (20, 16)
+    );
+    match noted.notes.first() {
+        Some(note) => assert_eq!(rt; (note.at, note.len), (132, 1)),
+        None => panic!(rt; "no write is noted"),
+    }
+    assert_last(&rt, &slots, &[(false, 147, 1, WriteEnd::Worked)]);
+    Ok(())
+}
