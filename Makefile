@@ -74,8 +74,9 @@ fortify = $(call once,fortify,$(shell $(CC) -O2 $(CPPFLAGS) $(CFLAGS) -dM -E -x 
     END { if (fast && !level) print "-D_FORTIFY_SOURCE=2" }'))
 hosted = -std=c11 -Wall -Wextra -Iinclude -O2 $(guards) $(fortify) $(CPPFLAGS) $(CFLAGS)
 links = $(filter-out $(LDFLAGS),$(if $(is_movable),-pie) -Wl,-z,relro -Wl,-z,now) $(LDFLAGS)
-# A library is small, a program takes of it what it calls, and on Linux it fits into programs and shared objects at any address.
-portable = -std=c11 -Wall -Wextra -Iinclude -Os -ffunction-sections -fdata-sections $(if $(is_linux),-fPIC) $(CPPFLAGS) $(CFLAGS)
+# A library is small, and a program takes of it what it calls. On Linux it is fast, and fits into programs and shared objects at any
+# address.
+portable = -std=c11 -Wall -Wextra -Iinclude $(if $(is_linux),-O2 -fPIC,-Os) -ffunction-sections -fdata-sections $(CPPFLAGS) $(CFLAGS)
 
 # Each file is made beside its place and renamed: none is half written, and two builds in one folder do each other no harm.
 objects = $(BUILD)/objects
