@@ -38,8 +38,10 @@ static size_t make_file(size_t payload) {
     uint8_t *end = file + length - 16;
     put16(end, roll(2) ? 0xffff : 0x0100), put16(end + 2, roll(2) ? 0xffff : 1), put16(end + 4, roll(3) ? 0xffff : 0x1209);
     put16(end + 6, 0x0100), memcpy(end + 8, "UFD", 3), end[11] = (uint8_t)suffix;
-    if (roll(20) == 0)
-        end[roll(12)] ^= (uint8_t)(1 << roll(8));
+    if (roll(20) == 0) {
+        uint32_t at = roll(12), bit = roll(8);
+        end[at] ^= (uint8_t)(1 << bit);
+    }
     for (size_t at = 0; at < length - 4; at++) {
         crc ^= file[at];
         for (int bit = 0; bit < 8; bit++)
@@ -56,8 +58,10 @@ static size_t make_descriptor(uint8_t *descriptor, uint32_t transfer) {
     size_t size = roll(3) ? 9 : 7;
     descriptor[0] = (uint8_t)size, descriptor[1] = 0x21, descriptor[2] = roll(8) ? (uint8_t)(3 | roll(4) << 2) : (uint8_t)roll(16);
     put16(descriptor + 3, roll(1000)), put16(descriptor + 5, transfer), put16(descriptor + 7, 0x0110);
-    if (roll(16) == 0)
-        descriptor[roll(3)] ^= (uint8_t)roll(16);
+    if (roll(16) == 0) {
+        uint32_t at = roll(3);
+        descriptor[at] ^= (uint8_t)roll(16);
+    }
     return roll(40) ? size : roll(10);
 }
 
@@ -81,8 +85,10 @@ static size_t status_of(struct peer *peer) {
     answer[0] = state == 10 ? (uint8_t)roll(16) : 0;
     put16(answer + 1, roll(300));
     answer[4] = (uint8_t)state;
-    if (roll(60) == 0)
-        answer[roll(6)] = (uint8_t)roll(256);
+    if (roll(60) == 0) {
+        uint32_t at = roll(6);
+        answer[at] = (uint8_t)roll(256);
+    }
     return roll(80) ? 6 : roll(9);
 }
 

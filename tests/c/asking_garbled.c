@@ -21,17 +21,21 @@ static void stop(const char *what, long call) {
 /* A device on the way through a download, at a step by dice. */
 static void prepare(void) {
     static uint8_t body[MOST_BLOCK];
-    uint32_t unit = units[roll(4)], sector = roll(2) * 256 << roll(2);
+    /* (each number by dice in a statement of its own, so that every compiler takes them in this order) */
+    uint32_t unit = units[roll(4)], sector = roll(2) * 256, slot = 512;
+    sector <<= roll(2), slot <<= roll(2);
     config.transfer = (uint16_t)(1 + roll(MOST_BLOCK));
     config.busy_ms = roll(2) * 3;
     config.manifest_ms = roll(2) * 4;
-    if (ship_sectors(&board, unit, sector, 512u << roll(2), (const uint8_t *)"0123456789", roll(11)) != 0)
+    uint32_t length = roll(11);
+    if (ship_sectors(&board, unit, sector, slot, (const uint8_t *)"0123456789", length) != 0)
         stop("nothing is made", -1);
     for (uint32_t step = roll(12), i = 0; i < step; i++) {
         uint8_t setup[8];
         choose(&board.device.device, config.transfer, setup);
         int32_t state = dfu_device_state(&board.device.device);
-        struct fate cut = {roll(4) ? WELL : CUT, 0, writes + roll(3), 0};
+        struct fate cut = {roll(4) ? WELL : CUT, 0, writes, 0};
+        cut.write += roll(3);
         if (state == 1)
             reset(&board);
         else if (state == 4 || state == 7)
@@ -46,8 +50,10 @@ static void prepare(void) {
 
 /* A few bytes of something by dice. */
 static void garble(void *bytes, size_t size) {
-    for (uint32_t i = 0, all = roll(4); i < all; i++)
-        ((uint8_t *)bytes)[roll((uint32_t)size)] = (uint8_t)(roll(3) ? roll(4) : roll(256));
+    for (uint32_t i = 0, all = roll(4); i < all; i++) {
+        uint32_t at = roll((uint32_t)size);
+        ((uint8_t *)bytes)[at] = (uint8_t)(roll(3) ? roll(4) : roll(256));
+    }
 }
 
 static int32_t one_call(const uint8_t setup[8], const uint8_t *body, uint32_t what, struct dfu_ask *ask) {

@@ -33,7 +33,8 @@ def function(name, operation, type, left, right):
     result = "i1" if operation in ORDERS else type
     if result != "i64":
         lines.append(f"  %o = zext {result} %s to i64")
-    return "\n".join([f"define i64 @{name}(i64 %a0, i64 %a1) #0 {{", "start:", *lines, f"  ret i64 %{'s' if result == 'i64' else 'o'}", "}", ""])
+    lines.append(f"  ret i64 %{'s' if result == 'i64' else 'o'}")
+    return "\n".join([f"define i64 @{name}(i64 %a0, i64 %a1) #0 {{", "start:", *lines, "}", ""])
 
 
 def main():

@@ -42,7 +42,7 @@ prints() {
 suite() {
     label=$1
     objects=$2
-    calls=$3
+    times=$3
     shift 3
     for name in rows asking power sessions asking_rows asking_format asking_power; do
         [ "$name" != asking_power ] || [ "${is_short-0}" -eq 0 ] || continue
@@ -52,12 +52,12 @@ suite() {
     for name in garbled noted garbled_sessions asking_twins asking_garbled edges; do
         is "$label: $name is built" program "$name" "$objects" "$top/tests/c/$name.c" "$@"
     done
-    is "$label: garbled" runs garbled "$calls"
-    is "$label: noted" runs noted "$calls"
-    is "$label: noted in units of 16" runs noted "$calls" 16
-    is "$label: garbled sessions" runs garbled_sessions "$calls"
-    is "$label: twins" runs asking_twins $((calls / 10))
-    is "$label: asking garbled" runs asking_garbled "$calls"
+    is "$label: garbled" runs garbled "$times"
+    is "$label: noted" runs noted "$times"
+    is "$label: noted in units of 16" runs noted "$times" 16
+    is "$label: garbled sessions" runs garbled_sessions "$times"
+    is "$label: twins" runs asking_twins $((times / 10))
+    is "$label: asking garbled" runs asking_garbled "$times"
     is "$label: edges" runs edges
     for name in bootloader early_stack asking_bootloader nor_bootloader; do
         is "$label: $name is built" program "$name" "$objects" "$top/examples/c/$name.c" "$@"

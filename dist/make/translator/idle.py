@@ -1,8 +1,8 @@
 """What a function's text needs not: locals that are memory in the module and variables in C, and lines whose result nobody reads."""
 
 # Lines that do nothing but make their value.
-MAKERS = ("local", "array", "load", "load_pair", "place", "sum", "compare", "compare_places", "widen", "narrow", "half", "address", "choose",
-          "same", "put_half", "to_number", "to_place", "row", "least", "product", "phi")
+MAKERS = ("local", "array", "load", "load_pair", "place", "sum", "compare", "compare_places", "widen", "narrow", "half", "address",
+          "choose", "same", "put_half", "to_number", "to_place", "row", "least", "product", "phi")
 
 
 def variables(blocks):

@@ -8,8 +8,9 @@ from refusals import refuse
 
 DATALAYOUT = "e-m:e-p270:32:32-p271:32:32-p272:64:64-i8:8:32-i16:16:32-i64:64-i128:128-n32:64-S128-Fn32"
 # Of a function, what says nothing of what it does, or says less.
-ATTRIBUTE = (r'minsize|optsize|inlinehint|alwaysinline|noinline|cold|mustprogress|willreturn|noreturn|nounwind|nofree|norecurse|nosync|nocallback'
-             r'|nocreateundeforpoison|speculatable|memory\([a-z0-9_:, ]+\)|"(?:frame-pointer|probe-stack|stack-probe-size|target-cpu)"="[^"]*"')
+ATTRIBUTE = (r'minsize|optsize|inlinehint|alwaysinline|noinline|cold|mustprogress|willreturn|noreturn|nounwind|nofree|norecurse|nosync'
+             r'|nocallback|nocreateundeforpoison|speculatable|memory\([a-z0-9_:, ]+\)'
+             r'|"(?:frame-pointer|probe-stack|stack-probe-size|target-cpu)"="[^"]*"')
 # What may stand outside of functions, besides the tables: of AArch64 with the low byte first, and what it declares of LLVM's own.
 OUTSIDE = [re.compile(it) for it in (
     r"", r";.*", r'source_filename = "rattle"', r"!llvm\.ident = !\{!0\}", r'![0-9]+ = !\{(!"rattle logic=[0-9a-f]+"|i8 0, i8 [0-9]+)?\}',

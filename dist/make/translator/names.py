@@ -2,8 +2,8 @@
 import re
 
 # What a local or a function may not be called.
-TAKEN = ("switch case default goto return if else for while do int short long char signed unsigned void struct union enum static const inline "
-         "register auto break continue sizeof typedef extern volatile float double restrict trap never memset memmove memcpy").split()
+TAKEN = ("switch case default goto return if else for while do int short long char signed unsigned void struct union enum static const "
+         "inline register auto break continue sizeof typedef extern volatile float double restrict trap never memset memmove memcpy").split()
 
 
 class Names:
