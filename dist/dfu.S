@@ -1,5 +1,5 @@
 /* SPDX-License-Identifier: MIT OR Apache-2.0 */
-/* The program dfu, as generated assembly for the processor that the compiler builds for. os.c has main, and calls the program's own entry. */
+/* The program dfu, as generated assembly for the processor that the compiler builds for. os.c has main, which calls the program's own. */
 #define main dfu_main
 /* (glibc has this function under two names, of which other C libraries know one) */
 #define __sysv_signal dfu_signal
