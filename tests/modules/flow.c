@@ -25,10 +25,12 @@ static void stores(void) {
 }
 
 static void memory(void) {
-    uint8_t bytes[4] = {1, 2, 3, 4}, some[3] = {7, 8, 200};
+    uint8_t bytes[4] = {1, 2, 3, 4}, wide[8] = {1, 0, 0, 0, 2, 0, 0, 0}, some[3] = {7, 8, 200};
     uint64_t room;
     check("order", dfu_flow_order(bytes), 1020207);
     check("what the order leaves", bytes[0] * 10000 + bytes[1] * 100 + bytes[2], 90907);
+    check("order of longer numbers", dfu_flow_wide_order(wide), 1020914);
+    check("what that leaves", wide[0] * 100 + wide[4], 1409);
     check("arrays at once", dfu_flow_arrays(7), 23);
     check("arrays one after the other", dfu_flow_arrays(8), -3);
     check("a pointer in memory", dfu_flow_pointer(&room, some, 3), 200);

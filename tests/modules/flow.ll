@@ -113,6 +113,30 @@ start:
   ret i64 %z2
 }
 
+; The same of numbers of 16, 32 and 64 bits.
+define i64 @dfu_flow_wide_order(ptr %a0) #0 {
+start:
+  %before = load i32, ptr %a0, align 1
+  store i32 9, ptr %a0, align 1
+  %p1 = getelementptr i8, ptr %a0, i64 4
+  %second = load i16, ptr %p1, align 1
+  tail call void @llvm.memmove.p0.p0.i64(ptr %p1, ptr %a0, i64 4, i1 false)
+  %third = load i64, ptr %a0, align 1
+  tail call fastcc void @"flow::add_to"(ptr noundef nonnull %a0, i8 noundef 5)
+  %now = load i32, ptr %a0, align 1
+  %x0 = zext i32 %before to i64
+  %x1 = zext i16 %second to i64
+  %x2 = lshr i64 %third, 32
+  %x3 = zext i32 %now to i64
+  %y0 = mul nuw i64 %x0, 1000000
+  %y1 = mul nuw i64 %x1, 10000
+  %y2 = mul nuw i64 %x2, 100
+  %z0 = add nuw i64 %y0, %y1
+  %z1 = add nuw i64 %y2, %x3
+  %z2 = add nuw i64 %z0, %z1
+  ret i64 %z2
+}
+
 ; Two arrays that are in use at once, across blocks, and two that never are.
 define i32 @dfu_flow_arrays(i32 %a0) #0 {
 start:
