@@ -21,12 +21,13 @@ program() {
     shift 3
     "$@" -std=c11 -w -I "$top/include" "$source" "$over/dfu_device.o" "$over/dfu_asking.o" "$over/dfu_host.o" -o "$made" -lpthread
 }
-# runs NAME WORD..: it runs, under `run` if that is set, and ends well.
+# runs NAME WORD..: it runs, under `run` if that is set, and ends well. (A compiler for Windows names it NAME.exe.)
 runs() {
-    name=$1
+    it=$work/$1
+    [ ! -e "$it.exe" ] || it=$it.exe
     shift
     # shellcheck disable=SC2086
-    ${run-} "$work/$name" "$@" > "$work/printed" 2>&1 || {
+    ${run-} "$it" "$@" > "$work/printed" 2>&1 || {
         tail -n 5 "$work/printed"
         return 1
     }
