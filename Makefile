@@ -9,7 +9,7 @@
 #   make archive      the sources as build/fustrelan-VERSION.tar.gz
 #   make clean        takes away what make built
 #
-# CPPFLAGS, CFLAGS and LDFLAGS stand behind what is chosen here, so that they win. After other words `make` builds anew; `make check` and
+# CPPFLAGS, CFLAGS and LDFLAGS come after what is chosen here, so that they win. With other words `make` builds anew; `make check` and
 # `make install` take what is there.
 PREFIX ?= /usr/local
 BINDIR ?= $(PREFIX)/bin

@@ -15,7 +15,7 @@ needs() {
     sed -n "s/^$1\( [^:]*\)\{0,1\}://p" "$top/crates.txt"
 }
 
-# below NAME..: sets `found` to these crates and those of the repository that they stand on, each once.
+# below NAME..: sets `found` to these crates and those of the repository that they depend on, each once.
 below() {
     found=
     left=$*

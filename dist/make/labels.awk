@@ -5,8 +5,8 @@
 #   .LJTI7_0    10000     a table of jumps
 #   .LCPI7_1    20001     a constant
 #
-# clang's labels count the functions of the file, so one more function changes every label behind it. Here each function begins anew, and
-# a reference says on which side its label is: 3f is the next 3, and 3b the last one. A function's end has no label: its size is told there.
+# clang's labels count the functions of the file, so one more function changes every label after it. Here each function begins anew, and
+# a reference says on which side its label is: 3f is the next 3, and 3b the last one. A function's end has no label: its size is set there.
 # A name in quotation marks, as "dfu_host::asking::send", gets letters, digits, dots and _ alone: dfu_host.asking.send.
 #
 # Status 1, with a line for each: a label that would mean another place, two names that would become one, a label that is not known.
@@ -41,7 +41,7 @@ function plain(name, here,    made) {
     return made
 }
 
-# A line whose names have no marks. What else stands in marks is no name: texts, and the flags of a section.
+# A line whose names have no marks. What else is in marks is no name: texts, and the flags of a section.
 function unmarked(text, here,    made, head) {
     if (text ~ /^\t\.(ascii|asciz|ident|file)\t/)
         return text
@@ -59,7 +59,7 @@ function unmarked(text, here,    made, head) {
     return made text
 }
 
-# A line whose references to labels behind it (side "f") or before it (side "b") are numbers.
+# A line whose references to labels after it (side "f") or before it (side "b") are numbers.
 function numbered(text, here, side,    made, label, n) {
     if (text ~ /^\t\.asci[iz]\t/)
         return text
@@ -111,7 +111,7 @@ END {
             text = numbered(line[i], i, "b")
             if (match(text, /\.Lfunc_end[0-9]+/)) {
                 if (text !~ /^\t\.size\t/ || substr(text, RSTART, RLENGTH) != ended || end != i - 1)
-                    refuse("the end of a function is told elsewhere", i)
+                    refuse("the end of a function is used elsewhere", i)
                 sub(/\.Lfunc_end[0-9]+/, ".", text)
             }
             print text

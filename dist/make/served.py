@@ -1,6 +1,6 @@
 #!/usr/bin/env python3
 """served.py FILE: a WebAssembly module as a page serves it, on standard output: up to its last section that is no
-custom one. The sections behind that name functions and tools, and no engine needs them.
+custom one. The sections after that name functions and tools, and no engine needs them.
 
 Statuses: 0 written, 2 a file that is no module.
 """
@@ -11,7 +11,7 @@ CUSTOM = 0
 
 
 def number(data, at):
-    """The number in LEB128 at a place, and the place behind it."""
+    """The number in LEB128 at a place, and the place after it."""
     value = shift = 0
     while True:
         byte = data[at]

@@ -21,7 +21,7 @@ class Ways:
         return label
 
     def shortly(self, label):
-        """What stands in place of a jump to a block that only ends: "" for any other block."""
+        """What takes the place of a jump to a block that only ends: "" for any other block."""
         kinds = [line.kind for line in self.by_label[label].lines]
         return {("never",): "never();", ("trap", "never"): "trap();", ("give_nothing",): "return;"}.get(tuple(kinds), "")
 

@@ -1,6 +1,6 @@
 """The body of a function in C: its locals, and the statements of its blocks in the module's order.
 
-Loads, stores and calls stand one on a line, in that order. A sum that is read once, in its own block, stands where it is read; every
+Loads, stores and calls keep that order, one on a line. A sum that is read once, in its own block, is written where it is read; every
 other value is a local."""
 import re
 

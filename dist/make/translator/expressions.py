@@ -69,7 +69,7 @@ def compared(order, left, right):
 
 
 def without_sign(type, it, known):
-    """The unsigned number that stands among the unsigned ones where it stands among those with a sign; `known` if it is a constant."""
+    """The unsigned number whose place among the unsigned ones is its place among those with a sign; `known` if it is a constant."""
     top = 1 << (bits(type) - 1)
     return narrowed(type, Expression(f"{it.part()} ^ {number(top).text}", SUM)) if known is None else number(known ^ top)
 

@@ -1,4 +1,4 @@
-"""The head of a file: what it is, what C has to provide, and the functions that stand for what LLVM has by itself."""
+"""The head of a file: what it is, what C has to provide, and the functions for what LLVM has by itself."""
 import re
 
 WHAT_IT_IS = """/* SPDX-License-Identifier: MIT OR Apache-2.0
@@ -69,7 +69,7 @@ def helper(name):
 
 
 def head(header, bodies):
-    """All that stands above the functions, for what their text uses."""
+    """All that comes before the functions, for what their text uses."""
     pairs = sorted(set(re.findall(r"struct ((?:i[0-9]+|ptr)_(?:i[0-9]+|ptr))\b", bodies)))
     used = sorted(set(re.findall(rf"\b((?:{'|'.join(HELPERS)})[0-9]+u?)\(", bodies)))
     return "\n".join([

@@ -41,7 +41,7 @@ class Table:
 
 
 class Block:
-    """A label, the line of the text where it stands, and the lines behind it."""
+    """A label, its line in the text, and the lines after it."""
 
     def __init__(self, number, label):
         self.number, self.label, self.lines = number, label, []

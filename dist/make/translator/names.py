@@ -7,7 +7,7 @@ TAKEN = ("switch case default goto return if else for while do int short long ch
 
 
 class Names:
-    """Names that are all different, each made of what it stands for."""
+    """Names that are all different, each made of what it names."""
 
     def __init__(self, taken=()):
         self.taken, self.named = {*TAKEN, *taken}, {}

@@ -19,7 +19,7 @@ def load(made, type, place, align):
 
 
 def load_pair(line):
-    """A pair, half by half: the second one stands at the next multiple of its size, as on AArch64."""
+    """A pair, half by half: the second one is at the next multiple of its size, as on AArch64."""
     made, first, second, pair = line["made"], line["first"], line["second"], f"{{ {line['first']}, {line['second']} }}"
     by = max(text.bytes_of(first), text.bytes_of(second))
     align = int(line["align"])
@@ -31,7 +31,7 @@ def load_pair(line):
 
 
 def widened(line):
-    """What stands in place of a line; None where it stays."""
+    """What takes the place of a line; None where it stays."""
     if line.kind == "local" and line["type"] == "ptr":
         return [f"{line['made']} = alloca i64, align {line['align']}"]
     if line.kind == "load" and line["type"] == "ptr":
