@@ -4,11 +4,8 @@
 #include "bus.h"
 #include "say.h"
 
-#include <limits.h>
 #include <string.h>
 #include <time.h>
-
-#define LONGEST_PAUSE 3600000 /* ms */
 
 static int64_t clock_ms(void)
 {
@@ -26,17 +23,18 @@ static void look(struct bus *bus)
     installed_run(&bus->installed, bus->machine.place.at, bus->machine.place.length);
 }
 
-/* The time is counted from before the writes that it leads to: they take none of the next state's. */
+/* In dfuDNBUSY and dfuMANIFEST all of the time that the host was told passes at once, and so the work is done; appDETACH alone counts
+   the time that passes. */
 void bus_pass(struct bus *bus)
 {
-    int64_t now = clock_ms(), passed = now - bus->told;
     int32_t before = machine_state(&bus->machine);
+    int64_t now = clock_ms(), ms = before == STATE_APP_DETACH ? now - bus->told : machine_due(&bus->machine);
     bus->told = now;
-    if (passed <= 0 || machine_due(&bus->machine) == 0)
+    if (ms <= 0)
         return;
-    machine_pass(&bus->machine, passed);
+    machine_pass(&bus->machine, ms);
     if (machine_state(&bus->machine) != before)
-        say_change("time", passed, machine_state(&bus->machine));
+        say_change("time", ms, machine_state(&bus->machine));
     look(bus);
 }
 
@@ -124,14 +122,15 @@ void bus_serve(struct bus *bus, const uint8_t setup[8])
         send(function, setup, answer, out);
     say_request(request, answer, out, machine_state(&bus->machine), clock_ms() - began);
     look(bus);
+    bus_pass(bus);
 }
 
 int bus_pause(struct bus *bus)
 {
-    int64_t due = machine_due(&bus->machine), left = bus->told + due - clock_ms();
-    if (due == 0)
+    int64_t left = bus->told + machine_due(&bus->machine) - clock_ms();
+    if (machine_state(&bus->machine) != STATE_APP_DETACH)
         return -1;
-    return left < 0 ? 0 : left > LONGEST_PAUSE ? LONGEST_PAUSE : (int)left;
+    return left < 0 ? 0 : (int)left;
 }
 
 bool bus_is_sound(const struct bus *bus)

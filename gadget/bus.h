@@ -19,7 +19,7 @@ struct bus {
     int64_t told;  /* up to when the machine was told the time, ms */
 };
 
-/* The time that the machine counts is told up to now. */
+/* The work that is due is done, and appDETACH is told the time up to now: once an answer is out, before a request, and before a reset. */
 void bus_pass(struct bus *bus);
 
 /* The bus was reset. */
@@ -29,10 +29,10 @@ void bus_reset(struct bus *bus);
 bool bus_settle(struct bus *bus);
 void bus_leave(struct bus *bus);
 
-/* A setup that stands there is answered. */
+/* A setup that stands there is answered, and what the answer announced is done. */
 void bus_serve(struct bus *bus, const uint8_t setup[8]);
 
-/* How long poll may wait, in ms: -1 where no time is counted. */
+/* How long poll may wait, in ms: until the time of appDETACH is over, else -1. */
 int bus_pause(struct bus *bus);
 
 /* Whether the machine goes on; false where the library refused its own record. */

@@ -31,7 +31,7 @@ void words_help(void)
           "  --transfer-size <BYTES> Take blocks of up to so many bytes, else 4096\n"
           "  --attributes <LIST>     Of download,upload,tolerant,detach; else the first three\n"
           "  --busy <MS>             What a block takes, as the host is told, else 5\n"
-          "  --manifest <MS>         What an image takes to be put in place, else 20\n"
+          "  --manifest <MS>         What an image takes, else 0, or 20 if not tolerant\n"
           "  --least <BYTES>         Take no image of fewer bytes, else 1\n"
           "  --dry-run               Say what is there and what is missing, and do nothing\n"
           "  --verbose               Print a line for each request; --verbose=<FILE> logs them\n"

@@ -12,7 +12,7 @@
 #define MOST_TRANSFER 4096 /* bytes of a block */
 #define MACHINE_UNIT 1     /* a file is written byte by byte, as far as its layout goes */
 
-enum { STATE_APP_IDLE = 0, STATE_DFU_IDLE = 2, STATE_MANIFEST = 7, STATE_ERROR = 10 };
+enum { STATE_APP_DETACH = 1, STATE_DFU_IDLE = 2 };
 
 struct machine {
     struct dfu_config config;

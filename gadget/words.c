@@ -37,6 +37,7 @@ static const struct option options[] = {
 
 #define MOST_IMAGE 16777216 /* bytes */
 #define MOST_MS 16777215
+#define BY_ATTRIBUTES UINT32_MAX /* of --manifest that isn't given */
 
 static bool refuse(const char *name, const char *why)
 {
@@ -198,7 +199,7 @@ int words_read(struct words *words, int count, char **texts)
 {
     int status;
     *words = (struct words){.application = "application", .upgrade = "upgrade", .root = "", .attributes = 7, .detach_ms = 1000,
-                            .transfer = 4096, .busy_ms = 5, .manifest_ms = 20, .least = 1};
+                            .transfer = 4096, .busy_ms = 5, .manifest_ms = BY_ATTRIBUTES, .least = 1};
     status = take_all(words, count, texts);
     if (status == STATUS_DONE && words->config != NULL && words->job == JOB_RUN) {
         status = config_read(words);
@@ -207,5 +208,7 @@ int words_read(struct words *words, int count, char **texts)
     }
     if (status != STATUS_DONE || words->job == JOB_HELP || words->job == JOB_VERSION)
         return status;
+    if (words->manifest_ms == BY_ATTRIBUTES)
+        words->manifest_ms = (words->attributes & 4) != 0 ? 0 : 20;
     return is_whole(words, optind < count) ? STATUS_DONE : STATUS_WORDS;
 }

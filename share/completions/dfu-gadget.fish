@@ -39,7 +39,7 @@ complete -c dfu-gadget -x -n $with_run -l detach-timeout -d 'Wait so long for th
 complete -c dfu-gadget -x -n $with_run -l transfer-size -d 'Take blocks of up to so many bytes, else 4096'
 complete -c dfu-gadget -x -n $with_run -l attributes -a 'download upload tolerant detach' -d 'Of download,upload,tolerant,detach; else the first three'
 complete -c dfu-gadget -x -n $with_run -l busy -d 'What a block takes, as the host is told, else 5'
-complete -c dfu-gadget -x -n $with_run -l manifest -d 'What an image takes to be put in place, else 20'
+complete -c dfu-gadget -x -n $with_run -l manifest -d 'What an image takes, else 0, or 20 if not tolerant'
 complete -c dfu-gadget -x -n $with_run -l least -d 'Take no image of fewer bytes, else 1'
 complete -c dfu-gadget -n $with_run -l dry-run -d 'Say what is there and what is missing, and do nothing'
 complete -c dfu-gadget -n $with_run -l verbose -d 'Print a line for each request; --verbose=<FILE> logs them'

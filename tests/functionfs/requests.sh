@@ -1,7 +1,8 @@
 # What the host sends, and what comes back: requests, time, resets, and writes that fail.
 # shellcheck shell=sh disable=SC2034,SC2154
 
-# A download in DFU mode, and the image uploaded.
+# A download in DFU mode, by a host that waits for the time that it was told, and the image uploaded.
+timed='--dfu-mode --busy 20 --manifest 20'
 download="setup 2101000000001a00 $(hex new) => 2101 ok
 setup a105000000000100 => a105 03
 setup a103000000000600 => a103 001400000400
@@ -12,7 +13,7 @@ setup a103000000000600 => a103 001400000700
 wait 20 =>
 setup a103000000000600 => a103 000000000200"
 fresh
-row 'a download' '--dfu-mode --busy 20' << END
+row 'a download' "$timed" << END
 setup a105000000000100 => upgrade joins / a105 02
 $download
 setup a102000000002000 => a102 $(hex new)
@@ -92,14 +93,60 @@ setup 2100640000000000 => application joins / 2100 ok
 wait 1000 => application leaves / upgrade joins
 setup a105000000000100 => a105 02
 END
-row 'a request while the device is busy' '--dfu-mode --busy 20' << END
-setup 2101000000001a00 $(hex new) => upgrade joins / 2101 ok
+
+# A host that doesn't wait: what was due is written by then. Each ends with the new image.
+early="setup 2101000000001a00 $(hex new) => 2101 ok
 setup a103000000000600 => a103 001400000400
-wait 19 =>
-setup a103000000000600 => a103 stall
+setup a103000000000600 => a103 000000000500
+setup 2101010000000000 => 2101 ok
+setup a103000000000600 => a103 001400000700"
+upload="setup a102000000002000 => a102 stall
 setup a103000000000600 => a103 0f0000000a00
+setup 2104000000000000 => 2104 ok
+setup a102000000002000 => a102 $(hex new)"
+reset='reset => upgrade leaves / application joins'
+# at_once WHAT ATTRIBUTES STEPS: after the answer that says dfuMANIFEST.
+at_once() {
+    fresh
+    row "$1, $2" "$timed --attributes $2" << END
+setup a105000000000100 => upgrade joins / a105 02
+$early
+$3
 END
-holds 'a request while the device is busy' old
+    holds "$1, $2" new
+    is "$1, $2: the line of time" grep -q '^time: 20 ms, dfuMANIFEST-' err
+}
+for attributes in download,upload,tolerant download,tolerant; do
+    at_once 'a GETSTATUS at once' $attributes 'setup a103000000000600 => a103 000000000200'
+    at_once 'a reset at once' $attributes "$reset"
+done
+at_once 'an UPLOAD at once' download,upload,tolerant "$upload"
+for attributes in download,upload download; do
+    at_once 'a GETSTATUS at once' $attributes 'setup a103000000000600 => a103 stall'
+    at_once 'an UPLOAD at once' $attributes 'setup a102000000002000 => a102 stall'
+    at_once 'a reset at once' $attributes "$reset"
+done
+at_once 'a late reset at once' download 'reset; enable => upgrade leaves / application joins'
+at_once 'a signal at once' download ''
+
+# What --manifest is if it isn't given.
+fresh
+row 'the defaults' --dfu-mode << END
+setup 2101000000001a00 $(hex new) => upgrade joins / 2101 ok
+setup a103000000000600 => a103 000500000400
+setup a103000000000600 => a103 000000000500
+setup 2101010000000000 => 2101 ok
+setup a103000000000600 => a103 000000000200
+setup a102000000002000 => a102 $(hex new)
+END
+holds 'the defaults' new
+fresh
+row 'the defaults of a device that is not tolerant' '--dfu-mode --attributes download,upload --busy 20' << END
+setup a105000000000100 => upgrade joins / a105 02
+$early
+$reset
+END
+holds 'the defaults of a device that is not tolerant' new
 
 # Resets that the program sees at once, and those that it finds late: DISABLE is then dropped.
 resets='setup a105000000000100 => upgrade joins / a105 02
@@ -168,6 +215,9 @@ $late"
 wrong_program function.c 's/is_enabled && may_be_reset/is_enabled \&\& (may_be_reset || true)/' 'each ENABLE is a reset' "$resets"
 wrong_program function.c 's/ && is_new_state;/ \&\& (is_new_state || true);/' 'each dropped event is a reset' "$resets
 $two"
+wrong_program bus.c 's/before == STATE_APP_DETACH ? now - bus->told : machine_due(&bus->machine)/now - bus->told/' \
+    'it lets the time pass before it writes' "$first
+$early" "$timed"
 wrong_program machine.c 's/if (note(machine, dfu_asking_would_stall.*/if (true)/; s/if (length > machine->config.tra.*/if (false) {/' \
     'each data stage is taken' "$first
 $stalled"
@@ -176,7 +226,7 @@ $stalled"
 for failure in GADGET_FAILS_WRITE=1 GADGET_FAILS_SYNC=1; do
     fresh
     export "${failure?}"
-    row "$failure" '--dfu-mode --busy 20' << END
+    row "$failure" "$timed" << END
 setup 2101000000001a00 $(hex new) => upgrade joins / 2101 ok
 setup a103000000000600 => a103 001400000400
 wait 20 =>
@@ -196,7 +246,7 @@ for failure in GADGET_FAILS_WRITE GADGET_FAILS_SYNC; do
         fresh
         export "$failure=$number"
         printf '%s\n' "$download" > rows
-        play '--dfu-mode --busy 20' < rows
+        play "$timed" < rows
         unset "$failure"
         grep -q 'was not written' err || break
         equal "$failure=$number: the status" 0 "$code"
@@ -217,17 +267,17 @@ $(printf '%s\n' "$download" | sed '$d')
 setup a103000000000600 => a103 060000000a00
 setup 2104000000000000 => 2104 ok
 setup a102000000002000 => a102 $(hex old)"
-row 'the last write is not on the disk' '--dfu-mode --busy 20' << END
+row 'the last write is not on the disk' "$timed" << END
 $stale
 END
 is 'the last write is not on the disk: no image is in place' test "$(grep -c '^installed' err)" -eq 0
 export GADGET_KEEPS=1
 printf '%s\n' "$stale" > rows
-play '--dfu-mode --busy 20' < rows
+play "$timed" < rows
 equal 'the kernel keeps it: the status' 5 "$code"
 unset GADGET_KEEPS
 wrong_program medium.c 's/POSIX_FADV_DONTNEED/POSIX_FADV_NORMAL/; s/ && !is_kept(medium, .*/ \&\& (true || is_kept(medium, at, length));/' \
-    'it reads what the disk has not' "$stale" '--dfu-mode --busy 20'
+    'it reads what the disk has not' "$stale" "$timed"
 for failing in 1 2 3; do
     number=$failing
     while :; do
@@ -235,7 +285,7 @@ for failing in 1 2 3; do
         fresh
         export "GADGET_FAILS_SYNC=$failing" "GADGET_CUT=$number"
         { printf '%s\nsetup 2104000000000000\n' "$download"; printf '%s\n' "$download" | sed "s/$(hex new)/$(hex third)/"; } > rows
-        play '--dfu-mode --busy 20' < rows
+        play "$timed" < rows
         unset GADGET_FAILS_SYNC GADGET_CUT
         [ "$code" -eq 96 ] || break
         ./gadget image medium > saved || : > saved
@@ -252,12 +302,12 @@ while :; do
     fresh
     export "GADGET_CUT=$number"
     printf '%s\n' "$download" > rows
-    play '--dfu-mode --busy 20' < rows
+    play "$timed" < rows
     unset GADGET_CUT
     [ "$code" -eq 96 ] || break
     ./gadget image medium > saved || : > saved
     is "a cut within write $number: an image stands" eval 'cmp -s saved old || cmp -s saved new'
-    play '--dfu-mode --busy 20' < rows
+    play "$timed" < rows
     holds "a cut within write $number, and once more" new
 done
 is 'some cuts were tried' test "$number" -gt 1
@@ -272,7 +322,7 @@ kill -0 $$ && exit "${COMMAND_STATUS:-0}"
 END
 chmod +x command
 fresh
-row 'a command' '--dfu-mode --busy 20 --on-installed ./command' << END
+row 'a command' "$timed --on-installed ./command" << END
 setup a105000000000100 => upgrade joins / a105 02
 $download
 image =>
@@ -284,7 +334,7 @@ is 'a command: it reads nothing' test ! -s typed
 is 'a command: its end' grep -q '^ended: process [0-9]* with status 0$' err
 COMMAND_STATUS=3
 export COMMAND_STATUS
-row 'a command that fails' '--dfu-mode --busy 20 --on-installed ./command' << END
+row 'a command that fails' "$timed --on-installed ./command" << END
 setup a105000000000100 => upgrade joins / a105 02
 $download
 image =>
@@ -292,7 +342,7 @@ END
 unset COMMAND_STATUS
 is 'a command that fails: its end' grep -q '^ended: process [0-9]* with status 3$' err
 is 'the other slot' grep -qx '3 medium 32 26' given
-row 'a command that is not there' '--dfu-mode --busy 20 --on-installed ./nowhere' << END
+row 'a command that is not there' "$timed --on-installed ./nowhere" << END
 setup a105000000000100 => upgrade joins / a105 02
 $download
 image =>
@@ -308,7 +358,7 @@ END
 chmod +x slow
 : > hold
 fresh
-row 'an image that comes while a command runs' '--dfu-mode --busy 20 --on-installed ./slow' << END
+row 'an image that comes while a command runs' "$timed --on-installed ./slow" << END
 setup a105000000000100 => upgrade joins / a105 02
 $download
 setup 2104000000000000 => 2104 stall
@@ -326,12 +376,13 @@ reset => upgrade leaves / application joins
 END
 is 'no command' test "$(grep -c 'nowhere' err)" -eq 0
 
-# The log of --verbose=FILE: the lines for readers, and those for `dfu judge`, which keeps the device.
-for rows in "$download" "$stalled"; do
+# The log of --verbose=FILE: the lines for readers, and those for `dfu judge`, which finds that the device keeps DFU 1.1.
+for rows in "$download" "$stalled" "$early
+$upload"; do
     fresh
     rm -f session.log
     log="=session.log"
-    row 'a log' '--dfu-mode --busy 20 --transfer-size 64' << END
+    row 'a log' "$timed --transfer-size 64" << END
 setup a105000000000100 => upgrade joins / a105 02
 $rows
 reset => upgrade leaves / application joins

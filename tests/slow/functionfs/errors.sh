@@ -105,8 +105,9 @@ expect 'dfu-gadget serves what the disk has' cmp up old
 stop
 kill "$holder"
 
-# The very last write, which makes the new image active. A write of its sector takes a second; 3 seconds after the host was told that the
-# image is put in place there are two, and the program is stopped (SIGSTOP) within the first, and the sector fails from then on.
+# The very last write, which makes the new image active. Once the first block is written, a write of its sector takes a second. Right
+# after the answer that says dfuMANIFEST there are two, and the program is stopped (SIGSTOP) within the first, and the sector fails from
+# then on.
 fresh
 start '--dfu-mode --manifest 3000 --busy 300'
 {
@@ -116,9 +117,10 @@ start '--dfu-mode --manifest 3000 --busy 300'
 mend
 ./dfu-flash one.dfu > out 2> err &
 flash=$!
-until grep -q 'GETSTATUS .* dfuMANIFEST ' log; do usleep 20000; done
+until grep -q 'DNLOAD 1 .* ack' log; do usleep 20000; done
 sed "1a $slot 8 delay $disk $slot 0 $disk $slot 1000" around | table
-sleep 3.3
+until grep -q 'GETSTATUS .* dfuMANIFEST ' log; do usleep 20000; done
+sleep 0.3
 kill -STOP "$device"
 sleep 1
 breaks "$slot" 8
