@@ -27,20 +27,24 @@
  * The loop of a bootloader:
  *
  *     on power:            dfu_device_power_on; or dfu_device_begin for a device that is to begin in dfuIDLE
- *     on a bus reset:      dfu_device_usb_reset, once per enumeration
+ *     on a bus reset:      the work, then dfu_device_usb_reset, once per enumeration
  *     on a request of this class (bmRequestType 21h or A1h) to the interface of this standard:
+ *                          the work
  *                          set wIndex, bytes 4 and 5 of the setup, to 0, whatever number the interface has
- *                          where the host sends, receive the whole data stage first, wLength bytes
+ *                          if the host sends, receive the whole data stage first, wLength bytes
  *                          n = dfu_device_handle(..)
- *                          0 or more: answer with the n bytes of out, or acknowledge where the host sent
+ *                          0 or more: answer with the n bytes of out, or acknowledge if the host sent
  *                          DFU_STALL: stall endpoint 0; the device may be in another state now
- *     as time passes:      dfu_device_elapse where dfu_device_due is more than 0; no other state counts time
+ *     once the answer is out: the work
+ *     the work:            if the state is 4 or 7, dfu_device_elapse with what dfu_device_due says, at once
+ *     as time passes:      in state 1 alone, dfu_device_elapse with the milliseconds; dfu_device_due says how many are left
  *                          bitWillDetach, and the state went from 1 to 2: leave the bus and come back; report no reset for that
  *     then:                dfu_device_state says what runs: the application in 0 and 1, the upgrade elsewhere
  *
  * - Other requests, as SET_INTERFACE, are the program's own: dfu_device_handle stalls them.
- * - Report the time that has passed before you hand in a request. In state 4 or 7 each request, GETSTATUS too, is an error
- *   and drops what was taken.
+ * - The work writes the block, or puts the image in place, while the host waits for the time that it was told. In state 4 or 7
+ *   a request, GETSTATUS too, is an error, and a bus reset ends the upgrade: either drops what was taken. A host may be early,
+ *   and a stack may not say that an answer is out, so the work comes before each of them too.
  * - Some stacks acknowledge a data stage as they take it, so that it is too late for a stall (Linux's FunctionFS and
  *   raw-gadget do). There ask dfu_device_would_stall before the data stage. 1: call dfu_device_handle, with any body of
  *   wLength bytes, and stall the setup. 0: receive the data stage, then call dfu_device_handle.
@@ -48,13 +52,11 @@
  *   setup, and stall it.
  * - Report one bus reset per enumeration; skip the first one if you started in dfuIDLE. Another reset ends the upgrade: by
  *   the table, one in dfuIDLE leads to appIDLE.
- * - The medium is written in the dfu_device_elapse that ends the busy or the manifestation time. Where that time is 0, it
- *   is written in the dfu_device_handle that answers GETSTATUS. A DNLOAD writes nothing.
+ * - The medium is written in the work. Where the busy or the manifestation time is 0, it is written in the dfu_device_handle
+ *   that answers GETSTATUS. A DNLOAD writes nothing.
  * - dfu_device_power_on, dfu_device_begin and dfu_device_image read the whole active image, to check it, and the image
  *   before it too until the next download writes its first block. The call that puts an image in place reads the new one
  *   twice. No other call reads an image, as long as the record is as the last call left it.
- * - The host waits for the poll time after the answer to GETSTATUS. Report busy_ms or manifest_ms right after that answer:
- *   the medium is then written while the host waits, and not when it asks again.
  * - Each write of the medium is whole units at multiples of the unit. Bytes that make no whole unit yet wait in the record.
  * - Where a block device keeps the medium, choose C so that no sector has bytes of both slots: 2 * G + C (dfu_device_format)
  *   is a multiple of the sector's size. */

@@ -51,27 +51,31 @@ static void show(const char *what, int32_t answer) {
         printf("application of %u bytes, the first %02x\n", (unsigned)place.length, flash[place.at]);
 }
 
+/* The work, once an answer is out, and before a request and a bus reset: what state 4 or 7 is for, while the host waits. */
+static void work(void) {
+    int32_t state = dfu_device_state(&device.device);
+    if (state == 4 || state == 7)
+        show("work", settle(dfu_asking_elapse(&config, &device, pending, sizeof pending, flash, sizeof part,
+                                              (uint32_t)dfu_device_due(&config, &device.device))));
+}
+
 /* A control transfer: a stack hands in the whole data stage, lets the host wait meanwhile, and carries out the answer. */
 static void transfer(const char *what, uint8_t kind, uint8_t request, uint16_t value, const char *body, uint16_t length) {
     uint8_t setup[8] = {kind, request, (uint8_t)value, (uint8_t)(value >> 8), 0, 0, (uint8_t)length, (uint8_t)(length >> 8)};
     size_t sent = kind == 0x21 ? length : 0;
+    work();
     show(what, settle(dfu_asking_handle(&config, &device, pending, sizeof pending, flash, sizeof part, setup, (const uint8_t *)body,
                                         sent, out, sizeof out)));
-}
-
-/* A timer: only these states count time. */
-static void pass(uint32_t ms) {
-    int32_t state = dfu_device_state(&device.device);
-    if (state == 1 || state == 4 || state == 7)
-        show("pass", settle(dfu_asking_elapse(&config, &device, pending, sizeof pending, flash, sizeof part, ms)));
+    work();
 }
 
 static int32_t power_on(void) {
     return dfu_asking_power_on(&config, &device, 0, flash, sizeof part);
 }
 
-static int32_t reset(void) {
-    return dfu_asking_usb_reset(&config, &device, pending, sizeof pending, flash, sizeof part);
+static void reset(void) {
+    work();
+    show("bus reset", dfu_asking_usb_reset(&config, &device, pending, sizeof pending, flash, sizeof part));
 }
 
 int main(void) {
@@ -80,20 +84,17 @@ int main(void) {
         return 1;
     show("power on", power_on());
     transfer("DETACH", 0x21, 0, 1000, "", 0);
-    show("bus reset", reset());
+    reset();
     transfer("DNLOAD", 0x21, 1, 0, "an image of forty bytes, its first block", 32);
     transfer("GETSTATUS", 0xa1, 3, 0, "", 6);
-    pass(5);
     transfer("GETSTATUS", 0xa1, 3, 0, "", 6);
     transfer("DNLOAD", 0x21, 1, 1, "st block", 8);
     transfer("GETSTATUS", 0xa1, 3, 0, "", 6);
-    pass(5);
     transfer("GETSTATUS", 0xa1, 3, 0, "", 6);
     transfer("DNLOAD", 0x21, 1, 2, "", 0);
     transfer("GETSTATUS", 0xa1, 3, 0, "", 6);
-    pass(10);
     transfer("GETSTATUS", 0xa1, 3, 0, "", 6);
-    show("bus reset", reset());
+    reset();
     memset(&device, 0xff, sizeof device);
     show("power on", power_on());
     return 0;

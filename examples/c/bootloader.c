@@ -25,20 +25,28 @@ static void show(const char *what, int32_t answer) {
         printf("application of %u bytes, the first %02x\n", (unsigned)place.length, medium[place.at]);
 }
 
+/* The work, once an answer is out, and before a request and a bus reset: what state 4 or 7 is for, while the host waits. */
+static void work(void) {
+    int32_t state = dfu_device_state(&device);
+    if (state == 4 || state == 7)
+        show("work", dfu_device_elapse(&config, &device, pending, sizeof pending, medium, sizeof medium,
+                                       (uint32_t)dfu_device_due(&config, &device)));
+}
+
 /* A control transfer: a stack hands in the whole data stage, and carries out the answer. */
 static void transfer(const char *what, uint8_t kind, uint8_t request, uint16_t value, const char *body, uint16_t length) {
     uint8_t setup[8] = {kind, request, (uint8_t)value, (uint8_t)(value >> 8), 0, 0, (uint8_t)length, (uint8_t)(length >> 8)};
     uint8_t out[64];
     size_t sent = kind == 0x21 ? length : 0;
+    work();
     show(what, dfu_device_handle(&config, &device, pending, sizeof pending, medium, sizeof medium, setup, (const uint8_t *)body, sent,
                                  out, sizeof out));
+    work();
 }
 
-/* A timer: only these states count time. */
-static void pass(uint32_t ms) {
-    int32_t state = dfu_device_state(&device);
-    if (state == 1 || state == 4 || state == 7)
-        show("pass", dfu_device_elapse(&config, &device, pending, sizeof pending, medium, sizeof medium, ms));
+static void reset(void) {
+    work();
+    show("bus reset", dfu_device_usb_reset(&config, &device, pending, sizeof pending, medium, sizeof medium));
 }
 
 int main(void) {
@@ -48,16 +56,14 @@ int main(void) {
         return 1;
     show("power on", dfu_device_power_on(&config, &device, medium, sizeof medium));
     transfer("DETACH", 0x21, 0, 1000, "", 0);
-    show("bus reset", dfu_device_usb_reset(&config, &device, pending, sizeof pending, medium, sizeof medium));
+    reset();
     transfer("DNLOAD", 0x21, 1, 0, "\xaa\xbb\xcc\xdd", 4);
     transfer("GETSTATUS", 0xa1, 3, 0, "", 6);
-    pass(5);
     transfer("GETSTATUS", 0xa1, 3, 0, "", 6);
     transfer("DNLOAD", 0x21, 1, 1, "", 0);
     transfer("GETSTATUS", 0xa1, 3, 0, "", 6);
-    pass(10);
     transfer("GETSTATUS", 0xa1, 3, 0, "", 6);
-    show("bus reset", dfu_device_usb_reset(&config, &device, pending, sizeof pending, medium, sizeof medium));
+    reset();
     memset(&device, 0xff, sizeof device);
     show("power on", dfu_device_power_on(&config, &device, medium, sizeof medium));
     return 0;

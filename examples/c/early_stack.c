@@ -22,9 +22,18 @@ static void show(const char *what, int32_t answer) {
     printf("%-10s %2d state %d\n", what, (int)answer, (int)dfu_device_state(&device));
 }
 
+/* The work, once an answer is out, and before a request and a bus reset: what state 4 or 7 is for, while the host waits. */
+static void work(void) {
+    int32_t state = dfu_device_state(&device);
+    if (state == 4 || state == 7)
+        show("work", dfu_device_elapse(&config, &device, pending, sizeof pending, medium, sizeof medium,
+                                       (uint32_t)dfu_device_due(&config, &device)));
+}
+
 /* DNLOAD: the stack asks first. It stalls the setup, or takes the data stage, which comes to the buffer. */
 static void download(uint16_t block, const char *bytes, uint16_t length) {
     uint8_t setup[8] = {0x21, 1, (uint8_t)block, 0, 0, 0, (uint8_t)length, 0};
+    work();
     if (length > sizeof endpoint) {
         show("too long", dfu_device_too_long(&config, &device, setup));
         return;
@@ -35,14 +44,12 @@ static void download(uint16_t block, const char *bytes, uint16_t length) {
                                      out, sizeof out));
 }
 
-/* GETSTATUS. Where time counts then, it is reported at once: the medium is written while the host waits. */
 static void get_status(void) {
     uint8_t setup[8] = {0xa1, 3, 0, 0, 0, 0, 6, 0};
+    work();
     show("GETSTATUS", dfu_device_handle(&config, &device, pending, sizeof pending, medium, sizeof medium, setup, endpoint, 0,
                                         out, sizeof out));
-    int64_t due = dfu_device_due(&config, &device);
-    if (due > 0)
-        show("pass", dfu_device_elapse(&config, &device, pending, sizeof pending, medium, sizeof medium, (uint32_t)due));
+    work();
 }
 
 /* What runs: the application at its place, if there is one. */

@@ -78,20 +78,31 @@ static void show(const char *what, int32_t answer) {
         printf("application of %u bytes at %u\n", (unsigned)place.length, (unsigned)place.at);
 }
 
+/* The work, once an answer is out, and before a request and a bus reset: what state 4 or 7 is for, while the host waits. */
+static void work(void) {
+    int32_t state = dfu_device_state(&device.device);
+    if (state == 4 || state == 7)
+        show("work", settle(dfu_asking_elapse(&config, &device, pending, sizeof pending, flash, sizeof part,
+                                              (uint32_t)dfu_device_due(&config, &device.device))));
+}
+
 static void transfer(const char *what, uint8_t kind, uint8_t request, uint16_t value, const uint8_t *body, uint16_t length) {
     uint8_t setup[8] = {kind, request, (uint8_t)value, (uint8_t)(value >> 8), 0, 0, (uint8_t)length, (uint8_t)(length >> 8)};
     size_t sent = kind == 0x21 ? length : 0;
-    show(what, settle(dfu_asking_handle(&config, &device, pending, sizeof pending, flash, sizeof part, setup, body, sent, out, sizeof out)));
+    work();
+    show(what, settle(dfu_asking_handle(&config, &device, pending, sizeof pending, flash, sizeof part, setup, body, sent, out,
+                                        sizeof out)));
+    work();
 }
 
-/* A request for the state, the time that the answer asks for, and the request that follows it. */
-static void poll(uint32_t ms) {
+/* A request for the state, and the next one, after the time that the first was answered with. */
+static void poll(void) {
     transfer("GETSTATUS", 0xa1, 3, 0, nothing, 6);
-    show("pass", settle(dfu_asking_elapse(&config, &device, pending, sizeof pending, flash, sizeof part, ms)));
     transfer("GETSTATUS", 0xa1, 3, 0, nothing, 6);
 }
 
 static void reset(void) {
+    work();
     show("bus reset", dfu_asking_usb_reset(&config, &device, pending, sizeof pending, flash, sizeof part));
 }
 
@@ -110,10 +121,10 @@ int main(void) {
     uint16_t number = 0;
     for (size_t at = 0; at < sizeof image; at += BLOCK) {
         transfer("DNLOAD", 0x21, 1, number++, image + at, (uint16_t)(sizeof image - at < BLOCK ? sizeof image - at : BLOCK));
-        poll(config.busy_ms);
+        poll();
     }
     transfer("DNLOAD", 0x21, 1, number, nothing, 0);
-    poll(config.manifest_ms);
+    poll();
     reset();
     memset(&device, 0xff, sizeof device);
     show("power on", dfu_asking_power_on(&config, &device, SECTOR, flash, sizeof part));

@@ -87,8 +87,8 @@ static int32_t frame_came(void) {
     }
 }
 
-/* The flash is written right behind the answer that tells the host to wait. Then what runs is as the state says: each change of it is a
- * reset of the processor, so that an image finds it as after power. */
+/* The work, once an answer is out, while the host waits: nothing else is taken from the serial port before it is done. Then what runs is as
+ * the state says: each change of it is a reset of the processor, so that an image finds it as after power. */
 static void go_on(void) {
     while (state() == DFU_DNBUSY || state() == DFU_MANIFEST)
         pass((uint32_t)dfu_device_due(&board_config, &device.device));
