@@ -89,7 +89,7 @@ void bus_pass_time(void)
     uint64_t now = now_ns(), ms = (now - told_ns) / 1000000;
     if (ms == 0)
         return;
-    told_ns = now;
+    told_ns += ms * 1000000;
     elapse(ms);
 }
 

@@ -61,6 +61,7 @@ row 0 new 'installed: ' USB_ATTRIBUTES=05 ./dfu-flash new.dfu
 row 0 new 'verified: ' USB_ATTRIBUTES=03 ./dfu-flash new.dfu
 row 8 new 'unconfirmed: ' USB_ATTRIBUTES=01 ./dfu-flash new.dfu
 row 0 large 'verified: ' USB_TRANSFER=4096 ./dfu-flash large.dfu
+row 0 new 'verified: ' 'USB_BUSY=300 USB_MANIFEST=300' ./dfu-flash new.dfu
 row 0 new 'verified: ' USB_START=app ./dfu-flash new.dfu
 row 0 new 'verified: ' 'USB_START=app USB_ATTRIBUTES=0f USB_DETACH=50' ./dfu-flash new.dfu
 row 0 new 'verified: ' 'USB_START=app USB_DFU_IDS=1209:00ff:0100' ./dfu-flash new.dfu
