@@ -110,12 +110,29 @@ make() {
     rm -r "${root:?}"
 }
 
+# add_fwupd: $work/fwupd.cpio, which is that file system and one that the kernel unpacks over it, with fwupd's tool of this computer.
+add_fwupd() (
+    [ "$processor" = x86-64 ] && command -v fwupdtool > /dev/null || { echo "$processor: there is no fwupd: left out"; return 1; }
+    first=$root.cpio root=$work/fwupd
+    mkdir -p "$root/etc" "$root/$guest" "$root/root" "$root/var/cache/fwupd" "$root/var/lib/fwupd"
+    dpkg -L fwupd | grep -E '^/usr/(bin/fwupdtool|lib|libexec|share/fwupd)|^/etc/fwupd' | while read -r file; do
+        [ -f "$file" ] || continue
+        mkdir -p "$root${file%/*}"
+        put "$file" "$file"
+    done
+    gcc -std=gnu11 -O2 -Wall -Wextra -Werror -shared -fPIC -o "$root/$guest/no_discovery.so" "$here/no_discovery.c"
+    cp /etc/os-release "$root/etc"
+    echo 0123456789abcdef0123456789abcdef > "$root/etc/machine-id"
+    (cd "$root" && find . | cpio -o -H newc 2> /dev/null | gzip -1 | cat "$first" -) > "$work/fwupd.cpio"
+    rm -r "${root:?}"
+)
+
 # machine PART: it runs until it has done its part, with the disks $work/disk and $work/log; what it says goes to $work/said. The machine's
 # time is that of its instructions, and skips what it sleeps: no other work of this computer makes it late.
 machine() {
     # shellcheck disable=SC2086
-    exec timeout -s KILL "${LINUX_SECONDS:-3600}" nice -n 5 $qemu -accel tcg -m 384 -icount shift=4,sleep=off -rtc clock=vm -nographic \
-        -no-reboot -kernel "$kernel" -initrd "$root.cpio" -net none \
+    exec timeout -s KILL "${LINUX_SECONDS:-3600}" nice -n 5 $qemu -accel tcg -m "${memory:-384}" -icount shift=4,sleep=off \
+        -rtc clock=vm -nographic -no-reboot -kernel "$kernel" -initrd "${initrd:-$root.cpio}" -net none \
         -drive "file=$work/disk,format=raw,if=virtio,cache=writethrough" \
         -drive "file=$work/log,format=raw,if=virtio,cache=unsafe" \
         -append "console=$console quiet panic=-1 part=$1" < /dev/null > "$work/said" 2>&1
