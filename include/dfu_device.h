@@ -52,7 +52,7 @@
  *   setup, and stall it.
  * - Report one bus reset per enumeration; skip the first one if you started in dfuIDLE. Another reset ends the upgrade: by
  *   the table, one in dfuIDLE leads to appIDLE.
- * - The medium is written in the work. Where the busy or the manifestation time is 0, it is written in the dfu_device_handle
+ * - The medium is written in the work. If the busy or the manifestation time is 0, it is written in the dfu_device_handle
  *   that answers GETSTATUS. A DNLOAD writes nothing.
  * - dfu_device_power_on, dfu_device_begin and dfu_device_image read the whole active image, to check it, and the image
  *   before it too until the next download writes its first block. The call that puts an image in place reads the new one
