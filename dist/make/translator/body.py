@@ -59,6 +59,10 @@ class Body:
             text += [f"    {it}" for it in statements]
         return [f"{self.head()} {{", *text, "}"]
 
+    def aligned(self, place):
+        """What a place is a multiple of, as alignment.py finds it."""
+        return self.program.alignments.of(self.function.name, "ptr", place)
+
     def name_of_label(self, label):
         return self.names.of(("label", label), label)
 

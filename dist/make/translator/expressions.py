@@ -106,6 +106,8 @@ def size_of(it):
 
 
 def access(type, align):
-    """The end of the name of what loads or stores a number: its bits, and u where its place may be a multiple of less."""
+    """The end of the name of what loads or stores a number at a place that is a multiple of `align`: its bits; and unless the place is a
+    multiple of all its bytes, u for a multiple of 1, or a2 or a4."""
     size = bytes_of(type)
-    return f"{size * 8}{'u' if int(align) < size or size not in (1, 2, 4, 8) else ''}"
+    align = min(it for it in (1, 2, 4, 8) if it == align or 2 * it > size)
+    return f"{size * 8}{'' if align == size else 'u' if align == 1 else f'a{align}'}"

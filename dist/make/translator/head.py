@@ -60,21 +60,22 @@ HELPERS = {
 
 
 def helper(name):
-    """One of them, for the bits that its name says. Of 24, 40, 48 or 56 bits the first bytes are kept, as the low byte comes first."""
-    kind, bits, any_place = re.fullmatch(r"([a-z_]+)([0-9]+)(u?)", name).groups()
+    """One of them, for the bits that its name says, and for places that are multiples of so many bytes: 64 of 8, 64a4 of 4, and 64u
+    of 1. Of 24, 40, 48 or 56 bits the first bytes are kept, as the low byte comes first."""
+    kind, bits, align = re.fullmatch(r"([a-z_]+)([0-9]+)(u|a[0-9]+|)", name).groups()
     size, wide = int(bits) // 8, min(it for it in (8, 16, 32, 64) if it >= int(bits))
     words = {"NAME": name, "T": f"uint{wide}_t", "intT": f"int{wide}_t", "SIZE": str(size), "PAIR": f"i{bits}_i1",
-             "AT": "p" if any_place else f"ALIGNED(p, {size})"}
+             "AT": "p" if align == "u" else f"ALIGNED(p, {align[1:] or size})"}
     return "static inline " + re.sub(rf"\b(?:{'|'.join(words)})\b", lambda it: words[it[0]], HELPERS[kind])
 
 
 def head(header, bodies):
     """All that comes before the functions, for what their text uses."""
     pairs = sorted(set(re.findall(r"struct ((?:i[0-9]+|ptr)_(?:i[0-9]+|ptr))\b", bodies)))
-    used = sorted(set(re.findall(rf"\b((?:{'|'.join(HELPERS)})[0-9]+u?)\(", bodies)))
+    used = sorted(set(re.findall(rf"\b((?:{'|'.join(HELPERS)})[0-9]+(?:u|a[0-9]+|))\(", bodies)))
     return "\n".join([
         WHAT_IT_IS.format(name=header.name, what=WHAT.get(header.name, "")) + OF_C,
-        *(f'_Static_assert({it}, "another layout");' for it in header.layouts()), "",
+        *(f'_Static_assert({it}, "another layout");' for it in header.layouts), "",
         *(f"struct {it} {{ {' '.join(of_struct(it))} }};" for it in pairs), "",
         *(helper(it) for it in used), ""])
 

@@ -28,23 +28,29 @@ class Header:
         self.text = "".join(self.read(os.path.join(os.path.dirname(file), it)) for it in included) + own
         self.exports = {name: Export(result, parameters)
                         for result, name, parameters in re.findall(r"^(int32_t|int64_t) (dfu_\w+)\(([^)]*)\);", own, re.M)}
+        self.sizes = {name: (size, size) for name, size in SIZES.items()}
+        self.layouts = []
+        for name, body in re.findall(r"^struct (dfu_\w+) \{(.*?)^\};", self.text, re.S | re.M):
+            self.lay_out(name, body)
 
     def read(self, file):
         """Its text without comments."""
         return re.sub(r"/\*.*?\*/", "", open(file, encoding="utf-8").read(), flags=re.S)
 
-    def layouts(self):
-        """Each offset, size and alignment as AArch64 has it, as conditions of C."""
-        sizes = {name: (size, size) for name, size in SIZES.items()}
-        for name, body in re.findall(r"^struct (dfu_\w+) \{(.*?)^\};", self.text, re.S | re.M):
-            at = most = 0
-            for type, members in re.findall(r"(?:DFU_ALIGNED_8 )?(?:struct )?(\w+) ([^;]*);", body):
-                size, align = sizes[type]
-                for member, count in re.findall(r"(\w+)(?:\[(\d+)\])?", members):
-                    at = -(-at // align) * align
-                    most = max(most, align)
-                    yield f"offsetof(struct {name}, {member}) == {at}"
-                    at += size * int(count or 1)
-            sizes[name] = (-(-at // most) * most, most)
-            yield f"sizeof(struct {name}) == {sizes[name][0]}"
-            yield f"_Alignof(struct {name}) == {most}"
+    def lay_out(self, name, body):
+        """Each offset, size and alignment of a struct as AArch64 has it, as conditions of C, which the C asserts."""
+        at = most = 0
+        for type, members in re.findall(r"(?:DFU_ALIGNED_8 )?(?:struct )?(\w+) ([^;]*);", body):
+            size, align = self.sizes[type]
+            for member, count in re.findall(r"(\w+)(?:\[(\d+)\])?", members):
+                at = -(-at // align) * align
+                most = max(most, align)
+                self.layouts.append(f"offsetof(struct {name}, {member}) == {at}")
+                at += size * int(count or 1)
+        self.sizes[name] = (-(-at // most) * most, most)
+        self.layouts += [f"sizeof(struct {name}) == {self.sizes[name][0]}", f"_Alignof(struct {name}) == {most}"]
+
+    def align_of(self, parameter):
+        """What the place that a parameter names is a multiple of: of a struct's place what is asserted, of any other 1."""
+        found = re.fullmatch(r"(?:const )?struct (\w+) \*\w+", parameter)
+        return self.sizes[found[1]][1] if found else 1

@@ -26,7 +26,7 @@ class Memory:
             return self.keep(line, type, Expression(byte_at(at)))
         if bits(type) < 8 or type == "ptr":
             return refuse(line.number, "a load of no whole bytes, or of a pointer", line.written)
-        self.keep(line, type, Expression(f"load{access(type, line['align'])}({at.text})"))
+        self.keep(line, type, Expression(f"load{access(type, self.align_of(line))}({at.text})"))
 
     def store(self, line):
         type, place = line["type"], line["place"]
@@ -38,7 +38,11 @@ class Memory:
             return self.emit(f"{byte_at(at)} = {what.text};")
         if bits(type) < 8 or type == "ptr":
             return refuse(line.number, "a store of no whole bytes, or of a pointer", line.written)
-        self.emit(f"store{access(type, line['align'])}({at.text}, {what.text});")
+        self.emit(f"store{access(type, self.align_of(line))}({at.text}, {what.text});")
+
+    def align_of(self, line):
+        """What the place of a load or a store is a multiple of, by the line itself or by what is known of its pointer."""
+        return max(int(line["align"]), self.body.aligned(line["place"]))
 
     def move(self, line):
         to, source, count = self.value("ptr", line["to"]), self.value("ptr", line["source"]), self.count(line)

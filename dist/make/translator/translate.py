@@ -6,6 +6,7 @@ import re
 import sys
 
 import lines
+from alignment import Alignments
 from body import Body
 from expressions import c_type
 from head import HELPERS, head
@@ -49,6 +50,7 @@ def main():
     module = Module(open(sys.argv[1], encoding="latin-1").read(), lines.OPTIMISED)
     program = Program(module, header)
     end_if_any()
+    program.alignments = Alignments(module, header)
     bodies = [Body(it, program, header.exports.get(it.name) if it.is_export else None) for it in module.functions]
     texts = [f"/* {body.function.name} */\n" + "\n".join(body.write()) for body in bodies]
     end_if_any()
