@@ -1,0 +1,36 @@
+/* Calls the export of fills.ll, over a stack that is no zeros: each result was worked out by hand. It ends in 1 and names what is
+ * otherwise. */
+#include <stdio.h>
+#include <string.h>
+
+#include "dfu_fills.h"
+
+static int wrong;
+
+static void check(const char *what, long long found, long long wanted) {
+    if (found != wanted) {
+        wrong = 1;
+        printf("%s: wanted %lld, found %lld\n", what, wanted, found);
+    }
+}
+
+/* What is below the caller's frame gets other bytes than zeros. */
+static int dirty(int number) {
+    volatile uint8_t room[4096];
+    for (size_t k = 0; k < sizeof room; k++)
+        room[k] = (uint8_t)(0xa5 + number);
+    return room[17];
+}
+
+int main(void) {
+    static const uint8_t six[8] = {6, 0, 0, 0, 0, 0, 0, 0};
+    static const int64_t wanted[4][2] = {{0, 2037}, {1, 2044}, {2, 67580}, {8, 1789}};
+    uint8_t room[8];
+    for (int k = 0; k < 4; k++) {
+        memset(room, 0xee, sizeof room);
+        check("the stack", dirty(k), 0xa5 + k);
+        check("fills", dfu_fills_all(room, (size_t)wanted[k][0]), wanted[k][1]);
+        check("what came to C", memcmp(room, six, sizeof room), 0);
+    }
+    return wrong;
+}
